@@ -1,0 +1,5 @@
+pub mod Newlines
+pub mod Streams
+pub mod Steps
+pub mod Sessions
+pub mod StreamLaws

@@ -1,0 +1,13 @@
+pub mod PendingLaws
+pub mod ClientsKept
+pub mod HistoryLaws
+pub mod ChangedLaws
+pub mod CommandLaws
+pub mod Lines
+pub mod RequestLaws
+pub mod TellLaws
+pub mod RoomLaws
+pub mod StepLaws
+pub mod RebuildLaws
+pub mod EventLaws
+pub mod ChangeLaws

@@ -1,0 +1,17 @@
+use Rattle.command_text.specs.declared.command.Command.TheVariants as asked
+use Rattle.state_codec.specs.declared.op.Op.TheVariants as ops
+use Rattle.state_codec.specs.declared.op.Setting.TheVariants as settings
+use Rattle.daemon_core.proofs.CommandLaws.{option_went, option_failed, repeat_meant, repeat_made}
+use Rattle.daemon_core.proofs.machine.Core.set_repeat.Goals as goal
+
+pub returns-clause-went : goal.returns-clause-went
+returns-clause-went c =
+    option_went (asked.Repeat c.args.on) c.args.self.now c.set_options.new.self (record c.options.result { repeat = c.args.on }) (ops.SetOption (settings.Repeat c.args.on)) c.args.work.now c.set_options.new.work c.set_options.result
+    (repeat_meant c.args.self.now c.options.result c.args.on c.options.ensures) (repeat_made c.args.self.now c.options.result c.args.on c.options.ensures) c.requires
+    c.set_options.ensures.state c.set_options.ensures.added c.set_options.ensures.changed c.set_options.ensures.text
+
+pub returns-clause-failed : goal.returns-clause-failed
+returns-clause-failed c =
+    option_failed (asked.Repeat c.args.on) c.args.self.now c.set_options.new.self (record c.options.result { repeat = c.args.on }) (ops.SetOption (settings.Repeat c.args.on)) c.args.work.now c.set_options.new.work c.set_options.result
+    (repeat_meant c.args.self.now c.options.result c.args.on c.options.ensures) (repeat_made c.args.self.now c.options.result c.args.on c.options.ensures)
+    c.set_options.ensures.err c.set_options.ensures.nothing c.set_options.ensures.refused c.set_options.ensures.differs

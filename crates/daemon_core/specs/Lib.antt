@@ -1,0 +1,14 @@
+pub mod State
+pub mod Status
+pub mod Meaning
+pub mod Changed
+pub mod Run
+pub mod Pending
+pub mod Step
+pub mod Replay
+pub mod Agreement
+pub mod Held
+pub mod Recovered
+pub mod Work
+pub mod Room
+pub mod Outcome

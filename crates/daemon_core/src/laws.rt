@@ -1,0 +1,19 @@
+//! Laws of the definitions.
+ghost use Rattle.std.specs.Prelude.{◌≡◌, List, []};
+ghost use Rattle.command_text.specs.declared.command.Command.{Command};
+ghost use Rattle.state_codec.specs.SavedState.{SavedState};
+ghost use Rattle.daemon_core.specs.State.{State};
+ghost use Rattle.daemon_core.specs.Meaning.{Meaning, meaning, ops_of};
+ghost use Rattle.daemon_core.specs.Step.{Stepped};
+ghost use Rattle.daemon_core.specs.Replay.{Entry, stepped, replay, reply};
+
+/// Along any history the outputs of each event are the reply that the history gives: its own client's answer, and for
+/// each waiting client what is pending for it by what happened so far.
+pub fn outputs_are_replies()
+    ensures { (kept : SavedState) (earlier : List Entry) (entry : Entry) → (stepped (replay kept earlier) entry).outputs ≡ reply kept earlier entry }
+{}
+
+/// A command that leaves the saved half as it was makes no op. (Where it makes none, the saved half stays: the ops rebuild it.)
+pub fn no_op_without_a_change()
+    ensures { (command : Command) (s : State) (m : Meaning) → meaning command s ≡ Ok m → m.after.saved ≡ s.saved → ops_of command s ≡ [] }
+{}

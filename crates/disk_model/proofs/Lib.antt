@@ -1,0 +1,8 @@
+pub mod FaultLaws
+pub mod Overwrites
+mod Replay
+mod ReplayedMoments
+pub mod ImageLaws
+pub mod MomentLaws
+pub mod WindowLaws
+mod Written

@@ -1,0 +1,11 @@
+-- What the calls of a disk do.
+use Rattle.std.specs.Prelude.{◌≡◌, ◌⊎◌, ℕ, ◌+◌, List, ◌∷◌, ◌++◌, length, take, drop}
+use Rattle.disk_model.specs.History.{Change}
+
+-- the old bytes with these at this offset
+abbrev pub overwritten : List ℕ → ℕ → List ℕ → List ℕ
+overwritten old at bytes = take at old ++ bytes ++ drop (at + length bytes) old
+
+-- the history is as it was, or the change counts as made
+abbrev pub IsSameOrAdds : Change → List Change → List Change → Type 0
+IsSameOrAdds change old new = (new ≡ old) ⊎ (new ≡ change ∷ old)

@@ -1,0 +1,13 @@
+pub mod Behind
+pub mod Calls
+pub mod CallsMade
+pub mod DiskErrors
+pub mod Faults
+pub mod FileLength
+pub mod Fuse
+pub mod History
+pub mod Images
+pub mod Memory
+pub mod Moments
+pub mod Replayed
+pub mod Torn

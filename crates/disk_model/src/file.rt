@@ -1,0 +1,166 @@
+// A disk over a real file.
+ghost use Rattle.std.specs.Prelude.{◌≡◌, ◌≢◌, ◌+◌, ◌-◌, ◌^◌, ◌<◌, ◌≤◌, ◌↔◌, min, max, ℕ, List, [], length, IfOk, OnOk, IsErrOf};
+ghost use Rattle.disk_model.specs.Faults.{IsCounted};
+ghost use Rattle.disk_model.specs.FileLength.{length_of, file_faults};
+
+use crate::disk::count_fault;
+use crate::{Disk, DiskError};
+use std::fs::{File, OpenFile, OpenOptions};
+use std::io;
+use std::os::unix::fs::FileExt;
+use std::path::Path;
+use std::rt::Files;
+
+const MAX_LEN: u64 = 0x7fff_ffff_ffff_ffff;
+
+/// A file of the operating system, which nobody else may write meanwhile.
+///
+/// No contract can say what a file holds, so its honesty is a premise that no code supplies: what is promised of an
+/// honest disk holds of a file where the file system and the device keep it.
+#[derive(Drop)]
+pub struct FileDisk<F> {
+    file: F,
+    len: u64,
+    faults: u64,
+}
+
+impl<F: OpenFile + FileExt> FileDisk<F> {
+    /// Opens a file for reading and writing, and makes it, empty, where it is missing.
+    /// Its folder is synced, so that the file itself outlives a power cut.
+    pub fn open<R: Files<File = F>>(rt: &R, path: &str) -> io::Result<FileDisk<F>>
+    where
+        F: Drop,
+        ensures { IfOk result (λ disk. file_faults disk ≡ 0) }
+    {
+        let file = OpenOptions::new()
+            .read(true)
+            .write(true)
+            .create(true)
+            .open(rt, path)?;
+        sync_folder(rt, path)?;
+        let len = file.metadata()?.len();
+        Ok(FileDisk {
+            file,
+            len,
+            faults: 0,
+        })
+    }
+
+    // Counts a fault of a call that may have been done in part, and measures the file again.
+    fn changed_in_part(&mut self) -> DiskError
+        ensures counted { self.new.faults ≡ min (self.old.faults + 1) (2 ^ 64 - 1) }
+        ensures later { self.old.faults ≤ self.new.faults }
+        ensures fault { result ≡ DiskError.DiskFault }
+    {
+        if let Ok(metadata) = self.file.metadata() {
+            self.len = metadata.len();
+        }
+        count_fault(&mut self.faults)
+    }
+}
+
+// Syncs the folder that a file stands in.
+fn sync_folder<R: Files>(rt: &R, path: &str) -> io::Result<()> {
+    let folder = match Path::new(path).parent() {
+        Some(parent) if !parent.as_str().is_empty() => parent.as_str(),
+        _ => ".",
+    };
+    File::open(rt, folder)?.sync_all()
+}
+
+impl<F: OpenFile + FileExt> Disk for FileDisk<F> {
+    ghost honest = { λ _. ⊥ };
+
+    ghost content = { λ _. [] };
+
+    ghost history = { λ _. [] };
+
+    ghost faults = { file_faults };
+
+    ghost content_is_image = { λ disk honest. absurd honest };
+
+    ghost length_fits = { λ disk honest. absurd honest };
+
+    fn len(&self) -> u64
+        ensures { result ≡ length_of self.now }
+    {
+        self.len
+    }
+
+    fn read_at(&mut self, at: u64, buffer: &mut [u8]) -> Result<(), DiskError>
+        ensures out_of_range { IsErrOf result DiskError.OutOfRange ↔ (length_of self.old < at + length buffer.old) }
+        ensures buffer_stays { IsErrOf result DiskError.OutOfRange → buffer.new ≡ buffer.old }
+        ensures length_stays { length_of self.new ≡ length_of self.old }
+        ensures counted { IsCounted (file_faults self.old) (file_faults self.new) result }
+    {
+        if at > self.len || buffer.len() as u64 > self.len - at {
+            return Err(DiskError::OutOfRange);
+        }
+        match self.file.read_exact_at(buffer, at) {
+            Ok(()) => Ok(()),
+            Err(_) => Err(count_fault(&mut self.faults)),
+        }
+    }
+
+    fn write_at(&mut self, at: u64, bytes: &[u8]) -> Result<(), DiskError>
+        ensures written { OnOk result (length_of self.new ≡ max (length_of self.old) (at + length bytes.now)) }
+        ensures too_long { OnOk result (at + length bytes.now < 2 ^ 63) }
+        ensures out_of_range { IsErrOf result DiskError.OutOfRange ↔ (length_of self.old < at) }
+        ensures length_stays { IsErrOf result DiskError.OutOfRange → length_of self.new ≡ length_of self.old }
+        ensures counted { IsCounted (file_faults self.old) (file_faults self.new) result }
+    {
+        if at > self.len {
+            return Err(DiskError::OutOfRange);
+        }
+        if at > MAX_LEN || bytes.len() as u64 > MAX_LEN - at {
+            return Err(count_fault(&mut self.faults));
+        }
+        match self.file.write_all_at(bytes, at) {
+            Ok(()) => {
+                self.len = self.len.max(at + bytes.len() as u64);
+                Ok(())
+            }
+            Err(_) => Err(self.changed_in_part()),
+        }
+    }
+
+    fn cut(&mut self, len: u64) -> Result<(), DiskError>
+        ensures cut { OnOk result (length_of self.new ≡ len) }
+        ensures out_of_range { IsErrOf result DiskError.OutOfRange ↔ (length_of self.old < len) }
+        ensures length_stays { IsErrOf result DiskError.OutOfRange → length_of self.new ≡ length_of self.old }
+        ensures counted { IsCounted (file_faults self.old) (file_faults self.new) result }
+    {
+        if len > self.len {
+            return Err(DiskError::OutOfRange);
+        }
+        match self.file.set_len(len) {
+            Ok(()) => {
+                self.len = len;
+                Ok(())
+            }
+            Err(_) => Err(self.changed_in_part()),
+        }
+    }
+
+    fn sync(&mut self) -> Result<(), DiskError>
+        ensures in_range { result ≢ Err DiskError.OutOfRange }
+        ensures length_stays { length_of self.new ≡ length_of self.old }
+        ensures counted { IsCounted (file_faults self.old) (file_faults self.new) result }
+    {
+        // The data alone is enough: fdatasync also writes a length that has changed, by a write past the end or by
+        // ftruncate, since the data can't be read back without it. Only times and the like may be lost.
+        match self.file.sync_data() {
+            Ok(()) => Ok(()),
+            Err(_) => Err(count_fault(&mut self.faults)),
+        }
+    }
+
+    fn faults(&self) -> u64
+        ensures { result ≡ file_faults self.now }
+    {
+        self.faults
+    }
+}
+
+#[cfg(test)]
+mod tests;

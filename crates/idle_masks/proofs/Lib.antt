@@ -1,0 +1,3 @@
+mod Place
+mod Rising
+mod Steps

@@ -1,0 +1,4 @@
+pub mod Refusal
+pub mod Subsystem
+pub mod Subsystems
+pub mod Watched

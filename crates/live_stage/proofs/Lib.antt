@@ -1,0 +1,5 @@
+pub mod DecodingLaws
+pub mod FoundLaws
+pub mod StartLaws
+pub mod ValidLaws
+pub mod RunLaws

@@ -1,0 +1,476 @@
+-- A run, one event more at a time.
+use Rattle.std.proofs.Common.{◌≡◌, ◌≢◌, ◌⊎◌, inl, inr, ◌↔◌, ℕ, ◌+◌, Bool, true, false, List, [], ◌∷◌, ◌++◌, length, length-append, Option, Some, None, Result, Ok, Err, refl, sym, ap, subst, ◌∙◌, arith}
+use Rattle.std.specs.Prelude.{IfOk, OnOk, OnErr, MatchBool}
+use Rattle.std.proofs.lemmas.List.{nil_from_length}
+use Rattle.disk_model.specs.History.{Change}
+use Rattle.disk_model.specs.Moments.{LeftSince, Continues}
+use Rattle.disk_model.proofs.MomentLaws.{now_only, counts_now, left_split, continues_join, continues_same}
+use Rattle.daemon_core.specs.declared.event.Event.{Event}
+use Rattle.state_codec.specs.SavedState.{SavedState}
+use Rattle.daemon_core.specs.State.{State, start}
+use Rattle.daemon_core.specs.Step.{Stepped, step}
+use Rattle.daemon_core.specs.Replay.{Entry, stepped, replay}
+use Rattle.daemon_core.proofs.HistoryLaws.{outputs_are_replies}
+use Rattle.live_stage.specs.declared.error.LiveError.{LiveError}
+use Rattle.live_stage.specs.declared.error.LiveError.TheVariants.{Broken, NoMemory, NumbersSpent}
+use Rattle.live_stage.specs.Answer.{Answer, IsTurn, record_number, last_record_after}
+use Rattle.live_stage.specs.LiveState.{LiveState}
+use Rattle.live_stage.specs.Found.{found_state, AllFindNow, AllFindSince}
+use Rattle.live_stage.specs.Transcript.{entry_of, history_of, replayed, last_record_of, IsTranscript, broken_by, AreReplies, StaysBroken, first_broken, IsWhole, FindsWhole, FindsPrefix}
+
+abbrev Reply : Type 0
+Reply = Result Answer LiveError
+
+-- ---- one event more
+
+pub history_more : (earlier : List Entry) (events : List Event) (answers : List Reply) (event : Event) (answer : Reply) → length answers ≡ length events
+    → history_of earlier (events ++ event ∷ []) (answers ++ answer ∷ []) ≡ history_of (history_of earlier events answers) (event ∷ []) (answer ∷ [])
+history_more earlier [] [] event answer same = refl
+history_more earlier [] (a ∷ answers) event answer same = absurd (omega arith)
+history_more earlier (e ∷ events) [] event answer same = absurd (omega arith)
+history_more earlier (e ∷ events) (Ok t ∷ answers) event answer same = history_more (entry_of e t ∷ earlier) events answers event answer (omega arith)
+history_more earlier (e ∷ events) (Err x ∷ answers) event answer same = history_more earlier events answers event answer (omega arith)
+
+pub transcript_more : {D : Type 0} (first : LiveState D) (earlier : List Entry) (events : List Event) (answers : List Reply) (event : Event) (answer : Reply)
+    → IsTranscript first earlier events answers → IsTranscript first (history_of earlier events answers) (event ∷ []) (answer ∷ [])
+    → IsTranscript first earlier (events ++ event ∷ []) (answers ++ answer ∷ [])
+transcript_more first earlier [] [] event answer so_far one = one
+transcript_more first earlier [] (a ∷ answers) event answer so_far one = elim so_far [ ]
+transcript_more first earlier (e ∷ events) [] event answer so_far one = elim so_far [ ]
+transcript_more first earlier (e ∷ events) (Ok t ∷ answers) event answer so_far one = (so_far.0, transcript_more first (entry_of e t ∷ earlier) events answers event answer so_far.1 one)
+transcript_more first earlier (e ∷ events) (Err x ∷ answers) event answer so_far one = transcript_more first earlier events answers event answer so_far one
+
+-- whether the stage is broken after these answers
+abbrev pub broken_after : Bool → List Reply → Bool
+broken_after was [] = was
+broken_after was (answer ∷ answers) = broken_after (broken_by was answer) answers
+
+broken_after_more : (was : Bool) (answers : List Reply) (answer : Reply) → broken_after was (answers ++ answer ∷ []) ≡ broken_by (broken_after was answers) answer
+broken_after_more was [] answer = refl
+broken_after_more was (a ∷ answers) answer = broken_after_more (broken_by was a) answers answer
+
+stays_more : (was : Bool) (answers : List Reply) (answer : Reply) → StaysBroken was answers → (broken_after was answers ≡ true → answer ≡ Err Broken) → StaysBroken was (answers ++ answer ∷ [])
+stays_more was [] answer so_far one = (one, tt)
+stays_more was (a ∷ answers) answer so_far one = (so_far.0, stays_more (broken_by was a) answers answer so_far.1 one)
+
+first_kept : (events : List Event) (answers : List Reply) (event : Event) (answer : Reply) (found : Event) → first_broken events answers ≡ Some found → first_broken (events ++ event ∷ []) (answers ++ answer ∷ []) ≡ Some found
+first_kept [] answers event answer found is = absurd cc
+first_kept (e ∷ events) [] event answer found is = absurd cc
+first_kept (e ∷ events) (Ok t ∷ answers) event answer found is = first_kept events answers event answer found is
+first_kept (e ∷ events) (Err Broken ∷ answers) event answer found is = is
+first_kept (e ∷ events) (Err NoMemory ∷ answers) event answer found is = first_kept events answers event answer found is
+first_kept (e ∷ events) (Err NumbersSpent ∷ answers) event answer found is = first_kept events answers event answer found is
+
+first_more : (events : List Event) (answers : List Reply) (event : Event) (answer : Reply) → length answers ≡ length events → first_broken events answers ≡ None → first_broken (events ++ event ∷ []) (answers ++ answer ∷ []) ≡ first_broken (event ∷ []) (answer ∷ [])
+first_more [] [] event answer same is = refl
+first_more [] (a ∷ answers) event answer same is = absurd (omega arith)
+first_more (e ∷ events) [] event answer same is = absurd (omega arith)
+first_more (e ∷ events) (Ok t ∷ answers) event answer same is = first_more events answers event answer (omega arith) is
+first_more (e ∷ events) (Err Broken ∷ answers) event answer same is = absurd cc
+first_more (e ∷ events) (Err NoMemory ∷ answers) event answer same is = first_more events answers event answer (omega arith) is
+first_more (e ∷ events) (Err NumbersSpent ∷ answers) event answer same is = first_more events answers event answer (omega arith) is
+
+-- ---- what one turn says
+
+pub record IsTurnMade {D : Type 0} (honest : D → Type 0) (history : D → List Change) (old new : LiveState D) (event : Event) (answer : Reply) : Type 0 where
+  pub made : IfOk answer (λ t. IsTurn old event t new)
+  pub any_moment : honest old.a → honest old.b → old.is_broken ≡ false
+      → (k : Option ℕ) × IfOk answer (λ t. t.refused_at ≡ k) × AllFindSince (λ f. (f ≡ Some old.state.saved) ⊎ (let now = step old.state event k in f ≡ Some now.after.saved)) (history new.a) (length (history old.a)) (history new.b) (length (history old.b))
+  pub kept : honest old.a → honest old.b → new.is_broken ≡ false → AllFindNow (λ f. f ≡ Some new.state.saved) (history new.a) (history new.b)
+  pub usable : OnOk answer (new.is_broken ≡ false)
+  pub other_file : MatchBool old.is_in_b (new.a ≡ old.a) (new.b ≡ old.b)
+  pub same_file : new.is_in_b ≡ old.is_in_b
+  pub broken : old.is_broken ≡ true → (answer ≡ Err Broken) × (new ≡ old)
+  pub breaks : answer ≡ Err Broken → new.is_broken ≡ true
+  pub stays : OnErr answer (answer ≢ Err Broken → new ≡ old)
+  pub continues_a : honest old.a → Continues (history old.a) (history new.a)
+  pub continues_b : honest old.b → Continues (history old.b) (history new.b)
+  pub honest_a : honest old.a ↔ honest new.a
+  pub honest_b : honest old.b ↔ honest new.b
+
+-- one of the two files wasn't touched
+abbrev pub OneFile : List Change → List Change → List Change → List Change → Type 0
+OneFile old_a old_b new_a new_b = (new_a ≡ old_a) ⊎ (new_b ≡ old_b)
+
+-- the file to which no record goes is as it was
+abbrev pub IsOtherKept : {D : Type 0} → Bool → LiveState D → LiveState D → Type 0
+IsOtherKept in_b old new = MatchBool in_b (new.a ≡ old.a) (new.b ≡ old.b)
+
+other_same : {D : Type 0} (in_b : Bool) (old : LiveState D) → IsOtherKept in_b old old
+other_same true old = refl
+other_same false old = refl
+
+other_join : {D : Type 0} (in_b : Bool) (first old new : LiveState D) → IsOtherKept in_b first old → IsOtherKept in_b old new → IsOtherKept in_b first new
+other_join true first old new before now = now ∙ before
+other_join false first old new before now = now ∙ before
+
+pub one_file : {D : Type 0} (history : D → List Change) (in_b : Bool) (first now : LiveState D) → IsOtherKept in_b first now → OneFile (history first.a) (history first.b) (history now.a) (history now.b)
+one_file history true first now kept = inl (ap history kept)
+one_file history false first now kept = inr (ap history kept)
+
+-- ---- a run so far
+
+pub record IsRunSoFar {D : Type 0} (honest : D → Type 0) (history : D → List Change) (first now : LiveState D) (events : List Event) (answers : List Reply) : Type 0 where
+  pub counted : length answers ≡ length events
+  pub transcript : IsTranscript first [] events answers
+  pub orderly : StaysBroken first.is_broken answers
+  pub broken : now.is_broken ≡ broken_after first.is_broken answers
+  pub unbroken : now.is_broken ≡ false → (first_broken events answers ≡ None) × (first.is_broken ≡ false)
+  pub state : now.is_broken ≡ false → now.state ≡ replayed first.state (history_of [] events answers)
+  pub event : now.is_broken ≡ false → now.event ≡ first.event + length (history_of [] events answers)
+  pub last_record : now.is_broken ≡ false → now.last_record ≡ last_record_of first.state first.last_record (history_of [] events answers)
+  pub other_file : MatchBool first.is_in_b (now.a ≡ first.a) (now.b ≡ first.b)
+  pub same_file : now.is_in_b ≡ first.is_in_b
+  pub kept : honest first.a → honest first.b → now.is_broken ≡ false → AllFindNow (λ f. f ≡ Some now.state.saved) (history now.a) (history now.b)
+  pub given_out : honest first.a → honest first.b → first.is_broken ≡ false → now.is_broken ≡ true → AllFindNow (FindsWhole first.state events answers) (history now.a) (history now.b)
+  pub any_moment : honest first.a → honest first.b → first.is_broken ≡ false → OneFile (history first.a) (history first.b) (history now.a) (history now.b)
+      → AllFindSince (FindsPrefix first.state events answers) (history now.a) (length (history first.a)) (history now.b) (length (history first.b))
+  pub continues_a : honest first.a → Continues (history first.a) (history now.a)
+  pub continues_b : honest first.b → Continues (history first.b) (history now.b)
+  pub honest_a : honest first.a ↔ honest now.a
+  pub honest_b : honest first.b ↔ honest now.b
+
+abbrev whole_of : List Event → List Reply → List Entry
+whole_of events answers = history_of [] events answers
+
+pub finds_prefix_of_whole : (s : State) (events : List Event) (answers : List Reply) (f : Option SavedState) → FindsWhole s events answers f → FindsPrefix s events answers f
+finds_prefix_of_whole s events answers f w = record { whole = w.whole; is_whole = w.is_whole; later = []; prefix = w.whole; parts = refl; finds = w.finds }
+
+-- nothing has happened yet
+pub begins : {D : Type 0} (honest : D → Type 0) (history : D → List Change) (first : LiveState D)
+    → (honest first.a → honest first.b → first.is_broken ≡ false → AllFindNow (λ f. f ≡ Some first.state.saved) (history first.a) (history first.b))
+    → IsRunSoFar honest history first first [] []
+begins honest history first kept = record {
+  counted = refl;
+  transcript = tt;
+  orderly = tt;
+  broken = refl;
+  unbroken = λ is. (refl, is);
+  state = λ is. refl;
+  event = λ is. omega arith;
+  last_record = λ is. refl;
+  other_file = other_same first.is_in_b first;
+  same_file = refl;
+  kept = kept;
+  given_out = λ ha hb usable broken. absurd cc;
+  any_moment = λ ha hb usable one x y at_x at_y.
+      record {
+        whole = [];
+        is_whole = inl refl;
+        later = [];
+        prefix = [];
+        parts = refl;
+        finds = kept ha hb usable x y (now_only (history first.a) x at_x) (now_only (history first.b) y at_y);
+      };
+  continues_a = λ ha. continues_same (history first.a);
+  continues_b = λ hb. continues_same (history first.b);
+  honest_a = (λ h. h, λ h. h);
+  honest_b = (λ h. h, λ h. h);
+}
+
+-- ---- the whole history grows
+
+whole_refused : (events : List Event) (answers : List Reply) (event : Event) (e : LiveError) (whole : List Entry) → length answers ≡ length events
+    → IsWhole events answers whole → IsWhole (events ++ event ∷ []) (answers ++ Err e ∷ []) whole
+whole_refused events answers event e whole same (inl is) = inl (is ∙ sym (history_more [] events answers event (Err e) same))
+whole_refused events answers event e whole same (inr h) = inr (record {
+  event = h.event;
+  refused = h.refused;
+  first = first_kept events answers event (Err e) h.event h.first;
+  on_top = h.on_top ∙ ap (λ (w : List Entry). record { event = h.event; refused = h.refused } ∷ w) (sym (history_more [] events answers event (Err e) same));
+})
+
+prefix_refused : (s : State) (events : List Event) (answers : List Reply) (event : Event) (e : LiveError) (f : Option SavedState) → length answers ≡ length events
+    → FindsPrefix s events answers f → FindsPrefix s (events ++ event ∷ []) (answers ++ Err e ∷ []) f
+prefix_refused s events answers event e f same h = record {
+  whole = h.whole;
+  is_whole = whole_refused events answers event e h.whole same h.is_whole;
+  later = h.later;
+  prefix = h.prefix;
+  parts = h.parts;
+  finds = h.finds;
+}
+
+whole_kept_refused : (s : State) (events : List Event) (answers : List Reply) (event : Event) (e : LiveError) (f : Option SavedState) → length answers ≡ length events
+    → FindsWhole s events answers f → FindsWhole s (events ++ event ∷ []) (answers ++ Err e ∷ []) f
+whole_kept_refused s events answers event e f same h = record {
+  whole = h.whole;
+  is_whole = whole_refused events answers event e h.whole same h.is_whole;
+  finds = h.finds;
+}
+
+-- an event was answered, and none was broken before
+prefix_answered : (s : State) (events : List Event) (answers : List Reply) (event : Event) (t : Answer) (f : Option SavedState) → length answers ≡ length events → first_broken events answers ≡ None
+    → FindsPrefix s events answers f → FindsPrefix s (events ++ event ∷ []) (answers ++ Ok t ∷ []) f
+prefix_answered s events answers event t f same none h = elim h.is_whole [
+  | inl is ↦ record {
+    whole = entry_of event t ∷ h.whole;
+    is_whole = inl (ap (λ (w : List Entry). entry_of event t ∷ w) is ∙ sym (history_more [] events answers event (Ok t) same));
+    later = entry_of event t ∷ h.later;
+    prefix = h.prefix;
+    parts = ap (λ (w : List Entry). entry_of event t ∷ w) h.parts;
+    finds = h.finds;
+  }
+  | inr b ↦ (let first = b.first in absurd cc)
+]
+
+-- the state before an event that was answered or broke the stage, and the state after it
+prefix_before : (s : State) (events : List Event) (answers : List Reply) (f : Option SavedState) → (let now = replayed s (whole_of events answers) in f ≡ Some now.saved) → FindsPrefix s events answers f
+prefix_before s events answers f is = record { whole = whole_of events answers; is_whole = inl refl; later = []; prefix = whole_of events answers; parts = refl; finds = is }
+
+-- ---- pairs of images, over one run after another
+
+between : (a b c : List Change) → Continues a b → Continues b c → c ≡ a → b ≡ a
+between a b c first second same =
+    let none : length first.0 ≡ 0 = omega (arith, ap length first.1, ap length second.1, ap length same, length-append first.0 a, length-append second.0 b) in
+    first.1 ∙ ap (λ (l : List Change). l ++ a) (nil_from_length first.0 none)
+
+left_of : (old new : List Change) (t : ℕ) (x : List ℕ) → Continues old new → LeftSince new t x → LeftSince new (length old) x ⊎ LeftSince old t x
+left_of old new t x run left = elim (left_split run.0 old t x (subst (λ h. LeftSince h t x) run.1 left)) [
+  | inl during ↦ inl (subst (λ h. LeftSince h (length old) x) (sym run.1) during)
+  | inr before ↦ inr before
+]
+
+pub join_pairs : (P : Option SavedState → Type 0) (a0 a1 a2 b0 b1 b2 : List Change)
+    → Continues a0 a1 → Continues a1 a2 → Continues b0 b1 → Continues b1 b2 → OneFile a0 b0 a2 b2
+    → (OneFile a0 b0 a1 b1 → AllFindSince P a1 (length a0) b1 (length b0)) → AllFindSince P a2 (length a1) b2 (length b1)
+    → AllFindSince P a2 (length a0) b2 (length b0)
+join_pairs P a0 a1 a2 b0 b1 b2 run_a more_a run_b more_b (inr still) earlier turn x y at_x at_y =
+    let same : b1 ≡ b0 = between b0 b1 b2 run_b more_b still in
+    elim (left_of a1 a2 (length a0) x more_a at_x) [
+      | inl during ↦ turn x y during (subst (λ (h : List Change). LeftSince b2 (length h) y) (sym same) at_y)
+      | inr before ↦ earlier (inr same) x y before (subst (λ (h : List Change). LeftSince h (length b0) y) (still ∙ sym same) at_y)
+    ]
+join_pairs P a0 a1 a2 b0 b1 b2 run_a more_a run_b more_b (inl still) earlier turn x y at_x at_y =
+    let same : a1 ≡ a0 = between a0 a1 a2 run_a more_a still in
+    elim (left_of b1 b2 (length b0) y more_b at_y) [
+      | inl during ↦ turn x y (subst (λ (h : List Change). LeftSince a2 (length h) x) (sym same) at_x) during
+      | inr before ↦ earlier (inl same) x y (subst (λ (h : List Change). LeftSince h (length a0) x) (still ∙ sym same) at_x) before
+    ]
+
+-- ---- one turn more
+
+by_refused : (was : Bool) (e : LiveError) → (e ≡ Broken → was ≡ true) → broken_by was (Err e) ≡ was
+by_refused was Broken h = sym (h refl)
+by_refused was NoMemory h = refl
+by_refused was NumbersSpent h = refl
+
+first_refused : (event : Event) (e : LiveError) → (e ≡ Broken → ⊥) → first_broken (event ∷ []) (Err e ∷ []) ≡ None
+first_refused event Broken h = absurd (h refl)
+first_refused event NoMemory h = refl
+first_refused event NumbersSpent h = refl
+
+counts_on : (events : List Event) (answers : List Reply) (event : Event) (answer : Reply) → length answers ≡ length events → length (answers ++ answer ∷ []) ≡ length (events ++ event ∷ [])
+counts_on events answers event answer same = omega (arith, same, length-append answers (answer ∷ []), length-append events (event ∷ []))
+
+-- an event that changed nothing was refused
+refused_still : {D : Type 0} (honest : D → Type 0) (history : D → List Change) (first old : LiveState D) (events : List Event) (answers : List Reply) (event : Event) (e : LiveError)
+    → IsRunSoFar honest history first old events answers → (old.is_broken ≡ true → e ≡ Broken) → (e ≡ Broken → old.is_broken ≡ true)
+    → IsRunSoFar honest history first old (events ++ event ∷ []) (answers ++ Err e ∷ [])
+refused_still honest history first old events answers event e r so_broken was_broken =
+    let longer = sym (history_more [] events answers event (Err e) r.counted) in
+    record {
+      counted = counts_on events answers event (Err e) r.counted;
+      transcript = transcript_more first [] events answers event (Err e) r.transcript tt;
+      orderly = stays_more first.is_broken answers (Err e) r.orderly (λ b. ap Err (so_broken (r.broken ∙ b)));
+      broken = r.broken ∙ sym (by_refused (broken_after first.is_broken answers) e (λ is. sym r.broken ∙ was_broken is)) ∙ sym (broken_after_more first.is_broken answers (Err e));
+      unbroken = λ is. (first_more events answers event (Err e) r.counted (r.unbroken is).0 ∙ first_refused event e (λ b. let no = was_broken b in cc), (r.unbroken is).1);
+      state = λ is. r.state is ∙ ap (replayed first.state) longer;
+      event = λ is. r.event is ∙ ap (λ (h : List Entry). first.event + length h) longer;
+      last_record = λ is. r.last_record is ∙ ap (last_record_of first.state first.last_record) longer;
+      other_file = r.other_file;
+      same_file = r.same_file;
+      kept = r.kept;
+      given_out = λ ha hb usable b x y at_x at_y. whole_kept_refused first.state events answers event e _ r.counted (r.given_out ha hb usable b x y at_x at_y);
+      any_moment = λ ha hb usable one x y at_x at_y. prefix_refused first.state events answers event e _ r.counted (r.any_moment ha hb usable one x y at_x at_y);
+      continues_a = r.continues_a;
+      continues_b = r.continues_b;
+      honest_a = r.honest_a;
+      honest_b = r.honest_b;
+    }
+
+refused : {D : Type 0} (honest : D → Type 0) (history : D → List Change) (first old new : LiveState D) (events : List Event) (answers : List Reply) (event : Event) (e : LiveError)
+    → new ≡ old → IsRunSoFar honest history first old events answers → (old.is_broken ≡ true → e ≡ Broken) → (e ≡ Broken → old.is_broken ≡ true)
+    → IsRunSoFar honest history first new (events ++ event ∷ []) (answers ++ Err e ∷ [])
+refused honest history first old new events answers event e same r so_broken was_broken =
+    subst (λ v. IsRunSoFar honest history first v (events ++ event ∷ []) (answers ++ Err e ∷ [])) (sym same) (refused_still honest history first old events answers event e r so_broken was_broken)
+
+-- the state before an event, as the history has it, is that from before or after it
+found_before : {D : Type 0} (first old : LiveState D) (whole : List Entry) (f : Option SavedState) → old.state ≡ replayed first.state whole → f ≡ Some old.state.saved → (let now = replayed first.state whole in f ≡ Some now.saved)
+found_before first old whole f is found = found ∙ ap (λ (s : State). Some s.saved) is
+
+found_after : {D : Type 0} (first old : LiveState D) (whole : List Entry) (event : Event) (k : Option ℕ) (f : Option SavedState) → old.state ≡ replayed first.state whole → (let now = step old.state event k in f ≡ Some now.after.saved)
+    → (let now = stepped (replayed first.state whole) (record { event = event; refused = k }) in f ≡ Some now.after.saved)
+found_after first old whole event k f is found = found ∙ ap (λ (s : State). let now : Stepped = step s event k in Some now.after.saved) is
+
+-- a disk fault came in an event
+broke : {D : Type 0} (honest : D → Type 0) (history : D → List Change) (first old new : LiveState D) (events : List Event) (answers : List Reply) (event : Event)
+    → old.is_broken ≡ false → IsRunSoFar honest history first old events answers → IsTurnMade honest history old new event (Err Broken)
+    → IsRunSoFar honest history first new (events ++ event ∷ []) (answers ++ Err Broken ∷ [])
+broke {D} honest history first old new events answers event usable r m =
+    let now_broken : new.is_broken ≡ true = m.breaks refl in
+    let longer = sym (history_more [] events answers event (Err Broken) r.counted) in
+    let whole : List Entry = whole_of events answers in
+    let finds : (k : Option ℕ) (f : Option SavedState) → ((f ≡ Some old.state.saved) ⊎ (let now = step old.state event k in f ≡ Some now.after.saved)) → FindsWhole first.state (events ++ event ∷ []) (answers ++ Err Broken ∷ []) f =
+    λ k f either. elim either [
+      | inl before ↦ record { whole = whole; is_whole = inl longer; finds = found_before first old whole f (r.state usable) before }
+      | inr after ↦ record {
+        whole = record { event = event; refused = k } ∷ whole;
+        is_whole = inr (record { event = event; refused = k; first = first_more events answers event (Err Broken) r.counted (r.unbroken usable).0; on_top = ap (λ (w : List Entry). record { event = event; refused = k } ∷ w) longer });
+        finds = found_after first old whole event k f (r.state usable) after;
+      }
+    ] in
+    record {
+      counted = counts_on events answers event (Err Broken) r.counted;
+      transcript = transcript_more first [] events answers event (Err Broken) r.transcript tt;
+      orderly = stays_more first.is_broken answers (Err Broken) r.orderly (λ b. refl);
+      broken = now_broken ∙ sym (broken_after_more first.is_broken answers (Err Broken));
+      unbroken = λ is. absurd cc;
+      state = λ is. absurd cc;
+      event = λ is. absurd cc;
+      last_record = λ is. absurd cc;
+      other_file = other_join first.is_in_b first old new r.other_file (subst (λ in_b. IsOtherKept in_b old new) r.same_file m.other_file);
+      same_file = m.same_file ∙ r.same_file;
+      kept = λ ha hb is. absurd cc;
+      given_out = λ ha hb first_usable b x y at_x at_y.
+          let turn = m.any_moment (r.honest_a.0 ha) (r.honest_b.0 hb) usable in
+          finds turn.0 (found_state x y) (turn.2 x y (counts_now (history new.a) (length (history old.a)) x at_x) (counts_now (history new.b) (length (history old.b)) y at_y));
+      any_moment = λ ha hb first_usable one.
+          let turn = m.any_moment (r.honest_a.0 ha) (r.honest_b.0 hb) usable in
+          join_pairs (FindsPrefix first.state (events ++ event ∷ []) (answers ++ Err Broken ∷ [])) (history first.a) (history old.a) (history new.a) (history first.b) (history old.b) (history new.b)
+          (r.continues_a ha) (m.continues_a (r.honest_a.0 ha)) (r.continues_b hb) (m.continues_b (r.honest_b.0 hb)) one
+          (λ still x y at_x at_y. prefix_refused first.state events answers event Broken (found_state x y) r.counted (r.any_moment ha hb first_usable still x y at_x at_y))
+          (λ x y at_x at_y. finds_prefix_of_whole first.state (events ++ event ∷ []) (answers ++ Err Broken ∷ []) (found_state x y) (finds turn.0 (found_state x y) (turn.2 x y at_x at_y)));
+      continues_a = λ ha. continues_join (history first.a) (history old.a) (history new.a) (r.continues_a ha) (m.continues_a (r.honest_a.0 ha));
+      continues_b = λ hb. continues_join (history first.b) (history old.b) (history new.b) (r.continues_b hb) (m.continues_b (r.honest_b.0 hb));
+      honest_a = (λ h. m.honest_a.0 (r.honest_a.0 h), λ h. r.honest_a.1 (m.honest_a.1 h));
+      honest_b = (λ h. m.honest_b.0 (r.honest_b.0 h), λ h. r.honest_b.1 (m.honest_b.1 h));
+    }
+
+-- an event was answered
+answered : {D : Type 0} (honest : D → Type 0) (history : D → List Change) (first old new : LiveState D) (events : List Event) (answers : List Reply) (event : Event) (t : Answer)
+    → old.is_broken ≡ false → IsRunSoFar honest history first old events answers → IsTurnMade honest history old new event (Ok t)
+    → IsRunSoFar honest history first new (events ++ event ∷ []) (answers ++ Ok t ∷ [])
+answered {D} honest history first old new events answers event t usable r m =
+    let longer = sym (history_more [] events answers event (Ok t) r.counted) in
+    let whole : List Entry = whole_of events answers in
+    let same : step old.state event t.refused_at ≡ stepped (replayed first.state whole) (entry_of event t) = ap (λ (s : State). step s event t.refused_at) (r.state usable) in
+    let made = m.made in
+    let finds : (k : Option ℕ) (f : Option SavedState) → t.refused_at ≡ k → ((f ≡ Some old.state.saved) ⊎ (let now = step old.state event k in f ≡ Some now.after.saved)) → FindsPrefix first.state (events ++ event ∷ []) (answers ++ Ok t ∷ []) f =
+    λ k f place either. elim either [
+      | inl before ↦ record {
+        whole = entry_of event t ∷ whole;
+        is_whole = inl longer;
+        later = entry_of event t ∷ [];
+        prefix = whole;
+        parts = refl;
+        finds = found_before first old whole f (r.state usable) before;
+      }
+      | inr after ↦ record {
+        whole = entry_of event t ∷ whole;
+        is_whole = inl longer;
+        later = [];
+        prefix = entry_of event t ∷ whole;
+        parts = refl;
+        finds = found_after first old whole event t.refused_at f (r.state usable) (after ∙ ap (λ (p : Option ℕ). let now : Stepped = step old.state event p in Some now.after.saved) (sym place));
+      }
+    ] in
+    record {
+      counted = counts_on events answers event (Ok t) r.counted;
+      transcript = transcript_more first [] events answers event (Ok t) r.transcript (
+        record {
+          outputs = made.outputs ∙ ap (λ (st : Stepped). st.outputs) same;
+          closes = made.closes ∙ ap (λ (st : Stepped). st.closes) same;
+          ended = made.ended ∙ ap (λ (st : Stepped). st.ended) same;
+          event = (let before = r.event usable in omega (arith, made.number, before));
+          receipt_event = (let before = r.event usable in omega (arith, made.receipt_event, before));
+          receipt_number = made.receipt_number
+              ∙ ap (λ (n : ℕ). let now : Stepped = step old.state event t.refused_at in record_number n now.ops) (r.last_record usable)
+              ∙ ap (λ (st : Stepped). record_number (last_record_of first.state first.last_record whole) st.ops) same;
+        },
+        tt,
+      );
+      orderly = stays_more first.is_broken answers (Ok t) r.orderly (λ b. let was = r.broken in absurd cc);
+      broken = m.usable ∙ sym usable ∙ r.broken ∙ sym (broken_after_more first.is_broken answers (Ok t));
+      unbroken = λ is. (first_more events answers event (Ok t) r.counted (r.unbroken usable).0, (r.unbroken usable).1);
+      state = λ is. made.state ∙ ap (λ (st : Stepped). st.after) same ∙ ap (replayed first.state) longer;
+      event = λ is. (let before = r.event usable in omega (arith, made.event, before, ap length longer));
+      last_record = λ is. made.last_record
+          ∙ ap (λ (n : ℕ). let now : Stepped = step old.state event t.refused_at in last_record_after n now.ops) (r.last_record usable)
+          ∙ ap (λ (st : Stepped). last_record_after (last_record_of first.state first.last_record whole) st.ops) same
+          ∙ ap (last_record_of first.state first.last_record) longer;
+      other_file = other_join first.is_in_b first old new r.other_file (subst (λ in_b. IsOtherKept in_b old new) r.same_file m.other_file);
+      same_file = m.same_file ∙ r.same_file;
+      kept = λ ha hb is. m.kept (r.honest_a.0 ha) (r.honest_b.0 hb) is;
+      given_out = λ ha hb first_usable b. (let not = m.usable in absurd cc);
+      any_moment = λ ha hb first_usable one.
+          let turn = m.any_moment (r.honest_a.0 ha) (r.honest_b.0 hb) usable in
+          join_pairs (FindsPrefix first.state (events ++ event ∷ []) (answers ++ Ok t ∷ [])) (history first.a) (history old.a) (history new.a) (history first.b) (history old.b) (history new.b)
+          (r.continues_a ha) (m.continues_a (r.honest_a.0 ha)) (r.continues_b hb) (m.continues_b (r.honest_b.0 hb)) one
+          (λ still x y at_x at_y. prefix_answered first.state events answers event t (found_state x y) r.counted (r.unbroken usable).0 (r.any_moment ha hb first_usable still x y at_x at_y))
+          (λ x y at_x at_y. finds turn.0 (found_state x y) turn.1 (turn.2 x y at_x at_y));
+      continues_a = λ ha. continues_join (history first.a) (history old.a) (history new.a) (r.continues_a ha) (m.continues_a (r.honest_a.0 ha));
+      continues_b = λ hb. continues_join (history first.b) (history old.b) (history new.b) (r.continues_b hb) (m.continues_b (r.honest_b.0 hb));
+      honest_a = (λ h. m.honest_a.0 (r.honest_a.0 h), λ h. r.honest_a.1 (m.honest_a.1 h));
+      honest_b = (λ h. m.honest_b.0 (r.honest_b.0 h), λ h. r.honest_b.1 (m.honest_b.1 h));
+    }
+
+not_broken : (was : Bool) → (was ≡ true → ⊥) → was ≡ false
+not_broken true h = absurd (h refl)
+not_broken false h = refl
+
+broken_or_not : (was : Bool) → (was ≡ true) ⊎ (was ≡ false)
+broken_or_not true = inl refl
+broken_or_not false = inr refl
+
+ok_is_no_err : (t : Answer) (r : Reply) → r ≡ Ok t → r ≡ Err Broken → ⊥
+ok_is_no_err t r is is_not = cc
+
+-- a run goes on by one turn
+pub goes_on : {D : Type 0} (honest : D → Type 0) (history : D → List Change) (first old new : LiveState D) (events : List Event) (answers : List Reply) (event : Event) (answer : Reply)
+    → IsRunSoFar honest history first old events answers → IsTurnMade honest history old new event answer
+    → IsRunSoFar honest history first new (events ++ event ∷ []) (answers ++ answer ∷ [])
+goes_on honest history first old new events answers event (Ok t) r m =
+    answered honest history first old new events answers event t (not_broken old.is_broken (λ b. ok_is_no_err t (Ok t) refl (m.broken b).0)) r m
+goes_on honest history first old new events answers event (Err Broken) r m =
+    elim (broken_or_not old.is_broken) [
+      | inl was ↦ refused honest history first old new events answers event Broken (m.broken was).1 r (λ b. refl) (λ b. was)
+      | inr usable ↦ broke honest history first old new events answers event usable r m
+    ]
+goes_on honest history first old new events answers event (Err NoMemory) r m =
+    refused honest history first old new events answers event NoMemory (m.stays (λ is. cc)) r (λ b. let no = (m.broken b).0 in cc) (λ is. absurd cc)
+goes_on honest history first old new events answers event (Err NumbersSpent) r m =
+    refused honest history first old new events answers event NumbersSpent (m.stays (λ is. cc)) r (λ b. let no = (m.broken b).0 in cc) (λ is. absurd cc)
+
+-- ---- the whole run
+
+-- at its end a restart finds the whole history
+pub run_finds : {D : Type 0} (honest : D → Type 0) (history : D → List Change) (first now : LiveState D) (events : List Event) (answers : List Reply)
+    → IsRunSoFar honest history first now events answers → honest first.a → honest first.b → first.is_broken ≡ false
+    → AllFindNow (FindsWhole first.state events answers) (history now.a) (history now.b)
+run_finds honest history first now events answers r ha hb usable x y at_x at_y =
+    elim (broken_or_not now.is_broken) [
+      | inl broken ↦ r.given_out ha hb usable broken x y at_x at_y
+      | inr fine ↦ record { whole = whole_of events answers; is_whole = inl refl; finds = r.kept ha hb fine x y at_x at_y ∙ ap (λ (s : State). Some s.saved) (r.state fine) }
+    ]
+
+-- ---- from the start of a life
+
+pub replayed_from_start : (kept : SavedState) (history : List Entry) → replayed (start kept) history ≡ replay kept history
+unfolding replay
+replayed_from_start kept [] = refl
+replayed_from_start kept (entry ∷ earlier) = ap (λ (s : State). let now : Stepped = stepped s entry in now.after) (replayed_from_start kept earlier)
+
+pub run_replies : {D : Type 0} (first : LiveState D) (kept : SavedState) (earlier : List Entry) (events : List Event) (answers : List Reply)
+    → first.state ≡ start kept → IsTranscript first earlier events answers → AreReplies kept earlier events answers
+run_replies first kept earlier [] [] begun told = tt
+run_replies first kept earlier [] (a ∷ answers) begun told = elim told [ ]
+run_replies first kept earlier (e ∷ events) [] begun told = elim told [ ]
+run_replies first kept earlier (e ∷ events) (Ok t ∷ answers) begun told = (
+  told.0.outputs
+      ∙ ap (λ (s : State). let now : Stepped = stepped (replayed s earlier) (entry_of e t) in now.outputs) begun
+      ∙ ap (λ (s : State). let now : Stepped = stepped s (entry_of e t) in now.outputs) (replayed_from_start kept earlier)
+      ∙ outputs_are_replies kept earlier (entry_of e t),
+  run_replies first kept (entry_of e t ∷ earlier) events answers begun told.1,
+)
+run_replies first kept earlier (e ∷ events) (Err x ∷ answers) begun told = run_replies first kept earlier events answers begun told

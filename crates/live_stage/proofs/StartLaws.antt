@@ -1,0 +1,148 @@
+-- Two files as a stage is made or opened over them.
+use Rattle.std.proofs.Common.{◌≡◌, ◌⊎◌, inl, inr, ℕ, ◌+◌, ◌-◌, ◌^◌, ◌<◌, ◌≤◌, min, List, [], ◌∷◌, length, length-append, Some, None, Result, Ok, Err, refl, ap, subst, ◌∙◌, arith}
+use Rattle.std.specs.Prelude.{IsSome, flat_map}
+use Rattle.std.specs.Option.{ok_or}
+use Rattle.std.specs.Result.{result_ok}
+use Rattle.play_journal.specs.declared.error.JournalError.{JournalError}
+use Rattle.play_journal.specs.declared.error.JournalError.TheVariants as journal
+use Rattle.play_journal.specs.Content.{Content, fresh}
+use Rattle.play_journal.specs.Errors.{IsRefusalOfCreate}
+use Rattle.play_journal.specs.File.{File, IsFile, gated, spelling, content_of}
+use Rattle.play_journal.specs.Pair.{reading, found, IsPair}
+use Rattle.play_journal.proofs.FileLaws.{length-spelling}
+use Rattle.play_journal.proofs.PairLaws.{says-found}
+use Rattle.play_journal.proofs.RecordLaws.{IsBytes}
+use Rattle.state_codec.specs.SavedState.{SavedState, IsSavedState}
+use Rattle.state_codec.specs.SavedState as state
+use Rattle.state_codec.specs.Spelling.{saved_bytes}
+use Rattle.state_codec.specs.Reading.{saved_reading}
+use Rattle.state_codec.specs.Steps.{◌>>=◌}
+use Rattle.state_codec.proofs.SavedLaws.{snapshot_again}
+use Rattle.live_stage.specs.declared.error.StartError.{StartError}
+use Rattle.live_stage.specs.declared.error.StartError.TheVariants.{NotEmpty, NoJournal, Damaged, NoMemory, Broken}
+use Rattle.live_stage.specs.Decoding.{GivesState}
+use Rattle.live_stage.specs.Errors.{IsCause, start_error}
+use Rattle.live_stage.specs.Found.{after_record, records_reading, stored_reading, content_reading, state_of, found_state}
+
+-- a pair that reads so is found so
+pub found_as_read : (x y : List ℕ) (content : Content) → reading x y ≡ Ok content → found x y ≡ Some content
+unfolding found
+found_as_read x y content read = ap result_ok read
+
+-- content whose parts are read so stands for this state
+pub stands : (content : Content) (snapshot : List ℕ) (records : List (List ℕ)) (s : SavedState)
+    → snapshot ≡ content.snapshot → records ≡ content.records → stored_reading snapshot records ≡ Ok s → state_of (Some content) ≡ Some s
+stands content snapshot records s own_snapshot own_records read =
+    let whole : content_reading content ≡ Ok s = rw (← own_snapshot, ← own_records) read in
+    ap result_ok whole
+
+pub found_so : (x y : List ℕ) (content : Content) (s : SavedState) → reading x y ≡ Ok content → state_of (Some content) ≡ Some s → found_state x y ≡ Some s
+found_so x y content s read stood = ap state_of (found_as_read x y content read) ∙ stood
+
+-- a new journal stands for the state that its snapshot spells
+pub fresh_stands : (content : Content) (snapshot : List ℕ) (s : SavedState) → content ≡ fresh snapshot → snapshot ≡ saved_bytes s → IsSavedState s → state_of (Some content) ≡ Some s
+unfolding stored_reading
+fresh_stands content snapshot s is spelled good =
+    let read : saved_reading snapshot ≡ Ok s = ap saved_reading spelled ∙ snapshot_again s good in
+    ap (λ c. state_of (Some c)) is ∙ rw read refl
+
+-- ---- how large a file is
+
+-- the gate of the record that stands for none lies in the file
+records_within : (gate : ℕ) (bodies : List (List ℕ)) (s : SavedState) (at : ℕ) → records_reading gate bodies s ≡ Err at → at ≤ gate + length (flat_map gated bodies)
+records_within gate [] s at is = absurd cc
+records_within gate (body ∷ bodies) s at is =
+    (elim (after_record body s) as (λ o. (ok_or {E = ℕ} o gate >>= λ t. records_reading (gate + (5 + length body)) bodies t) ≡ Err at → at ≤ gate + length (flat_map gated (body ∷ bodies))) [
+      | None ↦ λ e. let same : gate ≡ at = (cc) in omega arith
+      | Some t ↦ λ e. let behind = records_within (gate + (5 + length body)) bodies t at e in omega (arith, behind, length-append (gated body) (flat_map gated bodies))
+    ]) is
+
+stored_within : (snapshot : List ℕ) (bodies : List (List ℕ)) (at : ℕ) → stored_reading snapshot bodies ≡ Err at → at ≤ 32 + length snapshot + length (flat_map gated bodies)
+unfolding stored_reading
+stored_within snapshot bodies at is =
+    (elim (result_ok (saved_reading snapshot)) as (λ o. (ok_or {E = ℕ} o 32 >>= λ t. records_reading (32 + length snapshot) bodies t) ≡ Err at → at ≤ 32 + length snapshot + length (flat_map gated bodies)) [
+      | None ↦ λ e. let same : 32 ≡ at = (cc) in omega arith
+      | Some t ↦ λ e. records_within (32 + length snapshot) bodies t at e
+    ]) is
+
+-- one of two files is this one
+file_size : (bytes : List ℕ) (file : File) → IsFile bytes file → 32 + length file.snapshot + length (flat_map gated file.records) ≤ length bytes
+file_size bytes file is =
+    omega (arith, ap length is.spelled, length-append (spelling file) (is.gate ∷ is.free), length-spelling file)
+
+pub record IsSmall (content : Content) : Type 0 where
+  pub size : 32 + length content.snapshot + length (flat_map gated content.records) < 2 ^ 64
+  pub numbers : content.base + length content.records < 2 ^ 64
+
+small_file : (bytes : List ℕ) (file : File) → length bytes < 2 ^ 63 → IsFile bytes file → IsSmall (content_of file)
+small_file bytes file short is = record { size = omega (arith, file_size bytes file is); numbers = is.fits.numbers }
+
+small_pair : (a b : List ℕ) (file : File) → length a < 2 ^ 63 → length b < 2 ^ 63 → IsPair a b file → IsSmall (content_of file)
+small_pair a b file short_a short_b (inl first) = small_file a file short_a first.0
+small_pair a b file short_a short_b (inr second) = small_file b file short_b second.0
+
+-- content that is found in files that are not too long has small numbers
+pub found_small : (a b : List ℕ) (content : Content) → IsBytes a → IsBytes b → length a < 2 ^ 63 → length b < 2 ^ 63 → reading a b ≡ Ok content → IsSmall content
+found_small a b content bytes_a bytes_b short_a short_b read =
+    let says = says-found a b content bytes_a bytes_b (found_as_read a b content read) in
+    subst IsSmall says.says (small_pair a b says.file short_a short_b says.pair)
+
+-- ---- content that stands for no state
+
+damaged_at : (offset : ℕ) (r : Result SavedState ℕ) → GivesState (Err (Damaged offset)) r → (at : ℕ) × (r ≡ Err at) × (offset ≡ min at (2 ^ 64 - 1))
+damaged_at offset (Ok s) gives = elim gives [ ]
+damaged_at offset (Err at) gives = (at, refl, gives)
+
+-- a pair of files that was read as this content
+pub record WasRead (a b : List ℕ) (content : Content) (snapshot : List ℕ) (records : List (List ℕ)) : Type 0 where
+  pub read : reading a b ≡ Ok content
+  pub same_snapshot : snapshot ≡ content.snapshot
+  pub same_records : records ≡ content.records
+  pub small : IsSmall content
+
+pub refused_content : (a b : List ℕ) (content : Content) (snapshot : List ℕ) (records : List (List ℕ)) (e : StartError)
+    → WasRead a b content snapshot records → GivesState (Err e) (stored_reading snapshot records) → IsCause a b e
+refused_content a b content snapshot records NotEmpty was gives = gives
+refused_content a b content snapshot records NoJournal was gives = elim gives [ ]
+refused_content a b content snapshot records (Damaged offset) was gives =
+    let told = damaged_at offset (stored_reading snapshot records) gives in
+    let bad : content_reading content ≡ Err told.0 = rw (← was.same_snapshot, ← was.same_records) told.1 in
+    let within = stored_within content.snapshot content.records told.0 bad in
+    let same : told.0 ≡ offset = omega (arith, within, was.small.size, told.2) in
+    inr (record { content = content; read = was.read; bad = bad ∙ ap Err same })
+refused_content a b content snapshot records NoMemory was gives = tt
+refused_content a b content snapshot records Broken was gives = tt
+
+-- a pair that gives a state is refused for want of memory or by a fault alone
+pub refused_good : (a b : List ℕ) (content : Content) (snapshot : List ℕ) (records : List (List ℕ)) (e : StartError)
+    → WasRead a b content snapshot records → IsSome (found_state a b) → GivesState (Err e) (stored_reading snapshot records) → (e ≡ NoMemory) ⊎ (e ≡ Broken)
+refused_good a b content snapshot records NotEmpty was some gives = elim gives [ ]
+refused_good a b content snapshot records NoJournal was some gives = elim gives [ ]
+refused_good a b content snapshot records (Damaged offset) was some gives =
+    let told = damaged_at offset (stored_reading snapshot records) gives in
+    let bad : content_reading content ≡ Err told.0 = rw (← was.same_snapshot, ← was.same_records) told.1 in
+    let none : found_state a b ≡ None = ap state_of (found_as_read a b content was.read) ∙ ap result_ok bad in
+    let no : IsSome {T = SavedState} None = rw none at some in
+    absurd cc
+refused_good a b content snapshot records NoMemory was some gives = inl refl
+refused_good a b content snapshot records Broken was some gives = elim gives [ ]
+
+-- ---- a snapshot is never too long
+
+fresh_length : (key : List ℕ) → length key ≡ 32 → length (saved_bytes (state.fresh key)) ≡ 69
+fresh_length key long = simp length-append (omega (arith, long))
+
+fault_of_create : (e : JournalError) → IsRefusalOfCreate e → (e ≡ journal.TooLong → ⊥) → start_error e ≡ Broken → e ≡ journal.DiskFault
+fault_of_create journal.NotEmpty one short is = cc
+fault_of_create journal.NoJournal one short is = cc
+fault_of_create (journal.Damaged offset) one short is = cc
+fault_of_create journal.DiskFault one short is = refl
+fault_of_create journal.NoMemory one short is = cc
+fault_of_create journal.TooLong one short is = absurd (short refl)
+fault_of_create journal.NumbersSpent one short is = elim one [ ]
+
+-- a fresh journal that was not made for want of a disk
+pub only_a_fault : (e : JournalError) (snapshot key : List ℕ) → snapshot ≡ saved_bytes (state.fresh key) → length key ≡ 32
+    → IsRefusalOfCreate e → (e ≡ journal.TooLong → 4294967295 < length snapshot) → start_error e ≡ Broken → e ≡ journal.DiskFault
+only_a_fault e snapshot key spelled long one too_long is =
+    fault_of_create e one (λ t. let too = too_long t in omega (arith, too, ap length spelled, fresh_length key long)) is

@@ -1,0 +1,108 @@
+use Rattle.std.proofs.Common.{◌≡◌, List, [], ◌∷◌, length, refl, sym, ap, subst, ◌∙◌, append_assoc, arith}
+use Rattle.std.proofs.lemmas.List.{append-nil, nil_from_length}
+use Rattle.std.specs.Vec.Iter.{into_iter_items}
+use Rattle.daemon_core.specs.declared.event.Event.{Event}
+use Rattle.live_stage.specs.Transcript.{history_of}
+use Rattle.live_stage.proofs.RunLaws.{IsRunSoFar, begins, goes_on, one_file, run_finds, run_replies, replayed_from_start}
+use Rattle.live_stage.proofs.live.Live.run.Given.{Over}
+use Rattle.live_stage.proofs.live.Live.run.Goals as goal
+
+pub loop-event-init : goal.loop-event-init
+loop-event-init g c =
+    let from = c.into_iter-event-iterator.ensures.into_iter_gives in
+    let items = ap length from.0 in
+    let room = c.in-Ok.ensures.exact in
+    record {
+      so_far = rw c.in-Ok.ensures.items (begins g.D.Disk.honest g.D.Disk.history c.args.self.now c.is_broken-broken.ensures.kept);
+      left = refl;
+      room = omega (arith, items, room, c.in-Ok.ensures.len, c.len.ensures);
+      counted = omega (arith, items, from.1);
+    }
+
+pub push_reserved-requires : goal.push_reserved-requires
+push_reserved-requires g c =
+    let steps : into_iter_items c.loop-event.event-iterator ≡ c.in-Some.event ∷ into_iter_items c.next.new.self = c.in-Some.ensures.steps.0 in
+    let room = c.loop-event.invariant.room in
+    omega (arith, room, ap length steps)
+
+pub loop-event-preserved : goal.loop-event-preserved
+loop-event-preserved g c =
+    let at = c.loop-event in
+    let turn = c.turn-answer.ensures in
+    let steps : into_iter_items at.event-iterator ≡ c.in-Some.event ∷ into_iter_items c.next.new.self = c.in-Some.ensures.steps.0 in
+    let short = ap length steps in
+    let room = at.invariant.room in
+    let was = at.invariant.counted in
+    let gone = c.in-Some.ensures.steps.1 in
+    record {
+      so_far = rw c.push_reserved.ensures.items (goes_on g.D.Disk.honest g.D.Disk.history c.args.self.now at.self c.turn-answer.new.self at.yielded at.answers.items c.in-Some.event c.turn-answer.result at.invariant.so_far
+          (record {
+            made = turn.step;
+            any_moment = turn.any_moment;
+            kept = turn.kept;
+            usable = turn.usable;
+            other_file = turn.other_file;
+            same_file = turn.same_file;
+            broken = turn.broken;
+            breaks = turn.breaks;
+            stays = turn.stays;
+            continues_a = turn.continues_a;
+            continues_b = turn.continues_b;
+            honest_a = turn.honest_a;
+            honest_b = turn.honest_b;
+          }));
+      left = append_assoc at.yielded (c.in-Some.event ∷ []) _ ∙ rw (← steps) at.invariant.left;
+      room = omega (arith, room, short, c.push_reserved.ensures.len, c.push_reserved.ensures.capacity);
+      counted = omega (arith, was, gone, short);
+    }
+
+run_done : (g : Over) (c : goal.After-drop-event-iterator g) → IsRunSoFar g.D.Disk.honest g.D.Disk.history c.args.self.now c.loop-event.self c.args.events.items c.loop-event.answers.items
+run_done g c =
+    let at = c.loop-event in
+    let none = c.in-None.ensures.steps in
+    let empty : into_iter_items at.event-iterator ≡ [] = nil_from_length _ (sym at.invariant.counted ∙ none.0) in
+    let all = sym (append-nil at.yielded) ∙ rw empty at at.invariant.left ∙ c.into_iter-event-iterator.ensures.into_iter_gives.0 in
+    subst (λ (l : List Event). IsRunSoFar g.D.Disk.honest g.D.Disk.history c.args.self.now at.self l at.answers.items) all at.invariant.so_far
+
+pub returns-clause-transcript : goal.returns-clause-transcript
+returns-clause-transcript g c = (run_done g c).transcript
+
+pub returns-clause-broken : goal.returns-clause-broken
+returns-clause-broken g c = (run_done g c).orderly
+
+pub returns-clause-state : goal.returns-clause-state
+returns-clause-state g c = (run_done g c).state
+
+pub returns-clause-replies : goal.returns-clause-replies
+returns-clause-replies g c = λ kept begun. run_replies c.args.self.now kept [] c.args.events.items c.loop-event.answers.items begun (run_done g c).transcript
+
+pub returns-clause-replay : goal.returns-clause-replay
+returns-clause-replay g c = λ kept begun fine.
+    let whole = history_of [] c.args.events.items c.loop-event.answers.items in
+    (run_done g c).state fine ∙ rw begun (replayed_from_start kept whole)
+
+pub returns-clause-any_moment : goal.returns-clause-any_moment
+returns-clause-any_moment g c = λ ha hb usable.
+    let r = run_done g c in
+    r.any_moment ha hb usable (one_file g.D.Disk.history c.args.self.now.is_in_b c.args.self.now c.loop-event.self r.other_file)
+
+pub returns-clause-other_file : goal.returns-clause-other_file
+returns-clause-other_file g c = (run_done g c).other_file
+
+pub returns-clause-same_file : goal.returns-clause-same_file
+returns-clause-same_file g c = (run_done g c).same_file
+
+pub returns-clause-given_out : goal.returns-clause-given_out
+returns-clause-given_out g c = λ ha hb usable. run_finds g.D.Disk.honest g.D.Disk.history c.args.self.now c.loop-event.self c.args.events.items c.loop-event.answers.items (run_done g c) ha hb usable
+
+pub returns-clause-continues_a : goal.returns-clause-continues_a
+returns-clause-continues_a g c = (run_done g c).continues_a
+
+pub returns-clause-continues_b : goal.returns-clause-continues_b
+returns-clause-continues_b g c = (run_done g c).continues_b
+
+pub returns-clause-honest_a : goal.returns-clause-honest_a
+returns-clause-honest_a g c = (run_done g c).honest_a
+
+pub returns-clause-honest_b : goal.returns-clause-honest_b
+returns-clause-honest_b g c = (run_done g c).honest_b

@@ -1,0 +1,63 @@
+-- The refusals of a live stage.
+use Rattle.std.specs.Prelude.{◌≡◌, ◌⊎◌, ℕ, List, Ok, Err}
+use Rattle.play_journal.specs.declared.error.JournalError.{JournalError}
+use Rattle.play_journal.specs.declared.error.JournalError.TheVariants as journal
+use Rattle.play_journal.specs.Content.{Content}
+use Rattle.play_journal.specs.Pair.{reading}
+use Rattle.live_stage.specs.declared.error.LiveError.{LiveError}
+use Rattle.live_stage.specs.declared.error.LiveError.TheVariants as turns
+use Rattle.live_stage.specs.declared.error.StartError.{StartError}
+use Rattle.live_stage.specs.declared.error.StartError.TheVariants.{NotEmpty, NoJournal, Damaged, NoMemory, Broken}
+use Rattle.live_stage.specs.Found.{content_reading}
+
+abbrev pub number_of : LiveError → ℕ
+number_of turns.Broken = 42
+number_of turns.NoMemory = 43
+number_of turns.NumbersSpent = 49
+
+abbrev pub start_number_of : StartError → ℕ
+start_number_of NotEmpty = 3
+start_number_of NoJournal = 4
+start_number_of (Damaged offset) = 5
+start_number_of NoMemory = 7
+start_number_of Broken = 42
+
+-- what `create` refuses with
+abbrev pub IsRefusalOfCreate : StartError → Type 0
+IsRefusalOfCreate NotEmpty = Unit {0}
+IsRefusalOfCreate NoJournal = ⊥
+IsRefusalOfCreate (Damaged offset) = ⊥
+IsRefusalOfCreate NoMemory = Unit {0}
+IsRefusalOfCreate Broken = Unit {0}
+
+-- what `open` refuses with
+abbrev pub IsRefusalOfOpen : StartError → Type 0
+IsRefusalOfOpen NotEmpty = ⊥
+IsRefusalOfOpen NoJournal = Unit {0}
+IsRefusalOfOpen (Damaged offset) = Unit {0}
+IsRefusalOfOpen NoMemory = Unit {0}
+IsRefusalOfOpen Broken = Unit {0}
+
+-- the files are a journal whose content stands for no state, for this reason at this offset
+pub record IsBadContent (a b : List ℕ) (offset : ℕ) : Type 0 where
+  pub content : Content
+  pub read : reading a b ≡ Ok content
+  pub bad : content_reading content ≡ Err offset
+
+-- the files are wrong in this way, or the call gave up before it knew
+abbrev pub IsCause : List ℕ → List ℕ → StartError → Type 0
+IsCause a b NotEmpty = ⊥
+IsCause a b NoJournal = reading a b ≡ Err journal.NoJournal
+IsCause a b (Damaged offset) = (reading a b ≡ Err (journal.Damaged offset)) ⊎ IsBadContent a b offset
+IsCause a b NoMemory = Unit {0}
+IsCause a b Broken = Unit {0}
+
+-- a refusal of the journal, as a stage answers it; over honest disks the last two don't come when it is made or opened
+abbrev pub start_error : JournalError → StartError
+start_error journal.NotEmpty = NotEmpty
+start_error journal.NoJournal = NoJournal
+start_error (journal.Damaged offset) = Damaged offset
+start_error journal.DiskFault = Broken
+start_error journal.NoMemory = NoMemory
+start_error journal.TooLong = Broken
+start_error journal.NumbersSpent = Broken

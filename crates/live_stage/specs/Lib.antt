@@ -1,0 +1,6 @@
+pub mod Found
+pub mod LiveState
+pub mod Errors
+pub mod Answer
+pub mod Decoding
+pub mod Transcript

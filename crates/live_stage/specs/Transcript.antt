@@ -1,0 +1,107 @@
+-- A run over many events.
+use Rattle.std.specs.Prelude.{◌≡◌, ◌⊎◌, ℕ, ◌+◌, List, [], ◌∷◌, ◌++◌, length, Bool, true, Option, Some, None, Result, Ok, Err}
+use Rattle.daemon_core.specs.declared.event.Event.{Event}
+use Rattle.state_codec.specs.SavedState.{SavedState}
+use Rattle.daemon_core.specs.State.{State}
+use Rattle.daemon_core.specs.Step.{Stepped}
+use Rattle.daemon_core.specs.Replay.{Entry, stepped, reply}
+use Rattle.live_stage.specs.declared.error.LiveError.{LiveError}
+use Rattle.live_stage.specs.declared.error.LiveError.TheVariants.{Broken, NoMemory, NumbersSpent}
+use Rattle.live_stage.specs.Answer.{Answer, record_number, last_record_after}
+use Rattle.live_stage.specs.LiveState.{LiveState}
+
+-- an event in the history, with the refused place that its answer names
+abbrev pub entry_of : Event → Answer → Entry
+entry_of event t = record { event = event; refused = t.refused_at }
+
+-- The history that a run adds to an earlier one, the newest entry first: an event is in it where its turn answered, and is not
+-- where it was refused.
+abbrev pub history_of : List Entry → List Event → List (Result Answer LiveError) → List Entry
+history_of earlier [] answers = earlier
+history_of earlier (event ∷ events) [] = earlier
+history_of earlier (event ∷ events) (Ok t ∷ answers) = history_of (entry_of event t ∷ earlier) events answers
+history_of earlier (event ∷ events) (Err e ∷ answers) = history_of earlier events answers
+
+-- the state after a history that began with this state
+abbrev pub replayed : State → List Entry → State
+replayed s [] = s
+replayed s (entry ∷ earlier) = let now = stepped (replayed s earlier) entry in now.after
+
+-- the number of the last record after a history that began with this state and this last record
+abbrev pub last_record_of : State → ℕ → List Entry → ℕ
+last_record_of s last [] = last
+last_record_of s last (entry ∷ earlier) = let now = stepped (replayed s earlier) entry in last_record_after (last_record_of s last earlier) now.ops
+
+-- an answer is that of a step, where the run began so and this history of it went before
+pub record IsStepOf {D : Type 0} (first : LiveState D) (earlier : List Entry) (st : Stepped) (t : Answer) : Type 0 where
+  pub outputs : t.outputs ≡ st.outputs
+  pub closes : t.closes ≡ st.closes
+  pub ended : t.ended ≡ st.ended
+  pub event : t.event ≡ first.event + length earlier + 1
+  pub receipt_event : t.receipt.event ≡ first.event + length earlier + 1
+  pub receipt_number : t.receipt.number ≡ record_number (last_record_of first.state first.last_record earlier) st.ops
+
+-- each event was answered by the step that the run's history gives, or was refused
+abbrev pub IsTranscript : {D : Type 0} → LiveState D → List Entry → List Event → List (Result Answer LiveError) → Type 0
+IsTranscript first earlier [] [] = Unit {0}
+IsTranscript first earlier [] (answer ∷ answers) = ⊥
+IsTranscript first earlier (event ∷ events) [] = ⊥
+IsTranscript first earlier (event ∷ events) (Ok t ∷ answers) =
+    IsStepOf first earlier (stepped (replayed first.state earlier) (entry_of event t)) t × IsTranscript first (entry_of event t ∷ earlier) events answers
+IsTranscript first earlier (event ∷ events) (Err e ∷ answers) = IsTranscript first earlier events answers
+
+-- each event that was answered was answered by the reply of the one history of a life that began with what was kept
+abbrev pub AreReplies : SavedState → List Entry → List Event → List (Result Answer LiveError) → Type 0
+AreReplies kept earlier [] [] = Unit {0}
+AreReplies kept earlier [] (answer ∷ answers) = ⊥
+AreReplies kept earlier (event ∷ events) [] = ⊥
+AreReplies kept earlier (event ∷ events) (Ok t ∷ answers) = (t.outputs ≡ reply kept earlier (entry_of event t)) × AreReplies kept (entry_of event t ∷ earlier) events answers
+AreReplies kept earlier (event ∷ events) (Err e ∷ answers) = AreReplies kept earlier events answers
+
+-- a stage that is broken, or that this answer breaks
+abbrev pub broken_by : Bool → Result Answer LiveError → Bool
+broken_by was (Ok t) = was
+broken_by was (Err Broken) = true
+broken_by was (Err NoMemory) = was
+broken_by was (Err NumbersSpent) = was
+
+-- from the first disk fault on, or from the start where the stage was broken, each answer is `Broken`
+abbrev pub StaysBroken : Bool → List (Result Answer LiveError) → Type 0
+StaysBroken was [] = Unit {0}
+StaysBroken was (answer ∷ answers) = (was ≡ true → answer ≡ Err Broken) × StaysBroken (broken_by was answer) answers
+
+-- the event in which the first disk fault came
+abbrev pub first_broken : List Event → List (Result Answer LiveError) → Option Event
+first_broken [] answers = None
+first_broken (event ∷ events) [] = None
+first_broken (event ∷ events) (Ok t ∷ answers) = first_broken events answers
+first_broken (event ∷ events) (Err Broken ∷ answers) = Some event
+first_broken (event ∷ events) (Err NoMemory ∷ answers) = first_broken events answers
+first_broken (event ∷ events) (Err NumbersSpent ∷ answers) = first_broken events answers
+
+-- the history that holds all that was given out, and on top of it the event in which the first disk fault came
+pub record HoldsTheBroken (events : List Event) (answers : List (Result Answer LiveError)) (whole : List Entry) : Type 0 where
+  pub event : Event
+  pub refused : Option ℕ
+  pub first : first_broken events answers ≡ Some event
+  pub on_top : whole ≡ record { event = event; refused = refused } ∷ history_of [] events answers
+
+-- The whole history of a run: it holds all that was given out, and at most one event more, of which no answer was given: the one
+-- in which the first disk fault came.
+abbrev pub IsWhole : List Event → List (Result Answer LiveError) → List Entry → Type 0
+IsWhole events answers whole = (whole ≡ history_of [] events answers) ⊎ HoldsTheBroken events answers whole
+
+-- a restart finds the state after the whole history of the run, from this state on
+pub record FindsWhole (s : State) (events : List Event) (answers : List (Result Answer LiveError)) (found : Option SavedState) : Type 0 where
+  pub whole : List Entry
+  pub is_whole : IsWhole events answers whole
+  pub finds : let now = replayed s whole in found ≡ Some now.saved
+
+-- a restart finds the state after a prefix of the history of the run, from this state on: the oldest entries, in order, and none in part
+pub record FindsPrefix (s : State) (events : List Event) (answers : List (Result Answer LiveError)) (found : Option SavedState) : Type 0 where
+  pub whole : List Entry
+  pub is_whole : IsWhole events answers whole
+  pub later : List Entry
+  pub prefix : List Entry
+  pub parts : whole ≡ later ++ prefix
+  pub finds : let now = replayed s prefix in found ≡ Some now.saved

@@ -1,0 +1,289 @@
+// The stage.
+ghost use Rattle.std.specs.Prelude.{◌≡◌, ◌≢◌, ◌⊎◌, ◌↔◌, ◌+◌, ◌-◌, ◌^◌, ◌<◌, ◌≤◌, ℕ, true, false, [], length, Ok, Err, Some, None, Option, IsSome, IfOk, IfErr, OnOk, OnErr, IsErrAnd, MatchResult, MatchBool, vec_capacity};
+ghost use Rattle.disk_model.specs.Faults.{HasGrown};
+ghost use Rattle.disk_model.specs.Moments.{Continues};
+ghost use Rattle.state_codec.specs.SavedState.{IsSavedState, fresh};
+ghost use Rattle.state_codec.specs.Spelling.{saved_bytes};
+ghost use Rattle.play_journal.specs.Content.{Content};
+ghost use Rattle.play_journal.specs.Pair.{found};
+ghost use Rattle.daemon_core.specs.State.{start};
+ghost use Rattle.daemon_core.specs.Step.{step};
+ghost use Rattle.live_stage.specs.Answer.{IsTurn};
+ghost use Rattle.live_stage.specs.Errors.{IsRefusalOfCreate, IsRefusalOfOpen, IsCause, start_error};
+ghost use Rattle.live_stage.specs.Found.{found_state, AllFindNow, AllFindSince, KeepsFoundState};
+
+use crate::decoding::take_state;
+use crate::recording::{LONGEST_BODY, record_ops};
+use crate::turn::Turn;
+use crate::{LiveError, Refused, StartError};
+use daemon_core::{Core, Event};
+use disk_model::Disk;
+use play_journal::{Journal, JournalError};
+use state_codec::{NoMemory, Saved, put_saved};
+use std::alloc::Global;
+use std::marker::Model;
+use std::snapshot::Snapshot;
+
+/// The daemon's state, and the journal that keeps it: what an event changes is on the disk when its answer is given out.
+///
+/// All that is said of bytes is said of two honest disks.
+#[derive(Debug, Drop)]
+pub struct Live<D: Disk> {
+    core: Core,
+    journal: Journal<D>,
+    room: Vec<u8>,
+    event: u64,
+}
+
+impl<D: Disk> Model for Live<D> {
+    ghost use Rattle.std.specs.Prelude.{◌≡◌, ◌≤◌, ◌+◌, ◌-◌, ◌^◌, min, false, Some, vec_capacity};
+    ghost use Rattle.live_stage.specs.LiveState.{LiveState};
+    ghost use Rattle.live_stage.specs.Found.{state_of};
+
+    ghost Value = { LiveState D };
+
+    ghost view = { λ v. record { a = v.journal.a; b = v.journal.b; state = v.core; event = v.event; last_record = min (v.journal.base + v.journal.count) (2 ^ 64 - 1); is_in_b = v.journal.is_in_b; is_broken = v.journal.is_spent } };
+
+    ghost invariant = { λ v. (2097152 ≤ vec_capacity v.room)
+        × (v.journal.is_spent ≡ false → D.honest v.journal.a → D.honest v.journal.b → state_of (Some v.journal.content) ≡ Some v.core.saved) };
+}
+
+impl<D: Disk> Live<D> {
+    /// Makes a stage over two empty files: a fresh state, whose random order is drawn from the key.
+    ///
+    /// It refuses in the order `NotEmpty`, `NoMemory`, `Broken`. A crash inside the call may leave files that are neither
+    /// empty nor a journal.
+    pub fn create(alloc: Global, a: D, b: D, key: [u8; 32]) -> Result<Live<D>, Refused<D>>
+        // From `Ok` on a restart finds the fresh state.
+        ensures kept { D.honest a → D.honest b → IfOk result (λ live. AllFindNow (λ f. f ≡ Some (fresh key)) (D.history live.a) (D.history live.b)) }
+        ensures state { IfOk result (λ live. live.state ≡ start (fresh key)) }
+        ensures event { IfOk result (λ live. live.event ≡ 0) }
+        ensures last_record { IfOk result (λ live. live.last_record ≡ 0) }
+        ensures usable { IfOk result (λ live. live.is_broken ≡ false) }
+
+        ensures not_empty { D.honest a → D.honest b
+            → (IsErrAnd result (λ e. e.error ≡ StartError.NotEmpty) ↔ ((D.content a ≢ []) ⊎ (D.content b ≢ []))) }
+        ensures fault { D.honest a → D.honest b → IfErr result (λ e. e.error ≡ StartError.Broken
+            → HasGrown (D.faults a) (D.faults e.a) ⊎ HasGrown (D.faults b) (D.faults e.b)) }
+        ensures nothing_else { IfErr result (λ e. IsRefusalOfCreate e.error) }
+
+        // Another refusal than a disk fault hands the disks back as they were.
+        ensures stays_a { IfErr result (λ e. e.error ≢ StartError.Broken → e.a ≡ a) }
+        ensures stays_b { IfErr result (λ e. e.error ≢ StartError.Broken → e.b ≡ b) }
+        ensures honest_a { MatchResult result (λ live. D.honest a ↔ D.honest live.a) (λ e. D.honest a ↔ D.honest e.a) }
+        ensures honest_b { MatchResult result (λ live. D.honest b ↔ D.honest live.b) (λ e. D.honest b ↔ D.honest e.b) }
+    {
+        if !a.is_empty() || !b.is_empty() {
+            return Err(Refused {
+                error: StartError::NotEmpty,
+                a,
+                b,
+            });
+        }
+        let saved = Saved::fresh(key);
+        let (room, snapshot) = match rooms_for(alloc, &saved) {
+            Ok(rooms) => rooms,
+            Err(_) => {
+                return Err(Refused {
+                    error: StartError::NoMemory,
+                    a,
+                    b,
+                });
+            }
+        };
+        match Journal::create(alloc, a, b, &snapshot) {
+            Ok(journal) => Ok(Live {
+                core: Core::new(alloc, saved),
+                journal,
+                room,
+                event: 0,
+            }),
+            Err(refused) => Err(refused_start(refused)),
+        }
+    }
+
+    /// Opens the files of a stage, also such as a crash may have left: it goes on from the state that they give.
+    ///
+    /// A refusal hands both disks back.
+    pub fn open(alloc: Global, a: D, b: D) -> Result<Live<D>, Refused<D>>
+        // It answers the state that the files give, and names what is wrong with them.
+        ensures found { D.honest a → D.honest b → IfOk result (λ live. found_state (D.content a) (D.content b) ≡ Some live.state.saved) }
+        ensures begins { IfOk result (λ live. live.state ≡ start live.state.saved) }
+        ensures cause { D.honest a → D.honest b → IfErr result (λ e. IsCause (D.content a) (D.content b) e.error) }
+
+        // Stopped at any moment, a restart finds what it might have found before, and from `Ok` on what is answered.
+        ensures any_moment { D.honest a → D.honest b → MatchResult result
+            (λ live. KeepsFoundState (D.history a) (D.history b) (D.history live.a) (D.history live.b))
+            (λ e. KeepsFoundState (D.history a) (D.history b) (D.history e.a) (D.history e.b)) }
+        ensures kept { D.honest a → D.honest b → IfOk result (λ live. AllFindNow (λ f. f ≡ Some live.state.saved) (D.history live.a) (D.history live.b)) }
+
+        // Where each pair that a crash may have left gives a state, it opens, unless memory is wanting or a disk fails.
+        ensures opens { D.honest a → D.honest b → AllFindNow (λ f. IsSome f) (D.history a) (D.history b)
+            → IfErr result (λ e. (e.error ≡ StartError.NoMemory) ⊎ (e.error ≡ StartError.Broken)) }
+        ensures fault { D.honest a → D.honest b → IfErr result (λ e. e.error ≡ StartError.Broken
+            → HasGrown (D.faults a) (D.faults e.a) ⊎ HasGrown (D.faults b) (D.faults e.b)) }
+        ensures nothing_else { IfErr result (λ e. IsRefusalOfOpen e.error) }
+
+        ensures event { IfOk result (λ live. live.event ≡ 0) }
+        ensures last_record { D.honest a → D.honest b → IfOk result (λ live. (content : Content) → found (D.content a) (D.content b) ≡ Some content
+            → live.last_record ≡ content.base + length content.records) }
+        ensures usable { IfOk result (λ live. live.is_broken ≡ false) }
+        ensures continues_a { D.honest a → MatchResult result (λ live. Continues (D.history a) (D.history live.a)) (λ e. Continues (D.history a) (D.history e.a)) }
+        ensures continues_b { D.honest b → MatchResult result (λ live. Continues (D.history b) (D.history live.b)) (λ e. Continues (D.history b) (D.history e.b)) }
+        ensures honest_a { MatchResult result (λ live. D.honest a ↔ D.honest live.a) (λ e. D.honest a ↔ D.honest e.a) }
+        ensures honest_b { MatchResult result (λ live. D.honest b ↔ D.honest live.b) (λ e. D.honest b ↔ D.honest e.b) }
+    {
+        let room = match Vec::with_capacity(alloc, LONGEST_BODY) {
+            Ok(room) => room,
+            Err(_) => {
+                return Err(Refused {
+                    error: StartError::NoMemory,
+                    a,
+                    b,
+                });
+            }
+        };
+        let (journal, snapshot, records) = match Journal::open(alloc, a, b) {
+            Ok(opened) => opened,
+            Err(refused) => return Err(refused_start(refused)),
+        };
+        match take_state(alloc, &snapshot, &records) {
+            Ok(saved) => Ok(Live {
+                core: Core::new(alloc, saved),
+                journal,
+                room,
+                event: 0,
+            }),
+            Err(error) => {
+                let (a, b) = journal.into_disks();
+                Err(Refused { error, a, b })
+            }
+        }
+    }
+
+    /// Handles one event. If it changes what is saved, that is one record, and it is on the disk when the answer is given
+    /// out; any other event makes no call of a disk.
+    ///
+    /// It refuses in the order `Broken` (from before), `NumbersSpent`, `NoMemory`, `Broken` (by a disk fault now). After the
+    /// last the event may be kept or not: open the files again.
+    pub fn turn(&mut self, alloc: Global, event: Event) -> Result<Turn<D>, LiveError>
+        // The answer and the state are those of the step.
+        ensures step { IfOk result (λ t. IsTurn self.old event t self.new) }
+        ensures carries { IfOk result (λ t. (t.asked ≡ event) × (t.before ≡ self.old.state)) }
+
+        // Stopped at any moment, a restart finds the state from before or the state after, with one refused place throughout,
+        // which is that of the answer.
+        ensures any_moment { D.honest self.old.a → D.honest self.old.b → self.old.is_broken ≡ false
+            → (k : Option ℕ) × IfOk result (λ t. t.refused_at ≡ k) × AllFindSince (λ f. (f ≡ Some self.old.state.saved) ⊎ (let now = step self.old.state event k in f ≡ Some now.after.saved))
+            (D.history self.new.a) (length (D.history self.old.a)) (D.history self.new.b) (length (D.history self.old.b)) }
+
+        // From then on it finds the state after, and after a refusal without a fault the state from before, which stays.
+        ensures kept { D.honest self.old.a → D.honest self.old.b → self.new.is_broken ≡ false
+            → AllFindNow (λ f. f ≡ Some self.new.state.saved) (D.history self.new.a) (D.history self.new.b) }
+        ensures usable { OnOk result (self.new.is_broken ≡ false) }
+        ensures other_file { MatchBool self.old.is_in_b (self.new.a ≡ self.old.a) (self.new.b ≡ self.old.b) }
+        ensures same_file { self.new.is_in_b ≡ self.old.is_in_b }
+        ensures no_call { IfOk result (λ t. (let now = step self.old.state event t.refused_at in now.ops ≡ []) → (self.new.a ≡ self.old.a) × (self.new.b ≡ self.old.b)) }
+
+        // It refuses in this order.
+        ensures broken { self.old.is_broken ≡ true → (result ≡ Err LiveError.Broken) × (self.new ≡ self.old) }
+        ensures numbers_spent { self.old.is_broken ≡ false
+            → ((result ≡ Err LiveError.NumbersSpent) ↔ ((self.old.event ≡ 2 ^ 64 - 1) ⊎ (self.old.last_record ≡ 2 ^ 64 - 1))) }
+        ensures fault { D.honest self.old.a → D.honest self.old.b → self.old.is_broken ≡ false → result ≡ Err LiveError.Broken
+            → HasGrown (D.faults self.old.a) (D.faults self.new.a) ⊎ HasGrown (D.faults self.old.b) (D.faults self.new.b) }
+
+        // A disk fault breaks the stage, and another refusal leaves it as it was.
+        ensures breaks { result ≡ Err LiveError.Broken → self.new.is_broken ≡ true }
+        ensures stays { OnErr result (result ≢ Err LiveError.Broken → self.new ≡ self.old) }
+
+        ensures continues_a { D.honest self.old.a → Continues (D.history self.old.a) (D.history self.new.a) }
+        ensures continues_b { D.honest self.old.b → Continues (D.history self.old.b) (D.history self.new.b) }
+        ensures honest_a { D.honest self.old.a ↔ D.honest self.new.a }
+        ensures honest_b { D.honest self.old.b ↔ D.honest self.new.b }
+    {
+        if self.journal.is_spent() {
+            return Err(LiveError::Broken);
+        }
+        if self.event == u64::MAX || self.last_record() == u64::MAX {
+            return Err(LiveError::NumbersSpent);
+        }
+        let asked = Snapshot::of(&event);
+        let before = Snapshot::of(&self.core);
+        let outcome = match self.core.step(alloc, event) {
+            Ok(outcome) => outcome,
+            Err(_) => return Err(LiveError::NoMemory),
+        };
+        let number = record_ops(&mut self.journal, &mut self.room, &outcome.ops)?;
+        self.event += 1;
+        Ok(Turn::new(outcome, self.event, number, asked, before))
+    }
+
+    /// How many events there were since the stage was made or opened.
+    pub fn last_event(&self) -> u64
+        ensures { result ≡ self.now.event }
+    {
+        self.event
+    }
+
+    /// The number of the last record in file and snapshot, 0 where there is none.
+    pub fn last_record(&self) -> u64
+        ensures { result ≡ self.now.last_record }
+    {
+        self.journal
+            .base()
+            .saturating_add(self.journal.records_since_checkpoint())
+    }
+
+    /// Whether a disk failed. Every later `turn` then answers `Broken`: open the files again.
+    pub fn is_broken(&self) -> bool
+        ensures value { result ≡ self.now.is_broken }
+        ensures kept { D.honest self.now.a → D.honest self.now.b → self.now.is_broken ≡ false
+            → AllFindNow (λ f. f ≡ Some self.now.state.saved) (D.history self.now.a) (D.history self.now.b) }
+    {
+        self.journal.is_spent()
+    }
+
+    /// The disks of files a and b.
+    pub fn into_disks(self) -> (D, D)
+        ensures { result ≡ (self.a, self.b) }
+    {
+        let Live {
+            core: _,
+            journal,
+            room: _,
+            event: _,
+        } = self;
+        journal.into_disks()
+    }
+}
+
+// Room for one record's body, and the snapshot of a state.
+fn rooms_for(alloc: Global, saved: &Saved) -> Result<(Vec<u8>, Vec<u8>), NoMemory>
+    ensures room { IfOk result (λ rooms. LONGEST_BODY ≤ vec_capacity rooms.0) }
+    ensures snapshot { IfOk result (λ rooms. rooms.1.items ≡ saved_bytes saved.now) }
+    ensures in_range { OnOk result (IsSavedState saved.now) }
+{
+    let room = Vec::with_capacity(alloc, LONGEST_BODY)?;
+    let snapshot = put_saved(alloc, saved)?;
+    Ok((room, snapshot))
+}
+
+// A journal that was neither made nor opened.
+fn refused_start<D>(refused: play_journal::Refused<D>) -> Refused<D>
+    ensures error { result.error ≡ start_error refused.error }
+    ensures a { result.a ≡ refused.a }
+    ensures b { result.b ≡ refused.b }
+{
+    let play_journal::Refused { error, a, b } = refused;
+    let error = match error {
+        JournalError::NotEmpty => StartError::NotEmpty,
+        JournalError::NoJournal => StartError::NoJournal,
+        JournalError::Damaged(offset) => StartError::Damaged(offset),
+        JournalError::NoMemory => StartError::NoMemory,
+        // Over honest disks the last two don't come: a fresh snapshot has 69 bytes.
+        JournalError::DiskFault | JournalError::TooLong | JournalError::NumbersSpent => {
+            StartError::Broken
+        }
+    };
+    Refused { error, a, b }
+}

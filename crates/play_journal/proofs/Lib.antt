@@ -1,0 +1,13 @@
+pub mod AppendLaws
+pub mod ChosenLaws
+pub mod CutLaws
+pub mod FileLaws
+pub mod GateLaws
+pub mod HeadLaws
+pub mod InUseLaws
+pub mod LoopLaws
+pub mod OpenLaws
+pub mod PairLaws
+pub mod PlaceLaws
+pub mod ReadLaws
+pub mod RecordLaws

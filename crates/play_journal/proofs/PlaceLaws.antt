@@ -1,0 +1,50 @@
+-- The two disks of a journal, whichever of them is in use.
+use Rattle.std.proofs.Common.{◌≡◌, inl, ℕ, Bool, true, false, List, length, Option, Some, refl, ap, ◌∙◌}
+use Rattle.disk_model.specs.History.{Change}
+use Rattle.disk_model.proofs.MomentLaws.{now_only}
+use Rattle.play_journal.specs.Content.{Content, IsBeforeOrAfter}
+use Rattle.play_journal.specs.JournalState.{at_place, content_in, IsKept}
+use Rattle.play_journal.specs.Pair.{AllPairsNow, AllPairsSince}
+use Rattle.play_journal.proofs.InUseLaws.{all_first, all_second, content-file}
+
+pub honest_both : {D : Type 0} (honest : D → Type 0) (swapped : Bool) (here there : D) → honest (at_place swapped here there) → honest (at_place swapped there here) → honest here × honest there
+honest_both honest true here there a b = (b, a)
+honest_both honest false here there a b = (a, b)
+
+pub kept_now : {D : Type 0} (content : D → List ℕ) (history : D → List Change) (swapped : Bool) (here there : D) (end base count : ℕ) → IsKept (content here) (content there) (history here) (history there) end base count
+    → AllPairsNow (λ f. f ≡ Some (content_in (content here))) (history (at_place swapped here there)) (history (at_place swapped there here))
+kept_now content history true here there end base count kept = all_second (content here) (content there) end base count kept.in_use (history here) (history there) kept.here_settled kept.there_settled
+kept_now content history false here there end base count kept = all_first (content here) (content there) end base count kept.in_use (history here) (history there) kept.here_settled kept.there_settled
+
+pub kept_base : (here there : List ℕ) (h o : List Change) (end base count : ℕ) → IsKept here there h o end base count → (content_in here).base ≡ base
+kept_base here there h o end base count kept = ap (λ (c : Content). c.base) (content-file here kept.in_use.file kept.in_use.is_file) ∙ kept.in_use.before
+
+pub kept_count : (here there : List ℕ) (h o : List Change) (end base count : ℕ) → IsKept here there h o end base count → length (content_in here).records ≡ count
+kept_count here there h o end base count kept = ap (λ (c : Content). length c.records) (content-file here kept.in_use.file kept.in_use.is_file) ∙ kept.in_use.counted
+
+-- what stands at the place of the file in use stands where it was
+pub placed_back : {D : Type 0} (swapped : Bool) (a b : D) → at_place swapped (at_place swapped a b) (at_place swapped b a) ≡ a
+placed_back true a b = refl
+placed_back false a b = refl
+
+-- a record was added to the file in use, or may have been
+pub added_since : {D : Type 0} (history : D → List Change) (P : Option Content → Type 0) (swapped : Bool) (here new there : D)
+    → AllPairsSince P (history new) (length (history here)) (history there) (length (history there))
+    → AllPairsSince P (history there) (length (history there)) (history new) (length (history here))
+    → AllPairsSince P (history (at_place swapped new there)) (length (history (at_place swapped here there))) (history (at_place swapped there new)) (length (history (at_place swapped there here)))
+added_since history P true here new there first second = second
+added_since history P false here new there first second = first
+
+-- nothing was done
+pub still_since : (P : Option Content → Type 0) (h o : List Change) → AllPairsNow P h o → AllPairsSince P h (length h) o (length o)
+still_since P h o now x y left right = now x y (now_only h x left) (now_only o y right)
+
+pub before_or_after : (content : Content) (body : List ℕ) (f : Option Content) → f ≡ Some content → IsBeforeOrAfter content body f
+before_or_after content body f is = inl is
+
+-- the same, of files a and b
+pub placed_now : {D : Type 0} (content : D → List ℕ) (history : D → List Change) (swapped : Bool) (a b : D) (end base count : ℕ)
+    → IsKept (content (at_place swapped a b)) (content (at_place swapped b a)) (history (at_place swapped a b)) (history (at_place swapped b a)) end base count
+    → AllPairsNow (λ f. f ≡ Some (content_in (content (at_place swapped a b)))) (history a) (history b)
+placed_now content history true a b end base count kept = all_second (content b) (content a) end base count kept.in_use (history b) (history a) kept.here_settled kept.there_settled
+placed_now content history false a b end base count kept = all_first (content a) (content b) end base count kept.in_use (history a) (history b) kept.here_settled kept.there_settled

@@ -1,0 +1,41 @@
+-- The refusals of a journal.
+use Rattle.std.specs.Prelude.{ℕ}
+use Rattle.play_journal.specs.declared.error.JournalError.{JournalError}
+use Rattle.play_journal.specs.declared.error.JournalError.TheVariants.{NotEmpty, NoJournal, Damaged, DiskFault, NoMemory, TooLong, NumbersSpent}
+
+abbrev pub number_of : JournalError → ℕ
+number_of NotEmpty = 3
+number_of NoJournal = 4
+number_of (Damaged offset) = 5
+number_of DiskFault = 6
+number_of NoMemory = 7
+number_of TooLong = 8
+number_of NumbersSpent = 49
+
+-- what each call refuses with
+abbrev pub IsRefusalOfCreate : JournalError → Type 0
+IsRefusalOfCreate NotEmpty = Unit {0}
+IsRefusalOfCreate NoJournal = ⊥
+IsRefusalOfCreate (Damaged offset) = ⊥
+IsRefusalOfCreate DiskFault = Unit {0}
+IsRefusalOfCreate NoMemory = Unit {0}
+IsRefusalOfCreate TooLong = Unit {0}
+IsRefusalOfCreate NumbersSpent = ⊥
+
+abbrev pub IsRefusalOfOpen : JournalError → Type 0
+IsRefusalOfOpen NotEmpty = ⊥
+IsRefusalOfOpen NoJournal = Unit {0}
+IsRefusalOfOpen (Damaged offset) = Unit {0}
+IsRefusalOfOpen DiskFault = Unit {0}
+IsRefusalOfOpen NoMemory = Unit {0}
+IsRefusalOfOpen TooLong = ⊥
+IsRefusalOfOpen NumbersSpent = ⊥
+
+abbrev pub IsRefusalOfAppend : JournalError → Type 0
+IsRefusalOfAppend NotEmpty = ⊥
+IsRefusalOfAppend NoJournal = ⊥
+IsRefusalOfAppend (Damaged offset) = ⊥
+IsRefusalOfAppend DiskFault = Unit {0}
+IsRefusalOfAppend NoMemory = ⊥
+IsRefusalOfAppend TooLong = Unit {0}
+IsRefusalOfAppend NumbersSpent = Unit {0}

@@ -1,0 +1,9 @@
+pub mod Content
+pub mod Errors
+pub mod File
+pub mod JournalState
+pub mod Laws
+pub mod Opening
+pub mod Pair
+pub mod Reading
+pub mod Room

@@ -1,0 +1,5 @@
+mod ByName
+mod Counted
+mod FoundSongs
+mod Flat
+mod Named

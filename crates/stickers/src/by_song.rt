@@ -1,0 +1,166 @@
+ghost use Rattle.std.specs.Prelude.{◌≡◌, List, [], length, OnOk, OnErr, option_map, MatchOption, IfOk, map};
+ghost use Rattle.std.specs.Option.{option_to_list};
+ghost use Rattle.stickers.specs.Find.{found_in};
+ghost use Rattle.stickers.specs.ByName.{by_name};
+ghost use Rattle.stickers.specs.Sticker.{flat, in_song, value_at, stickers_of, with_sticker, without_sticker, without_song};
+
+use crate::find::{Found, FoundSticker, ValueTest, is_under};
+use crate::song::{SongStickers, StickerValue};
+use std::alloc::{AllocError, Global};
+use std::collections::{BTreeMap, btree_map};
+use std::marker::Model;
+
+// The stickers of all songs under their URIs, without the limit. Contracts see them as one list.
+#[derive(Debug, Drop)]
+pub(crate) struct StickersBySong {
+    songs: BTreeMap<String, SongStickers>,
+}
+
+impl Model for StickersBySong {
+    ghost use Rattle.std.specs.Prelude.{List};
+    ghost use Rattle.stickers.specs.Named.{IsRising};
+    ghost use Rattle.stickers.specs.Sticker.{Sticker, flat};
+    ghost use Rattle.stickers.specs.ByName.{by_name};
+
+    ghost Value = { List Sticker };
+
+    ghost view = { λ s. flat (by_name s.songs.entries) };
+
+    ghost invariant = { λ s. IsRising (by_name s.songs.entries) };
+}
+
+impl StickersBySong {
+    pub(crate) fn new(alloc: Global) -> Self
+        ensures { result ≡ [] }
+    {
+        StickersBySong {
+            songs: BTreeMap::new(alloc),
+        }
+    }
+
+    pub(crate) fn iter(&self) -> btree_map::Iter<'_, String, SongStickers>
+        ensures { flat (by_name result) ≡ self.now }
+    {
+        self.songs.iter()
+    }
+
+    pub(crate) fn song(&self, uri: &str) -> Option<&SongStickers>
+        ensures { MatchOption result (stickers_of self.now uri.now ≡ []) (λ song. stickers_of self.now uri.now ≡ in_song (uri.now, song.now)) }
+    {
+        self.songs.get(uri)
+    }
+
+    pub(crate) fn value(&self, uri: &str, name: &str) -> Option<&StickerValue>
+        ensures { option_map (λ value. value.now) result ≡ value_at self.now uri.now name.now }
+    {
+        match self.songs.get(uri) {
+            Some(song) => song.get(name),
+            None => None,
+        }
+    }
+
+    // The songs under a base with a sticker of the name whose value passes the test.
+    pub(crate) fn find<'a>(
+        &'a self,
+        alloc: Global,
+        base: &str,
+        name: &str,
+        test: &ValueTest<'_>,
+    ) -> Result<Found<'a>, AllocError>
+        ensures { IfOk result (λ found. found ≡ found_in self.now base.now name.now test.now) }
+    {
+        let mut found = Vec::new(alloc);
+        for (uri, song) in self.songs.iter() {
+            if let Some(value) = found_in_song(uri.as_str(), song, base, name, test) {
+                found.push(FoundSticker {
+                    uri: uri.as_str(),
+                    value: value.as_str(),
+                })?;
+            }
+        }
+        Ok(Found { found })
+    }
+
+    // Sets a value. What needs memory is taken before anything changes.
+    pub(crate) fn set(
+        &mut self,
+        alloc: Global,
+        uri: &str,
+        name: &str,
+        value: &str,
+    ) -> Result<(), AllocError>
+        ensures ok { OnOk result (self.new ≡ with_sticker self.old uri.now name.now value.now) }
+        ensures err { OnErr result (self.new ≡ self.old) }
+    {
+        let name = String::from_str(alloc, name)?;
+        let value = StickerValue::new(alloc, value)?;
+        match self.songs.get_mut(uri) {
+            Some(song) => {
+                song.insert(name, value)?;
+                Ok(())
+            }
+            None => {
+                let song = SongStickers::with_one(alloc, name, value)?;
+                let uri = String::from_str(alloc, uri)?;
+                self.songs.insert(uri, song)?;
+                Ok(())
+            }
+        }
+    }
+
+    // Takes the stickers of a song out, and says how many there were.
+    pub(crate) fn remove_song(&mut self, uri: &str) -> usize
+        ensures count { result ≡ length (stickers_of self.old uri.now) }
+        ensures removed { self.new ≡ without_song self.old uri.now }
+    {
+        match self.songs.remove(uri) {
+            Some(song) => song.len(),
+            None => 0,
+        }
+    }
+
+    // Takes one sticker of a song out.
+    pub(crate) fn remove_value(&mut self, uri: &str, name: &str)
+        ensures { self.new ≡ without_sticker self.old uri.now name.now }
+    {
+        if let Some(song) = self.songs.get_mut(uri) {
+            song.remove(name);
+        }
+    }
+
+    // Gives back the memory of a song whose last sticker went.
+    pub(crate) fn drop_empty_song(&mut self, uri: &str)
+        ensures { self.new ≡ self.old }
+    {
+        if let Some(song) = self.songs.get(uri) {
+            if song.is_empty() {
+                self.songs.remove(uri);
+            }
+        }
+    }
+}
+
+// The sticker of a song that `find` gives, if there is one.
+fn found_in_song<'a>(
+    uri: &str,
+    song: &'a SongStickers,
+    base: &str,
+    name: &str,
+    test: &ValueTest<'_>,
+) -> Option<&'a StickerValue>
+    ensures { map (λ value. (uri.now, value)) (option_to_list (option_map (λ value. value.now) result)) ≡ found_in (in_song (uri.now, song.now)) base.now name.now test.now }
+{
+    if !is_under(base, uri) {
+        return None;
+    }
+    match song.get(name) {
+        Some(value) => {
+            if test.passes(value.as_str()) {
+                Some(value)
+            } else {
+                None
+            }
+        }
+        None => None,
+    }
+}

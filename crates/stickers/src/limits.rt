@@ -1,0 +1,5 @@
+/// How many stickers there may be.
+pub const MAX_STICKERS: usize = 65_536;
+
+/// How many bytes of UTF-8 a sticker's name may have.
+pub const MAX_NAME_BYTES: usize = 256;

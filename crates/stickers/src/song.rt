@@ -1,0 +1,114 @@
+ghost use Rattle.std.specs.Prelude.{◌≡◌, ℕ, ◌↔◌, List, [], ◌∷◌, length, IsTrue, IfOk, OnOk, OnErr, option_map, string_bytes};
+ghost use Rattle.stickers.specs.ByName.{by_name};
+ghost use Rattle.stickers.specs.Named.{IsRising, under, with_name, without_name};
+
+use std::alloc::{AllocError, Global};
+use std::collections::{BTreeMap, btree_map};
+use std::marker::Model;
+
+/// The value of one sticker.
+#[derive(Debug, Drop)]
+pub struct StickerValue {
+    text: String,
+}
+
+impl Model for StickerValue {
+    ghost use Rattle.std.specs.Prelude.{ℕ, List, string_bytes};
+
+    ghost Value = { List ℕ };
+
+    ghost view = { λ v. string_bytes v.text };
+}
+
+impl StickerValue {
+    pub(crate) fn new(alloc: Global, text: &str) -> Result<Self, AllocError>
+        ensures { IfOk result (λ value. value ≡ text.now) }
+    {
+        Ok(StickerValue {
+            text: String::from_str(alloc, text)?,
+        })
+    }
+
+    pub fn as_str(&self) -> &str
+        ensures { result.now ≡ self.now }
+    {
+        self.text.as_str()
+    }
+}
+
+/// The stickers of one song by the bytes of their names.
+#[derive(Debug, Drop)]
+pub struct SongStickers {
+    values: BTreeMap<String, StickerValue>,
+}
+
+impl Model for SongStickers {
+    ghost use Rattle.stickers.specs.Named.{Values, IsRising};
+    ghost use Rattle.stickers.specs.ByName.{by_name};
+
+    ghost Value = { Values };
+
+    ghost view = { λ s. by_name s.values.entries };
+
+    ghost invariant = { λ s. IsRising (by_name s.values.entries) };
+}
+
+impl SongStickers {
+    // A song with one sticker.
+    pub(crate) fn with_one(
+        alloc: Global,
+        name: String,
+        value: StickerValue,
+    ) -> Result<Self, AllocError>
+        ensures { IfOk result (λ song. song ≡ (string_bytes name, value) ∷ []) }
+    {
+        let mut song = SongStickers {
+            values: BTreeMap::new(alloc),
+        };
+        song.insert(name, value)?;
+        Ok(song)
+    }
+
+    pub fn len(&self) -> usize
+        ensures count { result ≡ length self.now }
+        ensures rising { IsRising self.now }
+    {
+        self.values.len()
+    }
+
+    pub fn is_empty(&self) -> bool
+        ensures { IsTrue result ↔ (self.now ≡ []) }
+    {
+        self.values.len() == 0
+    }
+
+    /// The value under a name, if the song has such a sticker.
+    pub fn get(&self, name: &str) -> Option<&StickerValue>
+        ensures value { option_map (λ value. value.now) result ≡ under self.now name.now }
+        ensures rising { IsRising self.now }
+    {
+        self.values.get(name)
+    }
+
+    /// The names, by their bytes, with their values.
+    pub fn iter(&self) -> btree_map::Iter<'_, String, StickerValue>
+        ensures { by_name result ≡ self.now }
+    {
+        self.values.iter()
+    }
+
+    pub(crate) fn insert(&mut self, name: String, value: StickerValue) -> Result<(), AllocError>
+        ensures ok { OnOk result (self.new ≡ with_name self.old (string_bytes name) value) }
+        ensures err { OnErr result (self.new ≡ self.old) }
+    {
+        self.values.insert(name, value)?;
+        Ok(())
+    }
+
+    // Takes a sticker out; nothing where there is none.
+    pub(crate) fn remove(&mut self, name: &str)
+        ensures { self.new ≡ without_name self.old name.now }
+    {
+        self.values.remove(name);
+    }
+}

@@ -1,0 +1,5 @@
+mod Absent
+mod ByName
+mod Counted
+mod Mapped
+mod Renamed

@@ -1,0 +1,5 @@
+pub mod ByName
+pub mod Lists
+pub mod Name
+pub mod Refusal
+pub mod Songs

@@ -1,0 +1,15 @@
+//! The stored playlists: lists of song URIs under names.
+#![tactic(auto)]
+
+pub mod limits;
+pub mod lists;
+pub mod name;
+mod named;
+pub mod refusal;
+pub mod songs;
+
+pub use limits::{MAX_ENTRIES, MAX_LISTS, MAX_NAME_BYTES};
+pub use lists::Lists;
+pub use name::is_good_name;
+pub use refusal::ListsError;
+pub use songs::Songs;

@@ -1,0 +1,2 @@
+pub mod FileSource
+pub mod Pace

@@ -1,0 +1,10 @@
+pub mod ChunkList
+pub mod Finds
+pub mod Formats
+pub mod FrameList
+pub mod PartList
+pub mod Ranges
+pub mod Readings
+pub mod Sources
+pub mod TagTexts
+pub mod Texts

@@ -1,0 +1,162 @@
+-- The reading of a list of parts, by its format, its data and its texts.
+use Rattle.std.proofs.Common.{◌≡◌, ◌+◌, ◌*◌, ◌/◌, ◌≤◌, ℕ, List, length, take, drop, refl, ap, ◌∙◌, sym, Ok, Err, slice_range, arith, subst, true, false, nat_lt, inl, inr}
+use Rattle.std.specs.Prelude.{Result, Option, Some, None, IfErr, ◌<◌, if◌then◌else◌}
+use Rattle.std.proofs.lemmas.List.{length-take, length-drop, take-take, take_all, length-take-le}
+use Rattle.std.proofs.lemmas.Bool.{lt-ltb, cases_lt}
+use Rattle.std.proofs.lemmas.Result.{IfErr-at_err, IfErr-weaker}
+use Rattle.wave_pcm.specs.declared.listing.TheConstants.{MAX_CHUNKS, FIRST_CHUNK}
+use Rattle.wave_pcm.specs.Parts.{Part, is_data, file_parts, parts_in}
+use Rattle.std.specs.List.{find}
+use Rattle.wave_pcm.specs.PartHead.{part_at, parts_at}
+use Rattle.wave_pcm.specs.Reading.{◌>>=◌, format_of, data_of, texts_of, data_at, format_at, is_key, reading_of, is_wave, wave_reading, info_of, Refuses, IsVerdict}
+use Rattle.wave_pcm.specs.WaveError.{Fails}
+use Rattle.wave_pcm.specs.Tag.{Texts}
+use Rattle.wave_pcm.specs.declared.parts.PartHead.{PartHead}
+use Rattle.wave_pcm.specs.declared.format.Format.{Format}
+use Rattle.wave_pcm.specs.declared.info.WaveInfo.{WaveInfo}
+use Rattle.wave_pcm.specs.declared.error.WaveError.{WaveError}
+use Rattle.wave_pcm.specs.declared.error.WaveError.TheVariants.{NoMemory, NotWave, NoFormat, Unsupported, NoData, ReadFault, TooManyTurns}
+use Rattle.wave_pcm.proofs.Ranges.{range_is}
+
+pub reading_ok : (parts : List Part) (format : Format) (sound : Part) → format_of parts ≡ Ok format → data_of parts ≡ Ok sound
+    → reading_of parts ≡ Ok (info_of format sound (texts_of parts))
+unfolding reading_of
+reading_ok parts format sound f d = ap (λ r. r >>= (λ x. data_of parts >>= (λ y. Ok (info_of x y (texts_of parts))))) f ∙ ap (λ r. r >>= (λ y. Ok (info_of format y (texts_of parts)))) d
+
+no_format : (parts : List Part) (e : WaveError) → format_of parts ≡ Err e → reading_of parts ≡ Err e
+unfolding reading_of
+no_format parts e f = ap (λ r. r >>= (λ x. data_of parts >>= (λ y. Ok (info_of x y (texts_of parts))))) f
+
+no_data : (parts : List Part) (format : Format) (e : WaveError) → format_of parts ≡ Ok format → data_of parts ≡ Err e → reading_of parts ≡ Err e
+unfolding reading_of
+no_data parts format e f d = ap (λ r. r >>= (λ x. data_of parts >>= (λ y. Ok (info_of x y (texts_of parts))))) f ∙ ap (λ r. r >>= (λ y. Ok (info_of format y (texts_of parts)))) d
+
+pub refuses_format : (parts : List Part) (fault : Type 0) (e : WaveError) → Refuses (format_of parts) fault e → Refuses (reading_of parts) fault e
+refuses_format parts fault NoMemory h = tt
+refuses_format parts fault NotWave h = no_format parts NotWave h
+refuses_format parts fault NoFormat h = no_format parts NoFormat h
+refuses_format parts fault (Unsupported tag bits channels) h = no_format parts (Unsupported tag bits channels) h
+refuses_format parts fault NoData h = no_format parts NoData h
+refuses_format parts fault ReadFault h = h
+refuses_format parts fault TooManyTurns h = no_format parts TooManyTurns h
+
+pub refuses_verdict : {A : Type 0} (reading : Result A WaveError) (fault : Type 0) (e : WaveError) → IsVerdict e → reading ≡ Err e → Refuses reading fault e
+refuses_verdict reading fault NoMemory v h = tt
+refuses_verdict reading fault NotWave v h = h
+refuses_verdict reading fault NoFormat v h = h
+refuses_verdict reading fault (Unsupported tag bits channels) v h = h
+refuses_verdict reading fault NoData v h = h
+refuses_verdict reading fault ReadFault v h = absurd v
+refuses_verdict reading fault TooManyTurns v h = h
+
+pub refuses_data : (parts : List Part) (fault : Type 0) (format : Format) (e : WaveError) → IsVerdict e → format_of parts ≡ Ok format → data_of parts ≡ Err e → Refuses (reading_of parts) fault e
+refuses_data parts fault format e v f d = refuses_verdict (reading_of parts) fault e v (no_data parts format e f d)
+
+pub refuses_failing : {A : Type 0} (reading : Result A WaveError) (fault more : Type 0) (e : WaveError) → (fault → more) → Fails fault e → Refuses reading more e
+refuses_failing reading fault more NoMemory up h = tt
+refuses_failing reading fault more NotWave up h = absurd h
+refuses_failing reading fault more NoFormat up h = absurd h
+refuses_failing reading fault more (Unsupported tag bits channels) up h = absurd h
+refuses_failing reading fault more NoData up h = absurd h
+refuses_failing reading fault more ReadFault up h = up h
+refuses_failing reading fault more TooManyTurns up h = absurd h
+
+abbrev made : Format → PartHead → Texts → ℕ → WaveInfo
+made format head texts frames = record { rate = format.rate; channels = format.channels; first_byte = head.first; frames = frames; tags = texts }
+
+-- the answer of the code
+pub info_is : (file : List ℕ) (format : Format) (head : PartHead) (texts : Texts) (channels : ℕ) → head.first + head.len ≤ length file → channels ≡ format.channels
+    → info_of format (part_at file head) texts ≡ record { rate = format.rate; channels = format.channels; first_byte = head.first; frames = head.len / (2 * channels); tags = texts }
+info_is file format head texts channels within same =
+    let long : length (slice_range file head.first (head.first + head.len)) ≡ head.len = rw range_is (omega (arith, length-take head.len (drop head.first file), length-drop head.first file)) in
+    ap (λ n. made format head texts (n / (2 * format.channels))) long ∙ ap (λ n. made format head texts (head.len / (2 * n))) (sym same)
+
+abbrev read_by : Result Format WaveError → Result Part WaveError → Texts → Result WaveInfo WaveError
+read_by f d texts = f >>= (λ x. d >>= (λ y. Ok (info_of x y texts)))
+
+abbrev format_within : ℕ → List Part → Result Format WaveError
+format_within n parts = format_at (nat_lt n (length parts)) (find is_key (take n parts))
+
+abbrev data_within : ℕ → List Part → Result Part WaveError
+data_within n parts = data_at (nat_lt n (length parts)) (find (λ p. is_data p.kind) parts)
+
+abbrev reading_within : ℕ → List Part → Result WaveInfo WaveError
+reading_within n parts = read_by (format_within n parts) (data_within n parts) (texts_of parts)
+
+reading_is : (parts : List Part) → reading_of parts ≡ reading_within MAX_CHUNKS parts
+unfolding reading_of
+reading_is parts = refl
+
+too_many : (found : Option Part) → data_at true found ≡ Err TooManyTurns
+too_many None = refl
+too_many (Some p) = refl
+
+data_too_many : (n : ℕ) (parts : List Part) → n < length parts → data_within n parts ≡ Err TooManyTurns
+data_too_many n parts more =
+    ap (λ b. data_at b (find (λ p. is_data p.kind) parts)) (lt-ltb n (length parts) more) ∙ too_many (find (λ p. is_data p.kind) parts)
+
+cut_short : (n : ℕ) (parts : List Part) → n + 1 ≤ length parts → reading_within n (take (n + 1) parts) ≡ reading_within n parts
+cut_short n parts more =
+    let count : length (take (n + 1) parts) ≡ n + 1 = length-take-le (n + 1) parts more in
+    let here : n < length (take (n + 1) parts) = omega arith in
+    let there : n < length parts = omega arith in
+    let formats : format_within n (take (n + 1) parts) ≡ format_within n parts
+    = ap (λ b. format_at b (find is_key (take n (take (n + 1) parts)))) (lt-ltb n (length (take (n + 1) parts)) here)
+    ∙ ap (λ ps. format_at true (find is_key ps)) (take-take n (n + 1) parts (omega arith))
+    ∙ sym (ap (λ b. format_at b (find is_key (take n parts))) (lt-ltb n (length parts) there)) in
+    ap (λ f. read_by f (data_within n (take (n + 1) parts)) (texts_of (take (n + 1) parts))) formats
+    ∙ ap (λ d. read_by (format_within n parts) d (texts_of (take (n + 1) parts))) (data_too_many n (take (n + 1) parts) here)
+    ∙ sym (ap (λ d. read_by (format_within n parts) d (texts_of parts)) (data_too_many n parts there))
+
+capped : (n : ℕ) (parts : List Part) → reading_within n (take (n + 1) parts) ≡ reading_within n parts
+capped n parts = elim (cases_lt (length parts) (n + 1)) as (λ _. reading_within n (take (n + 1) parts) ≡ reading_within n parts) [
+  | inl few ↦ ap (reading_within n) (take_all (n + 1) parts (omega arith))
+  | inr more ↦ cut_short n parts more
+]
+
+-- one chunk too many is enough
+pub reading_of-take : (parts : List Part) → reading_of (take (MAX_CHUNKS + 1) parts) ≡ reading_of parts
+reading_of-take parts = reading_is (take (MAX_CHUNKS + 1) parts) ∙ capped MAX_CHUNKS parts ∙ sym (reading_is parts)
+
+pub verdict_of : {A : Type 0} (reading : Result A WaveError) (fault : Type 0) (e : WaveError) → Refuses reading fault e → IsVerdict e → reading ≡ Err e
+verdict_of reading fault NoMemory h v = absurd v
+verdict_of reading fault NotWave h v = h
+verdict_of reading fault NoFormat h v = h
+verdict_of reading fault (Unsupported tag bits channels) h v = h
+verdict_of reading fault NoData h v = h
+verdict_of reading fault ReadFault h v = absurd v
+verdict_of reading fault TooManyTurns h v = h
+
+pub verdicts_of : {A B : Type 0} (r : Result B WaveError) (reading : Result A WaveError) (fault : Type 0) → IfErr r (Refuses reading fault) → IfErr r (λ e. IsVerdict e → reading ≡ Err e)
+verdicts_of (Ok x) reading fault h = tt
+verdicts_of (Err e) reading fault h = verdict_of reading fault e h
+
+pub fault_of : {A B : Type 0} (r : Result B WaveError) (reading : Result A WaveError) (fault : Type 0) → IfErr r (Refuses reading fault) → r ≡ Err ReadFault → fault
+fault_of r reading fault h same = IfErr-at_err (Refuses reading fault) same h
+
+pub not_wave : (file : List ℕ) → is_wave file ≡ false → wave_reading file ≡ Err NotWave
+unfolding wave_reading
+not_wave file no' = ap (λ b. if b then reading_of (file_parts file) else Err NotWave) no'
+
+pub whole_reading : (file was now : List ℕ) (heads : List PartHead) (end : ℕ) → is_wave file ≡ true → end ≡ length file → was ≡ file → now ≡ file
+    → parts_at was heads ≡ take (MAX_CHUNKS + 1) (parts_in was FIRST_CHUNK end) → wave_reading file ≡ reading_of (parts_at now heads)
+unfolding wave_reading
+whole_reading file was now heads end yes' all same still listed =
+    let P : List ℕ → Type 0 = λ bytes. parts_at bytes heads ≡ take (MAX_CHUNKS + 1) (parts_in bytes FIRST_CHUNK end) in
+    let here : parts_at file heads ≡ take (MAX_CHUNKS + 1) (parts_in file FIRST_CHUNK end) = subst P same listed in
+    ap (λ b. if b then reading_of (file_parts file) else Err NotWave) yes'
+    ∙ ap (λ e. reading_of (parts_in file FIRST_CHUNK e)) (sym all)
+    ∙ sym (reading_of-take (parts_in file FIRST_CHUNK end))
+    ∙ ap reading_of (sym here) ∙ ap (λ bytes. reading_of (parts_at bytes heads)) (sym still)
+
+refuses_more : {A : Type 0} (reading : Result A WaveError) (fault more : Type 0) → (fault → more) → (e : WaveError) → Refuses reading fault e → Refuses reading more e
+refuses_more reading fault more up NoMemory h = tt
+refuses_more reading fault more up NotWave h = h
+refuses_more reading fault more up NoFormat h = h
+refuses_more reading fault more up (Unsupported tag bits channels) h = h
+refuses_more reading fault more up NoData h = h
+refuses_more reading fault more up ReadFault h = up h
+refuses_more reading fault more up TooManyTurns h = h
+
+pub refused_more : {A B : Type 0} (r : Result B WaveError) (reading : Result A WaveError) (fault more : Type 0) → (fault → more) → IfErr r (Refuses reading fault) → IfErr r (Refuses reading more)
+refused_more r reading fault more up h = IfErr-weaker r (Refuses reading fault) (Refuses reading more) (refuses_more reading fault more up) h

@@ -1,0 +1,19 @@
+-- What a source keeps over several reads.
+use Rattle.std.proofs.Common.{ℕ, ◌≤◌, List, arith, ◌∙◌, refl}
+use Rattle.wave_pcm.specs.Source.{Keeps, Grows}
+
+pub keeps_then : {S : Type 0} {bytes : S → List ℕ} {honest : S → Type 0} {faults : S → ℕ} {a b c : S}
+    → Keeps bytes honest faults a b → Keeps bytes honest faults b c → Keeps bytes honest faults a c
+keeps_then first next = record { is_honest = next.is_honest; same = next.same ∙ first.same; counted = omega (arith, first.counted, next.counted) }
+
+pub keeps_same : {S : Type 0} {bytes : S → List ℕ} {honest : S → Type 0} {faults : S → ℕ} {a : S}
+    → honest a → Keeps bytes honest faults a a
+keeps_same told = record { is_honest = told; same = refl; counted = omega arith }
+
+-- a fault after other reads
+pub grows_after : (a b c : ℕ) → a ≤ b → Grows b c → Grows a c
+grows_after a b c le more = omega arith
+
+-- and before others
+pub grows_before : (a b c : ℕ) → Grows a b → b ≤ c → Grows a c
+grows_before a b c more le = omega arith

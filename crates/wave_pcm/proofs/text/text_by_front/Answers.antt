@@ -1,0 +1,15 @@
+use Rattle.std.proofs.Common.{◌∙◌, ap, Some}
+use Rattle.wave_pcm.specs.Text.{tag_text}
+use Rattle.wave_pcm.proofs.Texts.{text_decided}
+use Rattle.wave_pcm.proofs.text.text_by_front.Goals as goal
+
+pub returns-in_ok-from_str-in-Some-clause-text : goal.returns-in_ok-from_str-in-Some-clause-text
+returns-in_ok-from_str-in-Some-clause-text g c = λ told within.
+    ap Some c.in_ok-from_str-in-Some.ensures.ok ∙ c.in-Some.ensures
+    ∙ ap tag_text (c.in_ok-read_exact.ensures.read told)
+    ∙ text_decided (g.S.Source.bytes c.args.source.now) c.args.head.first c.args.head.len _ c.requires.front
+
+pub returns-in-None-clause-text : goal.returns-in-None-clause-text
+returns-in-None-clause-text g c = λ told within.
+    c.in-None.ensures ∙ ap tag_text (c.in_ok-read_exact.ensures.read told)
+    ∙ text_decided (g.S.Source.bytes c.args.source.now) c.args.head.first c.args.head.len _ c.requires.front

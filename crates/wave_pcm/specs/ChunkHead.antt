@@ -1,0 +1,20 @@
+-- The chunk that a head tells of.
+use Rattle.std.specs.Prelude.{ℕ, ◌+◌, ◌<◌, ◌≤◌, List, [], ◌∷◌, slice_range, Option, Some, None}
+use Rattle.wave_pcm.specs.Chunks.{Chunk, chunks_in}
+use Rattle.wave_pcm.specs.declared.chunks.ChunkHead.{ChunkHead}
+
+-- its data is the file's bytes from `first` on
+abbrev pub chunk_at : List ℕ → ChunkHead → Chunk
+chunk_at file head = record { id = head.id; first = head.first; body = slice_range file head.first (head.first + head.len) }
+
+-- the chunks up to `end`, from the one whose head was found on
+abbrev pub chunks_from : List ℕ → ℕ → Option ChunkHead → List Chunk
+chunks_from file end None = []
+chunks_from file end (Some head) = chunk_at file head ∷ chunks_in file head.next end
+
+-- the chunk stands between these places, and so does what follows
+pub record IsWithin (at end : ℕ) (head : ChunkHead) : Type 0 where
+  pub after : at < head.first
+  pub data_end : head.first + head.len ≤ end
+  pub ahead : at < head.next
+  pub next_end : head.next ≤ end

@@ -1,0 +1,11 @@
+pub mod ChunkHead
+pub mod Chunks
+pub mod Format
+pub mod PartHead
+pub mod Parts
+pub mod Pcm
+pub mod Reading
+pub mod Source
+pub mod Tag
+pub mod Text
+pub mod WaveError
