@@ -25,14 +25,14 @@ pub written_begins : (all : List Output) (first : Option (List ℕ)) → Written
 written_begins all first = record { text = []; written = appends-nothing first; whole = refl }
 
 pub written_more : (all whole rest : List Output) (o : Output) (bytes : List ℕ) (first now after : Option (List ℕ)) → whole ≡ o ∷ rest → bytes ≡ o.bytes →
-  WrittenSoFar all whole first now → Appends now after bytes → WrittenSoFar all rest first after
+    WrittenSoFar all whole first now → Appends now after bytes → WrittenSoFar all rest first after
 written_more all whole rest o bytes first now after parts same far more =
-  let left = rw parts at far.whole in
-  record {
-    text = far.text ++ bytes;
-    written = appends-twice first now after far.text bytes far.written more;
-    whole = append_assoc far.text bytes (text_of rest) ∙ ap (λ b. far.text ++ (b ++ text_of rest)) same ∙ left;
-  }
+    let left = rw parts at far.whole in
+    record {
+      text = far.text ++ bytes;
+      written = appends-twice first now after far.text bytes far.written more;
+      whole = append_assoc far.text bytes (text_of rest) ∙ ap (λ b. far.text ++ (b ++ text_of rest)) same ∙ left;
+    }
 
 pub written_all : (all rest : List Output) (first now : Option (List ℕ)) → length rest ≡ 0 → WrittenSoFar all rest first now → Appends first now (text_of all)
 written_all all [] first now empty far = rw (← (sym (append-nil far.text) ∙ far.whole)) far.written

@@ -6,11 +6,11 @@ loop-output-init g c = written_begins c.args.outputs.now (g.W.Write.contents c.a
 
 pub loop-output-preserved : goal.loop-output-preserved
 loop-output-preserved g c =
-  written_more c.args.outputs.now c.loop-output.rest.now c.in-Some.after.now c.in-Some.output.now c.as_slice.result.now
+    written_more c.args.outputs.now c.loop-output.rest.now c.in-Some.after.now c.in-Some.output.now c.as_slice.result.now
     (g.W.Write.contents c.args.writer.now) (g.W.Write.contents c.loop-output.writer) (g.W.Write.contents c.write_all.new.self)
     (let s = c.in-Some.ensures.cases in s.0) c.as_slice.ensures c.loop-output.invariant c.in_ok-write_all.ensures.bytes
 
 pub returns : goal.returns
 returns g c =
-  written_all c.args.outputs.now c.loop-output.rest.now (g.W.Write.contents c.args.writer.now) (g.W.Write.contents c.loop-output.writer)
+    written_all c.args.outputs.now c.loop-output.rest.now (g.W.Write.contents c.args.writer.now) (g.W.Write.contents c.loop-output.writer)
     c.in_default.ensures.cases c.loop-output.invariant
