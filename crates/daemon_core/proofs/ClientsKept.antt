@@ -7,14 +7,12 @@ use Rattle.command_text.specs.declared.name.CommandName.{CommandName}
 use Rattle.command_text.specs.declared.place.Place.{Place}
 use Rattle.command_text.specs.declared.refusal.CommandRefusal.{CommandRefusal}
 use Rattle.command_text.specs.declared.refusal.Refusal.{Refusal}
-use Rattle.command_text.specs.Reading.{line_reading, name_of_line, want_of_memory}
-use Rattle.command_text.specs.Answer.{ack}
+use Rattle.command_text.specs.Reading.{line_reading}
 use Rattle.state_codec.specs.declared.op.Op.{Op}
 use Rattle.state_codec.specs.Spelling.{ops_bytes}
-use Rattle.daemon_core.specs.declared.outcome.Ending.TheVariants.{Answered}
 use Rattle.daemon_core.specs.State.{State}
 use Rattle.daemon_core.specs.Meaning.{meaning}
-use Rattle.daemon_core.specs.Run.{Did, Goes, Refuses, Closes, Kills, within, performed, read_and_performed, attempted, Ran, ends, follow, is_refused_at, ran, max_request_bytes}
+use Rattle.daemon_core.specs.Run.{Did, Goes, Refuses, Closes, Kills, within, performed, read_and_performed, attempted, Ran, wants_memory, follow, is_refused_at, ran, max_request_bytes}
 
 -- what a command did left the clients as they were
 abbrev pub LeavesClients : State → Did → Type 0
@@ -59,16 +57,16 @@ follow_leaves separator index size s rest (Refuses refusal) same later = refl
 follow_leaves separator index size s rest Closes same later = refl
 follow_leaves separator index size s rest Kills same later = refl
 
-refused_leaves : (s : State) (text : List ℕ) (r : Ran) (here : Bool) → r.after.clients ≡ s.clients →
-    let either = cond here (ends s text Answered) r in either.after.clients ≡ s.clients
-refused_leaves s text r true same = refl
-refused_leaves s text r false same = same
+refused_leaves : (s : State) (index : ℕ) (line : List ℕ) (r : Ran) (here : Bool) → r.after.clients ≡ s.clients →
+    let either = cond here (wants_memory s index line) r in either.after.clients ≡ s.clients
+refused_leaves s index line r true same = refl
+refused_leaves s index line r false same = same
 
 pub ran_leaves : (place : Place) (separator : List ℕ) (refused : Option ℕ) (index size : ℕ) (lines : List (List ℕ)) (s : State) →
     let r = ran place separator refused index size lines s in r.after.clients ≡ s.clients
 unfolding ran
 ran_leaves place separator refused index size [] s = refl
 ran_leaves place separator refused index size (line ∷ lines) s =
-    refused_leaves s (ack index (want_of_memory (name_of_line line))) _ (is_refused_at refused index)
+    refused_leaves s index line _ (is_refused_at refused index)
     (follow_leaves separator index size s (λ n t. ran place separator refused (suc index) n lines t) (attempted place size line s) (attempted_leaves place size line s)
     (λ n t. ran_leaves place separator refused (suc index) n lines t))

@@ -11,3 +11,4 @@ pub mod StepLaws
 pub mod RebuildLaws
 pub mod EventLaws
 pub mod ChangeLaws
+pub mod ReachedLaws

@@ -13,8 +13,7 @@ use Rattle.command_text.specs.declared.place.Place.{Place}
 use Rattle.command_text.specs.declared.refusal.Refusal.{Refusal}
 use Rattle.command_text.specs.declared.refusal.Refusal.TheVariants.{OfCommand}
 use Rattle.command_text.specs.declared.refusal.CommandRefusal.TheVariants.{RequestTooLarge}
-use Rattle.command_text.specs.Reading.{line_reading, name_of_line, want_of_memory}
-use Rattle.command_text.specs.Answer.{ack}
+use Rattle.command_text.specs.Reading.{line_reading}
 use Rattle.state_codec.specs.declared.op.Op.{Op}
 use Rattle.state_codec.specs.declared.op.Op.TheVariants as ops
 use Rattle.state_codec.specs.declared.op.Setting.TheVariants as settings
@@ -22,12 +21,11 @@ use Rattle.state_codec.specs.SavedState.{SavedState}
 use Rattle.state_codec.specs.Spelling.{op_bytes, ops_bytes}
 use Rattle.state_codec.specs.Applied.{all_applied}
 use Rattle.state_codec.proofs.AppliedLaws.{all_applied-append}
-use Rattle.daemon_core.specs.declared.outcome.Ending.TheVariants.{Answered}
 use Rattle.daemon_core.specs.State.{State}
 use Rattle.daemon_core.specs.Status.{status_lines}
 use Rattle.daemon_core.specs.Changed.{same_switch, same_single}
 use Rattle.daemon_core.specs.Meaning.{meaning, ops_of, unless_same, next_order}
-use Rattle.daemon_core.specs.Run.{Did, Goes, Refuses, Closes, Kills, within, performed, read_and_performed, attempted, Ran, ends, follow, is_refused_at, ran, max_request_bytes}
+use Rattle.daemon_core.specs.Run.{Did, Goes, Refuses, Closes, Kills, within, performed, read_and_performed, attempted, Ran, wants_memory, follow, is_refused_at, ran, max_request_bytes}
 
 -- settings that are the same
 same_switch_so : (a b : Bool) → same_switch a b ≡ true → a ≡ b
@@ -126,16 +124,16 @@ follow_rebuilds separator index size s rest (Refuses refusal) within same later 
 follow_rebuilds separator index size s rest Closes within same later = record { state = refl; fits = omega (arith, within) }
 follow_rebuilds separator index size s rest Kills within same later = record { state = refl; fits = omega (arith, within) }
 
-here_rebuilds : (size : ℕ) (s : State) (text : List ℕ) (r : Ran) (here : Bool) → size ≤ max_request_bytes → Rebuilt size s r.after r.ops →
-    let either = cond here (ends s text Answered) r in Rebuilt size s either.after either.ops
-here_rebuilds size s text r true within same = record { state = refl; fits = omega (arith, within) }
-here_rebuilds size s text r false within same = same
+here_rebuilds : (size : ℕ) (s : State) (index : ℕ) (line : List ℕ) (r : Ran) (here : Bool) → size ≤ max_request_bytes → Rebuilt size s r.after r.ops →
+    let either = cond here (wants_memory s index line) r in Rebuilt size s either.after either.ops
+here_rebuilds size s index line r true within same = record { state = refl; fits = omega (arith, within) }
+here_rebuilds size s index line r false within same = same
 
 pub ran_rebuilds : (place : Place) (separator : List ℕ) (refused : Option ℕ) (index size : ℕ) (lines : List (List ℕ)) (s : State) → size ≤ max_request_bytes →
     let r = ran place separator refused index size lines s in Rebuilt size s r.after r.ops
 unfolding ran
 ran_rebuilds place separator refused index size [] s within = record { state = refl; fits = omega (arith, within) }
 ran_rebuilds place separator refused index size (line ∷ lines) s within =
-    here_rebuilds size s (ack index (want_of_memory (name_of_line line))) _ (is_refused_at refused index) within
+    here_rebuilds size s index line _ (is_refused_at refused index) within
     (follow_rebuilds separator index size s (λ n t. ran place separator refused (suc index) n lines t) (attempted place size line s) within (attempted_rebuilds place size line s)
     (λ n t fits. ran_rebuilds place separator refused (suc index) n lines t fits))

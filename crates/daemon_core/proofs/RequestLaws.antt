@@ -26,7 +26,7 @@ use Rattle.daemon_core.specs.declared.request.Attempt.TheVariants as attempt
 use Rattle.daemon_core.specs.State.{State}
 use Rattle.daemon_core.specs.Changed.{changed}
 use Rattle.daemon_core.specs.Meaning.{meaning, ops_of}
-use Rattle.daemon_core.specs.Run.{Did, Goes, Refuses, Closes, Kills, within, performed, read_and_performed, attempted, Ran, ends, preceded, follow, is_refused_at, ran, max_request_bytes}
+use Rattle.daemon_core.specs.Run.{Did, Goes, Refuses, Closes, Kills, within, performed, read_and_performed, attempted, Ran, ends, wants_memory, preceded, follow, is_refused_at, ran, max_request_bytes}
 use Rattle.daemon_core.specs.declared.request.RunEnd.{RunEnd}
 use Rattle.daemon_core.specs.Work.{Ran as IsRan, AddsOps, AddsNothing, AddsText, IsRefusalOf, EndsWith, Went, WentOn, Attempts, HasRoom, want_room}
 use Rattle.daemon_core.proofs.PendingLaws.{contains-set_of, set_ext}
@@ -144,10 +144,11 @@ preceded_twice t u a b os ps r = λ i. record {
   changed = sym (union_assoc a b r.changed) i;
   ops = sym (append_assoc os ps r.ops) i;
   ending = r.ending;
+  refused_at = r.refused_at;
 }
 
 preceded_none : (r : Ran) → preceded [] none [] r ≡ r
-preceded_none r = λ i. record { after = r.after; text = r.text; changed = union-none r.changed i; ops = r.ops; ending = r.ending }
+preceded_none r = λ i. record { after = r.after; text = r.text; changed = union-none r.changed i; ops = r.ops; ending = r.ending; refused_at = r.refused_at }
 
 -- memory was not refused before this command
 abbrev pub NotBefore : ℕ → Option ℕ → Type 0
@@ -199,7 +200,7 @@ so_far_goes place between lines rest line index first s t before now after chang
   whole = λ refused later.
       let a = went.added in
       far.whole refused (later_before index refused later)
-      ∙ ap (λ b. preceded far.text changes far.made (cond b (ends s (ack index (want_of_memory (name_of_line line))) Answered)
+      ∙ ap (λ b. preceded far.text changes far.made (cond b (wants_memory s index line)
       (follow between index now.size s (λ n u. ran place between refused (suc index) n rest u) (attempted place now.size line s)))) (later_is_not index refused later)
       ∙ ap (λ d. preceded far.text changes far.made (follow between index now.size s (λ n u. ran place between refused (suc index) n rest u) d)) went.did
       ∙ preceded_twice far.text (went.text ++ between) changes (changed s t) far.made went.ops (ran place between refused (suc index) (now.size + length (ops_bytes went.ops)) rest t)
@@ -214,10 +215,10 @@ unfolding ran
 next_refused place between line rest index size s refusal did = ap (follow between index size s (λ n u. ran place between None (suc index) n rest u)) did
 
 pub next_wants : (place : Place) (between : List ℕ) (line : List ℕ) (rest : List (List ℕ)) (index size : ℕ) (s : State) →
-    ran place between (Some index) index size (line ∷ rest) s ≡ ends s (ack index (want_of_memory (name_of_line line))) Answered
+    ran place between (Some index) index size (line ∷ rest) s ≡ wants_memory s index line
 unfolding ran
 next_wants place between line rest index size s =
-    ap (λ b. cond b (ends s (ack index (want_of_memory (name_of_line line))) Answered)
+    ap (λ b. cond b (wants_memory s index line)
     (follow between index size s (λ n u. ran place between (Some index) (suc index) n rest u) (attempted place size line s))) (eq-eqb index index refl)
 
 pub next_closes : (place : Place) (between : List ℕ) (line : List ℕ) (rest : List (List ℕ)) (index size : ℕ) (s : State) →
@@ -237,11 +238,11 @@ next_none place between index size s = refl
 -- the request has ended
 pub ran_ends : (place : Place) (between : List ℕ) (lines rest : List (List ℕ)) (index : ℕ) (first s t : State) (before now after : Work) (changes : Subsystems) (refused : Option ℕ) (line : List ℕ) (ending : Ending) (done : RunEnd) →
     SoFar place between lines rest index first s before now changes → NotBefore index refused →
-    ran place between refused index now.size rest s ≡ ends s line ending → EndsWith line s t now after →
+    ran place between refused index now.size rest s ≡ record (ends s line ending) { refused_at = refused } → EndsWith line s t now after →
     done.refused_at ≡ refused → done.changed ≡ changes → done.ending ≡ ending → IfSome refused (λ n. n < length lines) →
     IsRan place between lines first t before after done
 ran_ends place between lines rest index first s t before now after changes refused line ending done far not_before ended ends_with at changed_is ending_is within =
-    let whole : ran place between done.refused_at 0 before.size lines first ≡ preceded far.text changes far.made (ends s line ending) =
+    let whole : ran place between done.refused_at 0 before.size lines first ≡ preceded far.text changes far.made (record (ends s line ending) { refused_at = refused }) =
     ap (λ r. ran place between r 0 before.size lines first) at ∙ far.whole refused not_before ∙ ap (preceded far.text changes far.made) ended in
     record {
       state = ends_with.state ∙ sym (ap (λ r. r.after) whole);
@@ -249,6 +250,7 @@ ran_ends place between lines rest index first s t before now after changes refus
       made = ends_with.ops ∙ far.ops ∙ sym (ap (λ r. before.ops.items ++ r.ops) whole ∙ ap (λ x. before.ops.items ++ x) (append-nil far.made));
       changed = changed_is ∙ sym (ap (λ r. r.changed) whole ∙ union_none_right changes);
       ending = ending_is ∙ sym (ap (λ r. r.ending) whole);
+      reached = at ∙ sym (ap (λ r. r.refused_at) whole);
       refused = subst (λ r. IfSome r (λ n. n < length lines)) (sym at) within;
     }
 

@@ -47,7 +47,8 @@ is_outcome s event t u before outputs acts does told after place = record {
   closes = does.closes;
   ops = does.ops;
   ended = does.ended;
-  refused_at = place;
+  refused_at = does.refused_at;
+  place = place;
 }
 
 pub rebuilt_by : (s : State) (event : Event) (o : Outcome) (t : State) → IsOutcome s event o t → all_applied o.ops.items s.saved ≡ Some t.saved

@@ -21,10 +21,12 @@ command_count (events.Request c request) = commands_in request
 command_count (events.Gone c) = 0
 
 -- The answer and the state after are those of the step, with memory refused at the command that the answer names, or at none.
+-- That command is one of the event's, and the step reached it: where it ended earlier the answer names none.
 pub record IsOutcome (s : State) (event : Event) (o : Outcome) (t : State) : Type 0 where
   pub after : t ≡ (step s event o.refused_at).after
   pub outputs : o.outputs.items ≡ (step s event o.refused_at).outputs
   pub closes : o.closes.items ≡ (step s event o.refused_at).closes
   pub ops : o.ops.items ≡ (step s event o.refused_at).ops
   pub ended : o.ended ≡ (step s event o.refused_at).ended
-  pub refused_at : IfSome o.refused_at (λ place. place < command_count event)
+  pub refused_at : o.refused_at ≡ (step s event o.refused_at).refused_at
+  pub place : IfSome o.refused_at (λ place. place < command_count event)

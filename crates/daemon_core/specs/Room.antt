@@ -35,6 +35,7 @@ pub record DoesAct (a : Acted) (t : State) (outputs : Vec Output) (acts : Acts) 
   pub answer : acts.outputs.items ≡ a.answer
   pub closes : acts.closes.items ≡ a.closes
   pub ops : acts.ops.items ≡ a.ops
+  pub refused_at : acts.refused_at ≡ a.refused_at
   pub ended : acts.ended ≡ a.ended
   pub changed : acts.changed ≡ a.changed
   pub room : vec_capacity acts.outputs ≡ vec_capacity outputs

@@ -59,21 +59,27 @@ read_and_performed size s (Ok command) = performed size command s
 unfoldable pub attempted : Place → ℕ → List ℕ → State → Did
 attempted place size line s = read_and_performed size s (line_reading place line)
 
--- what a request did: the state after it, its answer, the subsystems that one of its commands changed, its ops in order, and how it ended
+-- What a request did: the state after it, its answer, the subsystems that one of its commands changed, its ops in order, how
+-- it ended, and the place of the command that it reached and that was refused memory, if there was one.
 pub record Ran : Type 0 where
   pub after : State
   pub text : List ℕ
   pub changed : Subsystems
   pub ops : List Op
   pub ending : Ending
+  pub refused_at : Option ℕ
 
 -- it ends here, with this text
 abbrev pub ends : State → List ℕ → Ending → Ran
-ends s text ending = record { after = s; text = text; changed = none; ops = []; ending = ending }
+ends s text ending = record { after = s; text = text; changed = none; ops = []; ending = ending; refused_at = None }
+
+-- it ends here, since the command of this line, in this place, was refused memory
+abbrev pub wants_memory : State → ℕ → List ℕ → Ran
+wants_memory s index line = record (ends s (ack index (want_of_memory (name_of_line line))) Answered) { refused_at = Some index }
 
 -- a command that went well, before the rest of the request
 abbrev pub preceded : List ℕ → Subsystems → List Op → Ran → Ran
-preceded text changes ops rest = record { after = rest.after; text = text ++ rest.text; changed = union changes rest.changed; ops = ops ++ rest.ops; ending = rest.ending }
+preceded text changes ops rest = record { after = rest.after; text = text ++ rest.text; changed = union changes rest.changed; ops = ops ++ rest.ops; ending = rest.ending; refused_at = rest.refused_at }
 
 -- memory was refused at this command
 abbrev pub is_refused_at : Option ℕ → ℕ → Bool
@@ -97,5 +103,5 @@ follow separator index size s rest Kills = ends s [] Killed
 unfoldable pub ran : Place → List ℕ → Option ℕ → ℕ → ℕ → List (List ℕ) → State → Ran
 ran place separator refused index size [] s = ends s ok Answered
 ran place separator refused index size (line ∷ lines) s =
-    if is_refused_at refused index then ends s (ack index (want_of_memory (name_of_line line))) Answered
+    if is_refused_at refused index then wants_memory s index line
     else follow separator index size s (λ size after. ran place separator refused (suc index) size lines after) (attempted place size line s)

@@ -23,19 +23,21 @@ use Rattle.daemon_core.specs.Run.{Ran, ran}
 use Rattle.daemon_core.specs.Pending.{Moment}
 
 -- What an event does before clients that wait are told: the state, the answer of the event's own client, the clients
--- that are closed, the ops, whether the daemon ends, the client that it connected, and the subsystems that it changed.
+-- that are closed, the ops, the place of the command that was refused memory, if one was, whether the daemon ends, the client
+-- that it connected, and the subsystems that it changed.
 pub record Acted : Type 0 where
   pub after : State
   pub answer : List Output
   pub closes : List ℕ
   pub ops : List Op
+  pub refused_at : Option ℕ
   pub ended : Bool
   pub connected : Option ℕ
   pub changed : Subsystems
 
 -- an event that does nothing
 abbrev pub nothing : State → Acted
-nothing s = record { after = s; answer = []; closes = []; ops = []; ended = false; connected = None; changed = none }
+nothing s = record { after = s; answer = []; closes = []; ops = []; refused_at = None; ended = false; connected = None; changed = none }
 
 abbrev pub output : ℕ → List ℕ → Output
 output c text = record { client = c; bytes = text }
@@ -51,9 +53,9 @@ without c s = record s { clients = left s.clients c }
 
 -- what came of a request of this client
 abbrev pub of_ran : ℕ → Ran → Ending → Acted
-of_ran c r Answered = record (nothing r.after) { answer = output c r.text ∷ []; ops = r.ops; changed = r.changed }
-of_ran c r Closed = record (nothing (without c r.after)) { closes = c ∷ []; ops = r.ops; changed = r.changed }
-of_ran c r Killed = record (nothing (record r.after { clients = [] })) { closes = map (λ w. w.client) r.after.clients; ops = r.ops; ended = true; changed = r.changed }
+of_ran c r Answered = record (nothing r.after) { answer = output c r.text ∷ []; ops = r.ops; refused_at = r.refused_at; changed = r.changed }
+of_ran c r Closed = record (nothing (without c r.after)) { closes = c ∷ []; ops = r.ops; refused_at = r.refused_at; changed = r.changed }
+of_ran c r Killed = record (nothing (record r.after { clients = [] })) { closes = map (λ w. w.client) r.after.clients; ops = r.ops; refused_at = r.refused_at; ended = true; changed = r.changed }
 
 abbrev pub runs : ℕ → Ran → Acted
 runs c r = of_ran c r r.ending
@@ -115,6 +117,7 @@ pub record Stepped : Type 0 where
   pub outputs : List Output
   pub closes : List ℕ
   pub ops : List Op
+  pub refused_at : Option ℕ
   pub ended : Bool
   pub moment : Moment
 
@@ -126,6 +129,7 @@ settles a = record {
   outputs = a.answer ++ map told_to (reports_of (marked a.after.clients a.changed));
   closes = a.closes;
   ops = a.ops;
+  refused_at = a.refused_at;
   ended = a.ended;
   moment = record { connected = a.connected; changed = a.changed; reports = reports_of (marked a.after.clients a.changed) };
 }

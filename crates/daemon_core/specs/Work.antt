@@ -105,4 +105,5 @@ pub record Ran (place : Place) (between : List ℕ) (lines : List (List ℕ)) (s
   pub made : let r = ran place between done.refused_at 0 before.size lines s in after.ops.items ≡ before.ops.items ++ r.ops
   pub changed : let r = ran place between done.refused_at 0 before.size lines s in done.changed ≡ r.changed
   pub ending : let r = ran place between done.refused_at 0 before.size lines s in done.ending ≡ r.ending
+  pub reached : let r = ran place between done.refused_at 0 before.size lines s in done.refused_at ≡ r.refused_at
   pub refused : IfSome done.refused_at (λ place. place < length lines)

@@ -32,6 +32,18 @@ pub struct RunEnd {
     pub refused_at: Option<u32>,
 }
 
+impl RunEnd {
+    fn new(ending: Ending, changed: Subsystems, refused_at: Option<u32>) -> Self
+        ensures { result ≡ record { ending = ending; changed = changed; refused_at = refused_at } }
+    {
+        RunEnd {
+            ending,
+            changed,
+            refused_at,
+        }
+    }
+}
+
 /// Ends the answer by the refusal of a command.
 fn refuse(index: u32, line: &[u8], refusal: &Refusal, work: &mut Work) -> Attempt
     requires { HasRoom want_room work.old }
@@ -129,35 +141,15 @@ impl Core {
         while let Some((line, after)) = rest.split_first() {
             match self.attempt(alloc, place, separated, index, line.bytes(), work) {
                 Attempt::Goes(set) => changed = changed.union(set),
-                Attempt::Refused => return RunEnd {
-                    ending: Ending::Answered,
-                    changed,
-                    refused_at: None,
-                },
-                Attempt::NoMemory => return RunEnd {
-                    ending: Ending::Answered,
-                    changed,
-                    refused_at: Some(index),
-                },
-                Attempt::Closes => return RunEnd {
-                    ending: Ending::Closed,
-                    changed,
-                    refused_at: None,
-                },
-                Attempt::Kills => return RunEnd {
-                    ending: Ending::Killed,
-                    changed,
-                    refused_at: None,
-                },
+                Attempt::Refused => return RunEnd::new(Ending::Answered, changed, None),
+                Attempt::NoMemory => return RunEnd::new(Ending::Answered, changed, Some(index)),
+                Attempt::Closes => return RunEnd::new(Ending::Closed, changed, None),
+                Attempt::Kills => return RunEnd::new(Ending::Killed, changed, None),
             }
             index += 1;
             rest = after;
         }
         work.end();
-        RunEnd {
-            ending: Ending::Answered,
-            changed,
-            refused_at: None,
-        }
+        RunEnd::new(Ending::Answered, changed, None)
     }
 }

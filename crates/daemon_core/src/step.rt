@@ -210,7 +210,7 @@ impl Core {
     ) -> Acts
         requires empty { IsEmptyRoom outputs closes }
         requires close { length self.old.clients + 1 ≤ vec_capacity closes }
-        ensures does { DoesAct (of_ran client (record { after = self.old; text = work.text.items; changed = end.changed; ops = work.ops.items; ending = end.ending }) end.ending) self.new outputs result }
+        ensures does { DoesAct (of_ran client (record { after = self.old; text = work.text.items; changed = end.changed; ops = work.ops.items; ending = end.ending; refused_at = end.refused_at }) end.ending) self.new outputs result }
         ensures place { result.refused_at ≡ end.refused_at }
     {
         let Work { text, ops, .. } = work;

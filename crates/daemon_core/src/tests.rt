@@ -1,6 +1,6 @@
 use crate::*;
 use command_text::{Line, Lines, Request};
-use idle_masks::{Subsystem, Subsystems};
+use idle_masks::{ClientId, Subsystem, Subsystems};
 use player_core::{Single, Volume};
 use state_codec::{Op, Saved, Setting};
 use std::alloc::Global;
@@ -189,39 +189,232 @@ playlistlength: 0\nstate: stop\nOK\n"
     assert_eq!(rt; NoMemory.number(), 7);
     assert_eq!(rt; RecoverError::NoMemory.number(), 7);
     assert_eq!(rt; RecoverError::BadOp(0).number(), 9);
+    let texts = format!(in alloc;
+        "{NoMemory}; {}; {}",
+        RecoverError::NoMemory,
+        RecoverError::BadOp(3)
+    )?;
+    assert_eq!(rt;
+        texts.as_str(),
+        "out of memory; out of memory; op 3 does not apply"
+    );
     Ok(())
 }
 
-/// Whatever allocation is refused, what ran stays, what did not is as it was, and the answer says which.
+/// What is asked of a daemon to which clients 1 and 2 are connected, where 2 waits for `mixer`.
+#[derive(Clone, Copy)]
+enum Asks {
+    /// Client 1 sends a line.
+    Alone,
+    /// Client 1 sends a list: `setvol 40`, and the line.
+    Second,
+    /// Client 2 sends a line.
+    Waiting,
+    /// Client 2 sends `noidle`.
+    Noidle,
+    Connect(ClientId),
+    Gone(ClientId),
+}
+
+fn event(alloc: Global, asks: Asks, text: &str) -> Result<Event, Fail> {
+    let line = Line::from_bytes(alloc, text.as_bytes())?;
+    Ok(match asks {
+        Asks::Alone => Event::Request(1, Request::Single(line)),
+        Asks::Second => {
+            let mut both = lines(alloc, &[b"setvol 40"])?;
+            both.push(line)?;
+            Event::Request(1, Request::OkList(both))
+        }
+        Asks::Waiting => Event::Request(2, Request::Single(line)),
+        Asks::Noidle => Event::Request(2, Request::Noidle),
+        Asks::Connect(client) => Event::Connect(client),
+        Asks::Gone(client) => Event::Gone(client),
+    })
+}
+
+fn waiting(alloc: Global) -> Result<Core, Fail> {
+    let mut core = connected(alloc)?;
+    core.watch.wait(2, Subsystems::only(Subsystem::Mixer))?;
+    Ok(core)
+}
+
+/// What is given out where the answer may say that there was no memory.
+fn tried(core: &mut Core, alloc: Global, asks: Asks, text: &str) -> Result<String, Fail> {
+    let event = event(alloc, asks, text)?;
+    match core.step(alloc, event) {
+        Ok(outcome) => given(&outcome, alloc),
+        Err(NoMemory) => Ok(String::from_str(alloc, "no memory\n")?),
+    }
+}
+
+/// Whether this was given out for want of memory, and the state is the one after the commands before the refused one.
+fn is_refusal(
+    core: &Core,
+    alloc: Global,
+    asks: Asks,
+    name: &str,
+    found: &str,
+) -> Result<bool, Fail> {
+    let mut before = waiting(alloc)?;
+    let nothing = format!(in alloc; "no memory\n{before:?}")?;
+    let first = if matches!(asks, Asks::Second) {
+        "setvol"
+    } else {
+        name
+    };
+    let at_0 = format!(in alloc;
+        "1> ACK [52@0] {{{first}}} out of memory\nrefused at 0\n{before:?}"
+    )?;
+    tried(&mut before, alloc, Asks::Alone, "setvol 40")?;
+    let at_1 = format!(in alloc;
+        "1> list_OK\nACK [52@1] {{{name}}} out of memory\n2> changed: mixer\nOK\n\
+SetVolume(Volume {{ percent: 40 }})\nrefused at 1\n{before:?}"
+    )?;
+    let found = format!(in alloc; "{found}{core:?}")?;
+    Ok(match asks {
+        Asks::Alone => found == nothing || found == at_0,
+        Asks::Second => found == nothing || found == at_0 || found == at_1,
+        _ => found == nothing,
+    })
+}
+
+/// Whichever allocation is refused, an event that meets it answers so, and the state is that of what ran before.
 #[test]
 fn refused_memory(rt: HostRuntime) -> Result<(), Fail> {
     let alloc = rt.alloc();
-    let mut core = connected(alloc)?;
-    core.watch.wait(2, Subsystems::only(Subsystem::Mixer))?;
-    let texts: [&[u8]; 3] = [b"setvol 40", b"status", b"random 1"];
-    let request = Request::OkList(lines(alloc, &texts)?);
-    let Ok(outcome) = core.step(alloc, Event::Request(1, request)) else {
-        let saved = core.saved()?;
-        assert_eq!(rt; (saved.volume().percent(), saved.order()), (100, 0));
-        return Ok(());
-    };
-    let expected = match outcome.refused_at {
-        Some(0) => "1> ACK [52@0] {setvol} out of memory\nrefused at 0\n",
-        Some(1) => {
-            "1> list_OK\nACK [52@1] {status} out of memory\n2> changed: mixer\nOK\n\
-SetVolume(Volume { percent: 40 })\nrefused at 1\n"
-        }
-        Some(_) => {
+    let table: [(Asks, &str, &str, &str); 25] = [
+        (Asks::Alone, "close", "close", "closes [1]\n"),
+        (
+            Asks::Alone,
+            "consume 1",
+            "consume",
+            "1> OK\nSetOption(Consume(true))\n",
+        ),
+        (Asks::Alone, "kill", "kill", "closes [1, 2]\nended\n"),
+        (Asks::Alone, "ping", "ping", "1> OK\n"),
+        (
+            Asks::Alone,
+            "random 1",
+            "random",
+            "1> OK\nSetOrder(1)\nSetOption(Random(true))\n",
+        ),
+        (
+            Asks::Alone,
+            "repeat 1",
+            "repeat",
+            "1> OK\nSetOption(Repeat(true))\n",
+        ),
+        (
+            Asks::Alone,
+            "setvol 7",
+            "setvol",
+            "1> OK\n2> changed: mixer\nOK\nSetVolume(Volume { percent: 7 })\n",
+        ),
+        (
+            Asks::Alone,
+            "single oneshot",
+            "single",
+            "1> OK\nSetOption(Single(Oneshot))\n",
+        ),
+        (
+            Asks::Alone,
+            "status",
+            "status",
+            "1> volume: 100\nrepeat: 0\nrandom: 0\nsingle: 0\nconsume: 0\nplaylist: 1\n\
+playlistlength: 0\nstate: stop\nOK\n",
+        ),
+        (
+            Asks::Alone,
+            "setvol 101",
+            "setvol",
+            "1> ACK [2@0] {setvol} bad argument 1\n",
+        ),
+        (
+            Asks::Alone,
+            "foo",
+            "",
+            "1> ACK [5@0] {} unknown command \"foo\"\n",
+        ),
+        (
+            Asks::Second,
+            "close",
+            "close",
+            "1> list_OK\nACK [2@1] {close} not allowed in a command list\n\
+2> changed: mixer\nOK\nSetVolume(Volume { percent: 40 })\n",
+        ),
+        (
+            Asks::Second,
+            "consume 1",
+            "consume",
+            "1> list_OK\nlist_OK\nOK\n2> changed: mixer\nOK\n\
+SetVolume(Volume { percent: 40 })\nSetOption(Consume(true))\n",
+        ),
+        (
+            Asks::Second,
+            "kill",
+            "kill",
+            "1> list_OK\nACK [2@1] {kill} not allowed in a command list\n\
+2> changed: mixer\nOK\nSetVolume(Volume { percent: 40 })\n",
+        ),
+        (
+            Asks::Second,
+            "ping",
+            "ping",
+            "1> list_OK\nlist_OK\nOK\n2> changed: mixer\nOK\n\
+SetVolume(Volume { percent: 40 })\n",
+        ),
+        (
+            Asks::Second,
+            "random 1",
+            "random",
+            "1> list_OK\nlist_OK\nOK\n2> changed: mixer\nOK\n\
+SetVolume(Volume { percent: 40 })\nSetOrder(1)\nSetOption(Random(true))\n",
+        ),
+        (
+            Asks::Second,
+            "repeat 1",
+            "repeat",
+            "1> list_OK\nlist_OK\nOK\n2> changed: mixer\nOK\n\
+SetVolume(Volume { percent: 40 })\nSetOption(Repeat(true))\n",
+        ),
+        (
+            Asks::Second,
+            "setvol 7",
+            "setvol",
+            "1> list_OK\nlist_OK\nOK\n2> changed: mixer\nOK\n\
+SetVolume(Volume { percent: 40 })\nSetVolume(Volume { percent: 7 })\n",
+        ),
+        (
+            Asks::Second,
+            "single oneshot",
+            "single",
+            "1> list_OK\nlist_OK\nOK\n2> changed: mixer\nOK\n\
+SetVolume(Volume { percent: 40 })\nSetOption(Single(Oneshot))\n",
+        ),
+        (
+            Asks::Second,
+            "status",
+            "status",
             "1> list_OK\nvolume: 40\nrepeat: 0\nrandom: 0\nsingle: 0\nconsume: 0\nplaylist: 1\n\
-playlistlength: 0\nstate: stop\nlist_OK\nACK [52@2] {random} out of memory\n\
-2> changed: mixer\nOK\nSetVolume(Volume { percent: 40 })\nrefused at 2\n"
+playlistlength: 0\nstate: stop\nlist_OK\nOK\n2> changed: mixer\nOK\n\
+SetVolume(Volume { percent: 40 })\n",
+        ),
+        (Asks::Waiting, "ping", "", "closes [2]\n"),
+        (Asks::Noidle, "", "", "2> OK\n"),
+        (Asks::Connect(3), "", "", "3> OK MPD 0.23.0\n"),
+        (Asks::Connect(2), "", "", ""),
+        (Asks::Gone(2), "", "", ""),
+    ];
+    for (asks, line, name, expected) in &table {
+        let mut core = waiting(alloc)?;
+        let found = tried(&mut core, alloc, *asks, line)?;
+        if found.as_str() != *expected {
+            let refused = is_refusal(&core, alloc, *asks, name, found.as_str())?;
+            assert!(rt; refused, "for {line:?}, {found}{core:?}");
+            // With memory enough it goes well.
+            let again = tried(&mut waiting(alloc)?, alloc, *asks, line)?;
+            assert_eq!(rt; again.as_str(), *expected, "for {line:?}");
         }
-        None => {
-            "1> list_OK\nvolume: 40\nrepeat: 0\nrandom: 0\nsingle: 0\nconsume: 0\nplaylist: 1\n\
-playlistlength: 0\nstate: stop\nlist_OK\nlist_OK\nOK\n2> changed: mixer\nOK\n\
-SetVolume(Volume { percent: 40 })\nSetOrder(1)\nSetOption(Random(true))\n"
-        }
-    };
-    assert_eq!(rt; given(&outcome, alloc)?.as_str(), expected);
+    }
     Ok(())
 }

@@ -1,7 +1,8 @@
 -- A run, one event more at a time.
-use Rattle.std.proofs.Common.{◌≡◌, ◌≢◌, ◌⊎◌, inl, inr, ◌↔◌, ℕ, ◌+◌, Bool, true, false, List, [], ◌∷◌, ◌++◌, length, length-append, Option, Some, None, Result, Ok, Err, refl, sym, ap, subst, ◌∙◌, arith}
+use Rattle.std.proofs.Common.{◌≡◌, ◌≢◌, ◌⊎◌, inl, inr, ◌↔◌, ℕ, ◌+◌, ◌-◌, ◌^◌, ◌≤◌, Bool, true, false, List, [], ◌∷◌, ◌++◌, length, length-append, Option, Some, None, Result, Ok, Err, refl, sym, ap, subst, ◌∙◌, arith}
 use Rattle.std.specs.Prelude.{IfOk, OnOk, OnErr, MatchBool}
 use Rattle.std.proofs.lemmas.List.{nil_from_length}
+use Rattle.disk_model.specs.Faults.{HasGrown}
 use Rattle.disk_model.specs.History.{Change}
 use Rattle.disk_model.specs.Moments.{LeftSince, Continues}
 use Rattle.disk_model.proofs.MomentLaws.{now_only, counts_now, left_split, continues_join, continues_same}
@@ -16,7 +17,7 @@ use Rattle.live_stage.specs.declared.error.LiveError.TheVariants.{Broken, NoMemo
 use Rattle.live_stage.specs.Answer.{Answer, IsTurn, record_number, last_record_after}
 use Rattle.live_stage.specs.LiveState.{LiveState}
 use Rattle.live_stage.specs.Found.{found_state, AllFindNow, AllFindSince}
-use Rattle.live_stage.specs.Transcript.{entry_of, history_of, replayed, last_record_of, IsTranscript, broken_by, AreReplies, StaysBroken, first_broken, IsWhole, FindsWhole, FindsPrefix}
+use Rattle.live_stage.specs.Transcript.{entry_of, history_of, replayed, last_record_of, IsTranscript, broken_by, broken_after, SpendsNumbers, AreReplies, StaysBroken, first_broken, IsWhole, FindsWhole, FindsPrefix}
 
 abbrev Reply : Type 0
 Reply = Result Answer LiveError
@@ -40,11 +41,6 @@ transcript_more first earlier (e ∷ events) [] event answer so_far one = elim s
 transcript_more first earlier (e ∷ events) (Ok t ∷ answers) event answer so_far one = (so_far.0, transcript_more first (entry_of e t ∷ earlier) events answers event answer so_far.1 one)
 transcript_more first earlier (e ∷ events) (Err x ∷ answers) event answer so_far one = transcript_more first earlier events answers event answer so_far one
 
--- whether the stage is broken after these answers
-abbrev pub broken_after : Bool → List Reply → Bool
-broken_after was [] = was
-broken_after was (answer ∷ answers) = broken_after (broken_by was answer) answers
-
 broken_after_more : (was : Bool) (answers : List Reply) (answer : Reply) → broken_after was (answers ++ answer ∷ []) ≡ broken_by (broken_after was answers) answer
 broken_after_more was [] answer = refl
 broken_after_more was (a ∷ answers) answer = broken_after_more (broken_by was a) answers answer
@@ -52,6 +48,15 @@ broken_after_more was (a ∷ answers) answer = broken_after_more (broken_by was 
 stays_more : (was : Bool) (answers : List Reply) (answer : Reply) → StaysBroken was answers → (broken_after was answers ≡ true → answer ≡ Err Broken) → StaysBroken was (answers ++ answer ∷ [])
 stays_more was [] answer so_far one = (one, tt)
 stays_more was (a ∷ answers) answer so_far one = (so_far.0, stays_more (broken_by was a) answers answer so_far.1 one)
+
+spends_more : {D : Type 0} (first : LiveState D) (earlier : List Entry) (was : Bool) (events : List Event) (answers : List Reply) (event : Event) (answer : Reply) → length answers ≡ length events
+    → SpendsNumbers first earlier was events answers → SpendsNumbers first (history_of earlier events answers) (broken_after was answers) (event ∷ []) (answer ∷ [])
+    → SpendsNumbers first earlier was (events ++ event ∷ []) (answers ++ answer ∷ [])
+spends_more first earlier was [] [] event answer same so_far one = one
+spends_more first earlier was [] (a ∷ answers) event answer same so_far one = absurd (omega arith)
+spends_more first earlier was (e ∷ events) [] event answer same so_far one = absurd (omega arith)
+spends_more first earlier was (e ∷ events) (Ok t ∷ answers) event answer same so_far one = (so_far.0, spends_more first (entry_of e t ∷ earlier) was events answers event answer (omega arith) so_far.1 one)
+spends_more first earlier was (e ∷ events) (Err x ∷ answers) event answer same so_far one = (so_far.0, spends_more first earlier (broken_by was (Err x)) events answers event answer (omega arith) so_far.1 one)
 
 first_kept : (events : List Event) (answers : List Reply) (event : Event) (answer : Reply) (found : Event) → first_broken events answers ≡ Some found → first_broken (events ++ event ∷ []) (answers ++ answer ∷ []) ≡ Some found
 first_kept [] answers event answer found is = absurd cc
@@ -83,6 +88,8 @@ pub record IsTurnMade {D : Type 0} (honest : D → Type 0) (history : D → List
   pub broken : old.is_broken ≡ true → (answer ≡ Err Broken) × (new ≡ old)
   pub breaks : answer ≡ Err Broken → new.is_broken ≡ true
   pub stays : OnErr answer (answer ≢ Err Broken → new ≡ old)
+  pub not_counted : OnErr answer (new.event ≡ old.event)
+  pub numbers_spent : old.is_broken ≡ false → ((answer ≡ Err NumbersSpent) ↔ ((old.event ≡ 2 ^ 64 - 1) ⊎ (old.last_record ≡ 2 ^ 64 - 1)))
   pub continues_a : honest old.a → Continues (history old.a) (history new.a)
   pub continues_b : honest old.b → Continues (history old.b) (history new.b)
   pub honest_a : honest old.a ↔ honest new.a
@@ -117,7 +124,8 @@ pub record IsRunSoFar {D : Type 0} (honest : D → Type 0) (history : D → List
   pub broken : now.is_broken ≡ broken_after first.is_broken answers
   pub unbroken : now.is_broken ≡ false → (first_broken events answers ≡ None) × (first.is_broken ≡ false)
   pub state : now.is_broken ≡ false → now.state ≡ replayed first.state (history_of [] events answers)
-  pub event : now.is_broken ≡ false → now.event ≡ first.event + length (history_of [] events answers)
+  pub spends : SpendsNumbers first [] first.is_broken events answers
+  pub event : now.event ≡ first.event + length (history_of [] events answers)
   pub last_record : now.is_broken ≡ false → now.last_record ≡ last_record_of first.state first.last_record (history_of [] events answers)
   pub other_file : MatchBool first.is_in_b (now.a ≡ first.a) (now.b ≡ first.b)
   pub same_file : now.is_in_b ≡ first.is_in_b
@@ -147,7 +155,8 @@ begins honest history first kept = record {
   broken = refl;
   unbroken = λ is. (refl, is);
   state = λ is. refl;
-  event = λ is. omega arith;
+  spends = tt;
+  event = omega arith;
   last_record = λ is. refl;
   other_file = other_same first.is_in_b first;
   same_file = refl;
@@ -266,8 +275,9 @@ counts_on events answers event answer same = omega (arith, same, length-append a
 -- an event that changed nothing was refused
 refused_still : {D : Type 0} (honest : D → Type 0) (history : D → List Change) (first old : LiveState D) (events : List Event) (answers : List Reply) (event : Event) (e : LiveError)
     → IsRunSoFar honest history first old events answers → (old.is_broken ≡ true → e ≡ Broken) → (e ≡ Broken → old.is_broken ≡ true)
+    → SpendsNumbers first [] first.is_broken (events ++ event ∷ []) (answers ++ Err e ∷ [])
     → IsRunSoFar honest history first old (events ++ event ∷ []) (answers ++ Err e ∷ [])
-refused_still honest history first old events answers event e r so_broken was_broken =
+refused_still honest history first old events answers event e r so_broken was_broken spends =
     let longer = sym (history_more [] events answers event (Err e) r.counted) in
     record {
       counted = counts_on events answers event (Err e) r.counted;
@@ -276,7 +286,8 @@ refused_still honest history first old events answers event e r so_broken was_br
       broken = r.broken ∙ sym (by_refused (broken_after first.is_broken answers) e (λ is. sym r.broken ∙ was_broken is)) ∙ sym (broken_after_more first.is_broken answers (Err e));
       unbroken = λ is. (first_more events answers event (Err e) r.counted (r.unbroken is).0 ∙ first_refused event e (λ b. let no = was_broken b in cc), (r.unbroken is).1);
       state = λ is. r.state is ∙ ap (replayed first.state) longer;
-      event = λ is. r.event is ∙ ap (λ (h : List Entry). first.event + length h) longer;
+      spends = spends;
+      event = r.event ∙ ap (λ (h : List Entry). first.event + length h) longer;
       last_record = λ is. r.last_record is ∙ ap (last_record_of first.state first.last_record) longer;
       other_file = r.other_file;
       same_file = r.same_file;
@@ -291,9 +302,23 @@ refused_still honest history first old events answers event e r so_broken was_br
 
 refused : {D : Type 0} (honest : D → Type 0) (history : D → List Change) (first old new : LiveState D) (events : List Event) (answers : List Reply) (event : Event) (e : LiveError)
     → new ≡ old → IsRunSoFar honest history first old events answers → (old.is_broken ≡ true → e ≡ Broken) → (e ≡ Broken → old.is_broken ≡ true)
+    → SpendsNumbers first [] first.is_broken (events ++ event ∷ []) (answers ++ Err e ∷ [])
     → IsRunSoFar honest history first new (events ++ event ∷ []) (answers ++ Err e ∷ [])
-refused honest history first old new events answers event e same r so_broken was_broken =
-    subst (λ v. IsRunSoFar honest history first v (events ++ event ∷ []) (answers ++ Err e ∷ [])) (sym same) (refused_still honest history first old events answers event e r so_broken was_broken)
+refused honest history first old new events answers event e same r so_broken was_broken spends =
+    subst (λ v. IsRunSoFar honest history first v (events ++ event ∷ []) (answers ++ Err e ∷ [])) (sym same) (refused_still honest history first old events answers event e r so_broken was_broken spends)
+
+-- the numbers of the last event and the last record are those of the history, as long as no disk failed
+spends_now : {D : Type 0} (honest : D → Type 0) (history : D → List Change) (first old new : LiveState D) (events : List Event) (answers : List Reply) (event : Event) (answer : Reply)
+    → IsRunSoFar honest history first old events answers → IsTurnMade honest history old new event answer
+    → SpendsNumbers first [] first.is_broken (events ++ event ∷ []) (answers ++ answer ∷ [])
+spends_now honest history first old new events answers event answer r m =
+    spends_more first [] first.is_broken events answers event answer r.counted r.spends (
+      λ fine.
+          let usable = r.broken ∙ fine in
+          subst (λ (n : ℕ). (answer ≡ Err NumbersSpent) ↔ ((first.event + length (history_of [] events answers) ≡ 2 ^ 64 - 1) ⊎ (n ≡ 2 ^ 64 - 1))) (r.last_record usable)
+          (subst (λ (n : ℕ). (answer ≡ Err NumbersSpent) ↔ ((n ≡ 2 ^ 64 - 1) ⊎ (old.last_record ≡ 2 ^ 64 - 1))) r.event (m.numbers_spent usable)),
+      tt,
+    )
 
 -- the state before an event, as the history has it, is that from before or after it
 found_before : {D : Type 0} (first old : LiveState D) (whole : List Entry) (f : Option SavedState) → old.state ≡ replayed first.state whole → f ≡ Some old.state.saved → (let now = replayed first.state whole in f ≡ Some now.saved)
@@ -327,7 +352,8 @@ broke {D} honest history first old new events answers event usable r m =
       broken = now_broken ∙ sym (broken_after_more first.is_broken answers (Err Broken));
       unbroken = λ is. absurd cc;
       state = λ is. absurd cc;
-      event = λ is. absurd cc;
+      spends = spends_now honest history first old new events answers event (Err Broken) r m;
+      event = m.not_counted ∙ r.event ∙ ap (λ (h : List Entry). first.event + length h) longer;
       last_record = λ is. absurd cc;
       other_file = other_join first.is_in_b first old new r.other_file (subst (λ in_b. IsOtherKept in_b old new) r.same_file m.other_file);
       same_file = m.same_file ∙ r.same_file;
@@ -382,8 +408,9 @@ answered {D} honest history first old new events answers event t usable r m =
           outputs = made.outputs ∙ ap (λ (st : Stepped). st.outputs) same;
           closes = made.closes ∙ ap (λ (st : Stepped). st.closes) same;
           ended = made.ended ∙ ap (λ (st : Stepped). st.ended) same;
-          event = (let before = r.event usable in omega (arith, made.number, before));
-          receipt_event = (let before = r.event usable in omega (arith, made.receipt_event, before));
+          refused_at = made.refused_at ∙ ap (λ (st : Stepped). st.refused_at) same;
+          event = (let before = r.event in omega (arith, made.number, before));
+          receipt_event = (let before = r.event in omega (arith, made.receipt_event, before));
           receipt_number = made.receipt_number
               ∙ ap (λ (n : ℕ). let now : Stepped = step old.state event t.refused_at in record_number n now.ops) (r.last_record usable)
               ∙ ap (λ (st : Stepped). record_number (last_record_of first.state first.last_record whole) st.ops) same;
@@ -394,7 +421,8 @@ answered {D} honest history first old new events answers event t usable r m =
       broken = m.usable ∙ sym usable ∙ r.broken ∙ sym (broken_after_more first.is_broken answers (Ok t));
       unbroken = λ is. (first_more events answers event (Ok t) r.counted (r.unbroken usable).0, (r.unbroken usable).1);
       state = λ is. made.state ∙ ap (λ (st : Stepped). st.after) same ∙ ap (replayed first.state) longer;
-      event = λ is. (let before = r.event usable in omega (arith, made.event, before, ap length longer));
+      spends = spends_now honest history first old new events answers event (Ok t) r m;
+      event = (let before = r.event in omega (arith, made.event, before, ap length longer));
       last_record = λ is. made.last_record
           ∙ ap (λ (n : ℕ). let now : Stepped = step old.state event t.refused_at in last_record_after n now.ops) (r.last_record usable)
           ∙ ap (λ (st : Stepped). last_record_after (last_record_of first.state first.last_record whole) st.ops) same
@@ -434,13 +462,40 @@ goes_on honest history first old new events answers event (Ok t) r m =
     answered honest history first old new events answers event t (not_broken old.is_broken (λ b. ok_is_no_err t (Ok t) refl (m.broken b).0)) r m
 goes_on honest history first old new events answers event (Err Broken) r m =
     elim (broken_or_not old.is_broken) [
-      | inl was ↦ refused honest history first old new events answers event Broken (m.broken was).1 r (λ b. refl) (λ b. was)
+      | inl was ↦ refused honest history first old new events answers event Broken (m.broken was).1 r (λ b. refl) (λ b. was) (spends_now honest history first old new events answers event (Err Broken) r m)
       | inr usable ↦ broke honest history first old new events answers event usable r m
     ]
 goes_on honest history first old new events answers event (Err NoMemory) r m =
-    refused honest history first old new events answers event NoMemory (m.stays (λ is. cc)) r (λ b. let no = (m.broken b).0 in cc) (λ is. absurd cc)
+    refused honest history first old new events answers event NoMemory (m.stays (λ is. cc)) r (λ b. let no = (m.broken b).0 in cc) (λ is. absurd cc) (spends_now honest history first old new events answers event (Err NoMemory) r m)
 goes_on honest history first old new events answers event (Err NumbersSpent) r m =
-    refused honest history first old new events answers event NumbersSpent (m.stays (λ is. cc)) r (λ b. let no = (m.broken b).0 in cc) (λ is. absurd cc)
+    refused honest history first old new events answers event NumbersSpent (m.stays (λ is. cc)) r (λ b. let no = (m.broken b).0 in cc) (λ is. absurd cc) (spends_now honest history first old new events answers event (Err NumbersSpent) r m)
+
+-- ---- faults
+
+-- a disk has failed since
+abbrev pub HasFailed : {D : Type 0} → (D → ℕ) → LiveState D → LiveState D → Type 0
+HasFailed faults old new = HasGrown (faults old.a) (faults new.a) ⊎ HasGrown (faults old.b) (faults new.b)
+
+failed_since : {D : Type 0} (faults : D → ℕ) (first old new : LiveState D) → faults first.a ≤ faults old.a → faults first.b ≤ faults old.b → HasFailed faults old new → HasFailed faults first new
+failed_since faults first old new later_a later_b (inl grown) = inl (λ fits. omega (arith, later_a, grown fits))
+failed_since faults first old new later_a later_b (inr grown) = inr (λ fits. omega (arith, later_b, grown fits))
+
+-- a stage that broke in a run has met a disk fault in it
+pub fails_on : {D : Type 0} (honest : D → Type 0) (history : D → List Change) (faults : D → ℕ) (first old new : LiveState D) (event : Event) (answer : Reply)
+    → IsTurnMade honest history old new event answer → faults first.a ≤ faults old.a → faults first.b ≤ faults old.b
+    → (old.is_broken ≡ true → HasFailed faults first old) → (old.is_broken ≡ false → answer ≡ Err Broken → HasFailed faults old new)
+    → new.is_broken ≡ true → HasFailed faults first new
+fails_on honest history faults first old new event (Ok t) m later_a later_b before now broken = (let not = m.usable in absurd cc)
+fails_on honest history faults first old new event (Err Broken) m later_a later_b before now broken = elim (broken_or_not old.is_broken) [
+  | inl was ↦ subst (λ v. HasFailed faults first v) (sym (m.broken was).1) (before was)
+  | inr usable ↦ failed_since faults first old new later_a later_b (now usable refl)
+]
+fails_on honest history faults first old new event (Err NoMemory) m later_a later_b before now broken =
+    let same : new ≡ old = m.stays (λ is. cc) in
+    subst (λ v. HasFailed faults first v) (sym same) (before (ap (λ v. v.is_broken) (sym same) ∙ broken))
+fails_on honest history faults first old new event (Err NumbersSpent) m later_a later_b before now broken =
+    let same : new ≡ old = m.stays (λ is. cc) in
+    subst (λ v. HasFailed faults first v) (sym same) (before (ap (λ v. v.is_broken) (sym same) ∙ broken))
 
 -- ---- the whole run
 

@@ -39,6 +39,7 @@ pub record IsTurnOf {D : Type 0} (st : Stepped) (before : LiveState D) (t : Answ
   pub outputs : t.outputs ≡ st.outputs
   pub closes : t.closes ≡ st.closes
   pub ended : t.ended ≡ st.ended
+  pub refused_at : t.refused_at ≡ st.refused_at
   pub event : after.event ≡ before.event + 1
   pub number : t.event ≡ before.event + 1
   pub receipt_event : t.receipt.event ≡ before.event + 1

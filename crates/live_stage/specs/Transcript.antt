@@ -1,5 +1,5 @@
 -- A run over many events.
-use Rattle.std.specs.Prelude.{◌≡◌, ◌⊎◌, ℕ, ◌+◌, List, [], ◌∷◌, ◌++◌, length, Bool, true, Option, Some, None, Result, Ok, Err}
+use Rattle.std.specs.Prelude.{◌≡◌, ◌⊎◌, ◌↔◌, ℕ, ◌+◌, ◌-◌, ◌^◌, List, [], ◌∷◌, ◌++◌, length, Bool, true, false, Option, Some, None, Result, Ok, Err}
 use Rattle.daemon_core.specs.declared.event.Event.{Event}
 use Rattle.state_codec.specs.SavedState.{SavedState}
 use Rattle.daemon_core.specs.State.{State}
@@ -37,6 +37,7 @@ pub record IsStepOf {D : Type 0} (first : LiveState D) (earlier : List Entry) (s
   pub outputs : t.outputs ≡ st.outputs
   pub closes : t.closes ≡ st.closes
   pub ended : t.ended ≡ st.ended
+  pub refused_at : t.refused_at ≡ st.refused_at
   pub event : t.event ≡ first.event + length earlier + 1
   pub receipt_event : t.receipt.event ≡ first.event + length earlier + 1
   pub receipt_number : t.receipt.number ≡ record_number (last_record_of first.state first.last_record earlier) st.ops
@@ -64,6 +65,23 @@ broken_by was (Ok t) = was
 broken_by was (Err Broken) = true
 broken_by was (Err NoMemory) = was
 broken_by was (Err NumbersSpent) = was
+
+-- whether a stage is broken after these answers
+abbrev pub broken_after : Bool → List (Result Answer LiveError) → Bool
+broken_after was [] = was
+broken_after was (answer ∷ answers) = broken_after (broken_by was answer) answers
+
+-- the last event or the last record has the greatest number, where the run began so and this history of it went before
+abbrev pub AreNumbersSpent : {D : Type 0} → LiveState D → List Entry → Type 0
+AreNumbersSpent first earlier = (first.event + length earlier ≡ 2 ^ 64 - 1) ⊎ (last_record_of first.state first.last_record earlier ≡ 2 ^ 64 - 1)
+
+-- a stage that isn't broken refuses an event for want of numbers exactly where these are spent
+abbrev pub SpendsNumbers : {D : Type 0} → LiveState D → List Entry → Bool → List Event → List (Result Answer LiveError) → Type 0
+SpendsNumbers first earlier was [] answers = Unit {0}
+SpendsNumbers first earlier was (event ∷ events) [] = Unit {0}
+SpendsNumbers first earlier was (event ∷ events) (answer ∷ answers) =
+    (was ≡ false → ((answer ≡ Err NumbersSpent) ↔ AreNumbersSpent first earlier))
+    × SpendsNumbers first (history_of earlier (event ∷ []) (answer ∷ [])) (broken_by was answer) events answers
 
 -- from the first disk fault on, or from the start where the stage was broken, each answer is `Broken`
 abbrev pub StaysBroken : Bool → List (Result Answer LiveError) → Type 0

@@ -11,3 +11,6 @@ mod turn;
 pub use error::{LiveError, Refused, StartError};
 pub use live::Live;
 pub use turn::{Receipt, Turn, TurnResult};
+
+#[cfg(test)]
+mod tests;

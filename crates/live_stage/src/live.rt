@@ -72,6 +72,10 @@ impl<D: Disk> Live<D> {
         ensures stays_b { IfErr result (λ e. e.error ≢ StartError.Broken → e.b ≡ b) }
         ensures honest_a { MatchResult result (λ live. D.honest a ↔ D.honest live.a) (λ e. D.honest a ↔ D.honest e.a) }
         ensures honest_b { MatchResult result (λ live. D.honest b ↔ D.honest live.b) (λ e. D.honest b ↔ D.honest e.b) }
+
+        // The count of a disk's faults never falls, whatever the disk.
+        ensures later_a { MatchResult result (λ live. D.faults a ≤ D.faults live.a) (λ e. D.faults a ≤ D.faults e.a) }
+        ensures later_b { MatchResult result (λ live. D.faults b ≤ D.faults live.b) (λ e. D.faults b ≤ D.faults e.b) }
     {
         if !a.is_empty() || !b.is_empty() {
             return Err(Refused {
@@ -132,6 +136,10 @@ impl<D: Disk> Live<D> {
         ensures continues_b { D.honest b → MatchResult result (λ live. Continues (D.history b) (D.history live.b)) (λ e. Continues (D.history b) (D.history e.b)) }
         ensures honest_a { MatchResult result (λ live. D.honest a ↔ D.honest live.a) (λ e. D.honest a ↔ D.honest e.a) }
         ensures honest_b { MatchResult result (λ live. D.honest b ↔ D.honest live.b) (λ e. D.honest b ↔ D.honest e.b) }
+
+        // The count of a disk's faults never falls, whatever the disk.
+        ensures later_a { MatchResult result (λ live. D.faults a ≤ D.faults live.a) (λ e. D.faults a ≤ D.faults e.a) }
+        ensures later_b { MatchResult result (λ live. D.faults b ≤ D.faults live.b) (λ e. D.faults b ≤ D.faults e.b) }
     {
         let room = match Vec::with_capacity(alloc, LONGEST_BODY) {
             Ok(room) => room,
@@ -192,14 +200,19 @@ impl<D: Disk> Live<D> {
         ensures fault { D.honest self.old.a → D.honest self.old.b → self.old.is_broken ≡ false → result ≡ Err LiveError.Broken
             → HasGrown (D.faults self.old.a) (D.faults self.new.a) ⊎ HasGrown (D.faults self.old.b) (D.faults self.new.b) }
 
-        // A disk fault breaks the stage, and another refusal leaves it as it was.
+        // A disk fault breaks the stage, and another refusal leaves it as it was. No refused event is counted.
         ensures breaks { result ≡ Err LiveError.Broken → self.new.is_broken ≡ true }
         ensures stays { OnErr result (result ≢ Err LiveError.Broken → self.new ≡ self.old) }
+        ensures not_counted { OnErr result (self.new.event ≡ self.old.event) }
 
         ensures continues_a { D.honest self.old.a → Continues (D.history self.old.a) (D.history self.new.a) }
         ensures continues_b { D.honest self.old.b → Continues (D.history self.old.b) (D.history self.new.b) }
         ensures honest_a { D.honest self.old.a ↔ D.honest self.new.a }
         ensures honest_b { D.honest self.old.b ↔ D.honest self.new.b }
+
+        // The count of a disk's faults never falls, whatever the disk.
+        ensures later_a { D.faults self.old.a ≤ D.faults self.new.a }
+        ensures later_b { D.faults self.old.b ≤ D.faults self.new.b }
     {
         if self.journal.is_spent() {
             return Err(LiveError::Broken);

@@ -60,6 +60,8 @@ pub(crate) fn record_ops<D: Disk>(
     ensures usable { OnOk result (journal.new.is_spent ≡ false) }
     ensures broken { IfErr result (λ e. e ≡ LiveError.Broken) }
     ensures spends { OnErr result (journal.new.is_spent ≡ true) }
+    ensures later_a { D.faults journal.old.a ≤ D.faults journal.new.a }
+    ensures later_b { D.faults journal.old.b ≤ D.faults journal.new.b }
     ensures fault { D.honest journal.old.a → D.honest journal.old.b
         → OnErr result (HasGrown (D.faults journal.old.a) (D.faults journal.new.a) ⊎ HasGrown (D.faults journal.old.b) (D.faults journal.new.b)) }
     ensures continues_a { D.honest journal.old.a → Continues (D.history journal.old.a) (D.history journal.new.a) }

@@ -35,6 +35,7 @@ pub(crate) fn append_at<D: Disk>(disk: &mut D, gate: u64, added: &[u8]) -> Resul
         → OnOk result (D.content disk.new ≡ take gate (D.content disk.old) ++ open_gate ∷ added.now) }
     ensures calls { D.honest disk.old → OnOk result (length (D.history disk.new) ≡ length (D.history disk.old) + 4) }
     ensures error { OnErr result (result ≡ Err JournalError.DiskFault) }
+    ensures later { D.faults disk.old ≤ D.faults disk.new }
     ensures fault { D.honest disk.old → length (D.content disk.old) ≡ gate + 1 → OnErr result (HasGrown (D.faults disk.old) (D.faults disk.new)) }
 {
     disk.write_at(gate.saturating_add(1), added)?;

@@ -45,6 +45,7 @@ pub(crate) fn lay_down<D: Disk>(disk: &mut D, bytes: &[u8]) -> Result<(), Journa
     ensures settled { D.honest disk.old → OnOk result (window (D.history disk.new) ≡ settled (D.content disk.new)) }
     ensures written { D.honest disk.old → D.content disk.old ≡ [] → OnOk result (D.content disk.new ≡ open_gate ∷ bytes.now) }
     ensures error { OnErr result (result ≡ Err JournalError.DiskFault) }
+    ensures later { D.faults disk.old ≤ D.faults disk.new }
     ensures fault { D.honest disk.old → D.content disk.old ≡ [] → OnErr result (HasGrown (D.faults disk.old) (D.faults disk.new)) }
 {
     disk.write_at(0, &[CLOSED])?;
@@ -73,6 +74,8 @@ pub(crate) fn fresh_journal<D: Disk>(
     ensures room { IfOk result (λ r. vec_len r.0 ≡ room) }
     ensures end { IfOk result (λ r. r.1 ≡ 32 + length snapshot.now) }
     ensures too_long { (result ≡ Err JournalError.TooLong) ↔ (4294967295 < length snapshot.now) }
+    ensures later_a { D.faults a.old ≤ D.faults a.new }
+    ensures later_b { D.faults b.old ≤ D.faults b.new }
     ensures fault { D.honest a.old → D.honest b.old → D.content a.old ≡ [] → result ≡ Err JournalError.DiskFault
         → HasGrown (D.faults a.old) (D.faults a.new) ⊎ HasGrown (D.faults b.old) (D.faults b.new) }
     ensures nothing_else { IfErr result IsRefusalOfCreate }

@@ -72,6 +72,10 @@ impl<D: Disk> Journal<D> {
         ensures stays_b { IfErr result (λ e. e.error ≢ JournalError.DiskFault → e.b ≡ b) }
         ensures honest_a { MatchResult result (λ j. D.honest a ↔ D.honest j.a) (λ e. D.honest a ↔ D.honest e.a) }
         ensures honest_b { MatchResult result (λ j. D.honest b ↔ D.honest j.b) (λ e. D.honest b ↔ D.honest e.b) }
+
+        // The count of a disk's faults never falls, whatever the disk.
+        ensures later_a { MatchResult result (λ j. D.faults a ≤ D.faults j.a) (λ e. D.faults a ≤ D.faults e.a) }
+        ensures later_b { MatchResult result (λ j. D.faults b ≤ D.faults j.b) (λ e. D.faults b ≤ D.faults e.b) }
     {
         let (mut a, mut b) = (a, b);
         if !a.is_empty() || !b.is_empty() {
@@ -131,6 +135,10 @@ impl<D: Disk> Journal<D> {
         ensures continues_b { D.honest b → MatchResult result (λ r. Continues (D.history b) (D.history r.0.b)) (λ e. Continues (D.history b) (D.history e.b)) }
         ensures honest_a { MatchResult result (λ r. D.honest a ↔ D.honest r.0.a) (λ e. D.honest a ↔ D.honest e.a) }
         ensures honest_b { MatchResult result (λ r. D.honest b ↔ D.honest r.0.b) (λ e. D.honest b ↔ D.honest e.b) }
+
+        // The count of a disk's faults never falls, whatever the disk.
+        ensures later_a { MatchResult result (λ r. D.faults a ≤ D.faults r.0.a) (λ e. D.faults a ≤ D.faults e.a) }
+        ensures later_b { MatchResult result (λ r. D.faults b ≤ D.faults r.0.b) (λ e. D.faults b ≤ D.faults e.b) }
     {
         let (mut a, mut b) = (a, b);
         match open_files(alloc, &mut a, &mut b) {
@@ -180,6 +188,10 @@ impl<D: Disk> Journal<D> {
         ensures continues_b { D.honest self.old.b → Continues (D.history self.old.b) (D.history self.new.b) }
         ensures honest_a { D.honest self.old.a ↔ D.honest self.new.a }
         ensures honest_b { D.honest self.old.b ↔ D.honest self.new.b }
+
+        // The count of a disk's faults never falls, whatever the disk.
+        ensures later_a { D.faults self.old.a ≤ D.faults self.new.a }
+        ensures later_b { D.faults self.old.b ≤ D.faults self.new.b }
     {
         if self.spent {
             return Err(JournalError::DiskFault);

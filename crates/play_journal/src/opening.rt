@@ -165,6 +165,8 @@ pub(crate) fn open_files<D: Disk>(
     ensures refusal { IfErr result IsRefusalOfOpen }
     ensures uncut_a { D.honest a.old → IfErr result (λ e. e ≢ JournalError.DiskFault → D.content a.new ≡ D.content a.old) }
     ensures uncut_b { D.honest b.old → IfErr result (λ e. e ≢ JournalError.DiskFault → D.content b.new ≡ D.content b.old) }
+    ensures later_a { D.faults a.old ≤ D.faults a.new }
+    ensures later_b { D.faults b.old ≤ D.faults b.new }
     ensures fault { D.honest a.old → D.honest b.old → result ≡ Err JournalError.DiskFault
         → HasGrown (D.faults a.old) (D.faults a.new) ⊎ HasGrown (D.faults b.old) (D.faults b.new) }
 {

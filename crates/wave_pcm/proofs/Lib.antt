@@ -1,5 +1,6 @@
 pub mod ChunkList
 pub mod Finds
+mod FolderFiles
 pub mod Formats
 pub mod FrameList
 pub mod PartList

@@ -1,5 +1,6 @@
 pub mod ChunkHead
 pub mod Chunks
+pub mod Folder
 pub mod Format
 pub mod PartHead
 pub mod Parts

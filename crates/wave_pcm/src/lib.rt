@@ -4,11 +4,14 @@
 mod chunks;
 mod error;
 mod faulty;
+mod faulty_folder;
+mod folder;
 mod format;
 mod frames;
 mod head;
 mod info;
 mod listing;
+mod memory_folder;
 mod parts;
 mod read;
 mod source;
@@ -18,10 +21,13 @@ mod volume;
 
 pub use error::WaveError;
 pub use faulty::{FaultySource, ReadTrouble};
+pub use faulty_folder::FaultyFolder;
+pub use folder::{Folder, FolderEntry, FolderFault};
 pub use frames::read_frames;
 pub use head::read_head;
 pub use info::WaveInfo;
 pub use listing::MAX_CHUNKS;
+pub use memory_folder::MemFolder;
 pub use source::{MemSource, Source, SourceFault};
 pub use tags::{Tag, Tags};
 pub use volume::scale;

@@ -1,6 +1,6 @@
 use crate::{
-    FaultySource, MAX_CHUNKS, MemSource, ReadTrouble, Tag, Tags, WaveError, WaveInfo, read_frames,
-    read_head, scale,
+    FaultyFolder, FaultySource, Folder, FolderFault, MAX_CHUNKS, MemFolder, MemSource, ReadTrouble,
+    Tag, Tags, WaveError, WaveInfo, read_frames, read_head, scale,
 };
 use std::alloc::{AllocError, Global};
 use std::process::Abort;
@@ -284,5 +284,54 @@ fn files_of_another_program(rt: HostRuntime) -> Result<(), Fail> {
     let samples = read_frames(alloc, &mut MemSource::new(&SINE), &sine, 1, 2)?;
     assert_eq!(rt; samples.as_slice(), [575, 576, 868, 868].as_slice());
     assert_eq!(rt; number(alloc, &EXTENSIBLE), 13);
+    Ok(())
+}
+
+/// The names that stand in a folder, each followed by a slash if it is a folder, and by a space.
+fn listed<F: Folder + Drop>(
+    alloc: Global,
+    folder: &mut F,
+    path: &str,
+) -> Result<Option<String>, Fail> {
+    let Some(entries) = folder.list(alloc, path)? else {
+        return Ok(None);
+    };
+    let mut text = String::new(alloc);
+    for entry in &entries {
+        let slash = if entry.is_folder { "/" } else { "" };
+        write!(text, "{}{slash} ", entry.name.as_str())?;
+    }
+    Ok(Some(text))
+}
+
+#[test]
+fn folders_in_memory(rt: HostRuntime) -> Result<(), Fail> {
+    let alloc = rt.alloc();
+    let mut folder = MemFolder::new(alloc);
+    assert_eq!(rt; listed(alloc, &mut folder, "")?.ok_or("no root")?.len(), 0);
+    for path in ["d/A.wav", "x.wav", "d/e/f.wav", "d/e/g.wav", "dd/A.wav"] {
+        folder.add(alloc, path, &WAVE_A)?;
+    }
+    for (path, want) in [
+        ("", "d/ x.wav dd/ "),
+        ("d", "A.wav e/ "),
+        ("d/e", "f.wav g.wav "),
+    ] {
+        let names = listed(alloc, &mut folder, path)?.ok_or("no folder")?;
+        assert_eq!(rt; names.as_str(), want);
+    }
+    assert!(rt; listed(alloc, &mut folder, "x.wav")?.is_none());
+    assert!(rt; listed(alloc, &mut folder, "e")?.is_none());
+    assert!(rt; folder.open(alloc, "d")?.is_none());
+    let mut file = folder.open(alloc, "d/A.wav")?.ok_or("no file")?;
+    assert_eq!(rt; read_head(alloc, &mut file)?.frames, 2);
+    let mut faulty = FaultyFolder {
+        folder,
+        calls_before: 1,
+        calls: 0,
+    };
+    assert!(rt; faulty.open(alloc, "x.wav")?.is_some());
+    assert_eq!(rt; faulty.list(alloc, "d").err(), Some(FolderFault::Source));
+    assert!(rt; faulty.list(alloc, "d")?.is_some());
     Ok(())
 }

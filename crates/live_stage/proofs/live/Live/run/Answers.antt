@@ -3,7 +3,7 @@ use Rattle.std.proofs.lemmas.List.{append-nil, nil_from_length}
 use Rattle.std.specs.Vec.Iter.{into_iter_items}
 use Rattle.daemon_core.specs.declared.event.Event.{Event}
 use Rattle.live_stage.specs.Transcript.{history_of}
-use Rattle.live_stage.proofs.RunLaws.{IsRunSoFar, begins, goes_on, one_file, run_finds, run_replies, replayed_from_start}
+use Rattle.live_stage.proofs.RunLaws.{IsRunSoFar, IsTurnMade, begins, fails_on, goes_on, one_file, run_finds, run_replies, replayed_from_start}
 use Rattle.live_stage.proofs.live.Live.run.Given.{Over}
 use Rattle.live_stage.proofs.live.Live.run.Goals as goal
 
@@ -17,6 +17,9 @@ loop-event-init g c =
       left = refl;
       room = omega (arith, items, room, c.in-Ok.ensures.len, c.len.ensures);
       counted = omega (arith, items, from.1);
+      later_a = omega arith;
+      later_b = omega arith;
+      fault = λ ha hb usable broken. absurd cc;
     }
 
 pub push_reserved-requires : goal.push_reserved-requires
@@ -34,26 +37,33 @@ loop-event-preserved g c =
     let room = at.invariant.room in
     let was = at.invariant.counted in
     let gone = c.in-Some.ensures.steps.1 in
+    let made : IsTurnMade g.D.Disk.honest g.D.Disk.history at.self c.turn-answer.new.self c.in-Some.event c.turn-answer.result = record {
+      made = turn.step;
+      any_moment = turn.any_moment;
+      kept = turn.kept;
+      usable = turn.usable;
+      other_file = turn.other_file;
+      same_file = turn.same_file;
+      broken = turn.broken;
+      breaks = turn.breaks;
+      stays = turn.stays;
+      not_counted = turn.not_counted;
+      numbers_spent = turn.numbers_spent;
+      continues_a = turn.continues_a;
+      continues_b = turn.continues_b;
+      honest_a = turn.honest_a;
+      honest_b = turn.honest_b;
+    } in
+    let so_far = at.invariant.so_far in
     record {
-      so_far = rw c.push_reserved.ensures.items (goes_on g.D.Disk.honest g.D.Disk.history c.args.self.now at.self c.turn-answer.new.self at.yielded at.answers.items c.in-Some.event c.turn-answer.result at.invariant.so_far
-          (record {
-            made = turn.step;
-            any_moment = turn.any_moment;
-            kept = turn.kept;
-            usable = turn.usable;
-            other_file = turn.other_file;
-            same_file = turn.same_file;
-            broken = turn.broken;
-            breaks = turn.breaks;
-            stays = turn.stays;
-            continues_a = turn.continues_a;
-            continues_b = turn.continues_b;
-            honest_a = turn.honest_a;
-            honest_b = turn.honest_b;
-          }));
+      so_far = rw c.push_reserved.ensures.items (goes_on g.D.Disk.honest g.D.Disk.history c.args.self.now at.self c.turn-answer.new.self at.yielded at.answers.items c.in-Some.event c.turn-answer.result so_far made);
       left = append_assoc at.yielded (c.in-Some.event ∷ []) _ ∙ rw (← steps) at.invariant.left;
       room = omega (arith, room, short, c.push_reserved.ensures.len, c.push_reserved.ensures.capacity);
       counted = omega (arith, was, gone, short);
+      later_a = omega (arith, at.invariant.later_a, turn.later_a);
+      later_b = omega (arith, at.invariant.later_b, turn.later_b);
+      fault = λ ha hb usable. fails_on g.D.Disk.honest g.D.Disk.history g.D.Disk.faults c.args.self.now at.self c.turn-answer.new.self c.in-Some.event c.turn-answer.result made at.invariant.later_a at.invariant.later_b
+          (at.invariant.fault ha hb usable) (turn.fault (so_far.honest_a.0 ha) (so_far.honest_b.0 hb));
     }
 
 run_done : (g : Over) (c : goal.After-drop-event-iterator g) → IsRunSoFar g.D.Disk.honest g.D.Disk.history c.args.self.now c.loop-event.self c.args.events.items c.loop-event.answers.items
@@ -69,6 +79,18 @@ returns-clause-transcript g c = (run_done g c).transcript
 
 pub returns-clause-broken : goal.returns-clause-broken
 returns-clause-broken g c = (run_done g c).orderly
+
+pub returns-clause-numbers_spent : goal.returns-clause-numbers_spent
+returns-clause-numbers_spent g c = (run_done g c).spends
+
+pub returns-clause-is_broken : goal.returns-clause-is_broken
+returns-clause-is_broken g c = (run_done g c).broken
+
+pub returns-clause-event : goal.returns-clause-event
+returns-clause-event g c = (run_done g c).event
+
+pub returns-clause-last_record : goal.returns-clause-last_record
+returns-clause-last_record g c = (run_done g c).last_record
 
 pub returns-clause-state : goal.returns-clause-state
 returns-clause-state g c = (run_done g c).state

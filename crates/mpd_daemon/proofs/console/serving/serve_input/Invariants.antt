@@ -1,0 +1,9 @@
+use Rattle.std.proofs.Common.{◌≡◌, vec_len}
+use Rattle.mpd_daemon.proofs.InputLaws.{ReadsSoFar}
+use Rattle.mpd_daemon.proofs.console.serving.serve_input.Given as goal
+
+abbrev pub invariant-loop : goal.invariant-loop
+invariant-loop g l = record {
+  reads : ReadsSoFar g.D.Disk.honest g.D.Disk.faults l.client l.fn.live l.live l.session (g.R.Read.remaining l.fn.reader) (g.R.Read.remaining l.reader) (g.W.Write.contents l.fn.writer) (g.W.Write.contents l.writer);
+  room : vec_len l.buffer ≡ 8192;
+}

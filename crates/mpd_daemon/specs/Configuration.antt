@@ -1,0 +1,78 @@
+-- What a configuration says: a TOML table of texts.
+use Rattle.std.specs.Prelude.{ℕ, List, [], ◌∷◌, codes, Bool, true, false, ◌&&◌, ◌||◌, not, Option, Some, None, option_map, if◌then◌else◌}
+use Rattle.std.specs.Option.{option_and_then}
+use Rattle.std.specs.Result.{result_ok}
+use Rattle.std.specs.Str.{bytes_eq}
+use Rattle.toml.specs.Data.{Data, Members, no_members, member, get_member, as_str}
+use Rattle.toml.specs.Parse.{parse_document}
+use Rattle.hex.specs.Hex.{decode_sized}
+
+-- the first value, and then what the next makes of it, unless there is none
+infixl 10 ◌>>=◌
+abbrev pub ◌>>=◌ : {A B : Type 0} → Option A → (A → Option B) → Option B
+(Some x) >>= f = f x
+None >>= f = None
+
+-- The paths as they stand, the key of 32 bytes, and where to listen and to play, where these are said.
+pub record Settings : Type 0 where
+  pub music : List ℕ
+  pub journal_a : List ℕ
+  pub journal_b : List ℕ
+  pub key : List ℕ
+  pub tcp : Option (List ℕ)
+  pub unix : Option (List ℕ)
+  pub output : Option (List ℕ)
+
+-- a key that a configuration may have
+abbrev pub is_known : List ℕ → Bool
+is_known key = bytes_eq key (codes "music") || bytes_eq key (codes "journal_a") || bytes_eq key (codes "journal_b") || bytes_eq key (codes "key")
+    || bytes_eq key (codes "tcp") || bytes_eq key (codes "unix") || bytes_eq key (codes "output")
+
+-- it has no key but these
+abbrev pub all_known : Members → Bool
+all_known no_members = true
+all_known (member key value members) = is_known key && all_known members
+
+-- the text at a key
+abbrev pub text_at : List ℕ → Members → Option (List ℕ)
+text_at key members = option_and_then as_str (get_member key members)
+
+-- the text at a key that may be missing
+abbrev pub text_if_there : Option Data → Option (Option (List ℕ))
+text_if_there None = Some None
+text_if_there (Some value) = option_map Some (as_str value)
+
+abbrev pub optional_text_at : List ℕ → Members → Option (Option (List ℕ))
+optional_text_at key members = text_if_there (get_member key members)
+
+-- the bytes that 64 hexadecimal digits stand for, in either case
+abbrev pub key_of : List ℕ → Option (List ℕ)
+key_of text = result_ok (decode_sized text 32)
+
+abbrev pub key_at : List ℕ → Members → Option (List ℕ)
+key_at key members = option_and_then key_of (text_at key members)
+
+-- a table without other keys
+abbrev pub if_all_known : Members → Option Members
+if_all_known members = if all_known members then Some members else None
+
+-- the two files of a journal are not the same
+abbrev pub if_two_files : Settings → Option Settings
+if_two_files s = if bytes_eq s.journal_a s.journal_b then None else Some s
+
+-- what the table says, if it is a configuration
+abbrev pub settings_of : Members → Option Settings
+settings_of table = do
+  members ← if_all_known table
+  music ← text_at (codes "music") members
+  journal_a ← text_at (codes "journal_a") members
+  journal_b ← text_at (codes "journal_b") members
+  key ← key_at (codes "key") members
+  tcp ← optional_text_at (codes "tcp") members
+  unix ← optional_text_at (codes "unix") members
+  output ← optional_text_at (codes "output") members
+  if_two_files (record { music = music; journal_a = journal_a; journal_b = journal_b; key = key; tcp = tcp; unix = unix; output = output })
+
+-- what a text says, if it is a configuration
+abbrev pub configuration : List ℕ → Option Settings
+configuration text = option_and_then settings_of (parse_document text)

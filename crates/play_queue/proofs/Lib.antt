@@ -1,0 +1,10 @@
+pub mod Added
+pub mod Blocks
+pub mod Exchanged
+pub mod Kept
+pub mod OwnIds
+pub mod Saved
+pub mod Prioritized
+pub mod Ruling
+pub mod Sound
+pub mod Where

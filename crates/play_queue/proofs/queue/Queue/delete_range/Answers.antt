@@ -1,0 +1,27 @@
+use Rattle.std.proofs.Common.{◌≡◌, length, sym, ap, arith}
+use Rattle.std.proofs.lemmas.List.{take-append-drop}
+use Rattle.play_queue.specs.Entries.{deleted}
+use Rattle.play_queue.proofs.Ruling.{ruled-deleted, ruled-itself}
+use Rattle.play_queue.proofs.Sound.{sound-deleted}
+use Rattle.play_queue.proofs.queue.Queue.delete_range.Goals as goal
+
+-- what stood from the end of the block on has moved up
+pub returns-then-start-end-clause-ok : goal.returns-then-start-end-clause-ok
+returns-then-start-end-clause-ok c =
+    let old = c.self.inside.entries.items in
+    let left : c.len-left.result ≡ length (deleted old c.args.start c.args.end) = omega (arith, ap length c.delete.ensures, c.len-left.ensures) in
+    rw (← c.self.view_is, c.restamp-self-inside.ensures.entries, c.restamp-self-inside.ensures.version, c.delete.ensures, left)
+    (ruled-deleted (record { entries = old; version = c.self.inside.version; next_id = c.self.inside.next_id }) c.args.start c.args.end c.self.invariant.own_ids c.if-start-end.true (omega arith))
+
+pub returns-else-start-end-clause-ok : goal.returns-else-start-end-clause-ok
+returns-else-start-end-clause-ok c =
+    let none : c.args.start ≡ c.args.end = omega arith in
+    let itself : deleted c.args.self.now.entries c.args.start c.args.end ≡ c.args.self.now.entries = rw none (take-append-drop c.args.end c.args.self.now.entries) in
+    sym (ruled-itself c.args.self.now _ itself)
+
+pub invariant_of-self : goal.invariant_of-self
+invariant_of-self c =
+    let old = c.self.inside.entries.items in
+    let left : c.len-left.result ≡ length (deleted old c.args.start c.args.end) = omega (arith, ap length c.delete.ensures, c.len-left.ensures) in
+    rw (c.restamp-self-inside.ensures.entries, c.restamp-self-inside.ensures.version, c.delete.ensures, left)
+    (sound-deleted (record { entries = old; version = c.self.inside.version; next_id = c.self.inside.next_id }) c.self.invariant c.args.start c.args.end (omega arith) (omega arith))

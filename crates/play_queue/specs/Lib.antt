@@ -1,0 +1,6 @@
+pub mod Entries
+pub mod Place
+pub mod Queue
+pub mod Refusal
+pub mod Refused
+pub mod Restamp

@@ -1,0 +1,82 @@
+-- The queue, and the rule by which its version and the stamps of its entries follow a change.
+use Rattle.std.specs.Prelude.{◌≢◌, ℕ, ◌+◌, ◌<◌, ◌≤◌, Bool, true, false, not, ◌==◌, ◌&&◌, ◌||◌, nat_lt, nat_le, filter, List, [], ◌∷◌, length, map, if◌then◌else◌}
+use Rattle.std.specs.List.{All, AllPairs, list_all, enumerate_from}
+use Rattle.std.specs.Str.{bytes_eq}
+use Rattle.play_queue.specs.declared.entry.Entry.{Entry}
+use Rattle.play_queue.specs.declared.limits.TheConstants.{MAX_ENTRIES, MAX_ID, MAX_VERSION}
+use Rattle.play_queue.specs.Entries.{Uris, is_among}
+
+-- the entries in order, the version, and the id that the next entry gets (one above the greatest id once all are spent)
+pub record QueueState : Type 0 where
+  pub entries : List Entry
+  pub version : ℕ
+  pub next_id : ℕ
+
+-- an entry's id is used up and its stamp is no later than the version
+pub record IsEntry (next_id version : ℕ) (entry : Entry) : Type 0 where
+  pub id_low : 1 ≤ entry.id
+  pub id_used : entry.id < next_id
+  pub stamp_low : 1 ≤ entry.stamp
+  pub stamp_high : entry.stamp ≤ version
+
+-- the ids in order
+abbrev pub ids_of : List Entry → List ℕ
+ids_of entries = map (λ entry. entry.id) entries
+
+-- no two entries have the same id
+abbrev pub HaveOwnIds : List Entry → Type 0
+HaveOwnIds entries = AllPairs (λ one other. one ≢ other) (ids_of entries)
+
+-- what every queue keeps
+pub record IsQueue (queue : QueueState) : Type 0 where
+  pub few : length queue.entries ≤ MAX_ENTRIES
+  pub version_low : 1 ≤ queue.version
+  pub version_high : queue.version ≤ MAX_VERSION
+  pub next_low : 1 ≤ queue.next_id
+  pub next_high : queue.next_id ≤ MAX_ID + 1
+  pub entry : All (IsEntry queue.next_id queue.version) queue.entries
+  pub own_ids : HaveOwnIds queue.entries
+
+-- nothing has changed at a position: id, priority and URI are as before, and so is the row of the URI
+abbrev pub is_same : Uris → Entry → Entry → Bool
+is_same changed before after = before.id == after.id && (before.priority == after.priority && (bytes_eq before.uri after.uri && not (is_among changed after.uri)))
+
+-- nothing has changed at any position, and the lists are equally long
+abbrev pub is_unchanged : Uris → List Entry → List Entry → Bool
+is_unchanged changed [] [] = true
+is_unchanged changed [] (after ∷ afters) = false
+is_unchanged changed (before ∷ befores) [] = false
+is_unchanged changed (before ∷ befores) (after ∷ afters) = is_same changed before after && is_unchanged changed befores afters
+
+abbrev pub with_stamp : ℕ → Entry → Entry
+with_stamp stamp entry = record entry { stamp = stamp }
+
+-- exactly the positions that differ get the stamp
+abbrev pub stamped : Uris → ℕ → List Entry → List Entry → List Entry
+stamped changed stamp befores [] = []
+stamped changed stamp [] (after ∷ afters) = with_stamp stamp after ∷ stamped changed stamp [] afters
+stamped changed stamp (before ∷ befores) (after ∷ afters) = (if is_same changed before after then before else with_stamp stamp after) ∷ stamped changed stamp befores afters
+
+-- The stamp rule. `changed` has the URIs whose row is another one than before.
+-- Where no position differs, the version and all stamps stay. Else the version grows by one and is the stamp of the positions that differ; past the greatest version it begins again at 1, and so do all stamps.
+abbrev pub ruled : QueueState → List Entry → Uris → QueueState
+ruled before afters changed =
+    if is_unchanged changed before.entries afters then before
+    else if before.version == MAX_VERSION then record before { entries = map (with_stamp 1) afters; version = 1 }
+    else record before { entries = stamped changed (before.version + 1) before.entries afters; version = before.version + 1 }
+
+-- the positions whose stamp is later than a version, and all where the version is later than the queue's
+abbrev pub changed_since : QueueState → ℕ → List ℕ
+changed_since queue version = map (λ at. at.0) (filter (λ at. nat_lt queue.version version || nat_lt version at.1.stamp) (enumerate_from 0 queue.entries))
+
+-- an entry, by the same bounds
+abbrev pub is_entry : ℕ → ℕ → Entry → Bool
+is_entry next_id version entry = nat_le 1 entry.id && (nat_lt entry.id next_id && (nat_le 1 entry.stamp && nat_le entry.stamp version))
+
+-- a version and a next id that a queue may have
+abbrev pub are_numbers : ℕ → ℕ → Bool
+are_numbers version next_id = nat_le 1 version && (nat_le version MAX_VERSION && (nat_le 1 next_id && nat_le next_id (MAX_ID + 1)))
+
+-- all that a queue keeps but for the ids that differ
+abbrev pub is_bounded : QueueState → Bool
+is_bounded queue = nat_le (length queue.entries) MAX_ENTRIES && (are_numbers queue.version queue.next_id && list_all (is_entry queue.next_id queue.version) queue.entries)

@@ -1,0 +1,14 @@
+use song_db::Uri;
+
+/// One entry of the queue.
+#[derive(Debug, Drop)]
+pub struct Entry {
+    /// From 1 to 2147483647; no later entry has it again.
+    pub id: u32,
+    /// The song that is played.
+    pub uri: Uri,
+    /// From 0 to 255; in random mode a greater one goes first.
+    pub priority: u8,
+    /// The version of the queue that last changed what stands at the entry's position.
+    pub stamp: u32,
+}

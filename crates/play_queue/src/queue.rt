@@ -1,0 +1,306 @@
+ghost use Rattle.std.specs.Prelude.{◌≡◌, ◌↔◌, ◌+◌, ◌<◌, ◌≤◌, ◌==◌, nat_lt, [], length, swap, map, filter, position, unwrap_or, IsTrue, OnOk, OnErr, IfOk, IfSome, IsSome, slice_get};
+ghost use Rattle.std.specs.Option.{SomeIff, option_copied};
+ghost use Rattle.std.specs.List.{enumerate_from};
+ghost use Rattle.play_queue.specs.Entries.{deleted, moved, added, new_entries, kept, prioritized};
+ghost use Rattle.play_queue.specs.Queue.{IsQueue, ruled, changed_since};
+ghost use Rattle.play_queue.specs.Refusal.{Answers, AnswersIfMemory};
+ghost use Rattle.play_queue.specs.Refused.{range_refusal, move_refusal, swap_refusal, add_refusal, id_refusal, ranges_refusal};
+ghost use Rattle.play_queue.specs.Restamp.{exchanged};
+
+use crate::editing::{delete, exchange, insert_all};
+use crate::entry::Entry;
+use crate::limits::{MAX_ENTRIES, MAX_ID};
+use crate::parts::{have_own_ids, is_bounded};
+use crate::priority::{has_bad, has_other, prioritize};
+use crate::refusal::QueueError;
+use crate::rows::{before_first, has_any, keep_others, restamp_batch};
+use crate::stamping::{restamp, restamp_pair};
+use song_db::Uri;
+use std::alloc::{AllocError, Global};
+use std::marker::Model;
+
+/// The queue: entries in order, each with an id of its own, and a version that grows with each change.
+///
+/// Each edit follows the stamp rule: the lists of id, priority, URI and the URI's row before and after are compared position by position. Where they differ, the version grows by one and exactly the positions that differ get it as their stamp. At version 2147483647 the next change sets the version and all stamps to 1. A refused call leaves everything as it was.
+#[derive(Debug, Drop)]
+pub struct Queue {
+    entries: Vec<Entry>,
+    version: u32,
+    next_id: u32,
+}
+
+impl Model for Queue {
+    ghost use Rattle.play_queue.specs.Queue.{QueueState, IsQueue};
+
+    ghost Value = { QueueState };
+
+    ghost view = { λ q. record { entries = q.entries.items; version = q.version; next_id = q.next_id } };
+
+    ghost invariant = { λ q. IsQueue (record { entries = q.entries.items; version = q.version; next_id = q.next_id }) };
+}
+
+impl Queue {
+    /// No entry, at version 1; the first id will be 1. It takes no memory yet.
+    pub fn new(alloc: Global) -> Self
+        ensures { result ≡ record { entries = []; version = 1; next_id = 1 } }
+    {
+        Queue {
+            entries: Vec::new(alloc),
+            version: 1,
+            next_id: 1,
+        }
+    }
+
+    /// The queue of these entries, version and next id, as they were saved; `None` where they break what a queue keeps: at most 16,384 entries, a version from 1 to 2147483647, a next id from 1 to 2147483648, ids that differ, from 1 and below the next id, and stamps from 1 to the version.
+    ///
+    /// For the test of the ids it takes memory, 4 bytes an entry, which it gives back.
+    pub fn from_parts(
+        alloc: Global,
+        entries: Vec<Entry>,
+        version: u32,
+        next_id: u32,
+    ) -> Result<Option<Queue>, AllocError>
+        ensures made { IfOk result (λ queue. IfSome queue (λ queue. queue ≡ record { entries = entries.items; version = version; next_id = next_id })) }
+        ensures where_sound { IfOk result (λ queue. IsSome queue ↔ IsQueue (record { entries = entries.items; version = version; next_id = next_id })) }
+    {
+        if !is_bounded(&entries, version, next_id) {
+            return Ok(None);
+        }
+        let own = have_own_ids(alloc, &entries)?;
+        if !own {
+            return Ok(None);
+        }
+        Ok(Some(Queue {
+            entries,
+            version,
+            next_id,
+        }))
+    }
+
+    /// How many entries there are.
+    pub fn len(&self) -> usize
+        ensures { result ≡ length self.now.entries }
+    {
+        self.entries.len()
+    }
+
+    pub fn is_empty(&self) -> bool
+        ensures { IsTrue result ↔ (self.now.entries ≡ []) }
+    {
+        self.entries.is_empty()
+    }
+
+    /// The entry at a position from 0 on, if there is one.
+    pub fn get(&self, at: usize) -> Option<&Entry>
+        ensures { option_copied result ≡ slice_get self.now.entries at }
+    {
+        self.entries.get(at)
+    }
+
+    /// The entries in order.
+    pub fn entries(&self) -> &[Entry]
+        ensures entries { result.now ≡ self.now.entries }
+        ensures kept { IsQueue self.now }
+    {
+        self.entries.as_slice()
+    }
+
+    /// From 1 to 2147483647; it grows by one with each change.
+    pub fn version(&self) -> u32
+        ensures { result ≡ self.now.version }
+    {
+        self.version
+    }
+
+    /// The id that the next entry gets, or 2147483648 where the ids are spent.
+    pub fn next_id(&self) -> u32
+        ensures { result ≡ self.now.next_id }
+    {
+        self.next_id
+    }
+
+    /// The entries from `start` up to, but not including, `end` are taken out. Refused by `BadIndex` where the range ends before it begins or past the end of the queue.
+    pub fn delete_range(&mut self, start: usize, end: usize) -> Result<(), QueueError>
+        ensures ok { OnOk result (self.new ≡ ruled self.old (deleted self.old.entries start end) []) }
+        ensures err { OnErr result (self.new ≡ self.old) }
+        ensures answer { Answers (range_refusal self.old.entries start end) result }
+    {
+        if end < start || self.entries.len() < end {
+            return Err(QueueError::BadIndex);
+        }
+        if start < end {
+            delete(&mut self.entries, start, end);
+            let left = self.entries.len();
+            self.version = restamp(&mut self.entries, start, left, self.version);
+        }
+        Ok(())
+    }
+
+    /// The entries from `start` up to, but not including, `end` are put so that the first of them stands at position `to` of the rest. Refused by `BadIndex` where the range ends before it begins or past the end of the queue, or where `to` is past the end of the rest.
+    pub fn move_range(&mut self, start: usize, end: usize, to: usize) -> Result<(), QueueError>
+        ensures ok { OnOk result (self.new ≡ ruled self.old (moved self.old.entries start end to) []) }
+        ensures err { OnErr result (self.new ≡ self.old) }
+        ensures answer { Answers (move_refusal self.old.entries start end to) result }
+    {
+        let len = self.len();
+        if end < start || len < end {
+            return Err(QueueError::BadIndex);
+        }
+        let count = end - start;
+        if len - count < to {
+            return Err(QueueError::BadIndex);
+        }
+        if start < end {
+            if to < start {
+                self.exchange(to, start, end);
+            } else if start < to {
+                self.exchange(start, end, to + count);
+            }
+        }
+        Ok(())
+    }
+
+    // Two blocks that follow each other change places.
+    fn exchange(&mut self, low: usize, middle: usize, high: usize)
+        requires low_block { low < middle }
+        requires high_block { middle < high }
+        requires in_range { high ≤ length self.old.entries }
+        ensures { self.new ≡ ruled self.old (exchanged self.old.entries low middle high) [] }
+    {
+        exchange(&mut self.entries, low, middle, high);
+        self.version = restamp(&mut self.entries, low, high, self.version);
+    }
+
+    /// Two entries change places. Refused by `BadIndex` where a position is past the end of the queue.
+    pub fn swap(&mut self, one: usize, other: usize) -> Result<(), QueueError>
+        ensures ok { OnOk result (self.new ≡ ruled self.old (swap self.old.entries one other) []) }
+        ensures err { OnErr result (self.new ≡ self.old) }
+        ensures answer { Answers (swap_refusal self.old.entries one other) result }
+    {
+        let len = self.entries.len();
+        if len <= one || len <= other {
+            return Err(QueueError::BadIndex);
+        }
+        if one != other {
+            self.entries.swap(one, other);
+            self.version = restamp_pair(&mut self.entries, one, other, self.version);
+        }
+        Ok(())
+    }
+
+    /// All entries are taken out.
+    pub fn clear(&mut self)
+        ensures { self.new ≡ ruled self.old [] [] }
+    {
+        if !self.entries.is_empty() {
+            self.entries.clear();
+            self.version = restamp(&mut self.entries, 0, 0, self.version);
+        }
+    }
+
+    /// Entries of these URIs, of priority 0, are added in front of position `at`, or at the end where that is the length. Answers the first one's id; the others' ids follow it. No URI adds nothing, and answers the id that the next entry gets.
+    ///
+    /// Refused by `BadIndex` where `at` is past the end, by `QueueFull` where there would be more than 16,384 entries, then by `IdsSpent` where an id would pass 2147483647, and by `NoMemory`.
+    pub fn add_at(&mut self, at: usize, uris: Vec<Uri>) -> Result<u32, QueueError>
+        ensures first { IfOk result (λ id. id ≡ self.old.next_id) }
+        ensures ok { OnOk result (self.new ≡ record (ruled self.old (added self.old.entries at (new_entries self.old.next_id uris.items)) []) { next_id = self.old.next_id + length uris.items }) }
+        ensures err { OnErr result (self.new ≡ self.old) }
+        ensures answer { AnswersIfMemory (add_refusal self.old at (length uris.items)) result }
+    {
+        let len = self.entries.len();
+        let count = uris.len();
+        let first = self.next_id;
+        if len < at {
+            return Err(QueueError::BadIndex);
+        }
+        if MAX_ENTRIES - len < count {
+            return Err(QueueError::QueueFull);
+        }
+        let Some(next_id) = id_after(first, count) else {
+            return Err(QueueError::IdsSpent);
+        };
+        self.entries.reserve(count)?;
+        if count > 0 {
+            insert_all(&mut self.entries, at, first, uris);
+            let left = self.entries.len();
+            self.version = restamp(&mut self.entries, at, left, self.version);
+            self.next_id = next_id;
+        }
+        Ok(first)
+    }
+
+    /// A priority is set on each entry at a position of some range, from the first number up to, but not including, the second. Refused by `BadIndex` where a range ends before it begins or past the end of the queue.
+    pub fn set_prio(&mut self, ranges: &[(usize, usize)], priority: u8) -> Result<(), QueueError>
+        ensures ok { OnOk result (self.new ≡ ruled self.old (prioritized self.old.entries ranges.now priority) []) }
+        ensures err { OnErr result (self.new ≡ self.old) }
+        ensures answer { Answers (ranges_refusal self.old.entries ranges.now) result }
+    {
+        let len = self.entries.len();
+        if has_bad(ranges, len) {
+            return Err(QueueError::BadIndex);
+        }
+        if has_other(&self.entries, ranges, priority) {
+            self.version = prioritize(&mut self.entries, ranges, priority, self.version);
+        }
+        Ok(())
+    }
+
+    /// The position of the entry with an id, if there is one.
+    pub fn pos_of(&self, id: u32) -> Option<usize>
+        ensures found { result ≡ position (λ entry. entry.id == id) self.now.entries }
+        ensures within { IfSome result (λ at. (at < length self.now.entries) × (at < MAX_ENTRIES)) }
+    {
+        self.entries.iter().position(|entry| entry.id == id)
+    }
+
+    /// The entry with an id is taken out. Refused by `NoSuchSong` where no entry has it.
+    pub fn delete_id(&mut self, id: u32) -> Result<(), QueueError>
+        ensures ok { OnOk result (let at = unwrap_or (position (λ entry. entry.id == id) self.old.entries) 0 in self.new ≡ ruled self.old (deleted self.old.entries at (at + 1)) []) }
+        ensures err { OnErr result (self.new ≡ self.old) }
+        ensures answer { Answers (id_refusal self.old.entries id) result }
+    {
+        match self.pos_of(id) {
+            Some(at) => self.delete_range(at, at + 1),
+            None => Err(QueueError::NoSuchSong),
+        }
+    }
+
+    /// What a batch of the database means for the queue: entries of dropped URIs are taken out, and those of changed URIs have changed. All of it is one change.
+    pub fn follow_batch(&mut self, dropped: &[Uri], changed: &[Uri])
+        ensures { self.new ≡ ruled self.old (kept self.old.entries dropped.now) changed.now }
+    {
+        let first = before_first(&self.entries, dropped);
+        if first < self.entries.len() || has_any(&self.entries[..first], changed) {
+            keep_others(&mut self.entries, dropped);
+            self.version = restamp_batch(&mut self.entries, first, changed, self.version);
+        }
+    }
+
+    /// The positions of the entries that a later version than this one stamped, rising; all where the queue has not come to this version.
+    pub fn changes_since(&self, alloc: Global, version: u32) -> Result<Vec<usize>, AllocError>
+        ensures { IfOk result (λ positions. positions.items ≡ changed_since self.now version) }
+    {
+        let all = self.version < version;
+        self.entries
+            .iter()
+            .enumerate()
+            .filter(|at| all || version < at.1.stamp)
+            .map(|at| at.0)
+            .collect(alloc)
+    }
+}
+
+// The id after so many more, unless the ids are spent before.
+fn id_after(first: u32, count: usize) -> Option<u32>
+    requires { first ≤ MAX_ID + 1 }
+    ensures { SomeIff result (first + count ≤ MAX_ID + 1) (first + count) }
+{
+    let count = u32::try_from(count).ok()?;
+    if MAX_ID + 1 - first < count {
+        return None;
+    }
+    Some(first + count)
+}
+
+#[cfg(test)]
+mod tests;

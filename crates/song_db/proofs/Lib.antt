@@ -1,0 +1,11 @@
+mod Batches
+mod Below
+mod BelowOrder
+mod Folders
+mod Known
+mod Merging
+mod Ordered
+mod Replaced
+mod Rising
+mod Slashes
+mod Turns

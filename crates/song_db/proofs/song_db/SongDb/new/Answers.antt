@@ -1,0 +1,5 @@
+use Rattle.song_db.proofs.Batches.{empty_database}
+use Rattle.song_db.proofs.song_db.SongDb.new.Goals as goal
+
+pub invariant_of-result : goal.invariant_of-result
+invariant_of-result c = rw c.new.ensures.items empty_database

@@ -1,0 +1,20 @@
+-- The refusals: their numbers, and when a call is refused.
+use Rattle.std.specs.Prelude.{◌≡◌, ℕ, Bool, true, false, List, [], ◌∷◌, Option, Some, None, Result, Err, IsOkUnless}
+use Rattle.song_db.specs.declared.change.RowChange.{RowChange}
+use Rattle.song_db.specs.declared.refusal.SongDbError.{SongDbError}
+use Rattle.song_db.specs.declared.refusal.SongDbError.TheVariants.{NoSuchUri, DbFull, NoMemory}
+
+abbrev pub number_of : SongDbError → ℕ
+number_of NoSuchUri = 17
+number_of DbFull = 18
+number_of NoMemory = 7
+
+-- refused where what is named isn't there, and else by want of memory alone
+abbrev pub AnswersIfThere : {T : Type 0} → Bool → Result T SongDbError → Type 0
+AnswersIfThere true r = IsOkUnless r NoMemory
+AnswersIfThere false r = r ≡ Err NoSuchUri
+
+-- changes are left out of a full database alone
+abbrev pub refusal_of : List RowChange → Option SongDbError
+refusal_of [] = None
+refusal_of (change ∷ changes) = Some DbFull

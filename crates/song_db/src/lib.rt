@@ -1,0 +1,31 @@
+//! The database of songs: their URIs and rows, the changes that a batch makes, and the folders that they stand in.
+#![tactic(auto)]
+
+mod batch;
+pub mod change;
+mod folder_rows;
+pub mod limits;
+mod merge;
+pub mod order;
+pub mod place;
+pub mod refusal;
+pub mod row;
+mod rows;
+pub mod song_db;
+mod text;
+pub mod texts;
+pub mod uri;
+mod values;
+
+pub use change::{LeftOut, RowChange};
+pub use limits::{MAX_RATE, MAX_ROWS, MAX_TAG_BYTES, MAX_URI_BYTES};
+pub use order::ScanOrder;
+pub use place::Place;
+pub use refusal::SongDbError;
+pub use row::SongRow;
+pub use song_db::SongDb;
+pub use texts::Texts;
+pub use uri::{Uri, is_uri};
+
+#[cfg(test)]
+mod tests;

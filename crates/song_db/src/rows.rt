@@ -1,0 +1,49 @@
+ghost use Rattle.std.specs.Prelude.{◌≡◌, ◌<◌, ◌≤◌, length, slice_get, option_and_then, IfSome, IfOk, IfErr};
+ghost use Rattle.std.specs.List.Sorted.{IsPartitionPoint};
+ghost use Rattle.std.specs.Ordering.{nat_cmp, is_lt};
+ghost use Rattle.std.specs.Cmp.Lexicographic.{slice_cmp};
+ghost use Rattle.song_db.specs.Query.{number_at};
+ghost use Rattle.song_db.specs.Row.{row_uri, row_at};
+ghost use Rattle.song_db.specs.Replaced.{IsRising, IsBefore, IsNotBefore, IsPlaceOf, IsPlaceFor};
+
+use crate::row::SongRow;
+
+// The place of the first row whose URI isn't below the given one, by a binary search.
+pub(crate) fn split_point(rows: &[SongRow], uri: &str) -> usize
+    requires { IsRising row_uri rows.now }
+    ensures bound { result ≤ length rows.now }
+    ensures split { IsPartitionPoint (IsBefore row_uri uri.now) (IsNotBefore row_uri uri.now) rows.now result }
+{
+    rows.partition_point(
+        |row: &SongRow| -> bool
+            ensures { result ≡ is_lt (slice_cmp nat_cmp row.now.uri uri.entry.now) }
+        { row.uri() < uri },
+    )
+}
+
+// The place of the row of a URI.
+pub(crate) fn position(rows: &[SongRow], uri: &str) -> Option<usize>
+    requires { IsRising row_uri rows.now }
+    ensures number { result ≡ number_at rows.now uri.now }
+    ensures bound { IfSome result (λ at. at < length rows.now) }
+    ensures row { option_and_then (slice_get rows.now) result ≡ row_at rows.now uri.now }
+{
+    let at = split_point(rows, uri);
+    if at < rows.len() && rows[at].uri() == uri {
+        return Some(at);
+    }
+    None
+}
+
+// The place of the row of a URI, or the place that it would have.
+pub(crate) fn place(rows: &[SongRow], uri: &str) -> Result<usize, usize>
+    requires { IsRising row_uri rows.now }
+    ensures there { IfOk result (IsPlaceOf row_uri uri.now rows.now) }
+    ensures absent { IfErr result (IsPlaceFor row_uri uri.now rows.now) }
+{
+    let at = split_point(rows, uri);
+    if at < rows.len() && rows[at].uri() == uri {
+        return Ok(at);
+    }
+    Err(at)
+}

@@ -1,0 +1,74 @@
+ghost use Rattle.std.specs.Prelude.{◌≡◌, List, None, Some, IfOk, MatchOption};
+ghost use Rattle.wave_pcm.specs.Folder.{File, bytes_at};
+ghost use Rattle.wave_pcm.specs.declared.folder.FolderFault.TheVariants.{NoMemory};
+
+use crate::Source;
+use std::alloc::{AllocError, AllocFailed, Global};
+use std::error::Error;
+use std::fmt;
+
+/// A folder could not be listed, or a file not opened.
+#[derive(Clone, Copy, Debug, PartialEq, Eq)]
+pub enum FolderFault {
+    /// The folder or the file could not be read, or a name in the folder isn't UTF-8.
+    Source,
+    NoMemory,
+}
+
+impl fmt::Display for FolderFault {
+    fn fmt<W: fmt::Write>(&self, f: &mut fmt::Formatter<W>) -> fmt::Result {
+        match self {
+            FolderFault::Source => f.write_str("the folder could not be read"),
+            FolderFault::NoMemory => f.write_str("out of memory"),
+        }
+    }
+}
+
+impl Error for FolderFault {}
+
+impl From<AllocError> for FolderFault {
+    ghost from_gives = { λ _ e. e ≡ NoMemory };
+
+    fn from(_error: AllocError) -> Self {
+        FolderFault::NoMemory
+    }
+}
+
+impl<T: Drop> From<AllocFailed<T>> for FolderFault {
+    ghost from_gives = { λ _ e. e ≡ NoMemory };
+
+    fn from(_error: AllocFailed<T>) -> Self {
+        FolderFault::NoMemory
+    }
+}
+
+/// What stands directly in a folder.
+#[derive(Debug, Drop)]
+pub struct FolderEntry {
+    /// Without a slash.
+    pub name: String,
+    pub is_folder: bool,
+}
+
+/// Files in folders, under paths with slashes between their parts. The empty path is the root.
+pub trait Folder {
+    /// An opened file.
+    type File: Source + Drop;
+
+    /// The files that there are.
+    ghost files: { Self → List File };
+
+    /// The folder tells its files and keeps them. It may fail all the same.
+    ghost honest: { Self → Type 0 };
+
+    /// What stands directly in a folder, in no particular order; `None` where there is no such folder.
+    fn list(&mut self, alloc: Global, path: &str) -> Result<Option<Vec<FolderEntry>>, FolderFault>
+        ensures honest { honest self.old → honest self.new }
+        ensures files { honest self.old → files self.new ≡ files self.old };
+
+    /// Opens a file; `None` where there is no such file.
+    fn open(&mut self, alloc: Global, path: &str) -> Result<Option<Self::File>, FolderFault>
+        ensures opened { honest self.old → IfOk result (λ file. MatchOption file (bytes_at (files self.old) path.now ≡ None) (λ source. bytes_at (files self.old) path.now ≡ Some (Self.File.bytes source))) }
+        ensures honest { honest self.old → honest self.new }
+        ensures files { honest self.old → files self.new ≡ files self.old };
+}

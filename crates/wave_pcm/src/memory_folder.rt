@@ -1,0 +1,112 @@
+ghost use Rattle.std.specs.Prelude.{◌≡◌, [], ◌∷◌, ◌++◌, OnOk, OnErr};
+ghost use Rattle.wave_pcm.specs.Folder.{File, bytes_at};
+
+use crate::{Folder, FolderEntry, FolderFault, MemSource};
+use std::alloc::{AllocError, Global};
+use std::marker::Model;
+
+// A file in memory.
+#[derive(Debug, Drop)]
+struct MemFile<'a> {
+    path: String,
+    bytes: &'a [u8],
+}
+
+impl<'a> Model for MemFile<'a> {
+    ghost use Rattle.std.specs.Prelude.{string_bytes};
+    ghost use Rattle.wave_pcm.specs.Folder.{File};
+
+    ghost Value = { File };
+
+    ghost view = { λ f. record { path = string_bytes f.path; bytes = f.bytes.now } };
+}
+
+/// Files in memory. A folder is there where a file stands below it; the root always is.
+#[derive(Debug, Drop)]
+pub struct MemFolder<'a> {
+    files: Vec<MemFile<'a>>,
+}
+
+impl<'a> Model for MemFolder<'a> {
+    ghost use Rattle.std.specs.Prelude.{List};
+    ghost use Rattle.wave_pcm.specs.Folder.{File};
+
+    ghost Value = { List File };
+
+    ghost view = { λ f. f.files.items };
+}
+
+impl<'a> MemFolder<'a> {
+    /// No file. It takes no memory yet.
+    pub fn new(alloc: Global) -> Self
+        ensures { result ≡ [] }
+    {
+        MemFolder {
+            files: Vec::new(alloc),
+        }
+    }
+
+    /// Adds a file; where there is one at the path already, that stays the one which is opened.
+    pub fn add(&mut self, alloc: Global, path: &str, bytes: &'a [u8]) -> Result<(), AllocError>
+        ensures ok { OnOk result (self.new ≡ self.old ++ record { path = path.now; bytes = bytes.now } ∷ []) }
+        ensures err { OnErr result (self.new ≡ self.old) }
+    {
+        let path = String::from_str(alloc, path)?;
+        self.files.push(MemFile { path, bytes })?;
+        Ok(())
+    }
+}
+
+impl<'a> Folder for MemFolder<'a> {
+    type File = MemSource<'a>;
+
+    ghost files = { λ f. f };
+
+    ghost honest = { λ _. Unit {0} };
+
+    fn list(&mut self, alloc: Global, path: &str) -> Result<Option<Vec<FolderEntry>>, FolderFault> {
+        let mut entries = Vec::new(alloc);
+        for file in &self.files {
+            if let Some(rest) = rest_below(path, file.path.as_str()) {
+                add_entry(alloc, &mut entries, rest)?;
+            }
+        }
+        if entries.is_empty() && !path.is_empty() {
+            return Ok(None);
+        }
+        Ok(Some(entries))
+    }
+
+    fn open(&mut self, _alloc: Global, path: &str) -> Result<Option<MemSource<'a>>, FolderFault> {
+        for file in &self.files {
+            if file.path.as_str() == path {
+                return Ok(Some(MemSource::new(file.bytes)));
+            }
+        }
+        Ok(None)
+    }
+}
+
+// What a path has behind a folder and a slash, if it stands below it.
+fn rest_below<'a>(folder: &str, path: &'a str) -> Option<&'a str> {
+    if folder.is_empty() {
+        return Some(path);
+    }
+    path.strip_prefix(folder)?.strip_prefix('/')
+}
+
+// Adds the first part of a path, unless it is there.
+fn add_entry(alloc: Global, entries: &mut Vec<FolderEntry>, path: &str) -> Result<(), AllocError> {
+    let (name, is_folder) = match path.split_once('/') {
+        Some((name, _)) => (name, true),
+        None => (path, false),
+    };
+    for entry in entries.iter() {
+        if entry.name.as_str() == name && entry.is_folder == is_folder {
+            return Ok(());
+        }
+    }
+    let name = String::from_str(alloc, name)?;
+    entries.push(FolderEntry { name, is_folder })?;
+    Ok(())
+}
