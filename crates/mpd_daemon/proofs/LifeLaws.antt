@@ -1,7 +1,7 @@
 -- The lives of a console.
 use Rattle.std.proofs.Common.{◌≡◌, ◌≢◌, ◌⊎◌, inl, inr, ℕ, List, [], ◌∷◌, ◌++◌, Option, Some, Result, Ok, Err, refl, subst, ◌∙◌, ap}
 use Rattle.std.specs.Prelude.{IsSome}
-use Rattle.std.specs.Io.KnownBytes.{Appends, Consumes, IsAtEnd, Keeps}
+use Rattle.std.specs.Io.KnownBytes.{Appends, Consumes, Keeps}
 use Rattle.disk_model.specs.History.{Change}
 use Rattle.state_codec.specs.SavedState.{SavedState}
 use Rattle.daemon_core.specs.declared.event.Event.{Event}
@@ -18,7 +18,7 @@ use Rattle.live_stage.proofs.RunLaws.{replayed_from_start}
 use Rattle.client_session.specs.Requests.{requests_of}
 use Rattle.mpd_daemon.specs.Console.{bytes_to, given, events_of, ClosesNone, ClosesAtLast, ClosesNoneBefore}
 use Rattle.mpd_daemon.specs.Lives.{Moment, HasFailed, IsWhole, IsCut, FailsInEvent, IsFaulted, IsRefused, IsLife, refusal_of}
-use Rattle.mpd_daemon.specs.Serving.{given_from, KeepsOpen, KeepsOpenBefore, ClosesLast, ServesAll, ServesToClose, ServesFront, ServesToFault, ServesClient}
+use Rattle.mpd_daemon.specs.Serving.{given_from, KeepsOpen, KeepsOpenBefore, ClosesLast, ServesAll, ServesToClose, ServesFront, ServesToFault, ServesClient, IsAllRead}
 use Rattle.mpd_daemon.specs.declared.console.Ending.{Ending}
 use Rattle.mpd_daemon.specs.declared.console.Ending.TheVariants.{Whole, Cut, Faulted}
 
@@ -62,7 +62,7 @@ HoldsEither x event a b =
 
 whole_by_end : (Honest : Type 0) (c : ℕ) (first last : Moment) (kept : SavedState) (t : State) (read : List ℕ)
     → (Honest → found_state first.content_a first.content_b ≡ Some kept) → Consumes first.input last.input read
-    → ServesAll c (events_of c (requests_of read)) (start kept) t first.output last.output → IsAtEnd last.input
+    → ServesAll c (events_of c (requests_of read)) (start kept) t first.output last.output → IsAllRead read last.input
     → (Honest → AllFindNow (λ f. f ≡ Some t.saved) last.history_a last.history_b) → IsWhole Honest c first last
 unfolding Holds
 whole_by_end Honest c first last kept t read found consumed p at_end holds = record {

@@ -1,6 +1,6 @@
 -- The lives of a console: what was read, written and kept from an opening of the journal on.
 use Rattle.std.specs.Prelude.{◌≡◌, ◌≢◌, ◌≤◌, ◌⊎◌, ℕ, List, ◌∷◌, ◌++◌, Option, Some, Result, Ok, Err, IsSome}
-use Rattle.std.specs.Io.KnownBytes.{Appends, Consumes, IsAtEnd, Keeps}
+use Rattle.std.specs.Io.KnownBytes.{Appends, Consumes, Keeps}
 use Rattle.disk_model.specs.Faults.{HasGrown}
 use Rattle.disk_model.specs.History.{Change}
 use Rattle.state_codec.specs.SavedState.{SavedState}
@@ -11,6 +11,7 @@ use Rattle.live_stage.specs.declared.error.StartError.TheVariants.{NotEmpty, NoJ
 use Rattle.live_stage.specs.Errors.{IsRefusalOfOpen, IsCause, start_number_of}
 use Rattle.live_stage.specs.Found.{found_state, AllFindNow, KeepsFoundState}
 use Rattle.client_session.specs.Requests.{requests_of}
+use Rattle.mpd_daemon.specs.Serving.{IsAllRead}
 use Rattle.mpd_daemon.specs.Console.{given, events_of, events_in, ClosesNone, ClosesAtLast, ClosesNoneBefore}
 use Rattle.mpd_daemon.specs.declared.console.Ending.{Ending}
 use Rattle.mpd_daemon.specs.declared.console.Ending.TheVariants.{Whole, Cut, Faulted}
@@ -45,7 +46,7 @@ AllFind P now = AllFindNow P now.history_a now.history_b
 pub record EndsWithInput (c : ℕ) (kept : SavedState) (read : List ℕ) (history : List Entry) (last : Moment) : Type 0 where
   pub all : events_in history ≡ events_of c (requests_of read)
   pub stays_open : ClosesNone kept history
-  pub at_end : IsAtEnd last.input
+  pub at_end : IsAllRead read last.input
 
 -- The requests of what was read were served up to the first that closed the client.
 pub record EndsByClose (c : ℕ) (kept : SavedState) (read : List ℕ) (history : List Entry) : Type 0 where

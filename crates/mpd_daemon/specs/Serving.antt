@@ -1,5 +1,5 @@
 -- Events of one client served one after the other, from any state on.
-use Rattle.std.specs.Prelude.{◌≡◌, ◌≢◌, ◌⊎◌, ℕ, List, [], ◌∷◌, ◌++◌, Option, Some, Result, MatchResult}
+use Rattle.std.specs.Prelude.{◌≡◌, ◌≢◌, ◌⊎◌, ℕ, ◌-◌, ◌^◌, ◌≤◌, length, List, [], ◌∷◌, ◌++◌, Option, Some, Result, MatchResult}
 use Rattle.std.specs.Io.KnownBytes.{Appends, Consumes, IsAtEnd}
 use Rattle.disk_model.specs.History.{Change}
 use Rattle.daemon_core.specs.declared.event.Event.{Event}
@@ -90,22 +90,26 @@ Stops Honest c events s t a b before after Whole = ServesToClose c events s t be
 Stops Honest c events s t a b before after Cut = ServesFront c events s t before after
 Stops Honest c events s t a b before after Faulted = ServesToFault Honest c events s a b before after
 
+-- The input is at its end; or it was read 2^64 - 1 times and gave a byte each time, which is taken for its end.
+abbrev pub IsAllRead : List ℕ → Option (List ℕ) → Type 0
+IsAllRead read input = IsAtEnd input ⊎ (2 ^ 64 - 1 ≤ length read)
+
 -- What came of the input that was read: at its end all requests were served, else the serving stopped.
 pub record ServesInput (Honest : Type 0) (c : ℕ) (first last : Option (List ℕ)) (s t : State) (a b : List Change) (before after : Option (List ℕ)) (result : Result Unit Ending) : Type 0 where
   pub read : List ℕ
   pub consumed : Consumes first last read
   pub served : MatchResult result
-      (λ _. ServesAll c (asked_by c (requests_of read)) s t before after × IsAtEnd last)
+      (λ _. ServesAll c (asked_by c (requests_of read)) s t before after × IsAllRead read last)
       (λ e. Stops Honest c (asked_by c (requests_of read)) s t a b before after e)
 
 -- how the serving of a client ended that connected and then made the requests of what was read
-abbrev pub StopsReading : Type 0 → ℕ → List Event → Option (List ℕ) → State → State → List Change → List Change → Option (List ℕ) → Option (List ℕ) → Ending → Type 0
-StopsReading Honest c events input s t a b before after Whole = (ServesAll c events s t before after × IsAtEnd input) ⊎ ServesToClose c events s t before after
-StopsReading Honest c events input s t a b before after Cut = ServesFront c events s t before after
-StopsReading Honest c events input s t a b before after Faulted = ServesToFault Honest c events s a b before after
+abbrev pub StopsReading : Type 0 → ℕ → List Event → Type 0 → State → State → List Change → List Change → Option (List ℕ) → Option (List ℕ) → Ending → Type 0
+StopsReading Honest c events AllRead s t a b before after Whole = (ServesAll c events s t before after × AllRead) ⊎ ServesToClose c events s t before after
+StopsReading Honest c events AllRead s t a b before after Cut = ServesFront c events s t before after
+StopsReading Honest c events AllRead s t a b before after Faulted = ServesToFault Honest c events s a b before after
 
 -- What came of a client that was served from its connect on.
 pub record ServesClient (Honest : Type 0) (c : ℕ) (first last : Option (List ℕ)) (s t : State) (a b : List Change) (before after : Option (List ℕ)) (ending : Ending) : Type 0 where
   pub read : List ℕ
   pub consumed : Consumes first last read
-  pub stops : StopsReading Honest c (events_of c (requests_of read)) last s t a b before after ending
+  pub stops : StopsReading Honest c (events_of c (requests_of read)) (IsAllRead read last) s t a b before after ending

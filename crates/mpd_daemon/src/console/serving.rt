@@ -133,7 +133,7 @@ fn serve_piece<D: Disk, W: Write>(
     serve_requests(alloc, live, session, client, requests, writer)
 }
 
-// Serves pieces of the input until it ends.
+// Serves pieces of the input until it ends. The read 2^64 - 1 is taken for its end.
 fn serve_input<D: Disk, R: Read, W: Write>(
     alloc: Global,
     live: &mut Live<D>,
@@ -159,15 +159,17 @@ fn serve_input<D: Disk, R: Read, W: Write>(
         Ok(buffer) => buffer,
         Err(_) => return Err(Ending::Cut),
     };
-    for _ in 0..u64::MAX {
+    let mut reads = 0u64;
+    while reads < u64::MAX {
         let count = match reader.read(&mut buffer) {
             Ok(0) => return Ok(()),
             Ok(count) => count,
             Err(_) => return Err(Ending::Cut),
         };
         serve_piece(alloc, live, session, client, &buffer[..count], writer)?;
+        reads += 1;
     }
-    Err(Ending::Cut)
+    Ok(())
 }
 
 // Serves a client from its connect to the end of its input, or until it is closed.
