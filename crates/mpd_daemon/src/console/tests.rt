@@ -160,8 +160,11 @@ fn streams_that_fail(rt: HostRuntime) -> Result<(), Fail> {
         (64, 4, 0, 117, Ending::Cut),
         (64, 0, 1, 0, Ending::Cut),
         (64, 0, 2, 14, Ending::Cut),
+        (64, 0, 3, 17, Ending::Cut),
+        (64, 0, 4, 20, Ending::Cut),
         (3, 0, 7, 17, Ending::Cut),
         (64, 0, 5, 84, Ending::Cut),
+        (64, 0, 6, 117, Ending::Whole),
         (0, 0, 0, 0, Ending::Cut),
     ] {
         let (a, b) = fresh_disks(alloc)?;
