@@ -34,9 +34,9 @@ pub enum CommandRefusal {
     WrongCount,
     /// The argument in this place, counted from 1, doesn't have the form that it must have.
     BadArgument(u32),
-    /// Memory was refused while the command was performed.
     /// The changes of the request would take more bytes than a record of the journal holds.
     RequestTooLarge,
+    /// Memory was refused while the command was performed.
     OutOfMemory,
 }
 

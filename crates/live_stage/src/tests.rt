@@ -3,6 +3,8 @@ use command_text::{Line, Lines, Request};
 use daemon_core::Event;
 use disk_model::{Disk, Fuse, FuseDisk, MemDisk};
 use std::alloc::{AllocError, Global};
+use std::fmt::Debug;
+use std::process::Abort;
 use std::test::Fail;
 
 mod faults;
@@ -38,6 +40,16 @@ const FRESH_FILE: [u8; 102] = [
 /// The record of `setvol 40` in its place, and a closed gate behind it.
 const QUIET_RECORD: [u8; 8] = [0xa5, 2, 0, 0, 0, 2, 0x28, 0];
 
+/// These are equal. The prover takes an assertion of two values apart for seconds, here once for all.
+fn equal<T: Copy + PartialEq + Debug>(rt: &impl Abort, left: T, right: T) {
+    assert_eq!(rt; left, right);
+}
+
+/// The same of bytes.
+fn same_bytes(rt: &impl Abort, left: &[u8], right: &[u8]) {
+    assert_eq!(rt; left, right);
+}
+
 fn disk(alloc: Global, bytes: &[u8]) -> Result<MemDisk, AllocError> {
     MemDisk::from_bytes(alloc, bytes.to_vec(alloc)?)
 }
@@ -47,9 +59,23 @@ fn file_with(alloc: Global, rest: &[u8]) -> Result<Vec<u8>, AllocError> {
     [&FRESH_FILE[..101], rest].concat(alloc)
 }
 
+/// This is a fresh file.
+fn is_fresh_file(rt: &impl Abort, bytes: &[u8]) {
+    same_bytes(rt, bytes, &FRESH_FILE);
+}
+
 /// One line of client 1.
 fn line(alloc: Global, text: &[u8]) -> Result<Event, AllocError> {
     Ok(Event::Request(1, Request::Single(Line::from_bytes(alloc, text)?)))
+}
+
+/// Lines of client 1, each an event of its own.
+fn lines_of(alloc: Global, texts: &[&[u8]]) -> Result<Vec<Event>, AllocError> {
+    let mut events = Vec::new(alloc);
+    for text in texts {
+        events.push(line(alloc, text)?)?;
+    }
+    Ok(events)
 }
 
 /// A list of two lines of client 1.
@@ -58,6 +84,63 @@ fn list(alloc: Global, first: &[u8], second: &[u8]) -> Result<Event, AllocError>
     lines.push(Line::from_bytes(alloc, first)?)?;
     lines.push(Line::from_bytes(alloc, second)?)?;
     Ok(Event::Request(1, Request::List(lines)))
+}
+
+// The next functions have no contract: the prover then reads the long ones of the stage here alone, and in no test.
+
+fn create<D: Disk + Drop>(alloc: Global, a: D, b: D) -> Result<Live<D>, Refused<D>> {
+    Live::create(alloc, a, b, [0; 32])
+}
+
+fn open<D: Disk + Drop>(alloc: Global, a: D, b: D) -> Result<Live<D>, Refused<D>> {
+    Live::open(alloc, a, b)
+}
+
+fn turned<D: Disk + Drop>(live: &mut Live<D>, alloc: Global, event: Event) -> TurnResult<D> {
+    live.turn(alloc, event)
+}
+
+fn ran<D: Disk + Drop>(
+    live: &mut Live<D>,
+    alloc: Global,
+    events: Vec<Event>,
+) -> Result<Vec<TurnResult<D>>, LiveError> {
+    live.run(alloc, events)
+}
+
+/// A stage over these files, as a restart opens it.
+fn reopened(alloc: Global, a: MemDisk, b: MemDisk) -> Result<Live<MemDisk>, Fail> {
+    Ok(open(alloc, a, b)?)
+}
+
+/// Client 1 comes.
+fn connect<D: Disk + Drop>(live: &mut Live<D>, alloc: Global) -> Result<(), Fail> {
+    turned(live, alloc, Event::Connect(1))?;
+    Ok(())
+}
+
+/// A stage over these files, as a restart opens it, to which client 1 is connected.
+fn reconnected(alloc: Global, a: MemDisk, b: MemDisk) -> Result<Live<MemDisk>, Fail> {
+    let mut live = reopened(alloc, a, b)?;
+    connect(&mut live, alloc)?;
+    Ok(live)
+}
+
+/// The disk of file a, once all is well with what was done before. (A stage is let go here, and not on each way out of a test.)
+fn first_disk<D: Disk + Drop>(live: Live<D>, done: Result<(), Fail>) -> Result<D, Fail> {
+    let (a, _b) = live.into_disks();
+    done?;
+    Ok(a)
+}
+
+/// Whether a disk failed.
+fn is_broken<D: Disk>(live: &Live<D>) -> bool {
+    live.is_broken()
+}
+
+/// The numbers of the last event and of the last record.
+fn last_numbers<D: Disk>(live: &Live<D>) -> (u64, u64) {
+    (live.last_event(), live.last_record())
 }
 
 /// The bytes of all outputs, one after the other.
@@ -69,10 +152,41 @@ fn said<D>(alloc: Global, turn: &Turn<D>) -> Result<Vec<u8>, AllocError> {
     Ok(bytes)
 }
 
-/// The answer to one line of client 1.
-fn ask<D: Disk + Drop>(live: &mut Live<D>, alloc: Global, text: &[u8]) -> Result<Vec<u8>, Fail> {
-    let turn = live.turn(alloc, line(alloc, text)?)?;
-    Ok(said(alloc, &turn)?)
+/// The answer to one event, and the number of its record.
+fn heard<D: Disk + Drop>(
+    live: &mut Live<D>,
+    alloc: Global,
+    event: Event,
+) -> Result<(Vec<u8>, Option<u64>), Fail> {
+    let turn = turned(live, alloc, event)?;
+    Ok((said(alloc, &turn)?, turn.receipt().number))
+}
+
+/// One event is answered so, and its record has this number.
+fn hears<D: Disk + Drop>(
+    rt: &impl Abort,
+    live: &mut Live<D>,
+    alloc: Global,
+    event: Event,
+    expected: (&[u8], Option<u64>),
+) -> Result<(), Fail> {
+    let (bytes, number) = heard(live, alloc, event)?;
+    same_bytes(rt, bytes.as_slice(), expected.0);
+    equal(rt, number, expected.1);
+    Ok(())
+}
+
+/// One line of client 1 is answered so.
+fn answers<D: Disk + Drop>(
+    rt: &impl Abort,
+    live: &mut Live<D>,
+    alloc: Global,
+    text: &[u8],
+    expected: &[u8],
+) -> Result<(), Fail> {
+    let (bytes, _number) = heard(live, alloc, line(alloc, text)?)?;
+    same_bytes(rt, bytes.as_slice(), expected);
+    Ok(())
 }
 
 /// Why an event was refused, if it was.
@@ -83,11 +197,24 @@ fn refusal<D: Drop>(answer: TurnResult<D>) -> Option<LiveError> {
     }
 }
 
+/// One line of client 1 is refused so.
+fn refuses<D: Disk + Drop>(
+    rt: &impl Abort,
+    live: &mut Live<D>,
+    alloc: Global,
+    text: &[u8],
+    expected: LiveError,
+) -> Result<(), Fail> {
+    let answer = turned(live, alloc, line(alloc, text)?);
+    equal(rt, refusal(answer), Some(expected));
+    Ok(())
+}
+
 /// A stage over two fresh files, to which client 1 is connected.
 fn fresh(alloc: Global) -> Result<Live<MemDisk>, Fail> {
     let (a, b) = (MemDisk::new(alloc), MemDisk::new(alloc));
-    let mut live = Live::create(alloc, a, b, [0; 32])?;
-    live.turn(alloc, Event::Connect(1))?;
+    let mut live = create(alloc, a, b)?;
+    connect(&mut live, alloc)?;
     Ok(live)
 }
 
@@ -95,15 +222,28 @@ fn fresh(alloc: Global) -> Result<Live<MemDisk>, Fail> {
 fn fused(alloc: Global, fuse: Fuse) -> Result<Live<FuseDisk<MemDisk>>, Fail> {
     let a = FuseDisk::new(MemDisk::new(alloc), fuse);
     let b = FuseDisk::new(MemDisk::new(alloc), NEVER);
-    let mut live = Live::create(alloc, a, b, [0; 32])?;
-    live.turn(alloc, Event::Connect(1))?;
+    let mut live = create(alloc, a, b)?;
+    connect(&mut live, alloc)?;
     Ok(live)
 }
 
 /// What a restart over these files shows: the number of the last record, and the answer to `status`.
 fn restart(alloc: Global, a: &[u8], b: &[u8]) -> Result<(u64, Vec<u8>), Fail> {
-    let mut live = Live::open(alloc, disk(alloc, a)?, disk(alloc, b)?)?;
-    live.turn(alloc, Event::Connect(1))?;
-    let status = ask(&mut live, alloc, b"status")?;
+    let mut live = reconnected(alloc, disk(alloc, a)?, disk(alloc, b)?)?;
+    let (status, _number) = heard(&mut live, alloc, line(alloc, b"status")?)?;
     Ok((live.last_record(), status))
+}
+
+/// A restart over these files shows this.
+fn restart_shows(
+    rt: &impl Abort,
+    alloc: Global,
+    a: &[u8],
+    b: &[u8],
+    expected: (u64, &[u8]),
+) -> Result<(), Fail> {
+    let (last_record, status) = restart(alloc, a, b)?;
+    equal(rt, last_record, expected.0);
+    same_bytes(rt, status.as_slice(), expected.1);
+    Ok(())
 }

@@ -8,3 +8,6 @@ pub mod Prioritized
 pub mod Ruling
 pub mod Sound
 pub mod Where
+pub mod WordOrder
+pub mod Shuffled
+pub mod Moved

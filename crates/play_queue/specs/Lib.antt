@@ -4,3 +4,4 @@ pub mod Queue
 pub mod Refusal
 pub mod Refused
 pub mod Restamp
+pub mod Shuffle

@@ -10,6 +10,7 @@ mod priority;
 pub mod queue;
 pub mod refusal;
 mod rows;
+mod shuffling;
 mod stamping;
 
 pub use entry::Entry;

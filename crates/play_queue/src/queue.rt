@@ -1,11 +1,12 @@
-ghost use Rattle.std.specs.Prelude.{◌≡◌, ◌↔◌, ◌+◌, ◌<◌, ◌≤◌, ◌==◌, nat_lt, [], length, swap, map, filter, position, unwrap_or, IsTrue, OnOk, OnErr, IfOk, IfSome, IsSome, slice_get};
-ghost use Rattle.std.specs.Option.{SomeIff, option_copied};
-ghost use Rattle.std.specs.List.{enumerate_from};
+ghost use Rattle.std.specs.Prelude.{◌≡◌, ◌↔◌, ◌+◌, ◌-◌, ◌<◌, ◌≤◌, ◌==◌, [], length, swap, position, unwrap_or, OnOk, OnErr, IfOk, IfSome, IsSome};
+ghost use Rattle.std.specs.Option.{SomeIff};
+ghost use Rattle.std.specs.List.Sorted.{IsPermutation};
 ghost use Rattle.play_queue.specs.Entries.{deleted, moved, added, new_entries, kept, prioritized};
-ghost use Rattle.play_queue.specs.Queue.{IsQueue, ruled, changed_since};
+ghost use Rattle.play_queue.specs.Queue.{IsQueue, ids_of, ruled};
 ghost use Rattle.play_queue.specs.Refusal.{Answers, AnswersIfMemory};
 ghost use Rattle.play_queue.specs.Refused.{range_refusal, move_refusal, swap_refusal, add_refusal, id_refusal, ranges_refusal};
 ghost use Rattle.play_queue.specs.Restamp.{exchanged};
+ghost use Rattle.play_queue.specs.Shuffle.{shuffled};
 
 use crate::editing::{delete, exchange, insert_all};
 use crate::entry::Entry;
@@ -14,10 +15,14 @@ use crate::parts::{have_own_ids, is_bounded};
 use crate::priority::{has_bad, has_other, prioritize};
 use crate::refusal::QueueError;
 use crate::rows::{before_first, has_any, keep_others, restamp_batch};
+use crate::shuffling::shuffle;
 use crate::stamping::{restamp, restamp_pair};
 use song_db::Uri;
 use std::alloc::{AllocError, Global};
 use std::marker::Model;
+
+mod finding;
+mod reading;
 
 /// The queue: entries in order, each with an id of its own, and a version that grows with each change.
 ///
@@ -75,48 +80,6 @@ impl Queue {
             version,
             next_id,
         }))
-    }
-
-    /// How many entries there are.
-    pub fn len(&self) -> usize
-        ensures { result ≡ length self.now.entries }
-    {
-        self.entries.len()
-    }
-
-    pub fn is_empty(&self) -> bool
-        ensures { IsTrue result ↔ (self.now.entries ≡ []) }
-    {
-        self.entries.is_empty()
-    }
-
-    /// The entry at a position from 0 on, if there is one.
-    pub fn get(&self, at: usize) -> Option<&Entry>
-        ensures { option_copied result ≡ slice_get self.now.entries at }
-    {
-        self.entries.get(at)
-    }
-
-    /// The entries in order.
-    pub fn entries(&self) -> &[Entry]
-        ensures entries { result.now ≡ self.now.entries }
-        ensures kept { IsQueue self.now }
-    {
-        self.entries.as_slice()
-    }
-
-    /// From 1 to 2147483647; it grows by one with each change.
-    pub fn version(&self) -> u32
-        ensures { result ≡ self.now.version }
-    {
-        self.version
-    }
-
-    /// The id that the next entry gets, or 2147483648 where the ids are spent.
-    pub fn next_id(&self) -> u32
-        ensures { result ≡ self.now.next_id }
-    {
-        self.next_id
     }
 
     /// The entries from `start` up to, but not including, `end` are taken out. Refused by `BadIndex` where the range ends before it begins or past the end of the queue.
@@ -188,6 +151,29 @@ impl Queue {
         Ok(())
     }
 
+    /// The entries from `start` up to, but not including, `end` are sorted by words, one drawn for each of them in their order; of two entries with the same word the one with the smaller id goes first.
+    ///
+    /// Refused by `BadIndex` where the range ends before it begins or past the end of the queue, and by `NoMemory`: it takes memory for the range, which it gives back.
+    pub fn shuffle(
+        &mut self,
+        alloc: Global,
+        start: usize,
+        end: usize,
+        words: &[u32],
+    ) -> Result<(), QueueError>
+        requires { start ≤ end → end ≤ length self.old.entries → length words.now ≡ end - start }
+        ensures ok { OnOk result (self.new ≡ ruled self.old (shuffled self.old.entries start end words.now) []) }
+        ensures none_lost { IsPermutation (ids_of self.old.entries) (ids_of self.new.entries) }
+        ensures err { OnErr result (self.new ≡ self.old) }
+        ensures answer { AnswersIfMemory (range_refusal self.old.entries start end) result }
+    {
+        if end < start || self.len() < end {
+            return Err(QueueError::BadIndex);
+        }
+        self.version = shuffle(alloc, &mut self.entries, start, end, words, self.version)?;
+        Ok(())
+    }
+
     /// All entries are taken out.
     pub fn clear(&mut self)
         ensures { self.new ≡ ruled self.old [] [] }
@@ -245,14 +231,6 @@ impl Queue {
         Ok(())
     }
 
-    /// The position of the entry with an id, if there is one.
-    pub fn pos_of(&self, id: u32) -> Option<usize>
-        ensures found { result ≡ position (λ entry. entry.id == id) self.now.entries }
-        ensures within { IfSome result (λ at. (at < length self.now.entries) × (at < MAX_ENTRIES)) }
-    {
-        self.entries.iter().position(|entry| entry.id == id)
-    }
-
     /// The entry with an id is taken out. Refused by `NoSuchSong` where no entry has it.
     pub fn delete_id(&mut self, id: u32) -> Result<(), QueueError>
         ensures ok { OnOk result (let at = unwrap_or (position (λ entry. entry.id == id) self.old.entries) 0 in self.new ≡ ruled self.old (deleted self.old.entries at (at + 1)) []) }
@@ -274,19 +252,6 @@ impl Queue {
             keep_others(&mut self.entries, dropped);
             self.version = restamp_batch(&mut self.entries, first, changed, self.version);
         }
-    }
-
-    /// The positions of the entries that a later version than this one stamped, rising; all where the queue has not come to this version.
-    pub fn changes_since(&self, alloc: Global, version: u32) -> Result<Vec<usize>, AllocError>
-        ensures { IfOk result (λ positions. positions.items ≡ changed_since self.now version) }
-    {
-        let all = self.version < version;
-        self.entries
-            .iter()
-            .enumerate()
-            .filter(|at| all || version < at.1.stamp)
-            .map(|at| at.0)
-            .collect(alloc)
     }
 }
 

@@ -1,7 +1,8 @@
-ghost use Rattle.std.specs.Prelude.{◌≡◌, ◌+◌, ◌≤◌, ◌<◌, ◌==◌, ◌||◌, ◌++◌, length, map, take, drop, slice_range, if◌then◌else◌};
-ghost use Rattle.play_queue.specs.Entries.{Uris, is_among};
-ghost use Rattle.play_queue.specs.Queue.{with_stamp};
-ghost use Rattle.play_queue.specs.Restamp.{restamped, restamped_pair, stamped_where, next_version, marked};
+ghost use Rattle.std.specs.Prelude.{◌≡◌, ◌≢◌, ℕ, ◌+◌, ◌-◌, ◌≤◌, ◌<◌, ◌==◌, ◌||◌, ◌++◌, length, map, take, drop, slice_range, slice_index};
+ghost use Rattle.std.specs.Bool.{OnTrue, OnFalse};
+ghost use Rattle.play_queue.specs.Queue.{ids_of, with_stamp};
+ghost use Rattle.play_queue.specs.Restamp.{restamped, restamped_pair, stamped_where, next_version};
+ghost use Rattle.play_queue.specs.Shuffle.{stamped_if_moved, stamped_moved, restamped_moved};
 
 use crate::entry::Entry;
 use crate::limits::MAX_VERSION;
@@ -63,4 +64,77 @@ fn stamp_pair(entries: &mut [Entry], one: usize, other: usize, stamp: u32)
 {
     entries[one].stamp = stamp;
     entries[other].stamp = stamp;
+}
+
+// Whether some entry of a range has another id than the one that stood at its position.
+pub(crate) fn has_moved_between(entries: &[Entry], start: usize, end: usize, ids: &[u32]) -> bool
+    requires forward { start ≤ end }
+    requires in_range { end ≤ length entries.now }
+    requires ids { length ids.now ≡ end - start }
+    ensures yes { OnTrue result ((k : ℕ) × (k < end - start) × (slice_index (ids_of (slice_range entries.now start end)) k ≢ slice_index ids.now k)) }
+    ensures no { OnFalse result (ids_of (slice_range entries.now start end) ≡ ids.now) }
+{
+    has_moved(&entries[start..end], ids)
+}
+
+fn has_moved(entries: &[Entry], ids: &[u32]) -> bool
+    requires { length ids.now ≡ length entries.now }
+    ensures yes { OnTrue result ((k : ℕ) × (k < length entries.now) × (slice_index (ids_of entries.now) k ≢ slice_index ids.now k)) }
+    ensures no { OnFalse result (ids_of entries.now ≡ ids.now) }
+{
+    for at in 0..entries.len() {
+        if entries[at].id != ids[at] {
+            return true;
+        }
+    }
+    false
+}
+
+// Gives the entries of a range at whose positions others stood, with these ids, a new stamp, as `restamp` does.
+pub(crate) fn restamp_moved(
+    entries: &mut Vec<Entry>,
+    start: usize,
+    end: usize,
+    ids: &[u32],
+    version: u32,
+) -> u32
+    requires forward { start ≤ end }
+    requires in_range { end ≤ length entries.old.items }
+    requires ids { length ids.now ≡ end - start }
+    requires within { version ≤ MAX_VERSION }
+    ensures version { result ≡ next_version version }
+    ensures entries { entries.new.items ≡ restamped_moved version start end ids.now entries.old.items }
+{
+    if version == MAX_VERSION {
+        stamp_all(entries, 1);
+        return 1;
+    }
+    stamp_moved_in(entries, start, end, ids, version + 1);
+    version + 1
+}
+
+fn stamp_moved_in(entries: &mut [Entry], start: usize, end: usize, ids: &[u32], stamp: u32)
+    requires forward { start ≤ end }
+    requires in_range { end ≤ length entries.old }
+    requires ids { length ids.now ≡ end - start }
+    ensures { entries.new ≡ take start entries.old ++ (stamped_moved ids.now stamp (slice_range entries.old start end) ++ drop end entries.old) }
+{
+    stamp_moved(&mut entries[start..end], ids, stamp);
+}
+
+fn stamp_moved(entries: &mut [Entry], ids: &[u32], stamp: u32)
+    requires { length ids.now ≡ length entries.old }
+    ensures { entries.new ≡ stamped_moved ids.now stamp entries.old }
+{
+    for at in 0..entries.len() {
+        stamp_if_moved(&mut entries[at], ids[at], stamp);
+    }
+}
+
+fn stamp_if_moved(entry: &mut Entry, id: u32, stamp: u32)
+    ensures { entry.new ≡ stamped_if_moved id stamp entry.old }
+{
+    if entry.id != id {
+        entry.stamp = stamp;
+    }
 }

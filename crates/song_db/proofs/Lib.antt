@@ -1,10 +1,13 @@
 mod Batches
+mod BatchSteps
 mod Below
 mod BelowOrder
 mod Folders
 mod Known
 mod Merging
 mod Ordered
+mod Picked
+mod Prefixes
 mod Replaced
 mod Rising
 mod Slashes

@@ -1,8 +1,12 @@
+pub mod Batch
 pub mod Change
+pub mod Droppable
+pub mod Found
 pub mod Order
 pub mod Place
 pub mod Query
 pub mod Refusal
 pub mod Replaced
 pub mod Row
+pub mod Scan
 pub mod Uri

@@ -33,7 +33,7 @@ fn folder_point(rows: &[SongRow], folder: &str, next: u8) -> usize
 }
 
 // Whether a path stands before the folder followed by a byte.
-fn is_before(path: &[u8], folder: &[u8], next: u8) -> bool
+pub(crate) fn is_before(path: &[u8], folder: &[u8], next: u8) -> bool
     ensures { result ≡ is_lt (slice_cmp nat_cmp path.now (folder.now ++ next ∷ [])) }
 {
     if path.len() <= folder.len() {

@@ -9,3 +9,9 @@ pub const MAX_RATE: u32 = 192_000;
 
 /// How many rows the database may have.
 pub const MAX_ROWS: usize = 65_536;
+
+/// How many changes an answer of a scan may have.
+pub const MAX_CHANGES: usize = 64;
+
+/// How many folders a scanned song may stand in, counted from the root of the music.
+pub const MAX_FOLDERS: usize = 32;

@@ -56,6 +56,15 @@ impl ScanOrder {
     {
         self.known.as_slice()
     }
+
+    pub(crate) fn into_parts(self) -> (u32, Option<Uri>, Vec<Uri>)
+        ensures job { result.0 ≡ self.job }
+        ensures uri { result.1 ≡ self.uri }
+        ensures known { result.2.items ≡ self.known }
+        ensures rising { AreKnown result.2.items }
+    {
+        (self.job, self.uri, self.known)
+    }
 }
 
 // Whether each URI stands before the next.

@@ -1,4 +1,4 @@
-ghost use Rattle.std.specs.Prelude.{◌≡◌, IfOk, IsTrue, Some, None, if◌then◌else◌};
+ghost use Rattle.std.specs.Prelude.{◌≡◌, IfOk, IsTrue, Some, None, if◌then◌else◌, string_bytes};
 ghost use Rattle.std.specs.List.{list_all};
 ghost use Rattle.std.specs.Ordering.{nat_cmp};
 ghost use Rattle.std.specs.Cmp.Lexicographic.{slice_cmp};
@@ -41,6 +41,16 @@ impl Uri {
         }
         let text = String::from_str(alloc, text)?;
         Ok(Some(Uri { text }))
+    }
+
+    // The URI of a text, in the text's own memory.
+    pub(crate) fn from_string(text: String) -> Option<Uri>
+        ensures { result ≡ (if is_uri (string_bytes text) then Some (string_bytes text) else None) }
+    {
+        if !is_uri(text.as_str()) {
+            return None;
+        }
+        Some(Uri { text })
     }
 
     pub fn as_str(&self) -> &str

@@ -1,12 +1,17 @@
-//! Measures how fast heads and frames of WAVE files are read, beside plain reads of the same files.
+//! Measures how fast heads and frames of WAVE files are read and folders of them scanned, beside plain reads of the same files, and how fast batches of song rows are applied.
 #![tactic(auto)]
 
+mod file_folder;
 mod file_source;
 mod frames;
 mod heads;
 mod pace;
+mod rows;
 mod samples;
+mod scans;
 
+use pace::{Pace, per_second};
+use rows::Times;
 use std::{env, io};
 
 /// The folder of the files, if it is the one argument.
@@ -22,20 +27,41 @@ fn folder(rt: &HostRuntime) -> io::Result<Option<String>> {
 
 /// Makes the files where they are missing, and prints what was measured.
 fn run(rt: &HostRuntime, folder: &str) -> io::Result<()> {
-    let small = samples::small_paths(rt.alloc(), folder)?;
+    let songs = samples::small_folder(rt.alloc(), folder)?;
+    let small = samples::small_paths(rt.alloc(), songs.as_str())?;
     let large = samples::large_path(rt.alloc(), folder)?;
-    samples::make(rt, folder, &small, large.as_str())?;
-    let pace = heads::measure(rt, &small)?;
-    println!(rt; "heads: {} files a second", pace.own())?;
+    samples::make(rt, songs.as_str(), &small, large.as_str())?;
+    print_files(rt, "heads", heads::measure(rt, &small)?)?;
+    print_files(rt, "scan", scans::measure(rt, songs.as_str(), &small)?)?;
+    print_frames(rt, frames::measure(rt, large.as_str())?)?;
+    print_rows(rt, rows::measure(rt)?)
+}
+
+fn print_files(rt: &HostRuntime, work: &str, pace: Pace) -> io::Result<()> {
+    println!(rt; "{work}: {} files a second", pace.own())?;
     println!(rt;
         "opens and reads of 64 bytes: {} files a second",
         pace.plain()
     )?;
-    println!(rt; "ratio: {}", pace.ratio())?;
-    let pace = frames::measure(rt, large.as_str())?;
+    println!(rt; "ratio: {}", pace.ratio())
+}
+
+fn print_frames(rt: &HostRuntime, pace: Pace) -> io::Result<()> {
     println!(rt; "frames at volume 70: {} bytes a second", pace.own())?;
     println!(rt; "plain reads: {} bytes a second", pace.plain())?;
     println!(rt; "ratio: {}", pace.ratio())
+}
+
+fn print_rows(rt: &HostRuntime, times: Times) -> io::Result<()> {
+    println!(rt;
+        "rows in batches of 64, up to {}: {} a second",
+        times.rows,
+        per_second(times.rows, times.nanos)
+    )?;
+    println!(rt;
+        "one batch into the full database: {} microseconds",
+        times.last_nanos / 1_000
+    )
 }
 
 fn main(rt: HostRuntime) -> io::Result<()> {

@@ -68,7 +68,7 @@ impl Pace {
     }
 }
 
-fn per_second(units: u64, nanos: u64) -> u128
+pub fn per_second(units: u64, nanos: u64) -> u128
     ensures { result ≡ per_second units nanos }
 {
     u128::from(units) * 1_000_000_000 / u128::from(nanos.max(1))

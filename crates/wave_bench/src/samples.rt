@@ -4,7 +4,7 @@ use std::fs::{self, File};
 use std::io::{self, Write};
 
 /// How many small files there are.
-const SMALL_FILES: u32 = 1_000;
+pub const SMALL_FILES: u32 = 1_000;
 
 /// A small file: two frames, two tags, and a chunk that is passed over.
 const SMALL: [u8; 94] =
@@ -23,11 +23,16 @@ pub const PIECES: u64 = 4_096;
 /// The last sample of each piece at volume 70: 17,475 * 70 / 100, rounded toward zero.
 pub const LAST_SAMPLE: i16 = 12_232;
 
-/// The paths of the small files.
+/// The folder of the small files, below the one of the argument.
+pub fn small_folder(alloc: Global, folder: &str) -> Result<String, AllocError> {
+    format!(in alloc; "{folder}/small")
+}
+
+/// The paths of the small files, in their folder.
 pub fn small_paths(alloc: Global, folder: &str) -> Result<Vec<String>, AllocError> {
     let mut paths = Vec::new(alloc);
     for k in 0..SMALL_FILES {
-        paths.push(format!(in alloc; "{folder}/small_{k:04}.wav")?)?;
+        paths.push(format!(in alloc; "{folder}/{k:04}.wav")?)?;
     }
     Ok(paths)
 }
@@ -37,7 +42,7 @@ pub fn large_path(alloc: Global, folder: &str) -> Result<String, AllocError> {
     format!(in alloc; "{folder}/large.wav")
 }
 
-/// Makes the folder and the files that are missing or have another length.
+/// Makes the folder of the small files, and the files that are missing or have another length.
 pub fn make(rt: &HostRuntime, folder: &str, small: &[String], large: &str) -> io::Result<()> {
     fs::create_dir_all(rt, folder)?;
     for path in small.iter() {

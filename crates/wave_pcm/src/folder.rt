@@ -58,7 +58,7 @@ pub trait Folder {
     /// The files that there are.
     ghost files: { Self → List File };
 
-    /// The folder tells its files and keeps them. It may fail all the same.
+    /// The folder tells its files and keeps them, and an opened file tells its bytes. It may fail all the same.
     ghost honest: { Self → Type 0 };
 
     /// What stands directly in a folder, in no particular order; `None` where there is no such folder.
@@ -68,7 +68,7 @@ pub trait Folder {
 
     /// Opens a file; `None` where there is no such file.
     fn open(&mut self, alloc: Global, path: &str) -> Result<Option<Self::File>, FolderFault>
-        ensures opened { honest self.old → IfOk result (λ file. MatchOption file (bytes_at (files self.old) path.now ≡ None) (λ source. bytes_at (files self.old) path.now ≡ Some (Self.File.bytes source))) }
+        ensures opened { honest self.old → IfOk result (λ file. MatchOption file (bytes_at (files self.old) path.now ≡ None) (λ source. (bytes_at (files self.old) path.now ≡ Some (Self.File.bytes source)) × Self.File.honest source)) }
         ensures honest { honest self.old → honest self.new }
         ensures files { honest self.old → files self.new ≡ files self.old };
 }

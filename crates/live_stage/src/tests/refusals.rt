@@ -1,6 +1,13 @@
 // What a stage refuses, and what that leaves.
 use super::*;
-use std::process::Abort;
+use std::fmt::Display;
+
+/// A start over these files was refused so, and leaves them as they are.
+fn refused_is(rt: &impl Abort, refused: Refused<MemDisk>, expected: (StartError, &[u8], &[u8])) {
+    let Refused { error, a, b } = refused;
+    let left = (error, a.as_bytes(), b.as_bytes());
+    equal(rt, left, expected);
+}
 
 /// Opening these files is refused so, and leaves them as they are.
 fn open_refuses(
@@ -10,26 +17,20 @@ fn open_refuses(
     b: &[u8],
     expected: StartError,
 ) -> Result<(), Fail> {
-    match Live::open(alloc, disk(alloc, a)?, disk(alloc, b)?) {
+    let (disk_a, disk_b) = (disk(alloc, a)?, disk(alloc, b)?);
+    match open(alloc, disk_a, disk_b) {
         Ok(_live) => assert!(rt; false, "opened"),
-        Err(refused) => {
-            assert_eq!(rt; refused.error, expected);
-            assert_eq!(rt; refused.a.as_bytes(), a);
-            assert_eq!(rt; refused.b.as_bytes(), b);
-        }
+        Err(refused) => refused_is(rt, refused, (expected, a, b)),
     }
     Ok(())
 }
 
 /// Making a stage over these files is refused, and leaves them as they are.
 fn create_refuses(rt: &impl Abort, alloc: Global, a: &[u8], b: &[u8]) -> Result<(), Fail> {
-    match Live::create(alloc, disk(alloc, a)?, disk(alloc, b)?, [0; 32]) {
+    let (disk_a, disk_b) = (disk(alloc, a)?, disk(alloc, b)?);
+    match create(alloc, disk_a, disk_b) {
         Ok(_live) => assert!(rt; false, "made"),
-        Err(refused) => {
-            assert_eq!(rt; refused.error, StartError::NotEmpty);
-            assert_eq!(rt; refused.a.as_bytes(), a);
-            assert_eq!(rt; refused.b.as_bytes(), b);
-        }
+        Err(refused) => refused_is(rt, refused, (StartError::NotEmpty, a, b)),
     }
     Ok(())
 }
@@ -52,48 +53,93 @@ fn files_that_are_no_journal(rt: HostRuntime) -> Result<(), Fail> {
     Ok(())
 }
 
+/// A fresh file with one byte changed.
+fn changed_byte(place: usize, byte: u8) -> [u8; 102] {
+    let mut file = FRESH_FILE;
+    if let Some(at) = file.get_mut(place) {
+        *at = byte;
+    }
+    file
+}
+
+/// Opening a fresh file with these records in place of its last byte is refused, damaged at this byte.
+fn records_are_damaged(
+    rt: &impl Abort,
+    alloc: Global,
+    records: &[u8],
+    byte: u64,
+) -> Result<(), Fail> {
+    let file = file_with(alloc, records)?;
+    open_refuses(rt, alloc, &file, b"", StartError::Damaged(byte))
+}
+
 // Bytes that are no journal's, a snapshot that spells no state, and records that spell no ops: the field, the snapshot and the
 // gate are named by their offsets, and the first that is wrong is.
 #[test]
 fn damaged_files(rt: HostRuntime) -> Result<(), Fail> {
     let alloc = rt.alloc();
-    let mut file = FRESH_FILE;
-    file[1] = b'm';
+    let file = changed_byte(1, b'm');
     open_refuses(&rt, alloc, &file, b"", StartError::Damaged(1))?;
     open_refuses(&rt, alloc, b"", &FRESH_FILE[..50], StartError::Damaged(28))?;
-    let mut file = FRESH_FILE;
-    file[80] = 101;
+    let file = changed_byte(80, 101);
     open_refuses(&rt, alloc, &file, b"", StartError::Damaged(32))?;
     open_refuses(&rt, alloc, b"", &file, StartError::Damaged(32))?;
-    let file = file_with(alloc, &[0xa5, 2, 0, 0, 0, 2, 101, 0])?;
-    open_refuses(&rt, alloc, &file, b"", StartError::Damaged(101))?;
-    let file = file_with(alloc, &[0xa5, 2, 0, 0, 0, 2, 40, 0xa5, 1, 0, 0, 0, 0, 0])?;
-    open_refuses(&rt, alloc, &file, b"", StartError::Damaged(108))?;
-    let file = file_with(alloc, &[0xa5, 0, 0, 0, 0, 0xa5, 1, 0, 0, 0, 0, 0])?;
-    open_refuses(&rt, alloc, &file, b"", StartError::Damaged(101))?;
+    let records: [(&[u8], u64); 3] = [
+        (&[0xa5, 2, 0, 0, 0, 2, 101, 0], 101),
+        (&[0xa5, 2, 0, 0, 0, 2, 40, 0xa5, 1, 0, 0, 0, 0, 0], 108),
+        (&[0xa5, 0, 0, 0, 0, 0xa5, 1, 0, 0, 0, 0, 0], 101),
+    ];
+    for (records, byte) in records.iter() {
+        records_are_damaged(&rt, alloc, records, *byte)?;
+    }
     Ok(())
+}
+
+/// A stage that gave out the last number refuses each line of client 1, and counts none.
+fn numbers_are_spent(rt: &impl Abort, alloc: Global, live: &mut Live<MemDisk>) -> Result<(), Fail> {
+    equal(rt, live.last_record(), u64::MAX);
+    refuses(rt, live, alloc, b"ping", LiveError::NumbersSpent)?;
+    refuses(rt, live, alloc, b"setvol 41", LiveError::NumbersSpent)?;
+    equal(rt, live.last_event(), 2);
+    assert!(rt; !is_broken(live));
+    Ok(())
+}
+
+/// A fresh file whose base is 2^64 - 2.
+fn file_before_the_last() -> [u8; 102] {
+    let mut file = FRESH_FILE;
+    file[20..28].copy_from_slice(&(u64::MAX - 1).to_le_bytes());
+    file
+}
+
+/// That file with the record of `setvol 40` in place of its last byte.
+fn file_after_the_last(alloc: Global) -> Result<Vec<u8>, AllocError> {
+    let mut file = file_before_the_last().to_vec(alloc)?;
+    let _gate = file.pop();
+    file.extend_from_slice(&QUIET_RECORD)?;
+    Ok(file)
+}
+
+/// The next record of a stage is the last one.
+fn next_is_the_last(rt: &impl Abort, alloc: Global, live: &mut Live<MemDisk>) -> Result<(), Fail> {
+    let event = line(alloc, b"setvol 40")?;
+    hears(rt, live, alloc, event, (b"OK\n", Some(u64::MAX)))?;
+    numbers_are_spent(rt, alloc, live)
+}
+
+/// What is left of such a file after its last record.
+fn last_record(rt: &impl Abort, alloc: Global, file: &[u8]) -> Result<MemDisk, Fail> {
+    let mut live = reconnected(alloc, disk(alloc, file)?, MemDisk::new(alloc))?;
+    let done = next_is_the_last(rt, alloc, &mut live);
+    first_disk(live, done)
 }
 
 // The last record has the number 2^64 - 1.
 #[test]
 fn last_number(rt: HostRuntime) -> Result<(), Fail> {
     let alloc = rt.alloc();
-    let mut file = FRESH_FILE;
-    file[20..28].copy_from_slice(&(u64::MAX - 1).to_le_bytes());
-    let mut live = Live::open(alloc, disk(alloc, &file)?, MemDisk::new(alloc))?;
-    live.turn(alloc, Event::Connect(1))?;
-    let turn = live.turn(alloc, line(alloc, b"setvol 40")?)?;
-    assert_eq!(rt; turn.receipt().number, Some(u64::MAX));
-    assert_eq!(rt; live.last_record(), u64::MAX);
-    let answer = live.turn(alloc, line(alloc, b"ping")?);
-    assert_eq!(rt; refusal(answer), Some(LiveError::NumbersSpent));
-    let answer = live.turn(alloc, line(alloc, b"setvol 41")?);
-    assert_eq!(rt; refusal(answer), Some(LiveError::NumbersSpent));
-    assert_eq!(rt; live.last_event(), 2);
-    assert_eq!(rt; live.is_broken(), false);
-    let (a, _b) = live.into_disks();
-    let expected = [&file[..101], QUIET_RECORD.as_slice()].concat(alloc)?;
-    assert_eq!(rt; a.as_bytes(), expected.as_slice());
+    let a = last_record(&rt, alloc, &file_before_the_last())?;
+    same_bytes(&rt, a.as_bytes(), file_after_the_last(alloc)?.as_slice());
     Ok(())
 }
 
@@ -105,7 +151,7 @@ fn numbers_of_refusals(rt: HostRuntime) {
         (LiveError::NumbersSpent, 49),
     ];
     for (error, number) in turns {
-        assert_eq!(rt; error.number(), number);
+        equal(&rt, error.number(), number);
     }
     let starts = [
         (StartError::NotEmpty, 3),
@@ -115,18 +161,27 @@ fn numbers_of_refusals(rt: HostRuntime) {
         (StartError::Broken, 42),
     ];
     for (error, number) in starts {
-        assert_eq!(rt; error.number(), number);
+        equal(&rt, error.number(), number);
     }
+}
+
+/// An error is printed so.
+fn prints(
+    rt: &impl Abort,
+    alloc: Global,
+    error: impl Display + Drop,
+    expected: &str,
+) -> Result<(), AllocError> {
+    let text = format!(in alloc; "{}", error)?;
+    same_bytes(rt, text.as_bytes(), expected.as_bytes());
+    Ok(())
 }
 
 #[test]
 fn texts_of_refusals(rt: HostRuntime) -> Result<(), Fail> {
     let alloc = rt.alloc();
-    let broken = format!(in alloc; "{}", LiveError::Broken)?;
-    assert_eq!(rt; broken.as_str(), "broken by a disk fault");
-    let spent = format!(in alloc; "{}", LiveError::NumbersSpent)?;
-    assert_eq!(rt; spent.as_str(), "numbers are spent");
-    let damaged = format!(in alloc; "{}", StartError::Damaged(101))?;
-    assert_eq!(rt; damaged.as_str(), "damaged at byte 101");
+    prints(&rt, alloc, LiveError::Broken, "broken by a disk fault")?;
+    prints(&rt, alloc, LiveError::NumbersSpent, "numbers are spent")?;
+    prints(&rt, alloc, StartError::Damaged(101), "damaged at byte 101")?;
     Ok(())
 }

@@ -1,26 +1,40 @@
 // What a stage answers, and what it leaves in its files.
 use super::*;
 
+/// These files have one record, which a restart finds.
+fn has_one_record(rt: &impl Abort, alloc: Global, a: &MemDisk, b: &MemDisk) -> Result<(), Fail> {
+    let file = file_with(alloc, &QUIET_RECORD)?;
+    equal(rt, file.len(), 109);
+    same_bytes(rt, a.as_bytes(), file.as_slice());
+    same_bytes(rt, b.as_bytes(), [].as_slice());
+    restart_shows(rt, alloc, a.as_bytes(), b.as_bytes(), (1, QUIET_STATUS))
+}
+
+/// A first change over fresh files is one record.
+fn first_record(rt: &impl Abort, alloc: Global, a: MemDisk, b: MemDisk) -> Result<(), Fail> {
+    let mut live = reconnected(alloc, a, b)?;
+    answers(rt, &mut live, alloc, b"setvol 40", b"OK\n")?;
+    let (a, b) = live.into_disks();
+    has_one_record(rt, alloc, &a, &b)
+}
+
 #[test]
 fn journal_bytes(rt: HostRuntime) -> Result<(), Fail> {
     let alloc = rt.alloc();
     let (a, b) = fresh(alloc)?.into_disks();
-    assert_eq!(rt; a.as_bytes(), FRESH_FILE.as_slice());
-    assert_eq!(rt; b.as_bytes(), [].as_slice());
-    let mut live = Live::open(alloc, a, b)?;
-    live.turn(alloc, Event::Connect(1))?;
-    assert_eq!(rt;
-        ask(&mut live, alloc, b"setvol 40")?.as_slice(),
-        b"OK\n".as_slice()
-    );
-    let (a, b) = live.into_disks();
-    let file = file_with(alloc, &QUIET_RECORD)?;
-    assert_eq!(rt; file.len(), 109);
-    assert_eq!(rt; a.as_bytes(), file.as_slice());
-    assert_eq!(rt; b.as_bytes(), [].as_slice());
-    let (last_record, status) = restart(alloc, a.as_bytes(), b.as_bytes())?;
-    assert_eq!(rt; last_record, 1);
-    assert_eq!(rt; status.as_slice(), QUIET_STATUS);
+    is_fresh_file(&rt, a.as_bytes());
+    same_bytes(&rt, b.as_bytes(), [].as_slice());
+    first_record(&rt, alloc, a, b)
+}
+
+/// What the second of two runs has over these files.
+fn second_run(rt: &impl Abort, alloc: Global, a: MemDisk, b: MemDisk) -> Result<(), Fail> {
+    let mut second = reopened(alloc, a, b)?;
+    equal(rt, last_numbers(&second), (0, 1));
+    let greeting = b"OK MPD 0.23.0\n";
+    hears(rt, &mut second, alloc, Event::Connect(1), (greeting, None))?;
+    answers(rt, &mut second, alloc, b"status", QUIET_STATUS)?;
+    assert!(rt; !is_broken(&second));
     Ok(())
 }
 
@@ -29,26 +43,19 @@ fn journal_bytes(rt: HostRuntime) -> Result<(), Fail> {
 fn two_runs(rt: HostRuntime) -> Result<(), Fail> {
     let alloc = rt.alloc();
     let mut first = fresh(alloc)?;
-    assert_eq!(rt; ask(&mut first, alloc, b"status")?.as_slice(), FRESH_STATUS);
-    assert_eq!(rt;
-        ask(&mut first, alloc, b"setvol 40")?.as_slice(),
-        b"OK\n".as_slice()
-    );
-    assert_eq!(rt; (first.last_event(), first.last_record()), (3, 1));
+    answers(&rt, &mut first, alloc, b"status", FRESH_STATUS)?;
+    answers(&rt, &mut first, alloc, b"setvol 40", b"OK\n")?;
+    equal(&rt, last_numbers(&first), (3, 1));
     let (a, b) = first.into_disks();
-    let mut second = Live::open(alloc, a, b)?;
-    assert_eq!(rt; (second.last_event(), second.last_record()), (0, 1));
-    let greeting = second.turn(alloc, Event::Connect(1))?;
-    assert_eq!(rt;
-        said(alloc, &greeting)?.as_slice(),
-        b"OK MPD 0.23.0\n".as_slice()
-    );
-    assert_eq!(rt;
-        ask(&mut second, alloc, b"status")?.as_slice(),
-        QUIET_STATUS
-    );
-    assert_eq!(rt; second.is_broken(), false);
-    Ok(())
+    second_run(&rt, alloc, a, b)
+}
+
+/// A stage made no call of a disk since it was made, and has no record.
+fn made_no_call(rt: &impl Abort, live: Live<FuseDisk<MemDisk>>) {
+    equal(rt, live.last_record(), 0);
+    let (a, b) = live.into_disks();
+    equal(rt, (a.calls(), b.calls()), (7, 1));
+    is_fresh_file(rt, a.into_inner().as_bytes());
 }
 
 // A setting that was there already, a refused command and a command that changes nothing make no call of a disk.
@@ -56,22 +63,45 @@ fn two_runs(rt: HostRuntime) -> Result<(), Fail> {
 fn no_call_without_a_change(rt: HostRuntime) -> Result<(), Fail> {
     let alloc = rt.alloc();
     let mut live = fused(alloc, NEVER)?;
-    assert_eq!(rt;
-        ask(&mut live, alloc, b"setvol 100")?.as_slice(),
-        b"OK\n".as_slice()
-    );
-    assert_eq!(rt;
-        ask(&mut live, alloc, b"ping")?.as_slice(),
-        b"OK\n".as_slice()
-    );
-    assert_eq!(rt;
-        ask(&mut live, alloc, b"setvol 101")?.as_slice(),
-        b"ACK [2@0] {setvol} bad argument 1\n".as_slice()
-    );
-    assert_eq!(rt; live.last_record(), 0);
-    let (a, b) = live.into_disks();
-    assert_eq!(rt; (a.calls(), b.calls()), (7, 1));
-    assert_eq!(rt; a.into_inner().as_bytes(), FRESH_FILE.as_slice());
+    let refused = b"ACK [2@0] {setvol} bad argument 1\n";
+    answers(&rt, &mut live, alloc, b"setvol 100", b"OK\n")?;
+    answers(&rt, &mut live, alloc, b"ping", b"OK\n")?;
+    answers(&rt, &mut live, alloc, b"setvol 101", refused)?;
+    made_no_call(&rt, live);
+    Ok(())
+}
+
+/// What a change of the second event is answered.
+fn holds_a_change(rt: &impl Abort, turn: Turn<MemDisk>) {
+    let number = Some(1);
+    equal(rt, turn.event(), 2);
+    equal(rt, turn.receipt(), Receipt { event: 2, number });
+    assert_eq!(rt; turn.closes(), [].as_slice());
+    equal(rt, turn.refused_at(), None);
+    equal(rt, turn.ended(), false);
+    let outputs = turn.into_outputs();
+    assert_eq!(rt; outputs.len(), 1);
+    equal(rt, outputs[0].client, 1);
+    same_bytes(rt, outputs[0].bytes.as_slice(), b"OK\n".as_slice());
+}
+
+/// What `kill` is answered as the third event.
+fn holds_the_end(rt: &impl Abort, turn: &Turn<MemDisk>) {
+    let number = None;
+    assert_eq!(rt; turn.closes(), [1].as_slice());
+    equal(rt, turn.ended(), true);
+    equal(rt, turn.receipt(), Receipt { event: 3, number });
+}
+
+/// The answer to one line of client 1.
+fn turn_of(live: &mut Live<MemDisk>, alloc: Global, text: &[u8]) -> Result<Turn<MemDisk>, Fail> {
+    Ok(turned(live, alloc, line(alloc, text)?)?)
+}
+
+/// Those two answers in turn.
+fn answers_hold(rt: &impl Abort, alloc: Global, live: &mut Live<MemDisk>) -> Result<(), Fail> {
+    holds_a_change(rt, turn_of(live, alloc, b"repeat 1")?);
+    holds_the_end(rt, &turn_of(live, alloc, b"kill")?);
     Ok(())
 }
 
@@ -79,33 +109,7 @@ fn no_call_without_a_change(rt: HostRuntime) -> Result<(), Fail> {
 fn what_an_answer_holds(rt: HostRuntime) -> Result<(), Fail> {
     let alloc = rt.alloc();
     let mut live = fresh(alloc)?;
-    let turn = live.turn(alloc, line(alloc, b"repeat 1")?)?;
-    assert_eq!(rt; turn.event(), 2);
-    assert_eq!(rt;
-        turn.receipt(),
-        Receipt {
-            event: 2,
-            number: Some(1)
-        }
-    );
-    assert_eq!(rt; turn.closes(), [].as_slice());
-    assert_eq!(rt; turn.refused_at(), None);
-    assert_eq!(rt; turn.ended(), false);
-    let outputs = turn.into_outputs();
-    assert_eq!(rt; outputs.len(), 1);
-    assert_eq!(rt; outputs[0].client, 1);
-    assert_eq!(rt; outputs[0].bytes.as_slice(), b"OK\n".as_slice());
-    let turn = live.turn(alloc, line(alloc, b"kill")?)?;
-    assert_eq!(rt; turn.closes(), [1].as_slice());
-    assert_eq!(rt; turn.ended(), true);
-    assert_eq!(rt;
-        turn.receipt(),
-        Receipt {
-            event: 3,
-            number: None
-        }
-    );
-    Ok(())
+    answers_hold(&rt, alloc, &mut live)
 }
 
 /// What a run answered to one of its events: the number of its record, 0 where it has none, and its outputs.
@@ -121,19 +125,24 @@ fn answered(
     }
 }
 
-#[test]
-fn run_of_events(rt: HostRuntime) -> Result<(), Fail> {
-    let alloc = rt.alloc();
-    let (a, b) = (MemDisk::new(alloc), MemDisk::new(alloc));
-    let mut live = Live::create(alloc, a, b, [0; 32])?;
+/// A new client, a change, a line that is refused, a list of two changes, and a question.
+fn five_events(alloc: Global) -> Result<Vec<Event>, AllocError> {
     let mut events = Vec::new(alloc);
     events.push(Event::Connect(1))?;
     events.push(line(alloc, b"setvol 40")?)?;
     events.push(line(alloc, b"foo")?)?;
     events.push(list(alloc, b"repeat 1", b"repeat 0")?)?;
     events.push(line(alloc, b"status")?)?;
-    let answers = live.run(alloc, events)?;
-    assert_eq!(rt; answers.len(), 5);
+    Ok(events)
+}
+
+/// The number of a record and the outputs of each of those events.
+fn five_answers(
+    rt: &impl Abort,
+    alloc: Global,
+    answers: &[TurnResult<MemDisk>],
+) -> Result<(), Fail> {
+    equal(rt, answers.len(), 5);
     let expected: [(u64, &[u8]); 5] = [
         (0, b"OK MPD 0.23.0\n"),
         (1, b"OK\n"),
@@ -142,10 +151,23 @@ fn run_of_events(rt: HostRuntime) -> Result<(), Fail> {
         (0, QUIET_STATUS),
     ];
     for (place, (number, bytes)) in expected.iter().enumerate() {
-        let answer = answered(alloc, &answers, place)?;
+        let answer = answered(alloc, answers, place)?;
         assert_eq!(rt; answer.0, *number, "record of {place}");
         assert_eq!(rt; answer.1.as_slice(), *bytes, "answer of {place}");
     }
-    assert_eq!(rt; (live.last_event(), live.last_record()), (5, 2));
     Ok(())
+}
+
+/// A run of those events over a new stage.
+fn run_of_five(rt: &impl Abort, alloc: Global, live: &mut Live<MemDisk>) -> Result<(), Fail> {
+    let answers = ran(live, alloc, five_events(alloc)?)?;
+    equal(rt, last_numbers(live), (5, 2));
+    five_answers(rt, alloc, &answers)
+}
+
+#[test]
+fn run_of_events(rt: HostRuntime) -> Result<(), Fail> {
+    let alloc = rt.alloc();
+    let mut live = create(alloc, MemDisk::new(alloc), MemDisk::new(alloc))?;
+    run_of_five(&rt, alloc, &mut live)
 }

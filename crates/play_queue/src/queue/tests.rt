@@ -90,6 +90,74 @@ fn edits_after_a_move(rt: HostRuntime) -> Result<(), Fail> {
     assert_eq!(rt; queue.add_at(1, uris(alloc, &["a.wav"])?)?, 4);
     assert_eq!(rt; queue.add_at(2, uris(alloc, &["a.wav"])?)?, 5);
     assert_eq!(rt; queue.next_id(), 6);
+    queue.shuffle(alloc, 0, 3, &[9, 9, 1])?;
+    assert_eq!(rt; shown(alloc, &queue)?.as_str(), "11: 5/11 1/11 4/11");
+    Ok(())
+}
+
+#[test]
+fn shuffles(rt: HostRuntime) -> Result<(), Fail> {
+    let alloc = rt.alloc();
+    let mut queue = queue_of(alloc, &["a.wav", "b.wav", "c.wav"])?;
+    queue.shuffle(alloc, 0, 3, &[5, 3, 9])?;
+    assert_eq!(rt; shown(alloc, &queue)?.as_str(), "5: 2/5 1/5 3/4");
+    // The same order as before.
+    queue.shuffle(alloc, 0, 3, &[1, 2, 3])?;
+    queue.shuffle(alloc, 1, 2, &[4])?;
+    queue.shuffle(alloc, 3, 3, &[])?;
+    assert_eq!(rt; shown(alloc, &queue)?.as_str(), "5: 2/5 1/5 3/4");
+    // Words that tie.
+    queue.shuffle(alloc, 0, 3, &[7, 7, 7])?;
+    assert_eq!(rt; shown(alloc, &queue)?.as_str(), "6: 1/6 2/6 3/4");
+    queue.shuffle(alloc, 1, 3, &[u32::MAX, 0])?;
+    assert_eq!(rt; shown(alloc, &queue)?.as_str(), "7: 1/6 3/7 2/7");
+    assert_eq!(rt;
+        queue.shuffle(alloc, 0, 4, &[1, 2, 3, 4]),
+        Err(QueueError::BadIndex)
+    );
+    assert_eq!(rt; queue.shuffle(alloc, 2, 1, &[]), Err(QueueError::BadIndex));
+    assert_eq!(rt; shown(alloc, &queue)?.as_str(), "7: 1/6 3/7 2/7");
+    Ok(())
+}
+
+// Whether the version, and each entry's id and stamp, are these. It takes no memory.
+fn stands(queue: &Queue, version: u32, rows: &[(u32, u32)]) -> bool {
+    queue.version() == version
+        && queue.len() == rows.len()
+        && queue
+            .entries()
+            .iter()
+            .zip(rows)
+            .all(|(entry, row)| entry.id == row.0 && entry.stamp == row.1)
+}
+
+// Whichever allocation is refused, the addition that meets it answers so, and the queue is as it was.
+#[test]
+fn refused_addition(rt: HostRuntime) -> Result<(), Fail> {
+    let alloc = rt.alloc();
+    let mut queue = queue_of(alloc, &["a.wav", "b.wav"])?;
+    match queue.add_at(1, uris(alloc, &["c.wav"])?) {
+        Ok(_first) => assert!(rt; stands(&queue, 4, &[(1, 2), (3, 4), (2, 4)])),
+        Err(error) => {
+            assert_eq!(rt; error, QueueError::NoMemory);
+            assert!(rt; stands(&queue, 3, &[(1, 2), (2, 3)]));
+        }
+    }
+    Ok(())
+}
+
+// The same for a shuffle.
+#[test]
+fn refused_shuffle(rt: HostRuntime) -> Result<(), Fail> {
+    let alloc = rt.alloc();
+    let mut queue = queue_of(alloc, &["a.wav", "b.wav", "c.wav"])?;
+    match queue.shuffle(alloc, 0, 3, &[3, 2, 1]) {
+        Ok(()) => assert!(rt; stands(&queue, 5, &[(3, 5), (2, 3), (1, 5)])),
+        Err(error) => {
+            assert_eq!(rt; error, QueueError::NoMemory);
+            assert!(rt; stands(&queue, 4, &[(1, 2), (2, 3), (3, 4)]));
+        }
+    }
     Ok(())
 }
 

@@ -1,0 +1,91 @@
+-- How pairs are read, one after the other.
+use Rattle.std.proofs.Common.{◌≡◌, ℕ, zero, suc, ◌+◌, ◌-◌, ◌<◌, ◌≤◌, List, [], ◌∷◌, length, get_or, map, take, drop, false, Option, Some, None, Result, Ok, Err, Bor, refl, sym, ap, ◌∙◌, subst, arith, length-drop}
+use Rattle.filter_expr.specs.declared.name.Key.{Key}
+use Rattle.filter_expr.specs.declared.refusal.FilterError.{FilterError}
+use Rattle.filter_expr.specs.declared.refusal.FilterError.TheVariants as errors
+use Rattle.filter_expr.specs.Names.{key_named}
+use Rattle.filter_expr.specs.Parts.{opening, begins_so}
+use Rattle.filter_expr.specs.Tree.{Tree}
+use Rattle.filter_expr.specs.Tree.Tree.{And}
+use Rattle.filter_expr.specs.Words.{Refusal, ◌>>=◌, Gives, Refuses, keyed, half_pair, pair_of, pair_at, more_pairs, pairs_of, filter_of}
+use Rattle.filter_expr.specs.Words.Refusal.{BadFilter, UnknownTag, TooDeep}
+use Rattle.filter_expr.proofs.Windows.{all_taken}
+
+pub refuses_then : {A B : Type 0} (error : FilterError) (read : Result A Refusal) (f : A → Result B Refusal) → Refuses error read → Refuses error (read >>= f)
+refuses_then (errors.BadFilter place) read f h = ap (λ r. r >>= f) h
+refuses_then (errors.UnknownTag name) read f h = ap (λ r. r >>= f) h
+refuses_then (errors.TooDeep place) read f h = ap (λ r. r >>= f) h
+refuses_then errors.NoMemory read f h = tt
+
+-- the exit of a `?`
+pub gives_error : {X Y : Type 0} (view : X → Y) (error : FilterError) (r : Result X FilterError) (read : Result Y Refusal) → (e : FilterError) × (r ≡ Err e) × (e ≡ error) → Refuses error read → Gives view r read
+gives_error view error r read err h = rw (err.1, err.2) h
+
+half_then : (number : ℕ) (name : List ℕ) (f : Tree → Result Tree Refusal) → half_pair number name ≡ (half_pair number name >>= f)
+unfolding half_pair
+half_then number name f = by_cases (keyed (key_named name) name)
+  where
+    by_cases : (read : Result Key Refusal) → (read >>= λ key. Err (BadFilter (number + 1) 0)) ≡ ((read >>= λ key. Err (BadFilter (number + 1) 0)) >>= f)
+    by_cases (Ok key) = refl
+    by_cases (Err error) = refl
+
+pub pairs_form : (words : List (List ℕ)) → pairs_of words ≡ (pair_at 0 words >>= λ pair. more_pairs 2 pair (drop 2 words))
+unfolding pairs_of
+pairs_form words = refl
+
+pub pairs_step : (number : ℕ) (tree : Tree) (words : List (List ℕ)) → 0 < length words → more_pairs number tree words ≡ (pair_at number words >>= λ pair. more_pairs (number + 2) (And tree pair) (drop 2 words))
+unfolding more_pairs
+pairs_step number tree [] lt = absurd (omega arith)
+pairs_step number tree (name ∷ []) lt = half_then number name (λ pair. more_pairs (number + 2) (And tree pair) [])
+pairs_step number tree (name ∷ value ∷ words) lt = refl
+
+pub pairs_end : (number : ℕ) (tree : Tree) (words : List (List ℕ)) → length words ≤ number → more_pairs number tree (drop number words) ≡ Ok tree
+unfolding more_pairs
+pairs_end number tree words le = ap (more_pairs number tree) (none_left number words le)
+  where
+    none_left : (n : ℕ) (ws : List (List ℕ)) → length ws ≤ n → drop n ws ≡ []
+    none_left zero [] h = refl
+    none_left (suc n) [] h = refl
+    none_left zero (w ∷ ws) h = absurd (omega arith)
+    none_left (suc n) (w ∷ ws) h = none_left n ws (omega arith)
+
+pub texts_drop : (n : ℕ) (words : List (Bor (List ℕ))) → map (λ word. word.now) (drop n words) ≡ drop n (map (λ word. word.now) words)
+texts_drop zero words = refl
+texts_drop (suc n) [] = refl
+texts_drop (suc n) (w ∷ words) = texts_drop n words
+
+pub drop_two : (n : ℕ) (ws : List (List ℕ)) → drop 2 (drop n ws) ≡ drop (n + 2) ws
+drop_two n ws = rw two (twice n ws)
+  where
+    two : n + 2 ≡ suc (suc n)
+    two = omega arith
+
+    twice : (n : ℕ) (ws : List (List ℕ)) → drop 2 (drop n ws) ≡ drop (suc (suc n)) ws
+    twice zero ws = refl
+    twice (suc n) [] = refl
+    twice (suc n) (w ∷ ws) = twice n ws
+
+pub texts_left : (n : ℕ) (ws : List (List ℕ)) → n < length ws → 0 < length (drop n ws)
+texts_left zero ws h = h
+texts_left (suc n) [] h = absurd (omega arith)
+texts_left (suc n) (w ∷ ws) h = texts_left n ws (omega arith)
+
+pub texts_count : (words : List (Bor (List ℕ))) → length (map (λ word. word.now) words) ≡ length words
+texts_count [] = refl
+texts_count (w ∷ words) = ap suc (texts_count words)
+
+-- the texts of the words from a place on, as a slice gives them
+pub part_texts : (n : ℕ) (words : List (Bor (List ℕ))) → map (λ word. word.now) (take (length words - n) (drop n words)) ≡ drop n (map (λ word. word.now) words)
+part_texts n words =
+    let whole : take (length words - n) (drop n words) ≡ drop n words = all_taken (length words - n) (drop n words) (omega (arith, length-drop n words)) in
+    ap (λ ws. map (λ word. word.now) ws) whole ∙ texts_drop n words
+
+pub none_default : (words : List (Bor (List ℕ))) → length words < 1 → filter_of (map (λ word. word.now) words) ≡ pairs_of (map (λ word. word.now) words)
+unfolding filter_of pairs_of
+none_default [] lt = refl
+none_default (word ∷ words) lt = absurd (omega arith)
+
+pub other_default : (words : List (Bor (List ℕ))) (d : Bor (List ℕ)) → 0 < length words → begins_so opening (get_or words 0 d).now ≡ false → filter_of (map (λ word. word.now) words) ≡ pairs_of (map (λ word. word.now) words)
+unfolding filter_of
+other_default [] d lt h = absurd (omega arith)
+other_default (word ∷ words) d lt h = rw h refl

@@ -1,0 +1,11 @@
+pub mod Folding
+pub mod Gives
+pub mod Names
+pub mod Order
+pub mod Parts
+pub mod Reading
+pub mod Meaning
+pub mod SortWord
+pub mod Tree
+pub mod TreeCode
+pub mod Words

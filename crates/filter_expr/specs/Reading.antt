@@ -1,0 +1,101 @@
+-- The filter that words spell, or the first fault from the left.
+use Rattle.std.specs.Prelude.{ℕ, zero, suc, List, [], ◌∷◌, length, Bool, true, false, Result, Ok, Err, codes, if◌then◌else◌}
+use Rattle.filter_expr.specs.declared.subject.Subject.{Subject}
+use Rattle.filter_expr.specs.declared.subject.Subject.TheVariants.{File}
+use Rattle.filter_expr.specs.declared.subject.Comparison.TheVariants.{Equals, Contains}
+use Rattle.filter_expr.specs.declared.name.Key.{Key}
+use Rattle.filter_expr.specs.declared.name.Key.TheVariants as keys
+use Rattle.filter_expr.specs.declared.operator.Operator.{Operator}
+use Rattle.filter_expr.specs.declared.operator.Operator.TheVariants as operators
+use Rattle.filter_expr.specs.Parts.{Fault, ◌>>=◌, opening, closing, exclamation, equals_sign, begins_so, without_blanks, byte_at, word_at, between_gaps, key_at, value_at}
+use Rattle.filter_expr.specs.Parts.Fault.{Bad, Deep}
+use Rattle.filter_expr.specs.Tree.{Tree}
+use Rattle.filter_expr.specs.Tree.Tree.{Test, Base, Not, And}
+
+-- `==`, or, but for a file, `!=` or `contains`
+unfoldable pub operator_at : Subject → List ℕ → Result (Operator × List ℕ) Fault
+operator_at File text = word_at (codes "==") (without_blanks text) >>= λ rest. Ok (operators.Equal, rest)
+operator_at subject text =
+    if begins_so equals_sign (without_blanks text) then (word_at (codes "==") (without_blanks text) >>= λ rest. Ok (operators.Equal, rest))
+    else (if begins_so exclamation (without_blanks text) then (word_at (codes "!=") (without_blanks text) >>= λ rest. Ok (operators.Unequal, rest))
+    else (between_gaps (codes "contains") text >>= λ rest. Ok (operators.Contains, rest)))
+
+abbrev pub test_tree : Subject → Operator → List ℕ → Tree
+test_tree subject operators.Equal value = Test subject Equals value
+test_tree subject operators.Unequal value = Not (Test subject Equals value)
+test_tree subject operators.Contains value = Test subject Contains value
+
+-- `TAG == V` and its kin, or `base V`, behind its name
+unfoldable pub test_of : Key → List ℕ → Result (Tree × List ℕ) Fault
+test_of keys.Base text = do
+  value ← value_at (without_blanks text)
+  Ok (Base value.0, value.1)
+test_of (keys.Of subject) text = do
+  operator ← operator_at subject text
+  value ← value_at (without_blanks operator.1)
+  Ok (test_tree subject operator.0 value.0, value.1)
+
+abbrev pub Reader : Type 0
+Reader = List ℕ → Result (Tree × List ℕ) Fault
+
+-- what was read, and behind it the closing parenthesis
+unfoldable pub closed : Tree × List ℕ → Result (Tree × List ℕ) Fault
+closed x = do
+  rest ← byte_at closing (without_blanks x.1)
+  Ok (x.0, rest)
+
+unfoldable pub test_at : Reader
+test_at text = do
+  key ← key_at text
+  test ← test_of key.0 key.1
+  closed test
+
+-- `!EXPR)`, where `read` reads EXPR
+unfoldable pub negation_at : Reader → Reader
+negation_at read text = do
+  inner ← byte_at exclamation text
+  x ← read (without_blanks inner)
+  closed (Not x.0, x.1)
+
+-- behind an EXPR: the closing parenthesis, or AND and another EXPR, and so on, at most so often
+unfoldable pub others_at : Reader → ℕ → Tree × List ℕ → Result (Tree × List ℕ) Fault
+others_at read zero x = closed x
+others_at read (suc most) x =
+    if begins_so closing (without_blanks x.1) then closed x
+    else (between_gaps (codes "AND") x.1 >>= λ rest. read rest >>= λ y. others_at read most (And x.0 y.0, y.1))
+
+-- `EXPR)` and `EXPR AND EXPR ...)`; a text has no more of them than bytes
+unfoldable pub group_at : Reader → Reader
+group_at read text = do
+  x ← read text
+  others_at read (length x.1) x
+
+-- what stands behind an opening parenthesis
+unfoldable pub inside_at : Reader → Reader
+inside_at read text =
+    if begins_so opening text then group_at read text
+    else (if begins_so exclamation text then negation_at read text else test_at text)
+
+-- an EXPR in which so many parentheses may be open at once
+unfoldable pub expression_at : ℕ → Reader
+expression_at zero text = do
+  rest ← byte_at opening text
+  Err (Deep (length text))
+expression_at (suc room) text = do
+  rest ← byte_at opening text
+  inside_at (expression_at room) (without_blanks rest)
+
+abbrev pub is_nil : List ℕ → Bool
+is_nil [] = true
+is_nil (b ∷ text) = false
+
+-- how many parentheses may be open at once
+abbrev pub most_open : ℕ
+most_open = 32
+
+-- an EXPR and nothing behind it
+abbrev pub alone : Tree × List ℕ → Result Tree Fault
+alone x = if is_nil x.1 then Ok x.0 else Err (Bad (length x.1))
+
+unfoldable pub whole : List ℕ → Result Tree Fault
+whole word = expression_at most_open word >>= alone

@@ -1,0 +1,84 @@
+-- A tree as a list of numbers and texts, by which proofs tell trees apart.
+use Rattle.std.specs.Prelude.{◌≡◌, ℕ, ◌==◌, List, [], ◌∷◌, refl, if◌then◌else◌}
+use Rattle.std.specs.Coded.{Coded, code_by, coded_ℕ, coded_list, coded×}
+use Rattle.std.proofs.Common.{ap, ◌∙◌}
+use Rattle.wave_pcm.specs.Tag.{place_of}
+use Rattle.wave_pcm.specs.declared.tags.Tag.{Tag}
+use Rattle.wave_pcm.specs.declared.tags.Tag.TheVariants.{Title, Artist, Album, Date, Genre, Comment}
+use Rattle.filter_expr.specs.declared.subject.Subject.{Subject}
+use Rattle.filter_expr.specs.declared.subject.Subject.TheVariants.{OfTag, Any, File}
+use Rattle.filter_expr.specs.declared.subject.Comparison.{Comparison}
+use Rattle.filter_expr.specs.declared.subject.Comparison.TheVariants.{Equals, Contains, Pair}
+use Rattle.filter_expr.specs.Tree.{Tree}
+use Rattle.filter_expr.specs.Tree.Tree.{Test, Base, Not, And}
+
+-- what a node is, its subject, and its value
+abbrev Step : Type 0
+Step = ℕ × (ℕ × List ℕ)
+
+abbrev subject_number : Subject → ℕ
+subject_number (OfTag tag) = place_of tag
+subject_number Any = 6
+subject_number File = 7
+
+abbrev subject_at : ℕ → Subject
+subject_at n =
+    if n == 0 then OfTag Title
+    else (if n == 1 then OfTag Artist else (if n == 2 then OfTag Album else (if n == 3 then OfTag Date else (if n == 4 then OfTag Genre else (if n == 5 then OfTag Comment else (if n == 6 then Any else File))))))
+
+abbrev comparison_number : Comparison → ℕ
+comparison_number Equals = 0
+comparison_number Contains = 1
+comparison_number Pair = 2
+
+-- the nodes in front of their children's
+abbrev steps : Tree → List Step → List Step
+steps (Test subject comparison value) after = (comparison_number comparison, (subject_number subject, value)) ∷ after
+steps (Base base) after = (3, (0, base)) ∷ after
+steps (Not tree) after = (4, (0, [])) ∷ steps tree after
+steps (And left right) after = (5, (0, [])) ∷ steps left (steps right after)
+
+abbrev with_not : List Tree → List Tree
+with_not [] = []
+with_not (tree ∷ trees) = Not tree ∷ trees
+
+abbrev with_and : List Tree → List Tree
+with_and [] = []
+with_and (tree ∷ []) = []
+with_and (left ∷ right ∷ trees) = And left right ∷ trees
+
+abbrev placed : Step → List Tree → List Tree
+placed step trees =
+    if step.0 == 0 then Test (subject_at step.1.0) Equals step.1.1 ∷ trees
+    else (if step.0 == 1 then Test (subject_at step.1.0) Contains step.1.1 ∷ trees else (if step.0 == 2 then Test (subject_at step.1.0) Pair step.1.1 ∷ trees else (if step.0 == 3 then Base step.1.1 ∷ trees else (if step.0 == 4 then with_not trees else with_and trees))))
+
+-- the trees of nodes
+abbrev trees_of : List Step → List Tree
+trees_of [] = []
+trees_of (step ∷ after) = placed step (trees_of after)
+
+abbrev first_tree : List Tree → Tree
+first_tree [] = Base []
+first_tree (tree ∷ trees) = tree
+
+pub subject_again : (subject : Subject) → subject_at (subject_number subject) ≡ subject
+subject_again (OfTag Title) = refl
+subject_again (OfTag Artist) = refl
+subject_again (OfTag Album) = refl
+subject_again (OfTag Date) = refl
+subject_again (OfTag Genre) = refl
+subject_again (OfTag Comment) = refl
+subject_again Any = refl
+subject_again File = refl
+
+pub trees_again : (tree : Tree) (after : List Step) → trees_of (steps tree after) ≡ tree ∷ trees_of after
+trees_again (Test subject Equals value) after = ap (λ (s : Subject). Test s Equals value ∷ trees_of after) (subject_again subject)
+trees_again (Test subject Contains value) after = ap (λ (s : Subject). Test s Contains value ∷ trees_of after) (subject_again subject)
+trees_again (Test subject Pair value) after = ap (λ (s : Subject). Test s Pair value ∷ trees_of after) (subject_again subject)
+trees_again (Base base) after = refl
+trees_again (Not tree) after = ap with_not (trees_again tree after)
+trees_again (And left right) after = ap with_and (trees_again left (steps right after)) ∙ ap (λ (ts : List Tree). with_and (left ∷ ts)) (trees_again right after)
+
+abbrev pub tree_code : Coded Tree
+tree_code =
+    code_by (List Step) (coded_list (coded× coded_ℕ (coded× coded_ℕ (coded_list coded_ℕ)))) (λ tree. steps tree []) (λ list. first_tree (trees_of list)) (λ tree. ap first_tree (trees_again tree []))

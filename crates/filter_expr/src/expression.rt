@@ -1,0 +1,69 @@
+ghost use Rattle.std.specs.Prelude.{◌≡◌, IfOk};
+ghost use Rattle.filter_expr.specs.Meaning.{denotes, is_match, is_at};
+ghost use Rattle.filter_expr.specs.Tree.{tree_of};
+ghost use Rattle.filter_expr.specs.declared.case.Case.TheVariants.{Exact, Folded};
+
+use crate::folded_row::FoldedRow;
+use crate::row_text::{does_hold_exact, is_at};
+use crate::subject::{Comparison, Subject};
+use crate::value::TestValue;
+use song_db::SongRow;
+use std::alloc::{AllocError, Global};
+
+/// What a filter says. A list of three or more that hold is kept as the last of them beside the others.
+#[derive(Debug, Drop)]
+pub(crate) enum Expression {
+    Test(Subject, Comparison, TestValue),
+    Base(String),
+    Not(Box<Expression>),
+    And(Box<Expression>, Box<Expression>),
+}
+
+impl Expression {
+    /// Whether the song is among those denoted, where the case counts.
+    pub(crate) fn matches_exact(&self, row: &SongRow) -> bool
+        ensures { result ≡ is_match Exact (tree_of self.now) row.now }
+    {
+        let mut left = self;
+        while let Expression::And(others, last) = left {
+            if !last.matches_exact(row) {
+                return false;
+            }
+            left = others;
+        }
+        match left {
+            Expression::Test(subject, comparison, value) => {
+                does_hold_exact(*subject, *comparison, value, row)
+            }
+            Expression::Base(base) => is_at(base.as_str(), row.uri()),
+            Expression::Not(inner) => !inner.matches_exact(row),
+            Expression::And(_, _) => unreachable!(),
+        }
+    }
+
+    /// The same where the case doesn't count. It folds each text of the song that it needs, once.
+    pub(crate) fn matches_folded(
+        &self,
+        alloc: Global,
+        row: &mut FoldedRow<'_>,
+    ) -> Result<bool, AllocError>
+        ensures member { IfOk result (λ matched. matched ≡ denotes Folded (tree_of self.now) row.old) }
+        ensures same { row.new ≡ row.old }
+    {
+        let mut left = self;
+        while let Expression::And(others, last) = left {
+            if !last.matches_folded(alloc, row)? {
+                return Ok(false);
+            }
+            left = others;
+        }
+        match left {
+            Expression::Test(subject, comparison, value) => {
+                row.does_hold(alloc, *subject, *comparison, value)
+            }
+            Expression::Base(base) => Ok(is_at(base.as_str(), row.path())),
+            Expression::Not(inner) => Ok(!inner.matches_folded(alloc, row)?),
+            Expression::And(_, _) => unreachable!(),
+        }
+    }
+}

@@ -1,0 +1,57 @@
+ghost use Rattle.std.specs.Prelude.{◌≡◌, IfOk, IsOk, map};
+ghost use Rattle.filter_expr.specs.Words.{Gives, filter_of};
+ghost use Rattle.filter_expr.specs.Meaning.{is_match};
+ghost use Rattle.filter_expr.specs.declared.case.Case.TheVariants.{Exact, Folded};
+
+use crate::case::Case;
+use crate::expression::Expression;
+use crate::folded_row::FoldedRow;
+use crate::refusal::{FilterError, NoMemory};
+use crate::words;
+use song_db::SongRow;
+use std::alloc::Global;
+use std::marker::Model;
+
+/// Which songs are looked for. Contracts see what it says as a tree.
+#[derive(Debug, Drop)]
+pub struct Filter {
+    root: Expression,
+}
+
+impl Model for Filter {
+    ghost use Rattle.filter_expr.specs.Tree.{Tree, tree_of};
+    ghost use Rattle.filter_expr.specs.TreeCode.{tree_code};
+
+    ghost Value = { Tree };
+
+    ghost coded = { tree_code };
+
+    ghost view = { λ f. tree_of f.root };
+}
+
+impl Filter {
+    /// The filter that words spell: one word that is an expression, or pairs of a tag and a value, which hold together (MPD protocol reference 0.23, "Filters").
+    ///
+    /// `BadFilter`, `UnknownTag` or `TooDeep` tells of the leftmost fault of words that spell none.
+    pub fn parse<'a>(alloc: Global, words: &[&'a [u8]]) -> Result<Filter, FilterError<'a>>
+        ensures exact { Gives (λ filter. filter) result (filter_of (map (λ word. word.now) words.now)) }
+    {
+        Ok(Filter {
+            root: words::filter_of(alloc, words)?,
+        })
+    }
+
+    /// Whether a song is among those that the filter denotes. Where the case counts, it takes no memory and can't fail.
+    pub fn matches(&self, alloc: Global, row: &SongRow, case: Case) -> Result<bool, NoMemory>
+        ensures member { IfOk result (λ matched. matched ≡ is_match case self.now row.now) }
+        ensures exact_never_fails { case ≡ Exact → IsOk result }
+    {
+        match case {
+            Case::Exact => Ok(self.root.matches_exact(row)),
+            Case::Folded => {
+                let mut folded = FoldedRow::new(row);
+                Ok(self.root.matches_folded(alloc, &mut folded)?)
+            }
+        }
+    }
+}

@@ -1,0 +1,27 @@
+//! Filters of songs: their texts, what they mean, and the order and the part of what they find.
+#![tactic(auto)]
+
+pub mod case;
+mod expression;
+pub mod filter;
+mod folded_row;
+pub mod name;
+mod operator;
+pub mod order;
+mod parts;
+mod reading;
+pub mod refusal;
+mod row_text;
+pub mod subject;
+mod value;
+mod words;
+
+pub use case::Case;
+pub use filter::Filter;
+pub use name::tag_named;
+pub use order::{SortKey, SortOrder, sort_rows, window};
+pub use refusal::{FilterError, FilterPlace, NoMemory};
+pub use subject::{Comparison, Subject};
+
+#[cfg(test)]
+mod tests;

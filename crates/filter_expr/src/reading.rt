@@ -1,0 +1,164 @@
+ghost use Rattle.std.specs.Prelude.{◌≡◌, ◌<◌, ◌≤◌, ℕ, length, IfOk, string_bytes};
+ghost use Rattle.filter_expr.specs.Gives.{Gives};
+ghost use Rattle.filter_expr.specs.Reading.{operator_at, test_of, test_tree, closed, test_at, negation_at, group_at, inside_at, expression_at, whole};
+ghost use Rattle.filter_expr.specs.Tree.{tree_of};
+ghost use Rattle.filter_expr.specs.Tree.Tree.{And};
+
+use crate::expression::Expression;
+use crate::name::Key;
+use crate::operator::Operator;
+use crate::parts::{
+    Stop, begins_so, between_gaps, byte_at, key_at, value_at, without_blanks, word_at,
+};
+use crate::subject::{Comparison, Subject};
+use crate::value::TestValue;
+use std::alloc::{AllocError, Global};
+
+/// How many parentheses may be open at once.
+const MOST_OPEN: u32 = 32;
+
+/// How the subject is compared.
+#[tactic(auto, unfolding(crate::specs::Reading::operator_at))]
+fn operator_at(subject: Subject, text: &[u8]) -> Result<(Operator, &[u8]), Stop<'_>>
+    ensures exact { Gives (λ x. (x.0, x.1.now)) result (operator_at subject text.now) }
+    ensures bound { IfOk result (λ x. length x.1.now ≤ length text.now) }
+{
+    let bare = without_blanks(text);
+    if subject == Subject::File || begins_so(b'=', bare) {
+        return Ok((Operator::Equal, word_at(b"==", bare)?));
+    }
+    if begins_so(b'!', bare) {
+        return Ok((Operator::Unequal, word_at(b"!=", bare)?));
+    }
+    Ok((Operator::Contains, between_gaps(b"contains", text)?))
+}
+
+fn test(
+    alloc: Global,
+    subject: Subject,
+    operator: Operator,
+    value: String,
+) -> Result<Expression, AllocError>
+    ensures { IfOk result (λ tree. tree_of tree ≡ test_tree subject operator (string_bytes value)) }
+{
+    let value = TestValue::new(alloc, value)?;
+    match operator {
+        Operator::Equal => Ok(Expression::Test(subject, Comparison::Equals, value)),
+        Operator::Contains => Ok(Expression::Test(subject, Comparison::Contains, value)),
+        Operator::Unequal => {
+            let equal = Expression::Test(subject, Comparison::Equals, value);
+            Ok(Expression::Not(Box::new(alloc, equal)?))
+        }
+    }
+}
+
+/// The rest of a test behind its name.
+#[tactic(auto, unfolding(crate::specs::Reading::test_of))]
+fn test_of(alloc: Global, key: Key, text: &[u8]) -> Result<(Expression, &[u8]), Stop<'_>>
+    ensures exact { Gives (λ x. (tree_of x.0, x.1.now)) result (test_of key text.now) }
+    ensures shorter { IfOk result (λ x. length x.1.now < length text.now) }
+{
+    match key {
+        Key::Base => {
+            let (base, rest) = value_at(alloc, without_blanks(text))?;
+            Ok((Expression::Base(base), rest))
+        }
+        Key::Of(subject) => {
+            let (operator, behind) = operator_at(subject, text)?;
+            let (value, rest) = value_at(alloc, without_blanks(behind))?;
+            Ok((test(alloc, subject, operator, value)?, rest))
+        }
+    }
+}
+
+/// What was read, if the closing parenthesis stands behind it.
+#[tactic(auto, unfolding(crate::specs::Reading::closed))]
+fn closed(tree: Expression, text: &[u8]) -> Result<(Expression, &[u8]), Stop<'_>>
+    ensures exact { Gives (λ x. (tree_of x.0, x.1.now)) result (closed (tree_of tree, text.now)) }
+    ensures shorter { IfOk result (λ x. length x.1.now < length text.now) }
+{
+    let rest = byte_at(b')', without_blanks(text))?;
+    Ok((tree, rest))
+}
+
+/// A test and its closing parenthesis.
+#[tactic(auto, unfolding(crate::specs::Reading::test_at))]
+fn test_at(alloc: Global, text: &[u8]) -> Result<(Expression, &[u8]), Stop<'_>>
+    ensures exact { Gives (λ x. (tree_of x.0, x.1.now)) result (test_at text.now) }
+    ensures shorter { IfOk result (λ x. length x.1.now < length text.now) }
+{
+    let (key, behind) = key_at(text)?;
+    let (tree, rest) = test_of(alloc, key, behind)?;
+    closed(tree, rest)
+}
+
+/// A negation and its closing parenthesis.
+#[cycle(expression)]
+#[tactic(auto, unfolding(crate::specs::Reading::negation_at))]
+fn negation_at(alloc: Global, room: u32, text: &[u8]) -> Result<(Expression, &[u8]), Stop<'_>>
+    ensures exact { Gives (λ x. (tree_of x.0, x.1.now)) result (negation_at (expression_at room) text.now) }
+    ensures shorter { IfOk result (λ x. length x.1.now < length text.now) }
+{
+    let inner = byte_at(b'!', text)?;
+    let (tree, rest) = expression_at(alloc, room, without_blanks(inner))?;
+    closed(Expression::Not(Box::new(alloc, tree)?), rest)
+}
+
+/// One expression or several with AND between them, and the closing parenthesis.
+#[cycle(expression)]
+fn group_at(alloc: Global, room: u32, text: &[u8]) -> Result<(Expression, &[u8]), Stop<'_>>
+    ensures exact { Gives (λ x. (tree_of x.0, x.1.now)) result (group_at (expression_at room) text.now) }
+    ensures shorter { IfOk result (λ x. length x.1.now < length text.now) }
+{
+    let (mut tree, mut rest) = expression_at(alloc, room, text)?;
+    'others: while !begins_so(b')', without_blanks(rest)) {
+        let (right, behind) = expression_at(alloc, room, between_gaps(b"AND", rest)?)?;
+        tree = both(alloc, tree, right)?;
+        rest = behind;
+    }
+    closed(tree, rest)
+}
+
+/// What holds where both do.
+pub(crate) fn both(
+    alloc: Global,
+    left: Expression,
+    right: Expression,
+) -> Result<Expression, AllocError>
+    ensures { IfOk result (λ tree. tree_of tree ≡ And (tree_of left) (tree_of right)) }
+{
+    let left = Box::new(alloc, left)?;
+    Ok(Expression::And(left, Box::new(alloc, right)?))
+}
+
+/// An expression in which so many parentheses may be open at once.
+#[cycle(expression)]
+fn expression_at(alloc: Global, room: u32, text: &[u8]) -> Result<(Expression, &[u8]), Stop<'_>>
+    ensures exact { Gives (λ x. (tree_of x.0, x.1.now)) result (expression_at room text.now) }
+    ensures shorter { IfOk result (λ x. length x.1.now < length text.now) }
+{
+    let rest = byte_at(b'(', text)?;
+    if room == 0 {
+        return Err(Stop::Deep(text.len()));
+    }
+    let inner = without_blanks(rest);
+    if begins_so(b'(', inner) {
+        group_at(alloc, room - 1, inner)
+    } else if begins_so(b'!', inner) {
+        negation_at(alloc, room - 1, inner)
+    } else {
+        test_at(alloc, inner)
+    }
+}
+
+/// The expression that the whole text spells.
+#[tactic(auto, unfolding(crate::specs::Reading::whole))]
+pub(crate) fn whole(alloc: Global, text: &[u8]) -> Result<Expression, Stop<'_>>
+    ensures exact { Gives tree_of result (whole text.now) }
+{
+    let (tree, rest) = expression_at(alloc, MOST_OPEN, text)?;
+    if !rest.is_empty() {
+        return Err(Stop::Bad(rest.len()));
+    }
+    Ok(tree)
+}

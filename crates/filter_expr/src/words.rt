@@ -1,0 +1,164 @@
+ghost use Rattle.std.specs.Prelude.{◌≡◌, ◌+◌, ◌<◌, ◌^◌, Some, None, map, IfOk, option_map, string_bytes, if◌then◌else◌};
+ghost use Rattle.std.specs.Str.{is_utf8};
+ghost use Rattle.filter_expr.specs.Names.{key_named};
+ghost use Rattle.filter_expr.specs.Reading.{whole};
+ghost use Rattle.filter_expr.specs.Tree.{tree_of};
+ghost use Rattle.filter_expr.specs.Words.{Gives, error_in, read_in_word, keyed, half_pair, pair_of, pair_tree, pair_at, pairs_of, filter_of};
+ghost use Rattle.filter_expr.specs.declared.refusal.FilterError.TheVariants as errors;
+
+use crate::expression::Expression;
+use crate::name::{Key, key_named};
+use crate::parts::{Stop, begins_so};
+use crate::reading::{both, whole};
+use crate::refusal::{FilterError, FilterPlace};
+use crate::subject::Comparison;
+use crate::value::TestValue;
+use std::alloc::{AllocError, Global};
+
+/// Why a word of this number wasn't read.
+fn error_in<'a>(number: usize, word: &[u8], stop: Stop<'a>) -> FilterError<'a>
+    ensures { result ≡ error_in number word.now stop.entry }
+{
+    match stop {
+        Stop::Bad(left) => FilterError::BadFilter(FilterPlace {
+            word: number,
+            byte: word.len().saturating_sub(left),
+        }),
+        Stop::Unknown(name) => FilterError::UnknownTag(name),
+        Stop::Deep(left) => FilterError::TooDeep(FilterPlace {
+            word: number,
+            byte: word.len().saturating_sub(left),
+        }),
+        Stop::NoMemory => FilterError::NoMemory,
+    }
+}
+
+/// The expression that the first word spells.
+fn expression_of(alloc: Global, word: &[u8]) -> Result<Expression, FilterError<'_>>
+    ensures { Gives tree_of result (read_in_word 0 word.now (whole word.now)) }
+{
+    match whole(alloc, word) {
+        Ok(tree) => Ok(tree),
+        Err(stop) => Err(error_in(0, word, stop)),
+    }
+}
+
+/// The refusal at the beginning of a word.
+fn bad_word<'a>(number: usize) -> FilterError<'a>
+    ensures { result ≡ errors.BadFilter (record { word = number; byte = 0 }) }
+{
+    FilterError::BadFilter(FilterPlace {
+        word: number,
+        byte: 0,
+    })
+}
+
+fn keyed(name: &[u8]) -> Result<Key, FilterError<'_>>
+    ensures { Gives (λ key. key) result (keyed (key_named name.now) name.now) }
+{
+    match key_named(name) {
+        Some(key) => Ok(key),
+        None => Err(FilterError::UnknownTag(name)),
+    }
+}
+
+/// The pair of a tag and a value, whose words have this number and the next.
+#[tactic(auto, unfolding(crate::specs::Words::pair_of))]
+fn pair_of<'a>(
+    alloc: Global,
+    number: usize,
+    name: &'a [u8],
+    value: &[u8],
+) -> Result<Expression, FilterError<'a>>
+    requires { number + 1 < 2 ^ 64 }
+    ensures { Gives tree_of result (pair_of number name.now value.now) }
+{
+    let key = keyed(name)?;
+    let Some(value) = text(alloc, value)? else {
+        return Err(bad_word(number + 1));
+    };
+    Ok(pair(alloc, key, value)?)
+}
+
+/// A text of these bytes, if they are UTF-8.
+fn text(alloc: Global, bytes: &[u8]) -> Result<Option<String>, AllocError>
+    ensures { IfOk result (λ text. option_map string_bytes text ≡ (if is_utf8 bytes.now then Some bytes.now else None)) }
+{
+    match str::from_utf8(bytes) {
+        Ok(text) => Ok(Some(String::from_str(alloc, text)?)),
+        Err(_) => Ok(None),
+    }
+}
+
+fn pair(alloc: Global, key: Key, value: String) -> Result<Expression, AllocError>
+    ensures { IfOk result (λ tree. tree_of tree ≡ pair_tree key (string_bytes value)) }
+{
+    match key {
+        Key::Base => Ok(Expression::Base(value)),
+        Key::Of(subject) => {
+            let value = TestValue::new(alloc, value)?;
+            Ok(Expression::Test(subject, Comparison::Pair, value))
+        }
+    }
+}
+
+/// A tag without a value.
+#[tactic(auto, unfolding(crate::specs::Words::half_pair))]
+fn half_pair(number: usize, name: &[u8]) -> Result<Expression, FilterError<'_>>
+    requires { number + 1 < 2 ^ 64 }
+    ensures { Gives tree_of result (half_pair number name.now) }
+{
+    keyed(name)?;
+    Err(bad_word(number + 1))
+}
+
+/// The pair in front of these words, the first of which has this number.
+fn pair_at<'a>(
+    alloc: Global,
+    number: usize,
+    words: &[&'a [u8]],
+) -> Result<Expression, FilterError<'a>>
+    requires { number + 1 < 2 ^ 64 }
+    ensures { Gives tree_of result (pair_at number (map (λ word. word.now) words.now)) }
+{
+    match words {
+        [] => Err(bad_word(number)),
+        [name] => half_pair(number, name),
+        [name, value, ..] => pair_of(alloc, number, name, value),
+    }
+}
+
+/// What holds where all the pairs of these words do.
+fn pairs_of<'a>(alloc: Global, words: &[&'a [u8]]) -> Result<Expression, FilterError<'a>>
+    ensures { Gives tree_of result (pairs_of (map (λ word. word.now) words.now)) }
+{
+    let mut tree = pair_at(alloc, 0, words)?;
+    let mut number = 2;
+    'pairs: while number < words.len() {
+        let pair = pair_at(alloc, number, &words[number..])?;
+        tree = both(alloc, tree, pair)?;
+        number += 2;
+    }
+    Ok(tree)
+}
+
+/// What the words say.
+#[tactic(auto, unfolding(crate::specs::Words::filter_of))]
+pub(crate) fn filter_of<'a>(
+    alloc: Global,
+    words: &[&'a [u8]],
+) -> Result<Expression, FilterError<'a>>
+    ensures { Gives tree_of result (filter_of (map (λ word. word.now) words.now)) }
+{
+    let Some((word, others)) = words.split_first() else {
+        return Err(bad_word(0));
+    };
+    if !begins_so(b'(', word) {
+        return pairs_of(alloc, words);
+    }
+    let tree = expression_of(alloc, word)?;
+    if !others.is_empty() {
+        return Err(bad_word(1));
+    }
+    Ok(tree)
+}

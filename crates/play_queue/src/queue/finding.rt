@@ -1,0 +1,30 @@
+// What is looked up in a queue.
+ghost use Rattle.std.specs.Prelude.{◌≡◌, ◌<◌, ◌==◌, length, position, IfOk, IfSome};
+ghost use Rattle.play_queue.specs.Queue.{changed_since};
+
+use super::Queue;
+use crate::limits::MAX_ENTRIES;
+use std::alloc::{AllocError, Global};
+
+impl Queue {
+    /// The position of the entry with an id, if there is one.
+    pub fn pos_of(&self, id: u32) -> Option<usize>
+        ensures found { result ≡ position (λ entry. entry.id == id) self.now.entries }
+        ensures within { IfSome result (λ at. (at < length self.now.entries) × (at < MAX_ENTRIES)) }
+    {
+        self.entries.iter().position(|entry| entry.id == id)
+    }
+
+    /// The positions of the entries that a later version than this one stamped, rising; all where the queue has not come to this version.
+    pub fn changes_since(&self, alloc: Global, version: u32) -> Result<Vec<usize>, AllocError>
+        ensures { IfOk result (λ positions. positions.items ≡ changed_since self.now version) }
+    {
+        let all = self.version < version;
+        self.entries
+            .iter()
+            .enumerate()
+            .filter(|at| all || version < at.1.stamp)
+            .map(|at| at.0)
+            .collect(alloc)
+    }
+}

@@ -1,0 +1,89 @@
+-- What a scan looks at, and what it finds there.
+use Rattle.std.specs.Prelude.{◌≡◌, ℕ, ◌-◌, Bool, true, false, not, ◌&&◌, ◌==◌, nat_lt, nat_le, List, [], ◌∷◌, ◌++◌, length, map, drop, filter, count_by, codes, Option, Some, Result, Ok, Err, if◌then◌else◌}
+use Rattle.std.specs.Char.{to_ascii_lowercase}
+use Rattle.std.specs.Str.{bytes_eq}
+use Rattle.wave_pcm.specs.declared.info.WaveInfo.{WaveInfo}
+use Rattle.wave_pcm.specs.declared.error.WaveError.{WaveError}
+use Rattle.wave_pcm.specs.declared.error.WaveError.TheVariants.{NoMemory, NotWave, NoFormat, Unsupported, NoData, ReadFault, TooManyTurns}
+use Rattle.song_db.specs.declared.change.RowChange.{RowChange}
+use Rattle.song_db.specs.declared.change.RowChange.TheVariants.{Put}
+use Rattle.song_db.specs.declared.limits.TheConstants.{MAX_FOLDERS}
+use Rattle.song_db.specs.declared.refusal.SongDbError.{SongDbError}
+use Rattle.song_db.specs.declared.refusal.SongDbError.TheVariants.{NoMemory as MemoryRefused}
+use Rattle.song_db.specs.declared.scan.found.Found.{Found}
+use Rattle.song_db.specs.declared.scan.found.Found.TheVariants.{Song, Kept, NoSong}
+use Rattle.song_db.specs.declared.scan.visit.Visit.{Visit}
+use Rattle.song_db.specs.declared.scan.visit.Visit.TheVariants.{File, Folder, Nothing}
+use Rattle.song_db.specs.Place.{is_below}
+use Rattle.song_db.specs.Row.{row_of, is_within_limits}
+use Rattle.song_db.specs.Scan.{is_in, song_in}
+use Rattle.song_db.specs.Uri.{is_uri}
+
+-- the last four bytes are `.wav`, in any case
+abbrev pub ends_as_wave : List ℕ → Bool
+ends_as_wave path = bytes_eq (map to_ascii_lowercase (drop (length path - 4) path)) (codes ".wav")
+
+-- how many folders a path names over what it ends in
+abbrev pub folders_over : List ℕ → ℕ
+folders_over path = count_by (λ b. b == 47) path
+
+abbrev pub is_song : List ℕ → Bool
+is_song path = ends_as_wave path && nat_le (folders_over path) MAX_FOLDERS
+
+-- what is done at a path, which is a folder's or a file's
+abbrev pub visit_of : List ℕ → Bool → Visit
+visit_of path true = if nat_lt (folders_over path) MAX_FOLDERS then Folder path else Nothing
+visit_of path false = if is_song path then File path else Nothing
+
+-- what doesn't have the form of a URI is skipped
+abbrev pub visit_at : List ℕ → Bool → Visit
+visit_at path is_folder = if is_uri path then visit_of path is_folder else Nothing
+
+abbrev pub IsVisitIn : Option (List ℕ) → Visit → Type 0
+IsVisitIn place (File uri) = is_in place uri ≡ true
+IsVisitIn place (Folder uri) = is_in place uri ≡ true
+IsVisitIn place Nothing = Unit {0}
+
+-- every path that begins so is in the job's place
+abbrev pub IsPrefixIn : Option (List ℕ) → List ℕ → Type 0
+IsPrefixIn place prefix = (name : List ℕ) → is_in place (prefix ++ name) ≡ true
+
+-- what the reading of a file's head tells of its row
+abbrev pub found_of : List ℕ → Result WaveInfo WaveError → Result Found SongDbError
+found_of uri (Ok info) = Ok (if is_within_limits (row_of uri info) then Song (row_of uri info) else NoSong)
+found_of uri (Err NoMemory) = Err MemoryRefused
+found_of uri (Err ReadFault) = Ok (Kept uri)
+found_of uri (Err NotWave) = Ok NoSong
+found_of uri (Err NoFormat) = Ok NoSong
+found_of uri (Err (Unsupported tag bits channels)) = Ok NoSong
+found_of uri (Err NoData) = Ok NoSong
+found_of uri (Err TooManyTurns) = Ok NoSong
+
+-- it is of that URI
+abbrev pub IsOf : List ℕ → Found → Type 0
+IsOf uri (Song row) = row.uri ≡ uri
+IsOf uri (Kept kept) = kept ≡ uri
+IsOf uri NoSong = Unit {0}
+
+-- a row is that of the bytes
+abbrev pub IsSongIn : List ℕ → List ℕ → Found → Type 0
+IsSongIn uri bytes (Song row) = song_in uri bytes ≡ Some row
+IsSongIn uri bytes (Kept kept) = Unit {0}
+IsSongIn uri bytes NoSong = Unit {0}
+
+abbrev pub changes_of : Found → List RowChange
+changes_of (Song row) = Put row ∷ []
+changes_of (Kept uri) = []
+changes_of NoSong = []
+
+abbrev pub without : List ℕ → List (List ℕ) → List (List ℕ)
+without uri uris = filter (λ known. not (bytes_eq uri known)) uris
+
+abbrev pub without_below : List ℕ → List (List ℕ) → List (List ℕ)
+without_below folder uris = filter (λ known. not (is_below folder known)) uris
+
+-- a song that was read or kept isn't dropped
+abbrev pub still_droppable : Found → List (List ℕ) → List (List ℕ)
+still_droppable (Song row) uris = without row.uri uris
+still_droppable (Kept uri) uris = without uri uris
+still_droppable NoSong uris = uris

@@ -1,0 +1,112 @@
+ghost use Rattle.std.specs.Prelude.{◌≡◌, [], true, false, Ok, None, IfOk, IfSome, OnErr, IsOkUnless};
+ghost use Rattle.song_db.specs.Scan.{IsAnswer, AreSongs};
+ghost use Rattle.song_db.specs.declared.refusal.SongDbError.TheVariants.{NoMemory};
+
+mod droppable;
+mod found;
+mod reader;
+mod visit;
+mod walk;
+
+use crate::change::RowChange;
+use crate::order::ScanOrder;
+use crate::refusal::SongDbError;
+use crate::scan::droppable::Droppable;
+use crate::scan::reader::Reader;
+use crate::scan::walk::Walk;
+use std::alloc::Global;
+use std::marker::Model;
+use wave_pcm::Folder;
+
+/// The scan of a job: it reads the songs of a folder, or one song, and tells the changes of their rows in batches.
+///
+/// A song is a file whose name ends in `.wav` (in any ASCII case) at most 32 folders deep, counted from the root of the music, whose path has the form of a URI and whose head `wave_pcm::read_head` reads. It is a `Put`, changed or not. Where its file can't be opened or read, nobody knows, and its row is kept; where a folder can't be listed, the rows below it are. The folders are walked by the bytes of names, files and folders mixed. After the walk each known URI that was neither read nor kept is a `Drop`, rising.
+///
+/// A scan holds what is left of the listings on the present path, and a mark for each known URI.
+#[derive(Debug, Drop)]
+pub struct Scan {
+    job: u32,
+    reader: Reader,
+    is_over: bool,
+}
+
+impl Model for Scan {
+    ghost use Rattle.std.specs.Prelude.{◌≡◌, [], true};
+    ghost use Rattle.song_db.specs.Scan.{Progress};
+
+    ghost Value = { Progress };
+
+    ghost view = { λ s. record { job = s.job; place = s.reader.walk; droppable = s.reader.droppable; is_over = s.is_over } };
+
+    ghost invariant = { λ s. s.is_over ≡ true → s.reader.droppable ≡ [] };
+}
+
+impl Scan {
+    /// The scan of an order, which has read nothing yet. It takes memory for the marks; refused by `NoMemory`.
+    pub fn begin(alloc: Global, order: ScanOrder) -> Result<Scan, SongDbError>
+        ensures scan { IfOk result (λ scan. scan ≡ record { job = order.job; place = order.uri; droppable = order.known; is_over = false }) }
+        ensures only { IsOkUnless result NoMemory }
+    {
+        let (job, place, known) = order.into_parts();
+        let droppable = Droppable::new(alloc, known)?;
+        let walk = Walk::new(alloc, place);
+        Ok(Scan {
+            job,
+            reader: Reader {
+                walk,
+                droppable,
+                is_begun: false,
+            },
+            is_over: false,
+        })
+    }
+
+    /// The next changes, 1 to 64 of them; `None` at the end, and from then on.
+    ///
+    /// Refused by `NoMemory`, the scan is over: what it hasn't read keeps its row.
+    pub fn next<F: Folder>(
+        &mut self,
+        alloc: Global,
+        folder: &mut F,
+    ) -> Result<Option<Vec<RowChange>>, SongDbError>
+        // The changes, and what may still be dropped.
+        ensures some { IfOk result (λ answer. IfSome answer (λ changes. IsAnswer self.old self.new changes.items)) }
+        ensures going { IfOk result (λ answer. IfSome answer (λ changes. self.new.is_over ≡ false)) }
+
+        // The end, which stays.
+        ensures none { result ≡ Ok None → (self.new.is_over ≡ true) × (self.new.droppable ≡ []) }
+        ensures err { OnErr result ((self.new.is_over ≡ true) × (self.new.droppable ≡ [])) }
+        ensures over { self.old.is_over ≡ true → (result ≡ Ok None) × (folder.new ≡ folder.old) }
+        ensures only { IsOkUnless result NoMemory }
+
+        // The order.
+        ensures job { self.new.job ≡ self.old.job }
+        ensures place { self.new.place ≡ self.old.place }
+
+        // The rows are those of files that are there.
+        ensures songs { F.honest folder.old → IfOk result (λ answer. IfSome answer (λ changes. AreSongs (F.files folder.old) changes.items)) }
+        ensures honest { F.honest folder.old → F.honest folder.new }
+        ensures files { F.honest folder.old → F.files folder.new ≡ F.files folder.old }
+    {
+        if self.is_over {
+            return Ok(None);
+        }
+        match self.reader.batch(alloc, folder) {
+            Ok(changes) => {
+                if changes.is_empty() {
+                    self.is_over = true;
+                    return Ok(None);
+                }
+                Ok(Some(changes))
+            }
+            Err(error) => {
+                self.reader.droppable.keep_all();
+                self.is_over = true;
+                Err(error)
+            }
+        }
+    }
+}
+
+#[cfg(test)]
+mod tests;

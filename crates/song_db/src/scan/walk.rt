@@ -1,0 +1,135 @@
+ghost use Rattle.std.specs.Prelude.{◌≡◌, [], ◌∷◌, ◌++◌, IfOk, option_map, unwrap_or, string_bytes};
+ghost use Rattle.song_db.specs.Found.{IsPrefixIn, IsVisitIn, visit_at};
+
+use crate::scan::visit::{Visit, visit_of};
+use crate::uri::Uri;
+use std::alloc::{AllocError, Global};
+use std::cmp::Ordering;
+use std::marker::Model;
+use wave_pcm::FolderEntry;
+
+// A folder on the present path.
+#[derive(Debug, Drop)]
+struct Level {
+    // What the paths of its entries begin with: its own and a slash, or nothing for the root.
+    prefix: String,
+    // What is left of its listing, from the last to the next.
+    entries: Vec<FolderEntry>,
+}
+
+// The walk of a scan through the folders of its place. It holds what is left of the listings on the present path: 33 at most, since no folder is entered below the 32nd.
+#[derive(Debug, Drop)]
+pub(crate) struct Walk {
+    place: Option<Uri>,
+    levels: Vec<Level>,
+}
+
+impl Model for Walk {
+    ghost use Rattle.std.specs.Prelude.{ℕ, List, Option, string_bytes};
+    ghost use Rattle.std.specs.List.{All};
+    ghost use Rattle.song_db.specs.Found.{IsPrefixIn};
+
+    ghost Value = { Option (List ℕ) };
+
+    ghost view = { λ w. w.place };
+
+    ghost invariant = { λ w. All (λ level. IsPrefixIn w.place (string_bytes level.prefix)) w.levels.items };
+}
+
+impl Walk {
+    pub(crate) fn new(alloc: Global, place: Option<Uri>) -> Walk
+        ensures { result ≡ place }
+    {
+        Walk {
+            place,
+            levels: Vec::new(alloc),
+        }
+    }
+
+    // The folder or song of the job; `None` is the root.
+    pub(crate) fn place(&self) -> Option<&Uri>
+        ensures { option_map (λ uri. uri.now) result ≡ self.now }
+    {
+        self.place.as_ref()
+    }
+
+    // The path of the job's folder or song, which is empty for the root.
+    pub(crate) fn path(&self) -> &str
+        ensures { result.now ≡ unwrap_or self.now [] }
+    {
+        match &self.place {
+            None => "",
+            Some(uri) => uri.as_str(),
+        }
+    }
+
+    pub(crate) fn is_at_end(&self) -> bool {
+        self.levels.is_empty()
+    }
+
+    // Goes into a folder whose entries' paths have the prefix.
+    pub(crate) fn enter(
+        &mut self,
+        prefix: String,
+        mut entries: Vec<FolderEntry>,
+    ) -> Result<(), AllocError>
+        requires { IsPrefixIn self.old (string_bytes prefix) }
+        ensures { self.new ≡ self.old }
+    {
+        entries.sort_unstable_by(|a, b| falling(a, b));
+        self.levels.push(Level { prefix, entries })?;
+        Ok(())
+    }
+
+    // What is done at the next entry; `Nothing` where a folder is done with, too.
+    pub(crate) fn next(&mut self, alloc: Global) -> Result<Visit, AllocError>
+        ensures place { self.new ≡ self.old }
+        ensures visit { IfOk result (IsVisitIn self.old) }
+    {
+        let Some(mut level) = self.levels.pop() else {
+            return Ok(Visit::Nothing);
+        };
+        let Some(entry) = level.entries.pop() else {
+            return Ok(Visit::Nothing);
+        };
+        let visit = visit_at(alloc, level.prefix.as_str(), &entry)?;
+        self.levels.push_reserved(level);
+        Ok(visit)
+    }
+
+    // Leaves all folders.
+    pub(crate) fn stop(&mut self)
+        ensures { self.new ≡ self.old }
+    {
+        self.levels.clear();
+    }
+}
+
+// From the last name to the first; of the same name a folder comes before a file.
+fn falling(entry: &FolderEntry, other: &FolderEntry) -> Ordering {
+    match other.name.as_str().cmp(entry.name.as_str()) {
+        Ordering::Equal => entry.is_folder.cmp(&other.is_folder),
+        order => order,
+    }
+}
+
+// What is done at an entry of a folder.
+fn visit_at(alloc: Global, prefix: &str, entry: &FolderEntry) -> Result<Visit, AllocError>
+    ensures { IfOk result (λ visit. visit ≡ visit_at (prefix.now ++ string_bytes entry.now.name) entry.now.is_folder) }
+{
+    let mut path = String::from_str(alloc, prefix)?;
+    path.push_str(entry.name.as_str())?;
+    match Uri::from_string(path) {
+        Some(uri) => Ok(visit_of(uri, entry.is_folder)),
+        None => Ok(Visit::Nothing),
+    }
+}
+
+// What the paths of a folder's entries begin with.
+pub(crate) fn prefix_of(alloc: Global, folder: &Uri) -> Result<String, AllocError>
+    ensures { IfOk result (λ prefix. string_bytes prefix ≡ folder.now ++ 47 ∷ []) }
+{
+    let mut prefix = String::from_str(alloc, folder.as_str())?;
+    prefix.push_str("/")?;
+    Ok(prefix)
+}
