@@ -1,7 +1,13 @@
+mod Comparisons
+mod Enclosing
 mod Expressions
+mod Groups
+mod Keys
 mod Occurrence
 mod Pairs
+mod Pieces
 mod Rows
 mod Sorting
+mod Spelling
 mod Texts
 mod Windows

@@ -1,5 +1,5 @@
 -- How pairs are read, one after the other.
-use Rattle.std.proofs.Common.{◌≡◌, ℕ, zero, suc, ◌+◌, ◌-◌, ◌<◌, ◌≤◌, List, [], ◌∷◌, length, get_or, map, take, drop, false, Option, Some, None, Result, Ok, Err, Bor, refl, sym, ap, ◌∙◌, subst, arith, length-drop}
+use Rattle.std.proofs.Common.{◌≡◌, ℕ, zero, suc, ◌+◌, ◌-◌, ◌<◌, ◌≤◌, List, [], ◌∷◌, length, get_or, map, take, drop, false, Result, Ok, Err, Bor, refl, ap, ◌∙◌, arith, length-drop}
 use Rattle.filter_expr.specs.declared.name.Key.{Key}
 use Rattle.filter_expr.specs.declared.refusal.FilterError.{FilterError}
 use Rattle.filter_expr.specs.declared.refusal.FilterError.TheVariants as errors
@@ -7,8 +7,8 @@ use Rattle.filter_expr.specs.Names.{key_named}
 use Rattle.filter_expr.specs.Parts.{opening, begins_so}
 use Rattle.filter_expr.specs.Tree.{Tree}
 use Rattle.filter_expr.specs.Tree.Tree.{And}
-use Rattle.filter_expr.specs.Words.{Refusal, ◌>>=◌, Gives, Refuses, keyed, half_pair, pair_of, pair_at, more_pairs, pairs_of, filter_of}
-use Rattle.filter_expr.specs.Words.Refusal.{BadFilter, UnknownTag, TooDeep}
+use Rattle.filter_expr.specs.Words.{Refusal, ◌>>=◌, Gives, Refuses, keyed, half_pair, pair_at, more_pairs, pairs_of, filter_of}
+use Rattle.filter_expr.specs.Words.Refusal.{BadFilter}
 use Rattle.filter_expr.proofs.Windows.{all_taken}
 
 pub refuses_then : {A B : Type 0} (error : FilterError) (read : Result A Refusal) (f : A → Result B Refusal) → Refuses error read → Refuses error (read >>= f)

@@ -1,6 +1,6 @@
 -- How the parts of a text are read a byte at a time.
-use Rattle.std.proofs.Common.{◌≡◌, ◌≢◌, ℕ, zero, suc, ◌+◌, ◌-◌, ◌<◌, ◌≤◌, Bool, true, false, not, ◌||◌, nat_eq, List, [], ◌∷◌, ◌++◌, length, get_or, take, drop, Result, Ok, Err, refl, sym, ap, ◌∙◌, arith, add-one, drop-cons, take-suc, append_assoc, length-drop}
-use Rattle.std.proofs.Common.{cond, Option, Some, None, subst}
+use Rattle.std.proofs.Common.{◌≡◌, ℕ, zero, suc, ◌+◌, ◌-◌, ◌<◌, ◌≤◌, Bool, true, false, not, ◌||◌, nat_eq, List, [], ◌∷◌, ◌++◌, length, get_or, take, drop, Result, Ok, Err, refl, sym, ap, ◌∙◌, arith, add-one, drop-cons, take-suc, append_assoc, length-drop}
+use Rattle.std.proofs.Common.{cond, Some, None, subst}
 use Rattle.std.proofs.lemmas.List.{append-nil}
 use Rattle.std.proofs.lemmas.Bool.{false_from_ne_true}
 use Rattle.std.proofs.lemmas.Str.{IsUtf8-from_is_utf8, is_utf8-from_IsUtf8, IsUtf8-string_bytes}
@@ -12,7 +12,7 @@ use Rattle.filter_expr.specs.declared.parts.Stop.{Stop}
 use Rattle.filter_expr.specs.declared.parts.Stop.TheVariants as stops
 use Rattle.filter_expr.specs.Gives.{Gives, Stops}
 use Rattle.filter_expr.specs.Parts.{Fault, ◌>>=◌, is_blank, ends_name, backslash, without_blanks, byte_at, word_at, name_in, behind_name, with_front, quoted}
-use Rattle.filter_expr.specs.Parts.Fault.{Bad, Unknown, Deep}
+use Rattle.filter_expr.specs.Parts.Fault.{Bad}
 
 pub drop_at : (s : List ℕ) (q : ℕ) → q < length s → drop q s ≡ get_or s q 0 ∷ drop (q + 1) s
 drop_at s q h = rw (add-one, drop-cons s q 0) refl

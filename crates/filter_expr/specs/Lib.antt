@@ -1,5 +1,6 @@
 pub mod Folding
 pub mod Gives
+pub mod Grammar
 pub mod Names
 pub mod Order
 pub mod Parts

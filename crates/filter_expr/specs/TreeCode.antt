@@ -3,7 +3,6 @@ use Rattle.std.specs.Prelude.{◌≡◌, ℕ, ◌==◌, List, [], ◌∷◌, ref
 use Rattle.std.specs.Coded.{Coded, code_by, coded_ℕ, coded_list, coded×}
 use Rattle.std.proofs.Common.{ap, ◌∙◌}
 use Rattle.wave_pcm.specs.Tag.{place_of}
-use Rattle.wave_pcm.specs.declared.tags.Tag.{Tag}
 use Rattle.wave_pcm.specs.declared.tags.Tag.TheVariants.{Title, Artist, Album, Date, Genre, Comment}
 use Rattle.filter_expr.specs.declared.subject.Subject.{Subject}
 use Rattle.filter_expr.specs.declared.subject.Subject.TheVariants.{OfTag, Any, File}

@@ -13,7 +13,7 @@ use Rattle.filter_expr.specs.Parts.{Fault, opening, begins_so}
 use Rattle.filter_expr.specs.Parts.Fault.{Bad, Unknown, Deep}
 use Rattle.filter_expr.specs.Reading.{whole}
 use Rattle.filter_expr.specs.Tree.{Tree}
-use Rattle.filter_expr.specs.Tree.Tree.{Test, Base, Not, And}
+use Rattle.filter_expr.specs.Tree.Tree.{Test, Base, And}
 
 -- Why words spell no filter: from this byte of this word on no filter goes on so, no tag has this name, or one parenthesis more is open at this byte than may be. Words and bytes count from 0.
 pub data Refusal : Type 0 where

@@ -5,6 +5,7 @@ pub mod case;
 mod expression;
 pub mod filter;
 mod folded_row;
+pub mod laws;
 pub mod name;
 mod operator;
 pub mod order;

@@ -1,4 +1,4 @@
-use Rattle.std.proofs.Common.{◌≡◌, ◌<◌, ◌≤◌, List, ℕ, ◌++◌, length, take, drop, sym, ap, ◌∙◌, arith}
+use Rattle.std.proofs.Common.{◌<◌, ◌≤◌, List, ℕ, ◌++◌, length, drop, sym, ap, ◌∙◌, arith}
 use Rattle.filter_expr.specs.Parts.{name_in, behind_name}
 use Rattle.filter_expr.proofs.Texts.{name_more, name_none, name_end, behind_more, behind_none, behind_end, take_all, drop_all}
 use Rattle.filter_expr.proofs.parts.name_length.Goals as goal

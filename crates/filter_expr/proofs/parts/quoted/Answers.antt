@@ -1,4 +1,4 @@
-use Rattle.std.proofs.Common.{◌≡◌, ◌<◌, ◌≤◌, ◌+◌, ◌++◌, ◌∷◌, [], List, ℕ, Bool, false, length, get_or, drop, Ok, sym, ap, ◌∙◌, arith}
+use Rattle.std.proofs.Common.{◌<◌, ◌≤◌, ◌+◌, List, ℕ, length, Ok, sym, ap, ◌∙◌, arith}
 use Rattle.filter_expr.specs.Parts.{quoted}
 use Rattle.filter_expr.proofs.Texts.{after_front, quoted_plain, quoted_end, quoted_escape, quoted_open, take_rest, drop_all}
 use Rattle.filter_expr.proofs.parts.quoted.Goals as goal

@@ -1,4 +1,4 @@
-use Rattle.std.proofs.Common.{◌≡◌, ap}
+use Rattle.std.proofs.Common.{ap}
 use Rattle.std.proofs.lemmas.Bool.{false≢true}
 use Rattle.filter_expr.proofs.Texts.{read_utf8, not_utf8}
 use Rattle.filter_expr.proofs.parts.text_of.Goals as goal

@@ -1,4 +1,4 @@
-use Rattle.std.proofs.Common.{◌≡◌, ◌<◌, ◌≤◌, length, drop, sym, ap, ◌∙◌, arith}
+use Rattle.std.proofs.Common.{◌<◌, ◌≤◌, length, sym, ap, ◌∙◌, arith}
 use Rattle.filter_expr.specs.Parts.{without_blanks}
 use Rattle.filter_expr.proofs.Texts.{blank_more, blank_none, blank_end, take_rest, drop_all}
 use Rattle.filter_expr.proofs.parts.without_blanks.Goals as goal

@@ -1,7 +1,7 @@
-use Rattle.std.proofs.Common.{◌≡◌, ◌-◌, ◌<◌, ◌≤◌, ◌∷◌, [], ℕ, List, length, sym, ap, ◌∙◌, subst, arith}
+use Rattle.std.proofs.Common.{◌-◌, ◌<◌, length, sym, ap, ◌∙◌, subst, arith}
 use Rattle.std.proofs.lemmas.Result.{err_from_is_err_and}
 use Rattle.filter_expr.specs.Gives.{Gives, Stops}
-use Rattle.filter_expr.specs.Parts.{◌>>=◌, opening, closing, exclamation, begins_so, byte_at}
+use Rattle.filter_expr.specs.Parts.{◌>>=◌, opening, closing, begins_so, byte_at}
 use Rattle.filter_expr.specs.Reading.{others_at, group_at, expression_at}
 use Rattle.filter_expr.specs.Tree.{tree_of}
 use Rattle.filter_expr.specs.Tree.Tree.{And}

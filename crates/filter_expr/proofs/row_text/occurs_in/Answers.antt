@@ -1,6 +1,3 @@
-use Rattle.std.proofs.Common.{◌≡◌, ◌∙◌, ap, subst}
-use Rattle.std.specs.Option.{is_some}
-use Rattle.filter_expr.specs.Meaning.{occurs_in}
 use Rattle.filter_expr.proofs.Occurrence.{found_occurs}
 use Rattle.filter_expr.proofs.row_text.occurs_in.Goals as goal
 

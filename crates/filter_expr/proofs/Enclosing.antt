@@ -1,0 +1,172 @@
+-- What stands between parentheses, as it is read.
+use Rattle.std.proofs.Common.{◌≡◌, ◌⊎◌, inl, inr, ℕ, zero, suc, Bool, true, false, cond, List, [], ◌∷◌, ◌++◌, length, Result, Ok, Err, Some, refl, sym, ap, ◌∙◌, subst, append_assoc}
+use Rattle.std.proofs.lemmas.List.{append-nil}
+use Rattle.std.specs.Prelude.{codes}
+use Rattle.filter_expr.specs.declared.name.Key.{Key}
+use Rattle.filter_expr.specs.declared.name.Key.TheVariants as keys
+use Rattle.filter_expr.specs.declared.operator.Operator.{Operator}
+use Rattle.filter_expr.specs.Grammar.{AreBlanks, SpellsBase, SpellsTest, SpellsNegation, SpellsGroup, SpellsInside, Spells}
+use Rattle.filter_expr.specs.Names.{key_named}
+use Rattle.filter_expr.specs.Parts.{Fault, ◌>>=◌, opening, closing, exclamation, begins_so, without_blanks, byte_at, between_gaps, key_at, value_at}
+use Rattle.filter_expr.specs.Parts.Fault.{Bad, Deep}
+use Rattle.filter_expr.specs.Reading.{Reader, operator_at, test_tree, test_of, closed, test_at, negation_at, others_at, group_at, inside_at, expression_at, is_nil, alone, most_open, whole}
+use Rattle.filter_expr.specs.Tree.{Tree}
+use Rattle.filter_expr.specs.Tree.Tree.{Base, Not, And}
+use Rattle.filter_expr.proofs.Comparisons.{regroup, spaced, operator_found}
+use Rattle.filter_expr.proofs.Keys.{key_found_so}
+use Rattle.filter_expr.proofs.Pieces.{bind_ok, guard_ok, ok_same, byte_found, blanks_found, value_found}
+
+-- spelled in front
+abbrev pub FoundBy : (Tree → List ℕ → Type 0) → List ℕ → Tree × List ℕ → Type 0
+FoundBy spells text x = (front : List ℕ) × spells x.0 front × (text ≡ front ++ x.1)
+
+-- spelled in front of blanks and the closing parenthesis
+abbrev pub FoundClosed : (Tree → List ℕ → Type 0) → List ℕ → Tree × List ℕ → Type 0
+FoundClosed spells text x = (front after : List ℕ) × spells x.0 front × AreBlanks after × (text ≡ front ++ (after ++ closing ∷ x.1))
+
+closed_found : (spells : Tree → List ℕ → Type 0) (text : List ℕ) (y x : Tree × List ℕ) → FoundBy spells text y → closed y ≡ Ok x → FoundClosed spells text x
+unfolding closed
+closed_found spells text y x found h =
+    let read = bind_ok {A = List ℕ} {B = Tree × List ℕ} (byte_at closing (without_blanks y.1)) (λ rest. Ok (y.0, rest)) x h in
+    let blanks = blanks_found y.1 in
+    let behind : y.1 ≡ blanks.0 ++ closing ∷ read.0 = blanks.2 ∙ ap (λ (s : List ℕ). blanks.0 ++ s) (byte_found closing (without_blanks y.1) read.0 read.1) in
+    subst (FoundClosed spells text) (ok_same (y.0, read.0) x read.2) (found.0, blanks.0, found.1, blanks.1, found.2 ∙ ap (λ (s : List ℕ). found.0 ++ s) behind)
+
+wider : (these those : Tree → List ℕ → Type 0) (text : List ℕ) (x : Tree × List ℕ) → ((tree : Tree) (front : List ℕ) → these tree front → those tree front) → FoundClosed these text x → FoundClosed those text x
+wider these those text x f found = (found.0, found.1, f x.0 found.0 found.2, found.3, found.4)
+
+-- a test, or `base V`
+abbrev pub SpellsSimple : Tree → List ℕ → Type 0
+SpellsSimple tree text = SpellsBase tree text ⊎ SpellsTest tree text
+
+glued : (name behind middle inner quoted rest : List ℕ) → behind ≡ middle ++ inner → inner ≡ quoted ++ rest → name ++ behind ≡ (name ++ (middle ++ quoted)) ++ rest
+glued name behind middle inner quoted rest e f =
+    ap (λ (s : List ℕ). name ++ s) (e ∙ ap (λ (s : List ℕ). middle ++ s) f) ∙ sym (regroup name middle quoted rest)
+
+named_found : (name : List ℕ) (key : Key) (behind : List ℕ) (x : Tree × List ℕ) → key_named name ≡ Some key → test_of key behind ≡ Ok x → FoundBy SpellsSimple (name ++ behind) x
+unfolding test_of
+named_found name keys.Base behind x named h =
+    let read = bind_ok {A = List ℕ × List ℕ} {B = Tree × List ℕ} (value_at (without_blanks behind)) (λ value. Ok (Base value.0, value.1)) x h in
+    let blanks = blanks_found behind in
+    let value = value_found (without_blanks behind) read.0.0 read.0.1 read.1 in
+    subst (FoundBy SpellsSimple (name ++ behind)) (ok_same (Base read.0.0, read.0.1) x read.2) (
+      name ++ (blanks.0 ++ value.0),
+      inl (record { name = name; gap = blanks.0; quoted = value.0; value = read.0.0; named = named; blanks = blanks.1; spelled = value.1; parts = refl; says = refl }),
+      glued name behind blanks.0 (without_blanks behind) value.0 read.0.1 blanks.2 value.2,
+    )
+named_found name (keys.Of subject) behind x named h =
+    let first = bind_ok {A = Operator × List ℕ} {B = Tree × List ℕ} (operator_at subject behind) (λ operator. value_at (without_blanks operator.1) >>= λ value. Ok (test_tree subject operator.0 value.0, value.1)) x h in
+    let read = bind_ok {A = List ℕ × List ℕ} {B = Tree × List ℕ} (value_at (without_blanks first.0.1)) (λ value. Ok (test_tree subject first.0.0 value.0, value.1)) x first.2 in
+    let operator = operator_found subject behind first.0 first.1 in
+    let value = value_found (without_blanks first.0.1) read.0.0 read.0.1 read.1 in
+    subst (FoundBy SpellsSimple (name ++ behind)) (ok_same (test_tree subject first.0.0 read.0.0, read.0.1) x read.2) (
+      name ++ (operator.0 ++ value.0),
+      inr (record { name = name; subject = subject; middle = operator.0; operator = first.0.0; quoted = value.0; value = read.0.0; named = named; compared = operator.1; spelled = value.1; parts = refl; says = refl }),
+      glued name behind operator.0 (without_blanks first.0.1) value.0 read.0.1 operator.2 value.2,
+    )
+
+test_found : (text : List ℕ) (x : Tree × List ℕ) → test_at text ≡ Ok x → FoundClosed SpellsSimple text x
+unfolding test_at
+test_found text x h =
+    let key = bind_ok {A = Key × List ℕ} {B = Tree × List ℕ} (key_at text) (λ key. test_of key.0 key.1 >>= closed) x h in
+    let test = bind_ok {A = Tree × List ℕ} {B = Tree × List ℕ} (test_of key.0.0 key.0.1) closed x key.2 in
+    let name = key_found_so text key.0.1 key.0.0 key.1 in
+    let found = named_found name.0 key.0.0 key.0.1 test.0 name.1 test.1 in
+    closed_found SpellsSimple text test.0 x (found.0, found.1, name.2 ∙ found.2) test.2
+
+-- what is read inside is spelled
+abbrev pub IsSound : Reader → (Tree → List ℕ → Type 0) → Type 0
+IsSound read spells = (text : List ℕ) (x : Tree × List ℕ) → read text ≡ Ok x → FoundBy spells text x
+
+negation_found : (read : Reader) (spells : Tree → List ℕ → Type 0) → IsSound read spells → (text : List ℕ) (x : Tree × List ℕ) → negation_at read text ≡ Ok x → FoundClosed (SpellsNegation spells) text x
+unfolding negation_at
+negation_found read spells sound text x h =
+    let mark = bind_ok {A = List ℕ} {B = Tree × List ℕ} (byte_at exclamation text) (λ inner. read (without_blanks inner) >>= λ y. closed (Not y.0, y.1)) x h in
+    let inner = bind_ok {A = Tree × List ℕ} {B = Tree × List ℕ} (read (without_blanks mark.0)) (λ y. closed (Not y.0, y.1)) x mark.2 in
+    let blanks = blanks_found mark.0 in
+    let found = sound (without_blanks mark.0) inner.0 inner.1 in
+    let behind : mark.0 ≡ (blanks.0 ++ found.0) ++ inner.0.1 = blanks.2 ∙ ap (λ (s : List ℕ). blanks.0 ++ s) found.2 ∙ sym (append_assoc blanks.0 found.0 inner.0.1) in
+    closed_found (SpellsNegation spells) text (Not inner.0.0, inner.0.1) x (
+      exclamation ∷ (blanks.0 ++ found.0),
+      record { inner = inner.0.0; gap = blanks.0; spelling = found.0; blanks = blanks.1; spelled = found.1; parts = refl; says = refl },
+      byte_found exclamation text mark.0 mark.1 ∙ ap (λ (s : List ℕ). exclamation ∷ s) behind,
+    ) inner.2
+
+-- a group of any number
+abbrev pub SpellsSome : (Tree → List ℕ → Type 0) → Tree → List ℕ → Type 0
+SpellsSome spells tree text = (others : ℕ) × SpellsGroup spells others tree text
+
+pub group_parts : (f b w a l r : List ℕ) → (f ++ (b ++ (w ++ (a ++ l)))) ++ r ≡ f ++ (b ++ (w ++ (a ++ (l ++ r))))
+group_parts f b w a l r = regroup f b (w ++ (a ++ l)) r ∙ ap (λ (s : List ℕ). f ++ (b ++ s)) (regroup w a l r)
+
+-- one EXPR more
+longer_found : (spells : Tree → List ℕ → Type 0) (text gap rest : List ℕ) (tree right : Tree) → FoundBy (SpellsSome spells) text (tree, gap) → between_gaps (codes "AND") gap ≡ Ok rest → (behind : List ℕ) → FoundBy spells rest (right, behind) → FoundBy (SpellsSome spells) text (And tree right, behind)
+longer_found spells text gap rest tree right found h behind last =
+    let sign = spaced (codes "AND") gap rest h in (
+      found.0 ++ (sign.0 ++ (codes "AND" ++ (sign.1 ++ last.0))),
+      (suc found.1.0, (tree, right, found.0, sign.0, sign.1, last.0, found.1.1, sign.2, sign.3, last.1, refl, refl)),
+      found.2 ∙ ap (λ (s : List ℕ). found.0 ++ s) (sign.4 ∙ ap (λ (s : List ℕ). sign.0 ++ (codes "AND" ++ (sign.1 ++ s))) last.2) ∙ sym (group_parts found.0 sign.0 (codes "AND") sign.1 last.0 behind),
+    )
+
+others_found : (read : Reader) (spells : Tree → List ℕ → Type 0) → IsSound read spells → (most : ℕ) (text : List ℕ) (y x : Tree × List ℕ) → FoundBy (SpellsSome spells) text y → others_at read most y ≡ Ok x → FoundClosed (SpellsSome spells) text x
+unfolding others_at
+others_found read spells sound zero text y x found h = closed_found (SpellsSome spells) text y x found h
+others_found read spells sound (suc most) text y x found h = by_cases (begins_so closing (without_blanks y.1)) h (λ z more k. others_found read spells sound most text z x more k)
+  where
+    by_cases : (c : Bool) → cond c (closed y) (between_gaps (codes "AND") y.1 >>= λ rest. read rest >>= λ z. others_at read most (And y.0 z.0, z.1)) ≡ Ok x
+        → ((z : Tree × List ℕ) → FoundBy (SpellsSome spells) text z → others_at read most z ≡ Ok x → FoundClosed (SpellsSome spells) text x)
+        → FoundClosed (SpellsSome spells) text x
+    by_cases true k again = closed_found (SpellsSome spells) text y x found k
+    by_cases false k again =
+        let gaps = bind_ok {A = List ℕ} {B = Tree × List ℕ} (between_gaps (codes "AND") y.1) (λ rest. read rest >>= λ z. others_at read most (And y.0 z.0, z.1)) x k in
+        let right = bind_ok {A = Tree × List ℕ} {B = Tree × List ℕ} (read gaps.0) (λ z. others_at read most (And y.0 z.0, z.1)) x gaps.2 in
+        again (And y.0 right.0.0, right.0.1) (longer_found spells text y.1 gaps.0 y.0 right.0.0 found gaps.1 right.0.1 (sound gaps.0 right.0 right.1)) right.2
+
+group_found : (read : Reader) (spells : Tree → List ℕ → Type 0) → IsSound read spells → (text : List ℕ) (x : Tree × List ℕ) → group_at read text ≡ Ok x → FoundClosed (SpellsSome spells) text x
+unfolding group_at
+group_found read spells sound text x h =
+    let first = bind_ok {A = Tree × List ℕ} {B = Tree × List ℕ} (read text) (λ y. others_at read (length y.1) y) x h in
+    let found = sound text first.0 first.1 in
+    others_found read spells sound (length first.0.1) text first.0 x (found.0, (zero, found.1), found.2) first.2
+
+inside_found : (read : Reader) (spells : Tree → List ℕ → Type 0) → IsSound read spells → (text : List ℕ) (x : Tree × List ℕ) → inside_at read text ≡ Ok x → FoundClosed (SpellsInside spells) text x
+unfolding inside_at
+inside_found read spells sound text x h = by_cases (begins_so opening text) (begins_so exclamation text) h
+  where
+    by_cases : (o e : Bool) → cond o (group_at read text) (cond e (negation_at read text) (test_at text)) ≡ Ok x → FoundClosed (SpellsInside spells) text x
+    by_cases true e k = wider (SpellsSome spells) (SpellsInside spells) text x (λ tree front s. inr (inr s)) (group_found read spells sound text x k)
+    by_cases false true k = wider (SpellsNegation spells) (SpellsInside spells) text x (λ tree front s. inr (inl s)) (negation_found read spells sound text x k)
+    by_cases false false k = wider SpellsSimple (SpellsInside spells) text x (λ tree front s. inl s) (test_found text x k)
+
+pub enclosed_parts : (b i a x : List ℕ) → opening ∷ (b ++ (i ++ (a ++ closing ∷ x))) ≡ (opening ∷ (b ++ (i ++ (a ++ closing ∷ [])))) ++ x
+enclosed_parts b i a x = ap (λ (s : List ℕ). opening ∷ s) (sym (regroup b i (a ++ closing ∷ []) x ∙ ap (λ (s : List ℕ). b ++ (i ++ s)) (append_assoc a (closing ∷ []) x)))
+
+-- what is read is spelled
+pub expression_found : (room : ℕ) → IsSound (expression_at room) (Spells room)
+unfolding expression_at Spells
+expression_found zero text x h =
+    let none = bind_ok {A = List ℕ} {B = Tree × List ℕ} (byte_at opening text) (λ rest. Err (Deep (length text))) x h in
+    absurd (let refused : ◌≡◌ {A = Result (Tree × List ℕ) Fault} (Err (Deep (length text))) (Ok x) = none.2 in cc)
+expression_found (suc room) text x h =
+    let first = bind_ok {A = List ℕ} {B = Tree × List ℕ} (byte_at opening text) (λ rest. inside_at (expression_at room) (without_blanks rest)) x h in
+    let blanks = blanks_found first.0 in
+    let found = inside_found (expression_at room) (Spells room) (expression_found room) (without_blanks first.0) x first.2 in
+    let parts : text ≡ opening ∷ (blanks.0 ++ (found.0 ++ (found.1 ++ closing ∷ x.1))) =
+    byte_found opening text first.0 first.1 ∙ ap (λ (s : List ℕ). opening ∷ s) (blanks.2 ∙ ap (λ (s : List ℕ). blanks.0 ++ s) found.4) in (
+      opening ∷ (blanks.0 ++ (found.0 ++ (found.1 ++ closing ∷ []))),
+      record { before = blanks.0; inside = found.0; after = found.1; blanks_before = blanks.1; blanks_after = found.3; spelled = found.2; parts = refl },
+      parts ∙ enclosed_parts blanks.0 found.0 found.1 x.1,
+    )
+
+nothing_behind : (rest : List ℕ) → is_nil rest ≡ true → rest ≡ []
+nothing_behind [] h = refl
+nothing_behind (b ∷ rest) h = absurd (cc)
+
+pub whole_found : (word : List ℕ) (tree : Tree) → whole word ≡ Ok tree → Spells most_open tree word
+unfolding whole
+whole_found word tree h =
+    let read = bind_ok {A = Tree × List ℕ} {B = Tree} (expression_at most_open word) alone tree h in
+    let end = guard_ok (is_nil read.0.1) read.0.0 tree (Bad (length read.0.1)) read.2 in
+    let found = expression_found most_open word read.0 read.1 in
+    let same : word ≡ found.0 = found.2 ∙ ap (λ (s : List ℕ). found.0 ++ s) (nothing_behind read.0.1 end.0) ∙ append-nil found.0 in
+    subst (λ (t : Tree). Spells most_open t word) end.1 (subst (Spells most_open read.0.0) (sym same) found.1)

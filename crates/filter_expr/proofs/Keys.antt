@@ -1,0 +1,160 @@
+-- A name has no byte that ends a name, so it is read whole.
+use Rattle.std.proofs.Common.{◌≡◌, inl, inr, ℕ, suc, ◌<◌, Bool, true, false, nat_lt, nat_eq, List, [], ◌∷◌, ◌++◌, length, map, Option, Some, None, Ok, refl, sym, ap, ◌∙◌, arith}
+use Rattle.std.specs.Prelude.{codes}
+use Rattle.std.proofs.lemmas.Bool.{false≢true, cases_Bool, cases_lt, agree_below_at, or_parts, le-ltb, and_parts, eqb-true}
+use Rattle.std.specs.List.{list_any, list_all}
+use Rattle.std.specs.Char.{to_ascii_lowercase}
+use Rattle.std.specs.Str.{str_eq_ignore_ascii_case}
+use Rattle.filter_expr.specs.declared.name.Key.{Key}
+use Rattle.filter_expr.specs.Names.{tag_named, key_of, key_named}
+use Rattle.filter_expr.specs.Parts.{is_blank, ends_name, name_in, behind_name, key_at, key_from, key_found}
+use Rattle.std.proofs.lemmas.Slice.Eq.{bytes_eq-Decides}
+
+lower_ends : (b : ℕ) → ends_name (to_ascii_lowercase b) ≡ ends_name b
+lower_ends b = elim (cases_lt b 91) [
+  | inl small ↦ agree_below_at (λ n. ends_name (to_ascii_lowercase n)) ends_name 91 b refl small
+  | inr large ↦
+      let low : nat_lt b 65 ≡ false = le-ltb b 65 (omega arith) in
+      let high : nat_lt b 91 ≡ false = le-ltb b 91 large in
+      rw (low, high) refl
+]
+
+lower_any : (name : List ℕ) → list_any ends_name (map to_ascii_lowercase name) ≡ list_any ends_name name
+lower_any [] = refl
+lower_any (b ∷ name) = rw (lower_ends b, lower_any name) refl
+
+-- no byte of it ends a name, and there is one
+pub record IsName (name : List ℕ) : Type 0 where
+  pub whole : list_any ends_name name ≡ false
+  pub some : 0 < length name
+
+lower_length : (name : List ℕ) → length (map to_ascii_lowercase name) ≡ length name
+lower_length [] = refl
+lower_length (b ∷ name) = ap suc (lower_length name)
+
+same_name : (name word : List ℕ) → str_eq_ignore_ascii_case name word ≡ true → IsName word → IsName name
+same_name name word h good =
+    let lower : map to_ascii_lowercase name ≡ map to_ascii_lowercase word = (bytes_eq-Decides (map to_ascii_lowercase name) (map to_ascii_lowercase word)).0 h in
+    record {
+      whole = sym (lower_any name) ∙ ap (list_any ends_name) lower ∙ lower_any word ∙ good.whole;
+      some = omega (arith, good.some, lower_length name, lower_length word, ap length lower);
+    }
+
+pub key_name : (name : List ℕ) (key : Key) → key_named name ≡ Some key → IsName name
+unfolding key_named
+key_name name key h =
+    elim (cases_Bool (str_eq_ignore_ascii_case name (codes "title"))) [
+      | inl t ↦ same_name name (codes "title") t (record { whole = refl; some = omega arith })
+      | inr n1 ↦ elim (cases_Bool (str_eq_ignore_ascii_case name (codes "artist"))) [
+        | inl t ↦ same_name name (codes "artist") t (record { whole = refl; some = omega arith })
+        | inr n2 ↦ elim (cases_Bool (str_eq_ignore_ascii_case name (codes "album"))) [
+          | inl t ↦ same_name name (codes "album") t (record { whole = refl; some = omega arith })
+          | inr n3 ↦ elim (cases_Bool (str_eq_ignore_ascii_case name (codes "date"))) [
+            | inl t ↦ same_name name (codes "date") t (record { whole = refl; some = omega arith })
+            | inr n4 ↦ elim (cases_Bool (str_eq_ignore_ascii_case name (codes "genre"))) [
+              | inl t ↦ same_name name (codes "genre") t (record { whole = refl; some = omega arith })
+              | inr n5 ↦ elim (cases_Bool (str_eq_ignore_ascii_case name (codes "comment"))) [
+                | inl t ↦ same_name name (codes "comment") t (record { whole = refl; some = omega arith })
+                | inr n6 ↦ other_name name key (ap (λ tag. key_of tag name) (sym (no_tag name n1 n2 n3 n4 n5 n6)) ∙ h)
+              ]
+            ]
+          ]
+        ]
+      ]
+    ]
+  where
+    no_tag : (name : List ℕ) → str_eq_ignore_ascii_case name (codes "title") ≡ false → str_eq_ignore_ascii_case name (codes "artist") ≡ false → str_eq_ignore_ascii_case name (codes "album") ≡ false → str_eq_ignore_ascii_case name (codes "date") ≡ false → str_eq_ignore_ascii_case name (codes "genre") ≡ false → str_eq_ignore_ascii_case name (codes "comment") ≡ false → tag_named name ≡ None
+    no_tag name n1 n2 n3 n4 n5 n6 = rw (n1, n2, n3, n4, n5, n6) refl
+
+    none_key : (name : List ℕ) → str_eq_ignore_ascii_case name (codes "any") ≡ false → str_eq_ignore_ascii_case name (codes "file") ≡ false → str_eq_ignore_ascii_case name (codes "base") ≡ false → key_of None name ≡ None
+    none_key name n1 n2 n3 = rw (n1, n2, n3) refl
+
+    other_name : (name : List ℕ) (key : Key) → key_of None name ≡ Some key → IsName name
+    other_name name key h =
+        elim (cases_Bool (str_eq_ignore_ascii_case name (codes "any"))) [
+          | inl t ↦ same_name name (codes "any") t (record { whole = refl; some = omega arith })
+          | inr n7 ↦ elim (cases_Bool (str_eq_ignore_ascii_case name (codes "file"))) [
+            | inl t ↦ same_name name (codes "file") t (record { whole = refl; some = omega arith })
+            | inr n8 ↦ elim (cases_Bool (str_eq_ignore_ascii_case name (codes "base"))) [
+              | inl t ↦ same_name name (codes "base") t (record { whole = refl; some = omega arith })
+              | inr n9 ↦ absurd (let none = none_key name n7 n8 n9 in cc)
+            ]
+          ]
+        ]
+
+-- a name ends behind it
+abbrev pub EndsName : List ℕ → Type 0
+EndsName [] = Unit {0}
+EndsName (b ∷ tail) = ends_name b ≡ true
+
+pub blank_ends : (b : ℕ) → is_blank b ≡ true → ends_name b ≡ true
+blank_ends b h = rw h refl
+
+pub ends_blanks : (gap tail : List ℕ) → list_all is_blank gap ≡ true → EndsName tail → EndsName (gap ++ tail)
+ends_blanks [] tail h e = e
+ends_blanks (b ∷ gap) tail h e = blank_ends b (and_parts (is_blank b) (list_all is_blank gap) h).0
+
+-- a name begins with none of the bytes that end it
+pub name_starts : (name : List ℕ) (key : Key) → key_named name ≡ Some key → (b : ℕ) × (more : List ℕ) × (name ≡ b ∷ more) × (ends_name b ≡ false)
+name_starts name key h = by_cases name (key_name name key h)
+  where
+    by_cases : (name : List ℕ) → IsName name → (b : ℕ) × (more : List ℕ) × (name ≡ b ∷ more) × (ends_name b ≡ false)
+    by_cases [] good = absurd (omega (arith, good.some))
+    by_cases (b ∷ name) good = (b, name, refl, (or_parts (ends_name b) (list_any ends_name name) good.whole).0)
+
+pub no_blank : (b : ℕ) → ends_name b ≡ false → is_blank b ≡ false
+no_blank b h = elim (cases_Bool (is_blank b)) [ inl t ↦ absurd (false≢true (sym h ∙ blank_ends b t)) | inr f ↦ f ]
+
+pub no_byte : (byte b : ℕ) → ends_name byte ≡ true → ends_name b ≡ false → nat_eq b byte ≡ false
+no_byte byte b e h = elim (cases_Bool (nat_eq b byte)) [ inl t ↦ absurd (false≢true (sym h ∙ ap ends_name (eqb-true b byte t) ∙ e)) | inr f ↦ f ]
+
+name_read : (name tail : List ℕ) → list_any ends_name name ≡ false → EndsName tail → name_in (name ++ tail) ≡ name
+unfolding name_in
+name_read [] [] h e = refl
+name_read [] (b ∷ tail) h e = rw e refl
+name_read (b ∷ name) tail h e =
+    let both = or_parts (ends_name b) (list_any ends_name name) h in
+    rw both.0 (ap (λ (s : List ℕ). b ∷ s) (name_read name tail both.1 e))
+
+behind_read : (name tail : List ℕ) → list_any ends_name name ≡ false → EndsName tail → behind_name (name ++ tail) ≡ tail
+unfolding behind_name
+behind_read [] [] h e = refl
+behind_read [] (b ∷ tail) h e = rw e refl
+behind_read (b ∷ name) tail h e =
+    let both = or_parts (ends_name b) (list_any ends_name name) h in
+    rw both.0 (behind_read name tail both.1 e)
+
+name_parts : (text : List ℕ) → text ≡ name_in text ++ behind_name text
+unfolding name_in behind_name
+name_parts [] = refl
+name_parts (b ∷ text) = by_cases (ends_name b) refl (name_parts text)
+  where
+    by_cases : (c : Bool) → ends_name b ≡ c → text ≡ name_in text ++ behind_name text → b ∷ text ≡ name_in (b ∷ text) ++ behind_name (b ∷ text)
+    by_cases true e more = rw e refl
+    by_cases false e more = rw e (ap (λ (s : List ℕ). b ∷ s) more)
+
+from_name : (name : List ℕ) (key : Key) (behind : List ℕ) → 0 < length name → key_named name ≡ Some key → key_from name behind ≡ Ok (key, behind)
+from_name [] key behind lt h = absurd (omega arith)
+from_name (b ∷ name) key behind lt h = ap (λ found. key_found found (b ∷ name) behind) h
+
+pub key_again : (name tail : List ℕ) (key : Key) → key_named name ≡ Some key → EndsName tail → key_at (name ++ tail) ≡ Ok (key, tail)
+unfolding key_at
+key_again name tail key h e =
+    let good = key_name name key h in
+    rw (name_read name tail good.whole e, behind_read name tail good.whole e) (from_name name key tail good.some h)
+
+name_from : (name behind rest : List ℕ) (key : Key) → key_from name behind ≡ Ok (key, rest) → (key_named name ≡ Some key) × (behind ≡ rest)
+name_from [] behind rest key h = absurd (cc)
+name_from (b ∷ name) behind rest key h = by_cases (key_named (b ∷ name)) refl h
+  where
+    by_cases : (found : Option Key) → key_named (b ∷ name) ≡ found → key_found found (b ∷ name) behind ≡ Ok (key, rest) → (key_named (b ∷ name) ≡ Some key) × (behind ≡ rest)
+    by_cases None e k = absurd (cc)
+    by_cases (Some other) e k =
+        let same : ◌≡◌ {A = Key × List ℕ} (other, behind) (key, rest) = cc in
+        (e ∙ ap (λ (p : Key × List ℕ). Some p.0) same, ap (λ (p : Key × List ℕ). p.1) same)
+
+pub key_found_so : (text rest : List ℕ) (key : Key) → key_at text ≡ Ok (key, rest) → (name : List ℕ) × (key_named name ≡ Some key) × (text ≡ name ++ rest)
+unfolding key_at
+key_found_so text rest key h =
+    let found = name_from (name_in text) (behind_name text) rest key h in
+    (name_in text, found.0, name_parts text ∙ ap (λ (s : List ℕ). name_in text ++ s) found.1)
