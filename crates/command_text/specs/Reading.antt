@@ -91,6 +91,11 @@ unfoldable pub command_of : Place → List (List ℕ) → Result Command Refusal
 command_of place [] = Err NoCommand
 command_of place (word ∷ arguments) = known_command place word arguments (named word)
 
+-- the first word is no name: it alone is copied, so that only here memory can be wanting
+abbrev pub IsUnknown : List (List ℕ) → Type 0
+IsUnknown [] = ⊥
+IsUnknown (word ∷ arguments) = named word ≡ None
+
 abbrev pub command_of_words : Place → Option (List (List ℕ)) → Result Command Refusal
 command_of_words place None = Err BadQuoting
 command_of_words place (Some words) = command_of place words

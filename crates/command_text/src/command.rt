@@ -1,6 +1,6 @@
 ghost use Rattle.std.specs.Prelude.{◌≡◌, Err};
 ghost use Rattle.std.specs.Result.{result_map_both};
-ghost use Rattle.command_text.specs.Reading.{Gives, command_of, command_with, in_place, name_of, no_argument, one_argument};
+ghost use Rattle.command_text.specs.Reading.{Gives, IsUnknown, command_of, command_with, in_place, name_of, no_argument, one_argument};
 
 use crate::argument::{argument, single, switch, volume};
 use crate::name::CommandName;
@@ -49,6 +49,8 @@ impl Command {
     #[tactic(auto, unfolding(crate::specs::Reading::command_of))]
     pub fn read(alloc: Global, place: Place, words: &[Word]) -> Result<Command, ReadError>
         ensures exact { Gives result (command_of place words.now) }
+        // Only the word of an unknown command takes memory.
+        ensures memory { result ≡ Err ReadError.NoMemory → IsUnknown words.now }
     {
         let Some((first, arguments)) = words.split_first() else {
             return Err(ReadError::Refused(Refusal::NoCommand));

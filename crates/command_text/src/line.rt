@@ -1,4 +1,4 @@
-ghost use Rattle.std.specs.Prelude.{◌≡◌, is_some};
+ghost use Rattle.std.specs.Prelude.{◌≡◌, is_some, true, Err};
 ghost use Rattle.std.specs.Str.{is_utf8};
 ghost use Rattle.command_text.specs.Reading.{Gives, line_reading, name_of_line, want_of_memory};
 ghost use Rattle.command_text.specs.Words.{words_from};
@@ -16,6 +16,8 @@ use std::alloc::Global;
 #[tactic(auto, unfolding(crate::specs::Reading::line_reading))]
 pub fn read_line(alloc: Global, place: Place, line: &[u8]) -> Result<Command, ReadError>
     ensures exact { Gives result (line_reading place line.now) }
+    // Bytes that are not UTF-8 are refused without memory.
+    ensures memory { result ≡ Err ReadError.NoMemory → is_utf8 line.now ≡ true }
 {
     if !is_utf8(line) {
         return Err(ReadError::Refused(Refusal::InvalidUtf8));

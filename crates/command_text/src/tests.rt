@@ -1,7 +1,18 @@
 use crate::words::words;
 use crate::*;
 use std::alloc::Global;
+use std::process::Abort;
 use std::test::Fail;
+
+/// The bytes are these. The prover takes an assertion of two values apart for seconds, here once for all.
+fn same_bytes(rt: &impl Abort, found: &[u8], expected: &[u8]) {
+    assert_eq!(rt; found, expected);
+}
+
+/// The same of what a line gave.
+fn same_of_line(rt: &impl Abort, line: &[u8], found: &[u8], expected: &[u8]) {
+    assert_eq!(rt; found, expected, "in {line:?}");
+}
 
 /// The words of a line, each behind a `|`, or the number of the refusal.
 fn parted(alloc: Global, line: &[u8]) -> Result<Vec<u8>, Fail> {
@@ -52,10 +63,22 @@ fn words_of_a_line(rt: HostRuntime) -> Result<(), Fail> {
         (b"\"a\"b", b"35"),
     ];
     for (line, expected) in &table {
-        let found = parted(rt.alloc(), line)?;
-        assert_eq!(rt; found.as_slice(), *expected, "in {line:?}");
+        expect_parted(&rt, rt.alloc(), line, expected)?;
     }
-    assert!(rt; parted(rt.alloc(), &[b'a'; 8192])?.len() == 8193);
+    expect_one_word(&rt, rt.alloc(), &[b'a'; 8192])
+}
+
+/// The line parts so.
+fn expect_parted(rt: &impl Abort, alloc: Global, line: &[u8], expected: &[u8]) -> Result<(), Fail> {
+    let found = parted(alloc, line)?;
+    same_of_line(rt, line, &found, expected);
+    Ok(())
+}
+
+/// The line is one word of 8,192 bytes.
+fn expect_one_word(rt: &impl Abort, alloc: Global, line: &[u8]) -> Result<(), Fail> {
+    let found = parted(alloc, line)?;
+    assert!(rt; found.len() == 8193);
     Ok(())
 }
 
@@ -104,15 +127,30 @@ fn bad_lines(rt: HostRuntime) -> Result<(), Fail> {
         (b"consume \"\"", b"ACK [2@0] {consume} bad argument 1\n"),
     ];
     for (line, expected) in &table {
-        let found = refused(rt.alloc(), Place::Alone, 0, line)?;
-        assert_eq!(rt; found.as_slice(), *expected, "in {line:?}");
+        expect_refused(&rt, rt.alloc(), Place::Alone, 0, line, expected)?;
     }
-    let listed = refused(rt.alloc(), Place::InList, 17, b"close now")?;
-    assert_eq!(rt;
-        listed.as_slice(),
-        b"ACK [2@17] {close} not allowed in a command list\n".as_slice()
-    );
+    let expected = b"ACK [2@17] {close} not allowed in a command list\n";
+    expect_refused(&rt, rt.alloc(), Place::InList, 17, b"close now", expected)
+}
+
+/// A client gets this for the line.
+fn expect_refused(
+    rt: &impl Abort,
+    alloc: Global,
+    place: Place,
+    index: u32,
+    line: &[u8],
+    expected: &[u8],
+) -> Result<(), Fail> {
+    let found = refused(alloc, place, index, line)?;
+    same_of_line(rt, line, &found, expected);
     Ok(())
+}
+
+/// The command of a line, as it is shown.
+fn shown(alloc: Global, line: &[u8]) -> Result<String, Fail> {
+    let command = read_line(alloc, Place::Alone, line)?;
+    Ok(format!(in alloc; "{command:?}")?)
 }
 
 #[test]
@@ -129,29 +167,33 @@ fn commands(rt: HostRuntime) -> Result<(), Fail> {
         (b"setvol 0000000040", "SetVolume(Volume { percent: 40 })"),
     ];
     for (line, expected) in &table {
-        let command = read_line(rt.alloc(), Place::Alone, line)?;
-        let text = format!(in rt.alloc(); "{command:?}")?;
-        assert_eq!(rt; text.as_str(), *expected);
+        let text = shown(rt.alloc(), line)?;
+        same_bytes(&rt, text.as_bytes(), expected.as_bytes());
     }
     Ok(())
+}
+
+/// One line of each kind.
+fn write_lines(out: &mut Vec<u8>) -> Result<(), NoMemory> {
+    write_greeting(out)?;
+    write_pair(out, "state", b"stop")?;
+    write_number(out, "volume", 100)?;
+    write_number(out, "playlist", 0)?;
+    write_number(out, "most", 4294967295)?;
+    write_list_ok(out)?;
+    write_ok(out)
 }
 
 #[test]
 fn answers(rt: HostRuntime) -> Result<(), Fail> {
     let mut out = Vec::new(rt.alloc());
-    write_greeting(&mut out)?;
-    write_pair(&mut out, "state", b"stop")?;
-    write_number(&mut out, "volume", 100)?;
-    write_number(&mut out, "playlist", 0)?;
-    write_number(&mut out, "most", 4294967295)?;
-    write_list_ok(&mut out)?;
-    write_ok(&mut out)?;
+    write_lines(&mut out)?;
     write_ack(&mut out, 4294967295, &want_of_memory(b"setvol 4"))?;
     write_ack(&mut out, 0, &want_of_memory(b"setvol \"4"))?;
     let expected =
         b"OK MPD 0.23.0\nstate: stop\nvolume: 100\nplaylist: 0\nmost: 4294967295\nlist_OK\nOK\n\
 ACK [52@4294967295] {setvol} out of memory\nACK [52@0] {} out of memory\n";
-    assert_eq!(rt; out.as_slice(), expected.as_slice());
+    same_bytes(&rt, &out, expected);
     Ok(())
 }
 
@@ -160,13 +202,14 @@ fn requests(rt: HostRuntime) -> Result<(), Fail> {
     let mut lines = Lines::new(rt.alloc());
     lines.push(Line::from_bytes(rt.alloc(), b"ping")?)?;
     for line in lines.as_slice() {
-        assert_eq!(rt; line.bytes(), b"ping".as_slice());
+        same_bytes(&rt, line.bytes(), b"ping");
     }
     let request = Request::OkList(lines);
     let text = format!(in rt.alloc(); "{request:?}")?;
-    assert_eq!(rt;
-        text.as_str(),
-        "OkList(Lines { lines: [Line { bytes: [112, 105, 110, 103] }] })"
+    same_bytes(
+        &rt,
+        text.as_bytes(),
+        b"OkList(Lines { lines: [Line { bytes: [112, 105, 110, 103] }] })",
     );
     Ok(())
 }

@@ -3,170 +3,365 @@ use command_text::{Line, Lines, Request};
 use idle_masks::{ClientId, Subsystem, Subsystems};
 use player_core::{Single, Volume};
 use state_codec::{Op, Saved, Setting};
-use std::alloc::Global;
+use std::alloc::{AllocError, Global};
+use std::fmt::{Debug, Display};
+use std::process::Abort;
 use std::test::Fail;
 
-/// A fresh daemon, to which clients 1 and 2 are connected.
-fn connected(alloc: Global) -> Result<Core, Fail> {
-    let mut core = Core::new(alloc, Saved::fresh([0; 32]));
-    core.step(alloc, Event::Connect(1))?;
-    core.step(alloc, Event::Connect(2))?;
-    Ok(core)
+mod memory;
+
+/// What `status` answers in a fresh state.
+const FRESH_STATUS: &str =
+    "1> volume: 100\nrepeat: 0\nrandom: 0\nsingle: 0\nconsume: 0\nplaylist: 1\n\
+playlistlength: 0\nstate: stop\nOK\n";
+
+/// These are equal. The prover takes an assertion of two values apart for seconds, here once for all.
+fn equal<T: Copy + PartialEq + Debug>(rt: &impl Abort, left: T, right: T) {
+    assert_eq!(rt; left, right);
 }
 
-/// What an event gives out, as text: each output behind its client, and then what else there is.
-fn given(outcome: &Outcome, alloc: Global) -> Result<String, Fail> {
-    let mut text = String::new(alloc);
-    for output in &outcome.outputs {
-        let bytes = Vec::from_slice(alloc, output.bytes.as_slice())?;
-        write!(text, "{}> {}", output.client, String::from_utf8(bytes)?)?;
+/// The same of texts.
+fn same_text(rt: &impl Abort, left: &str, right: &str) {
+    assert_eq!(rt; left, right);
+}
+
+// The next functions have no contract: the prover then reads the long ones of the daemon here alone, and in no test.
+
+fn fresh(alloc: Global) -> Core {
+    Core::new(alloc, Saved::fresh([0; 32]))
+}
+
+fn stepped(core: &mut Core, alloc: Global, event: Event) -> Result<Outcome, NoMemory> {
+    core.step(alloc, event)
+}
+
+/// A client comes.
+fn connect(core: &mut Core, alloc: Global, client: ClientId) -> Result<(), NoMemory> {
+    stepped(core, alloc, Event::Connect(client))?;
+    Ok(())
+}
+
+/// Clients 1 and 2 come.
+fn connect_both(core: &mut Core, alloc: Global) -> Result<(), NoMemory> {
+    connect(core, alloc, 1)?;
+    connect(core, alloc, 2)
+}
+
+/// A fresh daemon, to which clients 1 and 2 are connected.
+fn connected(alloc: Global) -> Result<Core, NoMemory> {
+    let mut core = fresh(alloc);
+    match connect_both(&mut core, alloc) {
+        Ok(()) => Ok(core),
+        Err(error) => Err(error),
     }
-    if !outcome.closes.is_empty() {
-        write!(text, "closes {:?}\n", outcome.closes)?;
+}
+
+/// A client waits for these.
+fn wait(core: &mut Core, client: ClientId, mask: Subsystems) -> Result<(), Fail> {
+    core.watch.wait(client, mask)?;
+    Ok(())
+}
+
+/// Adds the bytes of an output behind its client.
+fn add_output(text: &mut String, output: &Output, alloc: Global) -> Result<(), Fail> {
+    let bytes = Vec::from_slice(alloc, output.bytes.as_slice())?;
+    let bytes = String::from_utf8(bytes)?;
+    write!(text, "{}> {bytes}", output.client)?;
+    Ok(())
+}
+
+/// Adds the clients that are closed.
+fn add_closes(text: &mut String, closes: &[ClientId]) -> Result<(), Fail> {
+    if !closes.is_empty() {
+        write!(text, "closes {closes:?}\n")?;
     }
-    for op in &outcome.ops {
-        write!(text, "{op:?}\n")?;
-    }
-    if let Some(place) = outcome.refused_at {
+    Ok(())
+}
+
+fn add_op(text: &mut String, op: &Op) -> Result<(), Fail> {
+    write!(text, "{op:?}\n")?;
+    Ok(())
+}
+
+/// Adds where memory was refused, and whether the daemon ends.
+fn add_end(text: &mut String, refused_at: Option<u32>, ended: bool) -> Result<(), Fail> {
+    if let Some(place) = refused_at {
         write!(text, "refused at {place}\n")?;
     }
-    if outcome.ended {
+    if ended {
         text.push_str("ended\n")?;
     }
-    Ok(text)
+    Ok(())
 }
 
-fn lines(alloc: Global, texts: &[&[u8]]) -> Result<Lines, Fail> {
-    let mut lines = Lines::new(alloc);
-    for text in texts {
-        lines.push(Line::from_bytes(alloc, text)?)?;
+/// Adds what an event gives out: each output behind its client, and then what else there is.
+fn add_given(text: &mut String, outcome: &Outcome, alloc: Global) -> Result<(), Fail> {
+    for output in &outcome.outputs {
+        add_output(text, output, alloc)?;
     }
-    Ok(lines)
+    add_closes(text, &outcome.closes)?;
+    for op in &outcome.ops {
+        add_op(text, op)?;
+    }
+    add_end(text, outcome.refused_at, outcome.ended)
 }
 
-/// What client 1 and the others get for one line of client 1.
-fn asked(core: &mut Core, alloc: Global, line: &[u8]) -> Result<String, Fail> {
-    let request = Request::Single(Line::from_bytes(alloc, line)?);
-    let outcome = core.step(alloc, Event::Request(1, request))?;
-    given(&outcome, alloc)
+/// What an event gives out, as text.
+fn given(outcome: &Outcome, alloc: Global) -> Result<String, Fail> {
+    let mut text = String::new(alloc);
+    match add_given(&mut text, outcome, alloc) {
+        Ok(()) => Ok(text),
+        Err(error) => Err(error),
+    }
+}
+
+/// An event gives this out.
+fn gives(
+    rt: &impl Abort,
+    core: &mut Core,
+    alloc: Global,
+    event: Event,
+    expected: &str,
+) -> Result<(), Fail> {
+    let outcome = stepped(core, alloc, event)?;
+    same_text(rt, given(&outcome, alloc)?.as_str(), expected);
+    Ok(())
+}
+
+/// What happens to a daemon.
+#[derive(Clone, Copy)]
+enum Happens<'a> {
+    /// A client sends a line.
+    Line(ClientId, &'a str),
+    /// Client 1 sends a list: `setvol 40`, and the line.
+    AfterSetvol(&'a str),
+    /// A client sends `noidle`.
+    Noidle(ClientId),
+    Connect(ClientId),
+    Gone(ClientId),
+}
+
+fn line_of(alloc: Global, client: ClientId, text: &str) -> Result<Event, AllocError> {
+    let line = Line::from_bytes(alloc, text.as_bytes())?;
+    Ok(Event::Request(client, Request::Single(line)))
+}
+
+fn add_line(lines: &mut Lines, alloc: Global, text: &str) -> Result<(), AllocError> {
+    lines.push(Line::from_bytes(alloc, text.as_bytes())?)?;
+    Ok(())
+}
+
+fn add_lines(lines: &mut Lines, alloc: Global, texts: &[&str]) -> Result<(), AllocError> {
+    for text in texts {
+        add_line(lines, alloc, text)?;
+    }
+    Ok(())
+}
+
+/// A list of these lines of client 1, with `list_OK` or without.
+fn list_of(alloc: Global, separated: bool, texts: &[&str]) -> Result<Event, AllocError> {
+    let mut lines = Lines::new(alloc);
+    match add_lines(&mut lines, alloc, texts) {
+        Ok(()) if separated => Ok(Event::Request(1, Request::OkList(lines))),
+        Ok(()) => Ok(Event::Request(1, Request::List(lines))),
+        Err(error) => Err(error),
+    }
+}
+
+fn event(alloc: Global, happens: Happens) -> Result<Event, AllocError> {
+    match happens {
+        Happens::Line(client, text) => line_of(alloc, client, text),
+        Happens::AfterSetvol(text) => list_of(alloc, true, &["setvol 40", text]),
+        Happens::Noidle(client) => Ok(Event::Request(client, Request::Noidle)),
+        Happens::Connect(client) => Ok(Event::Connect(client)),
+        Happens::Gone(client) => Ok(Event::Gone(client)),
+    }
+}
+
+/// Events in turn, and what each gives out.
+fn events_give(
+    rt: &impl Abort,
+    core: &mut Core,
+    alloc: Global,
+    table: &[(Happens, &str)],
+) -> Result<(), Fail> {
+    for (happens, expected) in table {
+        gives(rt, core, alloc, event(alloc, *happens)?, expected)?;
+    }
+    Ok(())
+}
+
+/// Lines of client 1 in turn, and what each gives out, to it and to others.
+fn lines_give(
+    rt: &impl Abort,
+    core: &mut Core,
+    alloc: Global,
+    table: &[(&str, &str)],
+) -> Result<(), Fail> {
+    for (text, expected) in table {
+        gives(rt, core, alloc, line_of(alloc, 1, text)?, expected)?;
+    }
+    Ok(())
+}
+
+/// Lists of client 1 in turn, each with `list_OK` or without, and what each gives out.
+fn lists_give(
+    rt: &impl Abort,
+    core: &mut Core,
+    alloc: Global,
+    table: &[(bool, &[&str], &str)],
+) -> Result<(), Fail> {
+    for (separated, texts, expected) in table {
+        gives(
+            rt,
+            core,
+            alloc,
+            list_of(alloc, *separated, texts)?,
+            expected,
+        )?;
+    }
+    Ok(())
+}
+
+/// The order number that is saved.
+fn order_of(core: &Core) -> Result<u64, NoMemory> {
+    Ok(core.saved()?.order())
+}
+
+fn key_of(core: &Core) -> Result<[u8; 32], NoMemory> {
+    Ok(core.saved()?.key())
+}
+
+/// Lines over a fresh daemon give this out, and leave this order number.
+fn fresh_lines_give(
+    rt: &impl Abort,
+    alloc: Global,
+    table: &[(&str, &str)],
+    order: u64,
+) -> Result<(), Fail> {
+    let mut core = connected(alloc)?;
+    lines_give(rt, &mut core, alloc, table)?;
+    equal(rt, order_of(&core)?, order);
+    Ok(())
 }
 
 #[test]
 fn single_lines(rt: HostRuntime) -> Result<(), Fail> {
-    let alloc = rt.alloc();
-    let mut core = connected(alloc)?;
-    let table: [(&[u8], &str); 17] = [
+    let table = [
+        ("status", FRESH_STATUS),
+        ("ping", "1> OK\n"),
+        ("random 1", "1> OK\nSetOrder(1)\nSetOption(Random(true))\n"),
+        ("random 1", "1> OK\n"),
+        ("random 0", "1> OK\nSetOption(Random(false))\n"),
+        ("random 1", "1> OK\nSetOrder(2)\nSetOption(Random(true))\n"),
+        ("setvol 101", "1> ACK [2@0] {setvol} bad argument 1\n"),
+        ("setvol 40", "1> OK\nSetVolume(Volume { percent: 40 })\n"),
+        ("setvol 40", "1> OK\n"),
+        ("repeat 1", "1> OK\nSetOption(Repeat(true))\n"),
+        ("single oneshot", "1> OK\nSetOption(Single(Oneshot))\n"),
+        ("single oneshot", "1> OK\n"),
+        ("consume 1", "1> OK\nSetOption(Consume(true))\n"),
         (
-            b"status",
-            "1> volume: 100\nrepeat: 0\nrandom: 0\nsingle: 0\nconsume: 0\nplaylist: 1\n\
-playlistlength: 0\nstate: stop\nOK\n",
-        ),
-        (b"ping", "1> OK\n"),
-        (b"random 1", "1> OK\nSetOrder(1)\nSetOption(Random(true))\n"),
-        (b"random 1", "1> OK\n"),
-        (b"random 0", "1> OK\nSetOption(Random(false))\n"),
-        (b"random 1", "1> OK\nSetOrder(2)\nSetOption(Random(true))\n"),
-        (b"setvol 101", "1> ACK [2@0] {setvol} bad argument 1\n"),
-        (b"setvol 40", "1> OK\nSetVolume(Volume { percent: 40 })\n"),
-        (b"setvol 40", "1> OK\n"),
-        (b"repeat 1", "1> OK\nSetOption(Repeat(true))\n"),
-        (b"single oneshot", "1> OK\nSetOption(Single(Oneshot))\n"),
-        (b"single oneshot", "1> OK\n"),
-        (b"consume 1", "1> OK\nSetOption(Consume(true))\n"),
-        (
-            b"status",
+            "status",
             "1> volume: 40\nrepeat: 1\nrandom: 1\nsingle: oneshot\nconsume: 1\nplaylist: 1\n\
 playlistlength: 0\nstate: stop\nOK\n",
         ),
-        (b"foo", "1> ACK [5@0] {} unknown command \"foo\"\n"),
-        (b"", "1> ACK [5@0] {} No command given\n"),
-        (b"ping \"x", "1> ACK [2@0] {} bad quoting\n"),
+        ("foo", "1> ACK [5@0] {} unknown command \"foo\"\n"),
+        ("", "1> ACK [5@0] {} No command given\n"),
+        ("ping \"x", "1> ACK [2@0] {} bad quoting\n"),
     ];
-    for (line, expected) in &table {
-        assert_eq!(rt;
-            asked(&mut core, alloc, line)?.as_str(),
-            *expected,
-            "in {line:?}"
-        );
-    }
-    assert_eq!(rt; core.saved()?.order(), 2);
-    Ok(())
+    fresh_lines_give(&rt, rt.alloc(), &table, 2)
+}
+
+fn lists_and_noidle(rt: &impl Abort, core: &mut Core, alloc: Global) -> Result<(), Fail> {
+    let going = ["repeat 1", "repeat 0"];
+    let table: [(bool, &[&str], &str); 5] = [
+        (
+            true,
+            &["setvol 7", "setvol 101", "ping", "repeat 1"],
+            "1> list_OK\nACK [2@1] {setvol} bad argument 1\nSetVolume(Volume { percent: 7 })\n",
+        ),
+        (
+            false,
+            &going,
+            "1> OK\nSetOption(Repeat(true))\nSetOption(Repeat(false))\n",
+        ),
+        (
+            true,
+            &going,
+            "1> list_OK\nlist_OK\nOK\nSetOption(Repeat(true))\nSetOption(Repeat(false))\n",
+        ),
+        (
+            false,
+            &["close"],
+            "1> ACK [2@0] {close} not allowed in a command list\n",
+        ),
+        (true, &[], "1> OK\n"),
+    ];
+    lists_give(rt, core, alloc, &table)?;
+    gives(rt, core, alloc, Event::Request(1, Request::Noidle), "")
 }
 
 #[test]
 fn list_stops_at_failure(rt: HostRuntime) -> Result<(), Fail> {
     let alloc = rt.alloc();
     let mut core = connected(alloc)?;
-    let failing: [&[u8]; 4] = [b"setvol 7", b"setvol 101", b"ping", b"repeat 1"];
-    let going: [&[u8]; 2] = [b"repeat 1", b"repeat 0"];
+    lists_and_noidle(&rt, &mut core, alloc)
+}
+
+/// Clients come and go, where clients 1 and 2 are there and 2 waits.
+fn some_come_and_go(rt: &impl Abort, core: &mut Core, alloc: Global) -> Result<(), Fail> {
+    let table = [
+        (Happens::Connect(3), "3> OK MPD 0.23.0\n"),
+        (Happens::Connect(3), ""),
+        (Happens::Noidle(2), "2> OK\n"),
+        (Happens::Gone(4), ""),
+        (Happens::Gone(3), ""),
+        (Happens::Line(3, "ping"), ""),
+        (Happens::Connect(9), "9> OK MPD 0.23.0\n"),
+        (Happens::Connect(5), "5> OK MPD 0.23.0\n"),
+    ];
+    events_give(rt, core, alloc, &table)
+}
+
+/// Clients 2, 5 and 9 wait, each for something else.
+fn three_wait(core: &mut Core) -> Result<(), Fail> {
+    wait(core, 2, Subsystems::only(Subsystem::Options))?;
+    wait(core, 5, Subsystems::only(Subsystem::Mixer))?;
+    wait(core, 9, Subsystems::all())
+}
+
+/// Those that wait for a change are told of it, and the clients leave by what they send.
+fn all_leave(rt: &impl Abort, core: &mut Core, alloc: Global) -> Result<(), Fail> {
     let table = [
         (
-            Request::OkList(lines(alloc, &failing)?),
-            "1> list_OK\nACK [2@1] {setvol} bad argument 1\nSetVolume(Volume { percent: 7 })\n",
+            Happens::Line(1, "repeat 1"),
+            "1> OK\n2> changed: options\nOK\n9> changed: options\nOK\nSetOption(Repeat(true))\n",
         ),
-        (
-            Request::List(lines(alloc, &going)?),
-            "1> OK\nSetOption(Repeat(true))\nSetOption(Repeat(false))\n",
-        ),
-        (
-            Request::OkList(lines(alloc, &going)?),
-            "1> list_OK\nlist_OK\nOK\nSetOption(Repeat(true))\nSetOption(Repeat(false))\n",
-        ),
-        (
-            Request::List(lines(alloc, &[b"close"])?),
-            "1> ACK [2@0] {close} not allowed in a command list\n",
-        ),
-        (Request::OkList(lines(alloc, &[])?), "1> OK\n"),
-        (Request::Noidle, ""),
+        (Happens::Line(5, "ping"), "closes [5]\n"),
+        (Happens::Line(1, "close"), "closes [1]\n"),
+        (Happens::Line(9, "kill"), "closes [2, 9]\nended\n"),
     ];
-    for (request, expected) in table {
-        let outcome = core.step(alloc, Event::Request(1, request))?;
-        assert_eq!(rt; given(&outcome, alloc)?.as_str(), expected);
-    }
-    Ok(())
+    events_give(rt, core, alloc, &table)
+}
+
+/// Client 2 waits from the start.
+fn come_and_leave(rt: &impl Abort, core: &mut Core, alloc: Global) -> Result<(), Fail> {
+    wait(core, 2, Subsystems::only(Subsystem::Options))?;
+    some_come_and_go(rt, core, alloc)?;
+    three_wait(core)?;
+    all_leave(rt, core, alloc)
 }
 
 #[test]
 fn clients_come_and_go(rt: HostRuntime) -> Result<(), Fail> {
     let alloc = rt.alloc();
     let mut core = connected(alloc)?;
-    core.watch.wait(2, Subsystems::only(Subsystem::Options))?;
-    let ping = Request::Single(Line::from_bytes(alloc, b"ping")?);
-    let kill = Request::Single(Line::from_bytes(alloc, b"kill")?);
-    let table = [
-        (Event::Connect(3), "3> OK MPD 0.23.0\n"),
-        (Event::Connect(3), ""),
-        (Event::Request(2, Request::Noidle), "2> OK\n"),
-        (Event::Gone(4), ""),
-        (Event::Gone(3), ""),
-        (Event::Request(3, ping), ""),
-        (Event::Connect(9), "9> OK MPD 0.23.0\n"),
-        (Event::Connect(5), "5> OK MPD 0.23.0\n"),
-    ];
-    for (event, expected) in table {
-        let outcome = core.step(alloc, event)?;
-        assert_eq!(rt; given(&outcome, alloc)?.as_str(), expected);
-    }
-    core.watch.wait(2, Subsystems::only(Subsystem::Options))?;
-    core.watch.wait(5, Subsystems::only(Subsystem::Mixer))?;
-    core.watch.wait(9, Subsystems::all())?;
-    assert_eq!(rt;
-        asked(&mut core, alloc, b"repeat 1")?.as_str(),
-        "1> OK\n2> changed: options\nOK\n9> changed: options\nOK\nSetOption(Repeat(true))\n"
-    );
-    let line = Request::Single(Line::from_bytes(alloc, b"ping")?);
-    let outcome = core.step(alloc, Event::Request(5, line))?;
-    assert_eq!(rt; given(&outcome, alloc)?.as_str(), "closes [5]\n");
-    assert_eq!(rt; asked(&mut core, alloc, b"close")?.as_str(), "closes [1]\n");
-    let outcome = core.step(alloc, Event::Request(9, kill))?;
-    assert_eq!(rt; given(&outcome, alloc)?.as_str(), "closes [2, 9]\nended\n");
-    Ok(())
+    come_and_leave(&rt, &mut core, alloc)
 }
 
-#[test]
-fn recovers(rt: HostRuntime) -> Result<(), Fail> {
-    let alloc = rt.alloc();
-    let volume = Volume::new(40).ok_or("40 is a volume")?;
+/// A state that is recovered from one op of each kind, and one that takes another back.
+fn recovered(alloc: Global, volume: Volume) -> Result<Core, RecoverError> {
     let ops = [
         Op::SetVolume(volume),
         Op::SetOrder(5),
@@ -176,245 +371,51 @@ fn recovers(rt: HostRuntime) -> Result<(), Fail> {
         Op::SetOption(Setting::Consume(true)),
         Op::SetOption(Setting::Repeat(false)),
     ];
-    let mut core = Core::recover(alloc, Saved::fresh([7; 32]), &ops)?;
-    let saved = core.saved()?;
-    assert_eq!(rt; saved.order(), 5);
-    assert_eq!(rt; saved.key(), [7; 32]);
-    core.step(alloc, Event::Connect(1))?;
-    assert_eq!(rt;
-        asked(&mut core, alloc, b"status")?.as_str(),
-        "1> volume: 40\nrepeat: 0\nrandom: 1\nsingle: 1\nconsume: 1\nplaylist: 1\n\
-playlistlength: 0\nstate: stop\nOK\n"
-    );
-    assert_eq!(rt; NoMemory.number(), 7);
-    assert_eq!(rt; RecoverError::NoMemory.number(), 7);
-    assert_eq!(rt; RecoverError::BadOp(0).number(), 9);
-    let texts = format!(in alloc;
-        "{NoMemory}; {}; {}",
-        RecoverError::NoMemory,
-        RecoverError::BadOp(3)
-    )?;
-    assert_eq!(rt;
-        texts.as_str(),
-        "out of memory; out of memory; op 3 does not apply"
-    );
+    Core::recover(alloc, Saved::fresh([7; 32]), &ops)
+}
+
+/// What is saved and shown of such a state.
+fn is_recovered(rt: &impl Abort, core: &mut Core, alloc: Global) -> Result<(), Fail> {
+    equal(rt, order_of(core)?, 5);
+    equal(rt, key_of(core)?, [7; 32]);
+    connect(core, alloc, 1)?;
+    let status = "1> volume: 40\nrepeat: 0\nrandom: 1\nsingle: 1\nconsume: 1\nplaylist: 1\n\
+playlistlength: 0\nstate: stop\nOK\n";
+    gives(rt, core, alloc, line_of(alloc, 1, "status")?, status)
+}
+
+#[test]
+fn recovers(rt: HostRuntime) -> Result<(), Fail> {
+    let alloc = rt.alloc();
+    let volume = Volume::new(40).ok_or("40 is a volume")?;
+    let mut core = recovered(alloc, volume)?;
+    is_recovered(&rt, &mut core, alloc)
+}
+
+/// An error is printed so.
+fn prints(
+    rt: &impl Abort,
+    alloc: Global,
+    error: impl Display + Drop,
+    expected: &str,
+) -> Result<(), AllocError> {
+    let text = format!(in alloc; "{}", error)?;
+    same_text(rt, text.as_str(), expected);
     Ok(())
 }
 
-/// What is asked of a daemon to which clients 1 and 2 are connected, where 2 waits for `mixer`.
-#[derive(Clone, Copy)]
-enum Asks {
-    /// Client 1 sends a line.
-    Alone,
-    /// Client 1 sends a list: `setvol 40`, and the line.
-    Second,
-    /// Client 2 sends a line.
-    Waiting,
-    /// Client 2 sends `noidle`.
-    Noidle,
-    Connect(ClientId),
-    Gone(ClientId),
-}
-
-fn event(alloc: Global, asks: Asks, text: &str) -> Result<Event, Fail> {
-    let line = Line::from_bytes(alloc, text.as_bytes())?;
-    Ok(match asks {
-        Asks::Alone => Event::Request(1, Request::Single(line)),
-        Asks::Second => {
-            let mut both = lines(alloc, &[b"setvol 40"])?;
-            both.push(line)?;
-            Event::Request(1, Request::OkList(both))
-        }
-        Asks::Waiting => Event::Request(2, Request::Single(line)),
-        Asks::Noidle => Event::Request(2, Request::Noidle),
-        Asks::Connect(client) => Event::Connect(client),
-        Asks::Gone(client) => Event::Gone(client),
-    })
-}
-
-fn waiting(alloc: Global) -> Result<Core, Fail> {
-    let mut core = connected(alloc)?;
-    core.watch.wait(2, Subsystems::only(Subsystem::Mixer))?;
-    Ok(core)
-}
-
-/// What is given out where the answer may say that there was no memory.
-fn tried(core: &mut Core, alloc: Global, asks: Asks, text: &str) -> Result<String, Fail> {
-    let event = event(alloc, asks, text)?;
-    match core.step(alloc, event) {
-        Ok(outcome) => given(&outcome, alloc),
-        Err(NoMemory) => Ok(String::from_str(alloc, "no memory\n")?),
-    }
-}
-
-/// Whether this was given out for want of memory, and the state is the one after the commands before the refused one.
-fn is_refusal(
-    core: &Core,
-    alloc: Global,
-    asks: Asks,
-    name: &str,
-    found: &str,
-) -> Result<bool, Fail> {
-    let mut before = waiting(alloc)?;
-    let nothing = format!(in alloc; "no memory\n{before:?}")?;
-    let first = if matches!(asks, Asks::Second) {
-        "setvol"
-    } else {
-        name
-    };
-    let at_0 = format!(in alloc;
-        "1> ACK [52@0] {{{first}}} out of memory\nrefused at 0\n{before:?}"
-    )?;
-    tried(&mut before, alloc, Asks::Alone, "setvol 40")?;
-    let at_1 = format!(in alloc;
-        "1> list_OK\nACK [52@1] {{{name}}} out of memory\n2> changed: mixer\nOK\n\
-SetVolume(Volume {{ percent: 40 }})\nrefused at 1\n{before:?}"
-    )?;
-    let found = format!(in alloc; "{found}{core:?}")?;
-    Ok(match asks {
-        Asks::Alone => found == nothing || found == at_0,
-        Asks::Second => found == nothing || found == at_0 || found == at_1,
-        _ => found == nothing,
-    })
-}
-
-/// Whichever allocation is refused, an event that meets it answers so, and the state is that of what ran before.
 #[test]
-fn refused_memory(rt: HostRuntime) -> Result<(), Fail> {
+fn numbers_of_refusals(rt: HostRuntime) {
+    equal(&rt, NoMemory.number(), 7);
+    equal(&rt, RecoverError::NoMemory.number(), 7);
+    equal(&rt, RecoverError::BadOp(0).number(), 9);
+}
+
+#[test]
+fn texts_of_refusals(rt: HostRuntime) -> Result<(), Fail> {
     let alloc = rt.alloc();
-    let table: [(Asks, &str, &str, &str); 25] = [
-        (Asks::Alone, "close", "close", "closes [1]\n"),
-        (
-            Asks::Alone,
-            "consume 1",
-            "consume",
-            "1> OK\nSetOption(Consume(true))\n",
-        ),
-        (Asks::Alone, "kill", "kill", "closes [1, 2]\nended\n"),
-        (Asks::Alone, "ping", "ping", "1> OK\n"),
-        (
-            Asks::Alone,
-            "random 1",
-            "random",
-            "1> OK\nSetOrder(1)\nSetOption(Random(true))\n",
-        ),
-        (
-            Asks::Alone,
-            "repeat 1",
-            "repeat",
-            "1> OK\nSetOption(Repeat(true))\n",
-        ),
-        (
-            Asks::Alone,
-            "setvol 7",
-            "setvol",
-            "1> OK\n2> changed: mixer\nOK\nSetVolume(Volume { percent: 7 })\n",
-        ),
-        (
-            Asks::Alone,
-            "single oneshot",
-            "single",
-            "1> OK\nSetOption(Single(Oneshot))\n",
-        ),
-        (
-            Asks::Alone,
-            "status",
-            "status",
-            "1> volume: 100\nrepeat: 0\nrandom: 0\nsingle: 0\nconsume: 0\nplaylist: 1\n\
-playlistlength: 0\nstate: stop\nOK\n",
-        ),
-        (
-            Asks::Alone,
-            "setvol 101",
-            "setvol",
-            "1> ACK [2@0] {setvol} bad argument 1\n",
-        ),
-        (
-            Asks::Alone,
-            "foo",
-            "",
-            "1> ACK [5@0] {} unknown command \"foo\"\n",
-        ),
-        (
-            Asks::Second,
-            "close",
-            "close",
-            "1> list_OK\nACK [2@1] {close} not allowed in a command list\n\
-2> changed: mixer\nOK\nSetVolume(Volume { percent: 40 })\n",
-        ),
-        (
-            Asks::Second,
-            "consume 1",
-            "consume",
-            "1> list_OK\nlist_OK\nOK\n2> changed: mixer\nOK\n\
-SetVolume(Volume { percent: 40 })\nSetOption(Consume(true))\n",
-        ),
-        (
-            Asks::Second,
-            "kill",
-            "kill",
-            "1> list_OK\nACK [2@1] {kill} not allowed in a command list\n\
-2> changed: mixer\nOK\nSetVolume(Volume { percent: 40 })\n",
-        ),
-        (
-            Asks::Second,
-            "ping",
-            "ping",
-            "1> list_OK\nlist_OK\nOK\n2> changed: mixer\nOK\n\
-SetVolume(Volume { percent: 40 })\n",
-        ),
-        (
-            Asks::Second,
-            "random 1",
-            "random",
-            "1> list_OK\nlist_OK\nOK\n2> changed: mixer\nOK\n\
-SetVolume(Volume { percent: 40 })\nSetOrder(1)\nSetOption(Random(true))\n",
-        ),
-        (
-            Asks::Second,
-            "repeat 1",
-            "repeat",
-            "1> list_OK\nlist_OK\nOK\n2> changed: mixer\nOK\n\
-SetVolume(Volume { percent: 40 })\nSetOption(Repeat(true))\n",
-        ),
-        (
-            Asks::Second,
-            "setvol 7",
-            "setvol",
-            "1> list_OK\nlist_OK\nOK\n2> changed: mixer\nOK\n\
-SetVolume(Volume { percent: 40 })\nSetVolume(Volume { percent: 7 })\n",
-        ),
-        (
-            Asks::Second,
-            "single oneshot",
-            "single",
-            "1> list_OK\nlist_OK\nOK\n2> changed: mixer\nOK\n\
-SetVolume(Volume { percent: 40 })\nSetOption(Single(Oneshot))\n",
-        ),
-        (
-            Asks::Second,
-            "status",
-            "status",
-            "1> list_OK\nvolume: 40\nrepeat: 0\nrandom: 0\nsingle: 0\nconsume: 0\nplaylist: 1\n\
-playlistlength: 0\nstate: stop\nlist_OK\nOK\n2> changed: mixer\nOK\n\
-SetVolume(Volume { percent: 40 })\n",
-        ),
-        (Asks::Waiting, "ping", "", "closes [2]\n"),
-        (Asks::Noidle, "", "", "2> OK\n"),
-        (Asks::Connect(3), "", "", "3> OK MPD 0.23.0\n"),
-        (Asks::Connect(2), "", "", ""),
-        (Asks::Gone(2), "", "", ""),
-    ];
-    for (asks, line, name, expected) in &table {
-        let mut core = waiting(alloc)?;
-        let found = tried(&mut core, alloc, *asks, line)?;
-        if found.as_str() != *expected {
-            let refused = is_refusal(&core, alloc, *asks, name, found.as_str())?;
-            assert!(rt; refused, "for {line:?}, {found}{core:?}");
-            // With memory enough it goes well.
-            let again = tried(&mut waiting(alloc)?, alloc, *asks, line)?;
-            assert_eq!(rt; again.as_str(), *expected, "for {line:?}");
-        }
-    }
+    prints(&rt, alloc, NoMemory, "out of memory")?;
+    prints(&rt, alloc, RecoverError::NoMemory, "out of memory")?;
+    prints(&rt, alloc, RecoverError::BadOp(3), "op 3 does not apply")?;
     Ok(())
 }

@@ -54,6 +54,9 @@ impl<D: Disk> Live<D> {
         ensures other_file { MatchBool self.old.is_in_b (self.new.a ≡ self.old.a) (self.new.b ≡ self.old.b) }
         ensures same_file { self.new.is_in_b ≡ self.old.is_in_b }
 
+        // A stage that was broken at the start stays as it was, its disks too.
+        ensures stays { self.old.is_broken ≡ true → self.new ≡ self.old }
+
         ensures refused { OnErr result (self.new ≡ self.old) }
         ensures no_memory { OnErr result (result ≡ Err LiveError.NoMemory) }
         ensures continues_a { D.honest self.old.a → Continues (D.history self.old.a) (D.history self.new.a) }

@@ -7,7 +7,7 @@ use Rattle.std.proofs.lemmas.List.{append_assoc, length-append, length-map, map-
 use Rattle.std.proofs.lemmas.List.Elements.{All-append, All-weaker}
 use Rattle.std.proofs.lemmas.List.Sorted.{All-permutation, length_permutation, IsPermutation-append_comm, IsPermutation-append_right}
 use Rattle.play_queue.specs.declared.entry.Entry.{Entry}
-use Rattle.play_queue.specs.declared.limits.TheConstants.{MAX_ENTRIES, MAX_ID}
+use Rattle.play_queue.specs.Limits.{MAX_ENTRIES, MAX_ID}
 use Rattle.play_queue.specs.Entries.{Uris, new_entries, added}
 use Rattle.play_queue.specs.Queue.{QueueState, HaveOwnIds, IsQueue, IsEntry, ids_of, ruled}
 use Rattle.play_queue.specs.Restamp.{restamped, next_version}

@@ -6,7 +6,7 @@ use Rattle.std.proofs.lemmas.List.{append_assoc, length-append, length-map, map-
 use Rattle.std.proofs.lemmas.List.Edits.{length-between}
 use Rattle.std.proofs.lemmas.List.Sorted.{IsPermutation-append_comm, IsPermutation-append_left, IsPermutation-append_right}
 use Rattle.play_queue.specs.declared.entry.Entry.{Entry}
-use Rattle.play_queue.specs.declared.limits.TheConstants.{MAX_VERSION}
+use Rattle.play_queue.specs.Limits.{MAX_VERSION}
 use Rattle.play_queue.specs.Queue.{QueueState, HaveOwnIds, IsQueue, ids_of, is_unchanged, with_stamp, stamped, ruled}
 use Rattle.play_queue.specs.Restamp.{restamped, next_version, exchanged}
 use Rattle.play_queue.proofs.Blocks.{in_parts}

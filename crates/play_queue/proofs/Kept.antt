@@ -6,7 +6,7 @@ use Rattle.std.proofs.lemmas.List.{length-map, length-append, length-take-le, ta
 use Rattle.std.proofs.lemmas.List.Elements.{All-cons, All-head, All-tail}
 use Rattle.std.proofs.lemmas.List.Sorted.{IsPermutation-filter_both}
 use Rattle.play_queue.specs.declared.entry.Entry.{Entry}
-use Rattle.play_queue.specs.declared.limits.TheConstants.{MAX_VERSION}
+use Rattle.play_queue.specs.Limits.{MAX_VERSION}
 use Rattle.play_queue.specs.Entries.{Uris, is_among, kept}
 use Rattle.play_queue.specs.Queue.{QueueState, HaveOwnIds, IsQueue, IsEntry, ids_of, is_same, is_unchanged, with_stamp, stamped, ruled}
 use Rattle.play_queue.specs.Restamp.{marked, next_version}

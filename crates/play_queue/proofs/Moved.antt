@@ -10,7 +10,7 @@ use Rattle.std.proofs.lemmas.List.Elements.{Contains-get_or}
 use Rattle.std.proofs.lemmas.List.Sorted.{IsPermutation-refl, IsPermutation-sym, IsPermutation-map, IsPermutation-append_left, IsPermutation-append_right, Contains-permutation, length_permutation}
 use Rattle.std.proofs.lemmas.Slice.Zip.{seconds-zip}
 use Rattle.play_queue.specs.declared.entry.Entry.{Entry}
-use Rattle.play_queue.specs.declared.limits.TheConstants.{MAX_VERSION}
+use Rattle.play_queue.specs.Limits.{MAX_VERSION}
 use Rattle.play_queue.specs.Queue.{QueueState, IsQueue, HaveOwnIds, ids_of, is_same, is_unchanged, with_stamp, stamped, ruled}
 use Rattle.play_queue.specs.Restamp.{next_version}
 use Rattle.play_queue.specs.Shuffle.{sorted_by_words, shuffled, stamped_if_moved, stamped_moved, restamped_moved}

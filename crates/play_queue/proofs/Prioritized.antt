@@ -8,7 +8,7 @@ use Rattle.std.proofs.lemmas.List.Elements.{All-cons, All-head, All-tail}
 use Rattle.std.proofs.lemmas.List.Edits.{length-between, get_or-between}
 use Rattle.std.proofs.lemmas.List.FromFn.{length-enumerate_from, get_or-enumerate_from}
 use Rattle.play_queue.specs.declared.entry.Entry.{Entry}
-use Rattle.play_queue.specs.declared.limits.TheConstants.{MAX_VERSION}
+use Rattle.play_queue.specs.Limits.{MAX_VERSION}
 use Rattle.play_queue.specs.Entries.{is_in_some, with_priority, prioritized}
 use Rattle.play_queue.specs.Queue.{QueueState, IsQueue, IsEntry, ids_of, is_same, is_unchanged, with_stamp, stamped, ruled}
 use Rattle.play_queue.specs.Refused.{has_bad}

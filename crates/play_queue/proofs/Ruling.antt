@@ -8,7 +8,7 @@ use Rattle.std.proofs.lemmas.List.{take_at, drop_at, drop_all, append-nil, lengt
 use Rattle.play_queue.proofs.OwnIds.{differ_at}
 use Rattle.std.proofs.lemmas.Slice.{between_to_end}
 use Rattle.play_queue.specs.declared.entry.Entry.{Entry}
-use Rattle.play_queue.specs.declared.limits.TheConstants.{MAX_VERSION}
+use Rattle.play_queue.specs.Limits.{MAX_VERSION}
 use Rattle.play_queue.specs.Entries.{Uris, deleted}
 use Rattle.play_queue.specs.Queue.{QueueState, ids_of, HaveOwnIds, is_same, is_unchanged, with_stamp, stamped, ruled}
 use Rattle.play_queue.specs.Restamp.{restamped, next_version}

@@ -8,7 +8,7 @@ use Rattle.std.proofs.lemmas.List.Kept.{AllPairs-from_increasing}
 use Rattle.std.proofs.lemmas.List.Elements.{All-cons, All-head, All-tail}
 use Rattle.std.proofs.lemmas.List.Sorted.{IsPermutation-sym, IsNonDecreasingBy-from_sort}
 use Rattle.play_queue.specs.declared.entry.Entry.{Entry}
-use Rattle.play_queue.specs.declared.limits.TheConstants.{MAX_ENTRIES, MAX_ID, MAX_VERSION}
+use Rattle.play_queue.specs.Limits.{MAX_ENTRIES, MAX_ID, MAX_VERSION}
 use Rattle.play_queue.specs.Queue.{QueueState, IsQueue, IsEntry, HaveOwnIds, is_entry, are_numbers, is_bounded}
 use Rattle.play_queue.proofs.OwnIds.{AllDiffer, all_differ-permutation}
 

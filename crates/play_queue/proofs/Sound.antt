@@ -8,7 +8,7 @@ use Rattle.std.proofs.lemmas.List.Edits.{split_between}
 use Rattle.std.proofs.lemmas.List.Elements.{All-append, All-map, All-weaker, All-take, All-drop}
 use Rattle.std.proofs.lemmas.List.Sorted.{All-permutation, length_permutation, IsPermutation-append_left, IsPermutation-append_comm}
 use Rattle.play_queue.specs.declared.entry.Entry.{Entry}
-use Rattle.play_queue.specs.declared.limits.TheConstants.{MAX_ENTRIES, MAX_ID, MAX_VERSION}
+use Rattle.play_queue.specs.Limits.{MAX_ENTRIES, MAX_ID, MAX_VERSION}
 use Rattle.play_queue.specs.Entries.{deleted}
 use Rattle.play_queue.specs.Queue.{QueueState, IsEntry, IsQueue, HaveOwnIds, ids_of, with_stamp}
 use Rattle.play_queue.specs.Restamp.{restamped, next_version}

@@ -9,7 +9,7 @@ use Rattle.std.proofs.lemmas.List.Elements.{All-cons, All-head, All-tail}
 use Rattle.std.proofs.lemmas.List.Sorted.{IsPermutation-swap}
 use Rattle.std.proofs.lemmas.List.FromFn.{length-enumerate_from, get_or-enumerate_from}
 use Rattle.play_queue.specs.declared.entry.Entry.{Entry}
-use Rattle.play_queue.specs.declared.limits.TheConstants.{MAX_VERSION}
+use Rattle.play_queue.specs.Limits.{MAX_VERSION}
 use Rattle.play_queue.specs.Entries.{Uris}
 use Rattle.play_queue.specs.Queue.{QueueState, IsEntry, IsQueue, HaveOwnIds, ids_of, is_same, is_unchanged, with_stamp, stamped, ruled}
 use Rattle.play_queue.specs.Restamp.{next_version, stamped_where, restamped_pair}

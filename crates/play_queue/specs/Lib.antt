@@ -1,4 +1,5 @@
 pub mod Entries
+pub mod Limits
 pub mod Place
 pub mod Queue
 pub mod Refusal

@@ -3,7 +3,7 @@ use Rattle.std.specs.Prelude.{◌≢◌, ℕ, ◌+◌, ◌<◌, ◌≤◌, Bool,
 use Rattle.std.specs.List.{All, AllPairs, list_all, enumerate_from}
 use Rattle.std.specs.Str.{bytes_eq}
 use Rattle.play_queue.specs.declared.entry.Entry.{Entry}
-use Rattle.play_queue.specs.declared.limits.TheConstants.{MAX_ENTRIES, MAX_ID, MAX_VERSION}
+use Rattle.play_queue.specs.Limits.{MAX_ENTRIES, MAX_ID, MAX_VERSION}
 use Rattle.play_queue.specs.Entries.{Uris, is_among}
 
 -- the entries in order, the version, and the id that the next entry gets (one above the greatest id once all are spent)

@@ -2,7 +2,7 @@
 use Rattle.std.specs.Prelude.{ℕ, Bool, ◌+◌, ◌-◌, ◌==◌, ◌||◌, nat_lt, nat_le, List, length, Option, Some, None, is_some, position, if◌then◌else◌}
 use Rattle.std.specs.List.{list_any}
 use Rattle.play_queue.specs.declared.entry.Entry.{Entry}
-use Rattle.play_queue.specs.declared.limits.TheConstants.{MAX_ENTRIES, MAX_ID}
+use Rattle.play_queue.specs.Limits.{MAX_ENTRIES, MAX_ID}
 use Rattle.play_queue.specs.declared.refusal.QueueError.{QueueError}
 use Rattle.play_queue.specs.declared.refusal.QueueError.TheVariants.{BadIndex, NoSuchSong, QueueFull, IdsSpent}
 use Rattle.play_queue.specs.Queue.{QueueState}

@@ -2,7 +2,7 @@
 use Rattle.std.specs.Prelude.{ℕ, ◌≤◌, ◌+◌, ◌==◌, ◌||◌, Bool, List, ◌++◌, map, take, drop, slice_range, if◌then◌else◌}
 use Rattle.std.specs.List.{All, enumerate_from}
 use Rattle.play_queue.specs.declared.entry.Entry.{Entry}
-use Rattle.play_queue.specs.declared.limits.TheConstants.{MAX_VERSION}
+use Rattle.play_queue.specs.Limits.{MAX_VERSION}
 use Rattle.play_queue.specs.Entries.{Uris, is_among, is_in_some}
 use Rattle.play_queue.specs.Queue.{with_stamp}
 

@@ -129,14 +129,6 @@ batch_none place start changes none =
       read_stay = All-nil (λ (row : Row). is_among start row.uri ≡ false);
     })
 
-not_among_back : (uri : List ℕ) (front back : List (List ℕ)) → is_among (front ++ back) uri ≡ false → is_among back uri ≡ false
-not_among_back uri [] back none = none
-not_among_back uri (u ∷ front) back none = by_cases (bytes_eq uri u) none (not_among_back uri front back)
-  where
-    by_cases : (a : Bool) → (a || is_among (front ++ back) uri) ≡ false → (is_among (front ++ back) uri ≡ false → is_among back uri ≡ false) → is_among back uri ≡ false
-    by_cases true none rest = absurd (cc)
-    by_cases false none rest = rest none
-
 -- a batch that was filled up with drops
 pub batch_read : (place : Option (List ℕ)) (start droppable after : List (List ℕ)) (changes whole : List RowChange) → IsBatch place start droppable changes → drops_of whole ++ after ≡ drops_of changes ++ droppable → puts_of whole ≡ puts_of changes → IsRead place start after whole
 batch_read place start droppable after changes whole batch drops puts =
@@ -144,5 +136,5 @@ batch_read place start droppable after changes whole batch drops puts =
     record {
       in_place = All-same (λ (row : Row). is_in place row.uri ≡ true) _ _ puts batch.in_place;
       drops = (batch.left.0, rest ∙ batch.left.1);
-      read_stay = All-same (λ (row : Row). is_among after row.uri ≡ false) _ _ puts (All-weaker (λ (row : Row). is_among droppable row.uri ≡ false) (λ (row : Row). is_among after row.uri ≡ false) (λ row none. not_among_back row.uri (drops_of whole) after (ap (λ l. is_among l row.uri) rest ∙ none)) (puts_of changes) batch.read_stay);
+      read_stay = rw rest (All-same (λ (row : Row). is_among droppable row.uri ≡ false) _ _ puts batch.read_stay);
     }

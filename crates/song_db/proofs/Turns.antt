@@ -7,7 +7,7 @@ use Rattle.std.proofs.lemmas.Bool.Decides.{nat_tests}
 use Rattle.std.proofs.lemmas.Map.Keys.{sorted_head, sorted_tail}
 use Rattle.song_db.specs.declared.change.RowChange.{RowChange}
 use Rattle.song_db.specs.declared.change.RowChange.TheVariants.{Put, Drop}
-use Rattle.song_db.specs.declared.limits.TheConstants.{MAX_ROWS}
+use Rattle.song_db.specs.Limits.{MAX_ROWS}
 use Rattle.song_db.specs.Change.{IsDatabase, changed, has_uri, fits, after_batch, left_out}
 use Rattle.song_db.specs.Replaced.{by_text, IsRising, replaced}
 use Rattle.song_db.specs.Row.{Row, row_uri, row_at}

@@ -20,7 +20,7 @@ pub record IsBatch (place : Option (List ℕ)) (start droppable : List (List ℕ
 pub record IsRead (place : Option (List ℕ)) (before after : List (List ℕ)) (changes : List RowChange) : Type 0 where
   pub in_place : All (λ row. is_in place row.uri ≡ true) (puts_of changes)
   pub drops : ArePartOf (drops_of changes ++ after) before
-  pub read_stay : All (λ row. is_among after row.uri ≡ false) (puts_of changes)
+  pub read_stay : All (λ row. is_among (drops_of changes ++ after) row.uri ≡ false) (puts_of changes)
 
 -- a folder that couldn't be listed keeps what is below it
 abbrev pub after_listing : {A : Type 0} → List ℕ → Result A FolderFault → List (List ℕ) → List (List ℕ)

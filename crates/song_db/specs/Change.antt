@@ -2,7 +2,7 @@
 use Rattle.std.specs.Prelude.{ℕ, ◌≤◌, Bool, true, ◌||◌, nat_lt, List, [], ◌∷◌, length, is_some, if◌then◌else◌}
 use Rattle.song_db.specs.declared.change.RowChange.{RowChange}
 use Rattle.song_db.specs.declared.change.RowChange.TheVariants.{Put, Drop}
-use Rattle.song_db.specs.declared.limits.TheConstants.{MAX_ROWS}
+use Rattle.song_db.specs.Limits.{MAX_ROWS}
 use Rattle.song_db.specs.Row.{Row, row_uri, row_at}
 use Rattle.song_db.specs.Replaced.{IsRising, replaced}
 

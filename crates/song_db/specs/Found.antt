@@ -1,5 +1,5 @@
 -- What a scan looks at, and what it finds there.
-use Rattle.std.specs.Prelude.{◌≡◌, ℕ, ◌-◌, Bool, true, false, not, ◌&&◌, ◌==◌, nat_lt, nat_le, List, [], ◌∷◌, ◌++◌, length, map, drop, filter, count_by, codes, Option, Some, Result, Ok, Err, if◌then◌else◌}
+use Rattle.std.specs.Prelude.{◌≡◌, ℕ, ◌-◌, Bool, true, false, not, ◌&&◌, ◌==◌, nat_lt, nat_le, List, [], ◌∷◌, ◌++◌, length, map, drop, filter, count_by, codes, Option, Some, None, Result, Ok, Err, if◌then◌else◌}
 use Rattle.std.specs.Char.{to_ascii_lowercase}
 use Rattle.std.specs.Str.{bytes_eq}
 use Rattle.wave_pcm.specs.declared.info.WaveInfo.{WaveInfo}
@@ -7,7 +7,7 @@ use Rattle.wave_pcm.specs.declared.error.WaveError.{WaveError}
 use Rattle.wave_pcm.specs.declared.error.WaveError.TheVariants.{NoMemory, NotWave, NoFormat, Unsupported, NoData, ReadFault, TooManyTurns}
 use Rattle.song_db.specs.declared.change.RowChange.{RowChange}
 use Rattle.song_db.specs.declared.change.RowChange.TheVariants.{Put}
-use Rattle.song_db.specs.declared.limits.TheConstants.{MAX_FOLDERS}
+use Rattle.song_db.specs.Limits.{MAX_FOLDERS}
 use Rattle.song_db.specs.declared.refusal.SongDbError.{SongDbError}
 use Rattle.song_db.specs.declared.refusal.SongDbError.TheVariants.{NoMemory as MemoryRefused}
 use Rattle.song_db.specs.declared.scan.found.Found.{Found}
@@ -15,7 +15,7 @@ use Rattle.song_db.specs.declared.scan.found.Found.TheVariants.{Song, Kept, NoSo
 use Rattle.song_db.specs.declared.scan.visit.Visit.{Visit}
 use Rattle.song_db.specs.declared.scan.visit.Visit.TheVariants.{File, Folder, Nothing}
 use Rattle.song_db.specs.Place.{is_below}
-use Rattle.song_db.specs.Row.{row_of, is_within_limits}
+use Rattle.song_db.specs.Row.{Row, row_of, is_within_limits}
 use Rattle.song_db.specs.Scan.{is_in, song_in}
 use Rattle.song_db.specs.Uri.{is_uri}
 
@@ -65,11 +65,16 @@ IsOf uri (Song row) = row.uri ≡ uri
 IsOf uri (Kept kept) = kept ≡ uri
 IsOf uri NoSong = Unit {0}
 
--- a row is that of the bytes
+-- a WAVE file whose row is within the limits
+abbrev pub has_row : Option Row → Bool
+has_row None = false
+has_row (Some row) = is_within_limits row
+
+-- a row is that of the bytes, and there is no song only where they have none
 abbrev pub IsSongIn : List ℕ → List ℕ → Found → Type 0
 IsSongIn uri bytes (Song row) = song_in uri bytes ≡ Some row
 IsSongIn uri bytes (Kept kept) = Unit {0}
-IsSongIn uri bytes NoSong = Unit {0}
+IsSongIn uri bytes NoSong = has_row (song_in uri bytes) ≡ false
 
 abbrev pub changes_of : Found → List RowChange
 changes_of (Song row) = Put row ∷ []

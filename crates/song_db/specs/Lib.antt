@@ -2,6 +2,7 @@ pub mod Batch
 pub mod Change
 pub mod Droppable
 pub mod Found
+pub mod Limits
 pub mod Order
 pub mod Place
 pub mod Query

@@ -1,5 +1,5 @@
 -- The refusals: their numbers, and when a call is refused.
-use Rattle.std.specs.Prelude.{◌≡◌, ℕ, Bool, true, false, List, [], ◌∷◌, Option, Some, None, Result, Err, IsOkUnless}
+use Rattle.std.specs.Prelude.{◌≡◌, ℕ, Bool, true, false, List, [], ◌∷◌, Option, Some, None, Result, Err, IsOk, IsOkUnless}
 use Rattle.song_db.specs.declared.change.RowChange.{RowChange}
 use Rattle.song_db.specs.declared.refusal.SongDbError.{SongDbError}
 use Rattle.song_db.specs.declared.refusal.SongDbError.TheVariants.{NoSuchUri, DbFull, NoMemory}
@@ -8,6 +8,11 @@ abbrev pub number_of : SongDbError → ℕ
 number_of NoSuchUri = 17
 number_of DbFull = 18
 number_of NoMemory = 7
+
+-- refused exactly where what is named isn't there: such a call takes no memory
+abbrev pub AnswersExactlyIfThere : {T : Type 0} → Bool → Result T SongDbError → Type 0
+AnswersExactlyIfThere true r = IsOk r
+AnswersExactlyIfThere false r = r ≡ Err NoSuchUri
 
 -- refused where what is named isn't there, and else by want of memory alone
 abbrev pub AnswersIfThere : {T : Type 0} → Bool → Result T SongDbError → Type 0

@@ -6,7 +6,7 @@ use Rattle.wave_pcm.specs.Tag.{Texts, text_of}
 use Rattle.wave_pcm.specs.Text.{is_tag_text}
 use Rattle.wave_pcm.specs.declared.info.WaveInfo.{WaveInfo}
 use Rattle.wave_pcm.specs.declared.tags.Tag.TheVariants.{Title, Artist, Album, Date, Genre, Comment}
-use Rattle.song_db.specs.declared.limits.TheConstants.{MAX_RATE}
+use Rattle.song_db.specs.Limits.{MAX_RATE}
 use Rattle.song_db.specs.Uri.{is_uri}
 
 -- the tags are six, each with a text or none

@@ -8,7 +8,7 @@ use Rattle.wave_pcm.specs.Folder.{File, bytes_at}
 use Rattle.wave_pcm.specs.Reading.{wave_reading}
 use Rattle.song_db.specs.declared.change.RowChange.{RowChange}
 use Rattle.song_db.specs.declared.change.RowChange.TheVariants.{Put, Drop}
-use Rattle.song_db.specs.declared.limits.TheConstants.{MAX_CHANGES}
+use Rattle.song_db.specs.Limits.{MAX_CHANGES}
 use Rattle.song_db.specs.Place.{is_below}
 use Rattle.song_db.specs.Row.{Row, row_of}
 
@@ -41,13 +41,13 @@ is_among uris uri = list_any (bytes_eq uri) uris
 abbrev pub ArePartOf : List (List ℕ) → List (List ℕ) → Type 0
 ArePartOf part uris = (test : List ℕ → Bool) × (part ≡ filter test uris)
 
--- what one answer of changes does: each known URI is dropped once at most, in their order, and none that was read is dropped later
+-- what one answer of changes does: each known URI is dropped once at most, in their order, and none that was read is dropped with it or later
 pub record IsAnswer (before after : Progress) (changes : List RowChange) : Type 0 where
   pub some : 0 < length changes
   pub few : length changes ≤ MAX_CHANGES
   pub in_place : All (λ row. is_in before.place row.uri ≡ true) (puts_of changes)
   pub drops : ArePartOf (drops_of changes ++ after.droppable) before.droppable
-  pub read_stay : All (λ row. is_among after.droppable row.uri ≡ false) (puts_of changes)
+  pub read_stay : All (λ row. is_among (drops_of changes ++ after.droppable) row.uri ≡ false) (puts_of changes)
 
 -- the row of the bytes under a URI, where they are a WAVE file
 abbrev pub song_in : List ℕ → List ℕ → Option Row

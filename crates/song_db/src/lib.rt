@@ -13,13 +13,12 @@ pub mod row;
 mod rows;
 pub mod scan;
 pub mod song_db;
-mod text;
 pub mod texts;
 pub mod uri;
 mod values;
 
 pub use change::{LeftOut, RowChange};
-pub use limits::{MAX_CHANGES, MAX_FOLDERS, MAX_RATE, MAX_ROWS, MAX_TAG_BYTES, MAX_URI_BYTES};
+pub use limits::{MAX_CHANGES, MAX_FOLDERS, MAX_ROWS, MAX_URI_BYTES};
 pub use order::ScanOrder;
 pub use place::Place;
 pub use refusal::SongDbError;

@@ -4,12 +4,10 @@ ghost use Rattle.wave_pcm.specs.Tag.{text_of};
 ghost use Rattle.wave_pcm.specs.Text.{is_tag_text};
 ghost use Rattle.song_db.specs.Row.{row_of, six_texts, is_good_tag, is_within_limits, is_row};
 
-use crate::limits::{MAX_RATE, MAX_TAG_BYTES};
-use crate::text::has_control;
 use crate::uri::Uri;
 use std::alloc::{AllocError, Global};
 use std::marker::Model;
-use wave_pcm::{Tag, Tags, WaveInfo};
+use wave_pcm::{MAX_RATE, MAX_TAG_BYTES, Tag, Tags, WaveInfo, has_control};
 
 /// A song of the database: its URI, how to find its frames, and its tags.
 ///

@@ -1,7 +1,7 @@
 ghost use Rattle.std.specs.Prelude.{◌≡◌, ◌↔◌, [], length, IsTrue, Some, is_some, IfOk, OnOk, OnErr, IsOkUnless};
 ghost use Rattle.song_db.specs.Change.{IsDatabase, after_batch, left_out};
 ghost use Rattle.song_db.specs.Query.{number_at, rows_under, is_folder, folders_in, values_of};
-ghost use Rattle.song_db.specs.Refusal.{AnswersIfThere};
+ghost use Rattle.song_db.specs.Refusal.{AnswersExactlyIfThere, AnswersIfThere};
 ghost use Rattle.song_db.specs.Row.{row_at};
 ghost use Rattle.song_db.specs.declared.refusal.SongDbError.TheVariants.{NoMemory};
 
@@ -95,7 +95,7 @@ impl SongDb {
     /// The song of a URI, by a binary search. Refused by `NoSuchUri`.
     pub fn get(&self, uri: &str) -> Result<&SongRow, SongDbError>
         ensures row { IfOk result (λ row. row_at self.now uri.now ≡ Some row.now) }
-        ensures answer { AnswersIfThere (is_some (row_at self.now uri.now)) result }
+        ensures answer { AnswersExactlyIfThere (is_some (row_at self.now uri.now)) result }
     {
         match position(&self.rows, uri) {
             Some(at) => Ok(&self.rows[at]),
@@ -106,7 +106,7 @@ impl SongDb {
     /// The number of a URI's song, by a binary search. Refused by `NoSuchUri`.
     pub fn row_number(&self, uri: &str) -> Result<usize, SongDbError>
         ensures number { IfOk result (λ at. number_at self.now uri.now ≡ Some at) }
-        ensures answer { AnswersIfThere (is_some (row_at self.now uri.now)) result }
+        ensures answer { AnswersExactlyIfThere (is_some (row_at self.now uri.now)) result }
     {
         position(&self.rows, uri).ok_or(SongDbError::NoSuchUri)
     }
@@ -114,7 +114,7 @@ impl SongDb {
     /// The songs under a place, by URI: they stand together. Refused by `NoSuchUri` where the place is no folder: none of the songs stands below it, and it isn't the root.
     pub fn rows_under(&self, place: Place<'_>) -> Result<&[SongRow], SongDbError>
         ensures rows { IfOk result (λ rows. rows.now ≡ rows_under self.now place.entry) }
-        ensures answer { AnswersIfThere (is_folder self.now place.entry) result }
+        ensures answer { AnswersExactlyIfThere (is_folder self.now place.entry) result }
     {
         match place {
             Place::Root => Ok(self.rows.as_slice()),

@@ -7,10 +7,10 @@ ghost use Rattle.song_db.specs.Place.{is_under};
 
 use crate::limits::MAX_URI_BYTES;
 use crate::place::Place;
-use crate::text::has_control;
 use std::alloc::{AllocError, Global};
 use std::cmp::Ordering;
 use std::marker::Model;
+use wave_pcm::has_control;
 
 /// The name of a song, or of a folder that songs stand in: a path from the root of the music, with slashes between its parts.
 ///

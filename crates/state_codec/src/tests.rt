@@ -1,6 +1,8 @@
 use super::*;
 use player_core::{Options, Single, Volume};
 use std::alloc::Global;
+use std::fmt::Debug;
+use std::process::Abort;
 use std::test::*;
 
 // The fresh state under a key of zeros.
@@ -19,6 +21,33 @@ const FIELDS: [usize; 13] = [0, 32, 40, 44, 48, 49, 50, 51, 52, 53, 57, 61, 65];
 // `random 1`, by which a new random order begins.
 const RANDOM_ON: [u8; 12] = [3, 1, 0, 0, 0, 0, 0, 0, 0, 1, 2, 1];
 
+// These are equal. The prover takes an assertion of two values apart for seconds, here once for all.
+fn equal<T: Copy + PartialEq + Debug>(rt: &impl Abort, left: T, right: T) {
+    assert_eq!(rt; left, right);
+}
+
+// The same of bytes.
+fn same_bytes(rt: &impl Abort, left: &[u8], right: &[u8]) {
+    assert_eq!(rt; left, right);
+}
+
+// The same of a fault, with what was read.
+fn same_fault(rt: &impl Abort, what: &[u8], left: Option<usize>, right: Option<usize>) {
+    assert_eq!(rt; left, right, "of {what:?}");
+}
+
+// The bytes spell these ops.
+fn expect_ops(
+    rt: &impl Abort,
+    alloc: Global,
+    bytes: &[u8],
+    expected: &[Op],
+) -> Result<(), CodecError> {
+    let ops = take_ops(alloc, bytes)?;
+    assert_eq!(rt; ops.as_slice(), expected);
+    Ok(())
+}
+
 fn bad_op(alloc: Global, bytes: &[u8]) -> Option<usize> {
     match take_ops(alloc, bytes) {
         Err(CodecError::BadOp(offset)) => Some(offset),
@@ -36,36 +65,35 @@ fn bad_snapshot(bytes: &[u8]) -> Option<usize> {
 #[test]
 fn journal_bytes(rt: HostRuntime) -> Result<(), Fail> {
     let fresh = put_saved(rt.alloc(), &Saved::fresh([0; 32]))?;
-    assert_eq!(rt; fresh.as_slice(), FRESH.as_slice());
+    same_bytes(&rt, &fresh, &FRESH);
 
     let mut body = Vec::with_capacity(rt.alloc(), 14)?;
     put_op(&mut body, &Op::SetOrder(1))?;
     put_op(&mut body, &Op::SetOption(Setting::Random(true)))?;
-    assert_eq!(rt; body.as_slice(), RANDOM_ON.as_slice());
+    same_bytes(&rt, &body, &RANDOM_ON);
     let volume = Volume::new(40).ok_or("40 is a volume")?;
     put_op(&mut body, &Op::SetVolume(volume))?;
-    assert_eq!(rt; &body.as_slice()[12..], [2, 0x28].as_slice());
+    same_bytes(&rt, &body[12..], &[2, 0x28]);
 
     let no_room = Op::SetOption(Setting::Single(Single::Oneshot));
-    assert_eq!(rt; put_op(&mut body, &no_room), Err(NoMemory));
-    assert_eq!(rt; body.len(), 14);
+    equal(&rt, put_op(&mut body, &no_room), Err(NoMemory));
+    equal(&rt, body.len(), 14);
     Ok(())
 }
 
 #[test]
 fn ops_are_read(rt: HostRuntime) -> Result<(), Fail> {
-    let ops = take_ops(rt.alloc(), &RANDOM_ON)?;
     let expected = [Op::SetOrder(1), Op::SetOption(Setting::Random(true))];
-    assert_eq!(rt; ops.as_slice(), expected.as_slice());
+    expect_ops(&rt, rt.alloc(), &RANDOM_ON, &expected)?;
 
-    let ops = take_ops(rt.alloc(), &[1, 1, 0, 1, 3, 2, 1, 4, 1, 2, 100])?;
     let expected = [
         Op::SetOption(Setting::Repeat(false)),
         Op::SetOption(Setting::Single(Single::Oneshot)),
         Op::SetOption(Setting::Consume(true)),
         Op::SetVolume(Volume::default()),
     ];
-    assert_eq!(rt; ops.as_slice(), expected.as_slice());
+    let bytes = [1, 1, 0, 1, 3, 2, 1, 4, 1, 2, 100];
+    expect_ops(&rt, rt.alloc(), &bytes, &expected)?;
     Ok(())
 }
 
@@ -80,18 +108,19 @@ fn a_state_is_read(rt: HostRuntime) -> Result<(), Fail> {
     };
     let saved = Saved::new([7; 32], 258, 2147483647, 2147483648, volume, options);
     let bytes = put_saved(rt.alloc(), &saved)?;
-    assert_eq!(rt; &bytes.as_slice()[30..], [
+    let expected = [
         7, 7, 2, 1, 0, 0, 0, 0, 0, 0, 255, 255, 255, 127, 0, 0, 0, 128, 40, 1, 0, 1, 1, //
         0, 0, 0, 0, 0, 0, 0, 0, 0, 0, 0, 0, 0, 0, 0, 0,
-    ].as_slice());
+    ];
+    same_bytes(&rt, &bytes[30..], &expected);
 
     let read = take_saved(&bytes)?;
-    assert_eq!(rt; read.key(), [7; 32]);
-    assert_eq!(rt; read.order(), 258);
-    assert_eq!(rt; read.version(), 2147483647);
-    assert_eq!(rt; read.next_id(), 2147483648);
-    assert_eq!(rt; read.volume(), volume);
-    assert_eq!(rt; read.options(), options);
+    same_bytes(&rt, &read.key(), &[7; 32]);
+    equal(&rt, read.order(), 258);
+    equal(&rt, read.version(), 2147483647);
+    equal(&rt, read.next_id(), 2147483648);
+    equal(&rt, read.volume(), volume);
+    equal(&rt, read.options(), options);
     Ok(())
 }
 
@@ -99,18 +128,16 @@ fn a_state_is_read(rt: HostRuntime) -> Result<(), Fail> {
 fn every_truncation(rt: HostRuntime) {
     for len in 0..69 {
         let field = FIELDS.iter().copied().filter(|&field| field <= len).max();
-        assert_eq!(rt; bad_snapshot(&FRESH[..len]), field, "of {len} bytes");
+        let bytes = &FRESH[..len];
+        same_fault(&rt, bytes, bad_snapshot(bytes), field);
     }
 
     // The order passes the end, then nothing does, then the kind and the value do.
     let faults = [0, 1, 1, 1, 1, 1, 1, 1, 1, 9, 10, 11];
     for (len, &fault) in faults.iter().enumerate() {
         let expected = if len == 9 { None } else { Some(fault) };
-        assert_eq!(rt;
-            bad_op(rt.alloc(), &RANDOM_ON[..len]),
-            expected,
-            "of {len} bytes"
-        );
+        let bytes = &RANDOM_ON[..len];
+        same_fault(&rt, bytes, bad_op(rt.alloc(), bytes), expected);
     }
 }
 
@@ -134,17 +161,17 @@ fn every_byte_out_of_range(rt: HostRuntime) {
         let mut bytes = FRESH;
         assert!(rt; at < 69);
         bytes[at] = byte;
-        assert_eq!(rt; bad_snapshot(&bytes), Some(fault), "{byte} at {at}");
+        same_fault(&rt, &bytes, bad_snapshot(&bytes), Some(fault));
     }
     let mut spent = FRESH;
     spent[44] = 0;
     spent[47] = 128;
     assert!(rt; take_saved(&spent).is_ok());
     spent[44] = 1;
-    assert_eq!(rt; bad_snapshot(&spent), Some(44));
+    equal(&rt, bad_snapshot(&spent), Some(44));
 
     let longer = [FRESH, FRESH];
-    assert_eq!(rt; bad_snapshot(&longer.as_flattened()[..70]), Some(69));
+    equal(&rt, bad_snapshot(&longer.as_flattened()[..70]), Some(69));
 
     let bodies: [(&[u8], usize); 10] = [
         (&[0, 0, 0], 0),
@@ -159,7 +186,7 @@ fn every_byte_out_of_range(rt: HostRuntime) {
         (&[2, 40, 255], 2),
     ];
     for (body, fault) in bodies {
-        assert_eq!(rt; bad_op(rt.alloc(), body), Some(fault), "{body:?}");
+        same_fault(&rt, body, bad_op(rt.alloc(), body), Some(fault));
     }
 }
 
@@ -171,9 +198,10 @@ fn refusals(rt: HostRuntime) -> Result<(), Fail> {
         (CodecError::BadSnapshot(53), 10, "bad snapshot at byte 53"),
     ];
     for (error, number, text) in cases {
-        assert_eq!(rt; error.number(), number);
-        assert_eq!(rt; format!(in rt.alloc(); "{error}")?.as_str(), text);
+        equal(&rt, error.number(), number);
+        let shown = format!(in rt.alloc(); "{error}")?;
+        same_bytes(&rt, shown.as_bytes(), text.as_bytes());
     }
-    assert_eq!(rt; NoMemory.number(), 7);
+    equal(&rt, NoMemory.number(), 7);
     Ok(())
 }

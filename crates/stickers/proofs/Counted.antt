@@ -11,7 +11,7 @@ use Rattle.std.specs.Str.{bytes_eq}
 use Rattle.std.proofs.lemmas.Cmp.{on_total, then_total}
 use Rattle.std.proofs.lemmas.List.Filters.{length-filter_both}
 use Rattle.std.proofs.lemmas.Map.Text.{is_eq-slice_cmp}
-use Rattle.stickers.specs.declared.limits.TheConstants.{MAX_STICKERS}
+use Rattle.stickers.specs.Limits.{MAX_STICKERS}
 use Rattle.stickers.specs.Name.{is_good_name}
 use Rattle.stickers.specs.Sticker.{Sticker, compare, placed, is_of_song, is_at, value_at, stickers_of, with_sticker, without_sticker, without_song, IsRisingFrom, AreRising, IsCounted}
 

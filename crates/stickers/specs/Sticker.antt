@@ -7,7 +7,7 @@ use Rattle.std.specs.Ordering.{nat_cmp, ordering_then, match_ordering}
 use Rattle.std.specs.Cmp.Lexicographic.{slice_cmp}
 use Rattle.std.specs.List.{AllByRecursion, flat_map}
 use Rattle.std.specs.Str.{bytes_eq}
-use Rattle.stickers.specs.declared.limits.TheConstants.{MAX_STICKERS}
+use Rattle.stickers.specs.Limits.{MAX_STICKERS}
 use Rattle.stickers.specs.declared.refusal.StickersError.{StickersError}
 use Rattle.stickers.specs.declared.refusal.StickersError.TheVariants.{NoSuchSticker, BadStickerName, StickersFull}
 use Rattle.stickers.specs.Name.{is_good_name}

@@ -12,7 +12,7 @@ use Rattle.std.proofs.lemmas.List.{length-take, length-drop, length-append}
 use Rattle.std.proofs.lemmas.List.Sums.{sum_by-cons}
 use Rattle.std.proofs.lemmas.List.Edits.{length-insert, length-remove}
 use Rattle.std.specs.List.{remove}
-use Rattle.stored_lists.specs.declared.limits.TheConstants.{MAX_LISTS, MAX_ENTRIES}
+use Rattle.stored_lists.specs.Limits.{MAX_LISTS, MAX_ENTRIES}
 use Rattle.stored_lists.specs.Name.{is_good_name}
 use Rattle.stored_lists.specs.Songs.{Uris, without_range, moved}
 use Rattle.stored_lists.specs.Lists.{Stored, songs_of, total, IsCounted, songs_or_none, renamed, with_list, without_list, with_songs}

@@ -1,4 +1,5 @@
 pub mod ByName
+pub mod Limits
 pub mod Lists
 pub mod Name
 pub mod Refusal

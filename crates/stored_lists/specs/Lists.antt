@@ -7,7 +7,7 @@ use Rattle.std.specs.List.Sorted.{IsStrictlySortedBy}
 use Rattle.std.specs.Map.{keys_of, lookup, remove_entry, set_value}
 use Rattle.std.specs.BTreeMap.{insert_entry}
 use Rattle.std.specs.Str.{bytes_eq}
-use Rattle.stored_lists.specs.declared.limits.TheConstants.{MAX_LISTS, MAX_ENTRIES}
+use Rattle.stored_lists.specs.Limits.{MAX_LISTS, MAX_ENTRIES}
 use Rattle.stored_lists.specs.declared.refusal.ListsError.{ListsError}
 use Rattle.stored_lists.specs.declared.refusal.ListsError.TheVariants.{BadIndex, BadName, NoSuchList, ListExists, ListsFull}
 use Rattle.stored_lists.specs.Name.{is_good_name}

@@ -1,5 +1,5 @@
 ghost use Rattle.std.specs.Prelude.{◌≡◌};
-ghost use Rattle.stored_lists.specs.Name.{is_good_name, has_control, begins_with_control};
+ghost use Rattle.stored_lists.specs.Name.{is_good_name, is_barred, has_barred};
 
 use crate::limits::MAX_NAME_BYTES;
 
@@ -7,33 +7,19 @@ use crate::limits::MAX_NAME_BYTES;
 pub fn is_good_name(name: &str) -> bool
     ensures { result ≡ is_good_name name.now }
 {
-    let bytes = name.as_bytes();
-    !bytes.is_empty()
-        && bytes.len() <= MAX_NAME_BYTES
-        && !bytes.contains(&b'/')
-        && !has_control(bytes)
+    !name.is_empty() && name.len() <= MAX_NAME_BYTES && !has_barred(name)
 }
 
-// Whether a text has a control character.
-fn has_control(text: &[u8]) -> bool
-    ensures { result ≡ has_control text.now }
+// Whether a text has a character that no name may have.
+fn has_barred(text: &str) -> bool
+    ensures { result ≡ has_barred text.now }
 {
-    for at in 0..text.len() {
-        if begins_with_control(&text[at..]) {
-            return true;
-        }
-    }
-    false
+    text.chars().any(|c| is_barred(c))
 }
 
-// Whether a text begins with one.
-fn begins_with_control(text: &[u8]) -> bool
-    ensures { result ≡ begins_with_control text.now }
+// Whether no name may have the character: a slash, or a control character.
+fn is_barred(c: char) -> bool
+    ensures { result ≡ is_barred c }
 {
-    match text {
-        [] => false,
-        [0..32 | 127, ..] => true,
-        [194, next, ..] => *next >= 128 && *next < 160,
-        _ => false,
-    }
+    c == '/' || c.is_control()
 }

@@ -10,7 +10,6 @@ use Rattle.wave_pcm.specs.declared.tags.Tag.{Tag}
 use Rattle.wave_pcm.specs.declared.tags.Tag.TheVariants.{Title, Artist, Album, Date, Genre, Comment}
 use Rattle.wave_pcm.specs.declared.format.Format.{Format}
 use Rattle.wave_pcm.specs.declared.info.WaveInfo.{WaveInfo}
-use Rattle.wave_pcm.specs.declared.listing.TheConstants.{MAX_CHUNKS}
 use Rattle.wave_pcm.specs.declared.error.WaveError.{WaveError}
 use Rattle.wave_pcm.specs.declared.error.WaveError.TheVariants.{NoMemory, NotWave, NoFormat, Unsupported, NoData, ReadFault, TooManyTurns}
 
@@ -19,7 +18,11 @@ abbrev pub ◌>>=◌ : {A B : Type 0} → Result A WaveError → (A → Result B
 (Ok x) >>= f = f x
 (Err e) >>= f = Err e
 
--- more chunks than a file may have
+-- how many chunks a file may have, those inside lists counted
+abbrev pub MAX_CHUNKS : ℕ
+MAX_CHUNKS = 65536
+
+-- more chunks than that
 abbrev pub is_long : List Part → Bool
 is_long parts = nat_lt MAX_CHUNKS (length parts)
 

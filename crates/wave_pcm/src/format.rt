@@ -13,8 +13,8 @@ const FORMAT_LEN: u64 = 16;
 /// The format tag of PCM.
 const PCM: u16 = 1;
 
-/// The greatest rate, in frames a second.
-const MAX_RATE: u32 = 192_000;
+/// The highest rate of a file, in frames a second.
+pub const MAX_RATE: u32 = 192_000;
 
 /// 16-bit PCM at a rate in frames a second, of one or two channels.
 #[derive(Clone, Copy, Debug)]

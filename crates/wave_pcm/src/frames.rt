@@ -1,4 +1,4 @@
-ghost use Rattle.std.specs.Prelude.{◌≡◌, ◌+◌, ◌*◌, ◌-◌, ◌%◌, ◌<◌, ◌≤◌, ◌^◌, ◌++◌, length, min, slice_range, IfOk, OnOk, OnErr, IfErr, IsErrOf, IfSome, Some};
+ghost use Rattle.std.specs.Prelude.{◌≡◌, ◌+◌, ◌*◌, ◌-◌, ◌%◌, ◌<◌, ◌≤◌, ◌^◌, ◌++◌, length, min, slice_range, IfOk, OnOk, OnErr, IfErr, IsErrOf, IfSome, Some, None, Err};
 ghost use Rattle.wave_pcm.specs.Source.{Grows, Keeps};
 ghost use Rattle.wave_pcm.specs.WaveError.{Fails};
 ghost use Rattle.wave_pcm.specs.Pcm.{samples_in, frames_from, HasFrames, frame_len, range_from};
@@ -31,6 +31,7 @@ fn decode_into(samples: &mut [i16], bytes: &[u8])
 fn frame_range(info: &WaveInfo, from: u64, most: usize, end: u64) -> Option<(u64, u64)>
     ensures place { info.now.first_byte + frame_len info.now * info.now.frames ≤ end →
         result ≡ Some (range_from info.now from most) }
+    ensures short { end < info.now.first_byte + frame_len info.now * info.now.frames → result ≡ None }
     ensures within { IfSome result (λ range. range.0 + range.1 ≤ end) }
     ensures whole { IfSome result (λ range. range.1 % 2 ≡ 0) }
 {
@@ -55,6 +56,7 @@ fn read_samples<S: Source>(
     requires fits { first + len < 2 ^ 64 }
     requires whole { len % 2 ≡ 0 }
     ensures samples { S.honest source.old → IfOk result (λ samples. samples.items ≡ samples_in (slice_range (S.bytes source.old) first (first + len))) }
+    ensures only { IfErr result (Fails (Unit {0})) }
     ensures fault { S.honest source.old → first + len ≤ length (S.bytes source.old) → IfErr result (Fails (Grows (S.faults source.old) (S.faults source.new))) }
     ensures kept { S.honest source.old → Keeps S.bytes S.honest S.faults source.old source.new }
 {
@@ -77,6 +79,8 @@ pub fn read_frames<S: Source>(
 ) -> Result<Vec<i16>, WaveError>
     ensures frames { S.honest source.old → HasFrames info.now (S.bytes source.old) → IfOk result (λ samples. samples.items ≡ frames_from (S.bytes source.old) info.now from most) }
     ensures fault { S.honest source.old → HasFrames info.now (S.bytes source.old) → IfErr result (Fails (Grows (S.faults source.old) (S.faults source.new))) }
+    ensures short { S.honest source.old → length (S.bytes source.old) < info.now.first_byte + frame_len info.now * info.now.frames → result ≡ Err WaveError.ReadFault }
+    ensures only { IfErr result (Fails (Unit {0})) }
     ensures kept { S.honest source.old → Keeps S.bytes S.honest S.faults source.old source.new }
 {
     let end = source.len();

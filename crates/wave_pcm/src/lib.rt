@@ -23,6 +23,7 @@ pub use error::WaveError;
 pub use faulty::{FaultySource, ReadTrouble};
 pub use faulty_folder::FaultyFolder;
 pub use folder::{Folder, FolderEntry, FolderFault};
+pub use format::MAX_RATE;
 pub use frames::read_frames;
 pub use head::read_head;
 pub use info::WaveInfo;
@@ -30,6 +31,7 @@ pub use listing::MAX_CHUNKS;
 pub use memory_folder::MemFolder;
 pub use source::{MemSource, Source, SourceFault};
 pub use tags::{Tag, Tags};
+pub use text::{MAX_TAG_BYTES, has_control};
 pub use volume::scale;
 
 #[cfg(test)]

@@ -1,10 +1,13 @@
 use crate::{
-    FaultyFolder, FaultySource, Folder, FolderFault, MAX_CHUNKS, MemFolder, MemSource, ReadTrouble,
-    Tag, Tags, WaveError, WaveInfo, read_frames, read_head, scale,
+    FaultyFolder, FaultySource, Folder, FolderEntry, FolderFault, MemFolder, MemSource,
+    ReadTrouble, Source, Tag, Tags, WaveError, WaveInfo, read_frames, read_head, scale,
 };
 use std::alloc::{AllocError, Global};
+use std::fmt::Debug;
 use std::process::Abort;
 use std::test::Fail;
+
+mod folders;
 
 /// A chunk with three bytes and a pad byte, the format, two frames, and two texts.
 const WAVE_A: [u8; 94] =
@@ -14,209 +17,247 @@ const WAVE_A: [u8; 94] =
 const WAVE_B: [u8; 49] =
     *b"RIFF\0\0\0\0WAVEfmt \x10\0\0\0\x01\0\x01\0\x40\x1f\0\0\x80\x3e\0\0\x02\0\x10\0data\xff\xff\xff\xff\x01\0\xfe\xff\x07";
 
-fn number(alloc: Global, bytes: &[u8]) -> u8 {
-    match read_head(alloc, &mut MemSource::new(bytes)) {
-        Ok(_) => 0,
-        Err(e) => e.number(),
-    }
+/// The head of a file, its format and samples of no byte.
+const SILENCE: [u8; 44] =
+    *b"RIFF\0\0\0\0WAVEfmt \x10\0\0\0\x01\0\x01\0\x40\x1f\0\0\x80\x3e\0\0\x02\0\x10\0data\0\0\0\0";
+
+/// These are equal. The prover takes an assertion of two values apart for seconds, here once for all.
+fn equal<T: Copy + PartialEq + Debug>(rt: &impl Abort, left: T, right: T) {
+    assert_eq!(rt; left, right);
 }
+
+/// The same of texts.
+fn same_text(rt: &impl Abort, left: &str, right: &str) {
+    assert_eq!(rt; left, right);
+}
+
+/// The same of samples.
+fn same_samples(rt: &impl Abort, left: &[i16], right: &[i16]) {
+    assert_eq!(rt; left, right);
+}
+
+// The next functions have no contract: the prover then reads the long ones of the readers here alone, and in no test.
 
 fn head(alloc: Global, bytes: &[u8]) -> Result<WaveInfo, WaveError> {
     read_head(alloc, &mut MemSource::new(bytes))
 }
 
-fn begin(alloc: Global) -> Result<Vec<u8>, AllocError> {
-    b"RIFF\0\0\0\0WAVE".to_vec(alloc)
+fn refusal(alloc: Global, bytes: &[u8]) -> Option<WaveError> {
+    head(alloc, bytes).err()
 }
 
-fn add(file: &mut Vec<u8>, id: &[u8], size: u32, data: &[u8]) -> Result<(), AllocError> {
-    file.extend_from_slice(id)?;
-    file.extend_from_slice(&size.to_le_bytes())?;
-    file.extend_from_slice(data)
+fn frames(
+    alloc: Global,
+    bytes: &[u8],
+    info: &WaveInfo,
+    from: u64,
+    most: usize,
+) -> Result<Vec<i16>, WaveError> {
+    read_frames(alloc, &mut MemSource::new(bytes), info, from, most)
 }
 
-const FORMAT: [u8; 16] = *b"\x01\0\x01\0\x40\x1f\0\0\x80\x3e\0\0\x02\0\x10\0";
-
-#[test]
-fn wave_heads(rt: HostRuntime) -> Result<(), Fail> {
-    let alloc = rt.alloc();
-    let a = head(alloc, &WAVE_A)?;
-    assert_eq!(rt;
-        (a.rate, a.channels, a.first_byte, a.frames),
-        (8000, 1, 56, 2)
-    );
-    assert_eq!(rt; a.tags.get(Tag::Title), Some("Hi"));
-    assert_eq!(rt; a.tags.get(Tag::Artist), Some("A"));
-    assert_eq!(rt; a.tags.get(Tag::Album), None);
-    let frames = read_frames(alloc, &mut MemSource::new(&WAVE_A), &a, 0, 4096)?;
-    assert_eq!(rt; frames.as_slice(), [1, -2].as_slice());
-    let second = read_frames(alloc, &mut MemSource::new(&WAVE_A), &a, 1, 4096)?;
-    assert_eq!(rt; second.as_slice(), [-2].as_slice());
-    let none = read_frames(alloc, &mut MemSource::new(&WAVE_A), &a, 2, 4096)?;
-    assert_eq!(rt; none.len(), 0);
-    let b = head(alloc, &WAVE_B)?;
-    assert_eq!(rt; (b.first_byte, b.frames), (44, 2));
-    assert_eq!(rt; number(alloc, &WAVE_B[..30]), 12);
-    Ok(())
-}
-
-/// What the first n bytes of the first file give.
-fn expected(n: usize) -> (u8, u64) {
-    match n {
-        0..=11 => (11, 0),
-        12..=47 => (12, 0),
-        48..=55 => (14, 0),
-        56..=57 => (0, 0),
-        58..=59 => (0, 1),
-        _ => (0, 2),
-    }
-}
-
-fn expected_title(n: usize) -> Option<&'static str> {
-    match n {
-        0..=80 => None,
-        81 => Some("H"),
-        _ => Some("Hi"),
-    }
-}
-
-#[test]
-fn first_bytes(rt: HostRuntime) -> Result<(), Fail> {
-    let alloc = rt.alloc();
-    for n in 0..=94 {
-        let (refusal, frames) = expected(n);
-        match head(alloc, &WAVE_A[..n]) {
-            Ok(info) => {
-                assert_eq!(rt; (0, info.frames), (refusal, frames));
-                assert_eq!(rt; info.tags.get(Tag::Title), expected_title(n));
-                assert_eq!(rt;
-                    info.tags.get(Tag::Artist),
-                    if n < 93 { None } else { Some("A") }
-                );
-            }
-            Err(e) => assert_eq!(rt; e.number(), refusal),
+/// Adds the texts of the tags, each behind a space and its tag.
+fn add_texts(text: &mut String, tags: &Tags) -> Result<(), Fail> {
+    for tag in Tag::ALL {
+        if let Some(value) = tags.get(tag) {
+            write!(text, " {tag:?}={value}")?;
         }
     }
     Ok(())
 }
 
+/// Rate, channels, first byte, frames, and the texts of the tags.
+fn in_words(alloc: Global, info: &WaveInfo) -> Result<String, Fail> {
+    let WaveInfo {
+        rate,
+        channels,
+        first_byte,
+        frames,
+        ..
+    } = info;
+    let mut text = format!(in alloc; "{rate} {channels} {first_byte} {frames}")?;
+    add_texts(&mut text, &info.tags)?;
+    Ok(text)
+}
+
+/// What the head of a file tells, in words, or the number of its refusal.
+fn told(alloc: Global, bytes: &[u8]) -> Result<String, Fail> {
+    match head(alloc, bytes) {
+        Ok(info) => in_words(alloc, &info),
+        Err(e) => Ok(format!(in alloc; "refused {}", e.number())?),
+    }
+}
+
+/// The heads of these files tell this.
+fn tell(rt: &impl Abort, alloc: Global, rows: &[(&[u8], &str)]) -> Result<(), Fail> {
+    for (bytes, want) in rows {
+        same_text(rt, told(alloc, bytes)?.as_str(), want);
+    }
+    Ok(())
+}
+
+/// The frames of a file from one on, at most so many.
+fn samples_of(alloc: Global, bytes: &[u8], from: u64, most: usize) -> Result<Vec<i16>, Fail> {
+    let info = head(alloc, bytes)?;
+    Ok(frames(alloc, bytes, &info, from, most)?)
+}
+
+/// The frames of a file from one on, at most so many, are these samples.
+fn sound(
+    rt: &impl Abort,
+    alloc: Global,
+    bytes: &[u8],
+    rows: &[(u64, usize, &[i16])],
+) -> Result<(), Fail> {
+    for (from, most, want) in rows {
+        same_samples(rt, &samples_of(alloc, bytes, *from, *most)?, want);
+    }
+    Ok(())
+}
+
+#[test]
+fn wave_heads(rt: HostRuntime) -> Result<(), Fail> {
+    let rows = [
+        (WAVE_A.as_slice(), "8000 1 56 2 Title=Hi Artist=A"),
+        (&WAVE_B, "8000 1 44 2"),
+        (&WAVE_B[..30], "refused 12"),
+    ];
+    tell(&rt, rt.alloc(), &rows)?;
+    let frames = [
+        (0, 4096, [1, -2].as_slice()),
+        (1, 4096, &[-2]),
+        (2, 4096, &[]),
+    ];
+    sound(&rt, rt.alloc(), &WAVE_A, &frames)
+}
+
+/// What the first n bytes of the first file give.
+fn expected(n: usize) -> &'static str {
+    match n {
+        0..=11 => "refused 11",
+        12..=47 => "refused 12",
+        48..=55 => "refused 14",
+        56..=57 => "8000 1 56 0",
+        58..=59 => "8000 1 56 1",
+        60..=80 => "8000 1 56 2",
+        81 => "8000 1 56 2 Title=H",
+        82..=92 => "8000 1 56 2 Title=Hi",
+        _ => "8000 1 56 2 Title=Hi Artist=A",
+    }
+}
+
+#[test]
+fn first_bytes(rt: HostRuntime) -> Result<(), Fail> {
+    for n in 0..=94 {
+        tell(&rt, rt.alloc(), &[(&WAVE_A[..n], expected(n))])?;
+    }
+    Ok(())
+}
+
+/// Adds chunks without data.
+fn add_empty(file: &mut Vec<u8>, count: usize) -> Result<(), AllocError> {
+    for _ in 0..count {
+        file.extend_from_slice(b"junk\0\0\0\0")?;
+    }
+    Ok(())
+}
+
+/// The refusal of a file of so many chunks.
+fn refusal_of_many(alloc: Global, count: usize) -> Result<Option<WaveError>, AllocError> {
+    let mut file = SILENCE.to_vec(alloc)?;
+    add_empty(&mut file, count.saturating_sub(2))?;
+    Ok(refusal(alloc, &file))
+}
+
 #[test]
 fn chunks_are_counted(rt: HostRuntime) -> Result<(), Fail> {
     let alloc = rt.alloc();
-    let mut file = begin(alloc)?;
-    add(&mut file, b"fmt ", 16, &FORMAT)?;
-    add(&mut file, b"data", 0, &[])?;
-    for _ in 2..MAX_CHUNKS {
-        add(&mut file, b"junk", 0, &[])?;
-    }
-    assert_eq!(rt; number(alloc, &file), 0);
-    add(&mut file, b"junk", 0, &[])?;
-    assert_eq!(rt; number(alloc, &file), 16);
+    equal(&rt, refusal_of_many(alloc, 65_536)?, None);
+    let long = refusal_of_many(alloc, 65_537)?;
+    equal(&rt, long, Some(WaveError::TooManyTurns));
+    equal(&rt, WaveError::TooManyTurns.number(), 16);
     Ok(())
 }
 
 #[test]
 fn order_of_chunks(rt: HostRuntime) -> Result<(), Fail> {
-    let alloc = rt.alloc();
-    let mut short = begin(alloc)?;
-    add(&mut short, b"fmt ", 15, &FORMAT)?;
-    assert_eq!(rt; number(alloc, &short), 12);
-
-    let mut data_first = begin(alloc)?;
-    add(&mut data_first, b"data", 0, &[])?;
-    add(&mut data_first, b"fmt ", 16, &FORMAT)?;
-    assert_eq!(rt; number(alloc, &data_first), 12);
-
+    let short = b"RIFF\0\0\0\0WAVEfmt \x0f\0\0\0\x01\0\x01\0\x40\x1f\0\0\x80\x3e\0\0\x02\0\x10\0";
+    let data_first =
+        b"RIFF\0\0\0\0WAVEdata\0\0\0\0fmt \x10\0\0\0\x01\0\x01\0\x40\x1f\0\0\x80\x3e\0\0\x02\0\x10\0";
     // The first of two formats counts, here of 18 bytes.
-    let mut two = begin(alloc)?;
-    add(&mut two, b"fmt ", 18, &FORMAT)?;
-    two.extend_from_slice(b"\0\0")?;
-    add(&mut two, b"fmt ", 2, b"\0\0")?;
-    add(&mut two, b"data", 4, b"\0\0\0\0")?;
-    assert_eq!(rt; head(alloc, &two)?.frames, 2);
+    let two =
+        b"RIFF\0\0\0\0WAVEfmt \x12\0\0\0\x01\0\x01\0\x40\x1f\0\0\x80\x3e\0\0\x02\0\x10\0\0\0fmt \x02\0\0\0\0\0data\x04\0\0\0\0\0\0\0";
+    let rows = [
+        (short.as_slice(), "refused 12"),
+        (data_first, "refused 12"),
+        (two, "8000 1 56 2"),
+    ];
+    tell(&rt, rt.alloc(), &rows)
+}
 
-    let mut eight_bits = begin(alloc)?;
-    add(
-        &mut eight_bits,
-        b"fmt ",
-        16,
-        b"\x01\0\x01\0\x40\x1f\0\0\x40\x1f\0\0\x01\0\x08\0",
-    )?;
-    match head(alloc, &eight_bits) {
-        Err(e) => assert_eq!(rt;
-            e,
-            WaveError::Unsupported {
-                tag: 1,
-                bits: 8,
-                channels: 1
-            }
-        ),
-        Ok(_) => assert!(rt; false),
-    }
+#[test]
+fn eight_bits(rt: HostRuntime) {
+    let file = b"RIFF\0\0\0\0WAVEfmt \x10\0\0\0\x01\0\x01\0\x40\x1f\0\0\x40\x1f\0\0\x01\0\x08\0";
+    let unsupported = WaveError::Unsupported {
+        tag: 1,
+        bits: 8,
+        channels: 1,
+    };
+    equal(&rt, refusal(rt.alloc(), file), Some(unsupported));
+}
+
+/// What the head of a file of these parts tells.
+fn told_of(alloc: Global, parts: &[&[u8]]) -> Result<String, Fail> {
+    let file = parts.concat(alloc)?;
+    told(alloc, &file)
+}
+
+/// The head of a file of these parts tells this.
+fn tells(rt: &impl Abort, alloc: Global, parts: &[&[u8]], want: &str) -> Result<(), Fail> {
+    same_text(rt, told_of(alloc, parts)?.as_str(), want);
     Ok(())
 }
 
-fn texts(alloc: Global, list: &[u8]) -> Result<Tags, WaveError> {
-    let mut file = begin(alloc)?;
-    add(&mut file, b"fmt ", 16, &FORMAT)?;
-    add(&mut file, b"data", 0, &[])?;
-    file.extend_from_slice(list)?;
-    Ok(head(alloc, &file)?.tags)
+/// How many bytes there are in what it tells.
+fn told_len(alloc: Global, parts: &[&[u8]]) -> Result<usize, Fail> {
+    Ok(told_of(alloc, parts)?.len())
 }
 
 #[test]
 fn six_tags(rt: HostRuntime) -> Result<(), Fail> {
     let alloc = rt.alloc();
     // Two lists; an odd size with its pad byte; the first of two albums counts.
-    let all = texts(
-        alloc,
-        b"LIST\x2c\0\0\0INFOINAM\x01\0\0\0t\0IART\x02\0\0\0a\0IPRD\x02\0\0\0b\0ICRD\x02\0\0\0d\0LIST\x22\0\0\0INFOIGNR\x01\0\0\0g\0IPRD\x01\0\0\0x\0ICMT\x01\0\0\0c\0",
-    )?;
-    assert_eq!(rt; all.get(Tag::Title), Some("t"));
-    assert_eq!(rt; all.get(Tag::Artist), Some("a"));
-    assert_eq!(rt; all.get(Tag::Album), Some("b"));
-    assert_eq!(rt; all.get(Tag::Date), Some("d"));
-    assert_eq!(rt; all.get(Tag::Genre), Some("g"));
-    assert_eq!(rt; all.get(Tag::Comment), Some("c"));
+    let all =
+        b"LIST\x2c\0\0\0INFOINAM\x01\0\0\0t\0IART\x02\0\0\0a\0IPRD\x02\0\0\0b\0ICRD\x02\0\0\0d\0LIST\x22\0\0\0INFOIGNR\x01\0\0\0g\0IPRD\x01\0\0\0x\0ICMT\x01\0\0\0c\0";
+    let six = "8000 1 44 0 Title=t Artist=a Album=b Date=d Genre=g Comment=c";
+    tells(&rt, alloc, &[&SILENCE, all], six)?;
     // Empty, with a control character of one byte and of two, not UTF-8; another list's are hidden.
-    let dropped = texts(
-        alloc,
-        b"LIST\x36\0\0\0INFOINAM\x02\0\0\0\0tIART\x02\0\0\0a\nIPRD\x02\0\0\0\xc2\x85ICRD\x02\0\0\0\xff\0INAM\x02\0\0\0u\0LIST\x0e\0\0\0infoIGNR\x02\0\0\0g\0",
-    )?;
-    for tag in Tag::ALL {
-        assert_eq!(rt; dropped.get(tag), None);
-    }
-    Ok(())
+    let dropped =
+        b"LIST\x36\0\0\0INFOINAM\x02\0\0\0\0tIART\x02\0\0\0a\nIPRD\x02\0\0\0\xc2\x85ICRD\x02\0\0\0\xff\0INAM\x02\0\0\0u\0LIST\x0e\0\0\0infoIGNR\x02\0\0\0g\0";
+    tells(&rt, alloc, &[&SILENCE, dropped], "8000 1 44 0")
 }
 
 #[test]
 fn longest_text(rt: HostRuntime) -> Result<(), Fail> {
-    let alloc = rt.alloc();
-    let text = vec![in alloc; b'x'; 513]?;
-    let mut list = Vec::new(alloc);
-    add(&mut list, b"LIST", 524, b"INFOINAM\0\x02\0\0")?;
-    list.extend_from_slice(&text[..512])?;
-    let kept = texts(alloc, &list)?;
-    assert_eq!(rt; kept.get(Tag::Title).map(|t| t.len()), Some(512));
-    let mut longer = Vec::new(alloc);
-    add(&mut longer, b"LIST", 525, b"INFOINAM\x01\x02\0\0")?;
-    longer.extend_from_slice(&text)?;
-    let dropped = texts(alloc, &longer)?;
-    assert_eq!(rt; dropped.get(Tag::Title), None);
-    Ok(())
+    let text = [b'x'; 513];
+    let front = b"LIST\x0c\x02\0\0INFOINAM\0\x02\0\0";
+    let len = told_len(rt.alloc(), &[&SILENCE, front, &text[..512]])?;
+    equal(&rt, len, "8000 1 44 0 Title=".len() + 512);
+    let front = b"LIST\x0d\x02\0\0INFOINAM\x01\x02\0\0";
+    tells(&rt, rt.alloc(), &[&SILENCE, front, &text], "8000 1 44 0")
 }
 
 #[test]
 fn volume_scale(rt: HostRuntime) {
     let mut half = [-32768, 3, -3, 1, -2];
     scale(&mut half, 50);
-    assert_eq!(rt; half, [-16384, 1, -1, 0, -1]);
+    same_samples(&rt, &half, &[-16384, 1, -1, 0, -1]);
     let mut none = [-32768, 3, -3, 1, -2];
     scale(&mut none, 0);
-    assert_eq!(rt; none, [0, 0, 0, 0, 0]);
+    same_samples(&rt, &none, &[0, 0, 0, 0, 0]);
     let mut full = [-32768, 3, -3, 1, -2];
     scale(&mut full, 100);
-    assert_eq!(rt; full, [-32768, 3, -3, 1, -2]);
+    same_samples(&rt, &full, &[-32768, 3, -3, 1, -2]);
 }
 
 fn faulty(reads_before: u64, trouble: ReadTrouble) -> FaultySource<'static> {
@@ -229,31 +270,43 @@ fn faulty(reads_before: u64, trouble: ReadTrouble) -> FaultySource<'static> {
     }
 }
 
+/// The refusal of a file of which one read goes wrong, and how often it has failed or given no byte.
+fn troubled(alloc: Global, before: u64, trouble: ReadTrouble) -> (Option<WaveError>, u64) {
+    let mut source = faulty(before, trouble);
+    let refusal = read_head(alloc, &mut source).err();
+    (refusal, source.faults)
+}
+
+/// The same for a read that falls short.
+fn told_short(alloc: Global, before: u64) -> Result<String, Fail> {
+    let mut source = faulty(before, ReadTrouble::FallsShort(1));
+    let info = read_head(alloc, &mut source)?;
+    in_words(alloc, &info)
+}
+
 /// A head whose read after so many others goes wrong: refused where no byte came, and else as ever.
-fn check_trouble(rt: &impl Abort, alloc: Global, before: u64) {
-    let mut fails = faulty(before, ReadTrouble::Fails);
-    let number = match read_head(alloc, &mut fails) {
-        Ok(_) => 0,
-        Err(e) => e.number(),
+fn check_trouble(rt: &impl Abort, alloc: Global, before: u64) -> Result<(), Fail> {
+    let (refusal, faults) = troubled(alloc, before, ReadTrouble::Fails);
+    equal(rt, refusal == Some(WaveError::ReadFault), faults == 1);
+    let (refusal, faults) = troubled(alloc, before, ReadTrouble::GivesNothing);
+    let fault = if faults == 1 {
+        Some(WaveError::ReadFault)
+    } else {
+        None
     };
-    assert_eq!(rt; number == 15, fails.faults == 1);
-    let mut nothing = faulty(before, ReadTrouble::GivesNothing);
-    let number = match read_head(alloc, &mut nothing) {
-        Ok(_) => 0,
-        Err(e) => e.number(),
-    };
-    assert_eq!(rt; number, if nothing.faults == 1 { 15 } else { 0 });
-    match read_head(alloc, &mut faulty(before, ReadTrouble::FallsShort(1))) {
-        Ok(info) => assert_eq!(rt; info.tags.get(Tag::Title), Some("Hi")),
-        Err(_) => assert!(rt; false),
-    }
+    equal(rt, refusal, fault);
+    let text = told_short(alloc, before)?;
+    same_text(rt, text.as_str(), "8000 1 56 2 Title=Hi Artist=A");
+    Ok(())
 }
 
 #[test]
-fn a_read_goes_wrong(rt: HostRuntime) {
+fn a_read_goes_wrong(rt: HostRuntime) -> Result<(), Fail> {
+    equal(&rt, WaveError::ReadFault.number(), 15);
     for before in 0..12 {
-        check_trouble(&rt, rt.alloc(), before);
+        check_trouble(&rt, rt.alloc(), before)?;
     }
+    Ok(())
 }
 
 // Written by SoX 14.4.2, whose own reading gives these numbers.
@@ -268,70 +321,13 @@ const EXTENSIBLE: [u8; 80] =
 
 #[test]
 fn files_of_another_program(rt: HostRuntime) -> Result<(), Fail> {
-    let alloc = rt.alloc();
-    let square = head(alloc, &SQUARE)?;
-    assert_eq!(rt;
-        (square.rate, square.channels, square.frames),
-        (48000, 1, 5)
-    );
-    let samples = read_frames(alloc, &mut MemSource::new(&SQUARE), &square, 0, 5)?;
-    assert_eq!(rt;
-        samples.as_slice(),
-        [32767, 32767, 32766, -32767, -32767].as_slice()
-    );
-    let sine = head(alloc, &SINE)?;
-    assert_eq!(rt; (sine.rate, sine.channels, sine.frames), (96000, 2, 4));
-    let samples = read_frames(alloc, &mut MemSource::new(&SINE), &sine, 1, 2)?;
-    assert_eq!(rt; samples.as_slice(), [575, 576, 868, 868].as_slice());
-    assert_eq!(rt; number(alloc, &EXTENSIBLE), 13);
-    Ok(())
-}
-
-/// The names that stand in a folder, each followed by a slash if it is a folder, and by a space.
-fn listed<F: Folder + Drop>(
-    alloc: Global,
-    folder: &mut F,
-    path: &str,
-) -> Result<Option<String>, Fail> {
-    let Some(entries) = folder.list(alloc, path)? else {
-        return Ok(None);
-    };
-    let mut text = String::new(alloc);
-    for entry in &entries {
-        let slash = if entry.is_folder { "/" } else { "" };
-        write!(text, "{}{slash} ", entry.name.as_str())?;
-    }
-    Ok(Some(text))
-}
-
-#[test]
-fn folders_in_memory(rt: HostRuntime) -> Result<(), Fail> {
-    let alloc = rt.alloc();
-    let mut folder = MemFolder::new(alloc);
-    assert_eq!(rt; listed(alloc, &mut folder, "")?.ok_or("no root")?.len(), 0);
-    for path in ["d/A.wav", "x.wav", "d/e/f.wav", "d/e/g.wav", "dd/A.wav"] {
-        folder.add(alloc, path, &WAVE_A)?;
-    }
-    for (path, want) in [
-        ("", "d/ x.wav dd/ "),
-        ("d", "A.wav e/ "),
-        ("d/e", "f.wav g.wav "),
-    ] {
-        let names = listed(alloc, &mut folder, path)?.ok_or("no folder")?;
-        assert_eq!(rt; names.as_str(), want);
-    }
-    assert!(rt; listed(alloc, &mut folder, "x.wav")?.is_none());
-    assert!(rt; listed(alloc, &mut folder, "e")?.is_none());
-    assert!(rt; folder.open(alloc, "d")?.is_none());
-    let mut file = folder.open(alloc, "d/A.wav")?.ok_or("no file")?;
-    assert_eq!(rt; read_head(alloc, &mut file)?.frames, 2);
-    let mut faulty = FaultyFolder {
-        folder,
-        calls_before: 1,
-        calls: 0,
-    };
-    assert!(rt; faulty.open(alloc, "x.wav")?.is_some());
-    assert_eq!(rt; faulty.list(alloc, "d").err(), Some(FolderFault::Source));
-    assert!(rt; faulty.list(alloc, "d")?.is_some());
-    Ok(())
+    let rows = [
+        (SQUARE.as_slice(), "48000 1 44 5"),
+        (&SINE, "96000 2 44 4"),
+        (&EXTENSIBLE, "refused 13"),
+    ];
+    tell(&rt, rt.alloc(), &rows)?;
+    let square = [32767, 32767, 32766, -32767, -32767];
+    sound(&rt, rt.alloc(), &SQUARE, &[(0, 5, &square)])?;
+    sound(&rt, rt.alloc(), &SINE, &[(1, 2, &[575, 576, 868, 868])])
 }

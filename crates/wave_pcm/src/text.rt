@@ -9,8 +9,8 @@ use crate::{Source, WaveError};
 use std::alloc::Global;
 use std::str;
 
-/// The longest text of a tag, in bytes.
-const MAX_TEXT: usize = 512;
+/// How many bytes of UTF-8 the text of a tag may have.
+pub const MAX_TAG_BYTES: usize = 512;
 
 /// How many bytes tell a text of a tag from a longer one.
 const FRONT_LEN: usize = 513;
@@ -20,7 +20,7 @@ fn tag_text(bytes: &[u8]) -> Option<&str>
     ensures { option_copied result ≡ tag_text bytes.now }
 {
     let text = before_zero(bytes);
-    if text.is_empty() || text.len() > MAX_TEXT {
+    if text.is_empty() || text.len() > MAX_TAG_BYTES {
         return None;
     }
     let Ok(text) = str::from_utf8(text) else {
@@ -47,7 +47,8 @@ fn first_zero(bytes: &[u8]) -> Option<usize>
     bytes.iter().position(|b| *b == 0)
 }
 
-fn has_control(text: &str) -> bool
+/// Whether a text has a control character (Unicode's category Cc).
+pub fn has_control(text: &str) -> bool
     ensures { result ≡ has_control text.now }
 {
     text.chars().any(|c| c.is_control())

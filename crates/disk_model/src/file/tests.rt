@@ -1,31 +1,44 @@
 use super::FileDisk;
 use crate::{Disk, DiskError};
+use std::fmt::Debug;
 use std::fs::{Metadata, OpenFile};
 use std::os::unix::fs::FileExt;
+use std::process::Abort;
 use std::test::Fail;
 use std::{fs, io};
 
 const PATH: &str = "disk_model_test_file";
 
+// These are equal. The prover takes an assertion of two values apart for seconds, here once for all.
+fn equal<T: Copy + PartialEq + Debug>(rt: &impl Abort, left: T, right: T) {
+    assert_eq!(rt; left, right);
+}
+
+// The same of bytes.
+fn same_bytes(rt: &impl Abort, left: &[u8], right: &[u8]) {
+    assert_eq!(rt; left, right);
+}
+
 #[test]
 fn read_back_after_reopening(rt: HostRuntime) -> Result<(), Fail> {
     let _ = fs::remove_file(&rt, PATH);
     let mut disk = FileDisk::open(&rt, PATH)?;
-    assert!(rt; disk.is_empty());
+    equal(&rt, disk.is_empty(), true);
     disk.write_at(0, b"abcdef")?;
     disk.write_at(4, b"XYZ")?;
     disk.cut(6)?;
     disk.sync()?;
-    assert_eq!(rt; disk.write_at(7, b"!"), Err(DiskError::OutOfRange));
+    equal(&rt, disk.write_at(7, b"!"), Err(DiskError::OutOfRange));
 
     let mut again = FileDisk::open(&rt, PATH)?;
-    assert_eq!(rt; again.len(), 6);
+    equal(&rt, again.len(), 6);
     let mut bytes = [0; 5];
     again.read_at(1, &mut bytes)?;
-    assert_eq!(rt; bytes, *b"bcdXY");
-    assert_eq!(rt; again.read_at(2, &mut bytes), Err(DiskError::OutOfRange));
-    assert_eq!(rt; again.cut(7), Err(DiskError::OutOfRange));
-    assert_eq!(rt; again.faults(), 0);
+    same_bytes(&rt, &bytes, b"bcdXY");
+    let refused = Err(DiskError::OutOfRange);
+    equal(&rt, again.read_at(2, &mut bytes), refused);
+    equal(&rt, again.cut(7), refused);
+    equal(&rt, again.faults(), 0);
     fs::remove_file(&rt, PATH)?;
     Ok(())
 }
@@ -72,12 +85,13 @@ fn faults_are_counted(rt: HostRuntime) -> Result<(), Fail> {
         len: 4,
         faults: 0,
     };
-    assert_eq!(rt; disk.read_at(0, &mut [0; 2]), Err(DiskError::DiskFault));
-    assert_eq!(rt; disk.write_at(4, b"!"), Err(DiskError::DiskFault));
-    assert_eq!(rt; disk.cut(2), Err(DiskError::DiskFault));
-    assert_eq!(rt; disk.sync(), Err(DiskError::DiskFault));
-    assert_eq!(rt; disk.faults(), 4);
-    assert_eq!(rt; disk.len(), 4);
+    let fault = Err(DiskError::DiskFault);
+    equal(&rt, disk.read_at(0, &mut [0; 2]), fault);
+    equal(&rt, disk.write_at(4, b"!"), fault);
+    equal(&rt, disk.cut(2), fault);
+    equal(&rt, disk.sync(), fault);
+    equal(&rt, disk.faults(), 4);
+    equal(&rt, disk.len(), 4);
     let FileDisk {
         file: BrokenFile,
         len: _,

@@ -1,6 +1,19 @@
 use super::{Fuse, FuseDisk};
 use crate::{Disk, MemDisk};
+use std::alloc::Global;
+use std::fmt::Debug;
+use std::process::Abort;
 use std::test::Fail;
+
+// These are equal. The prover takes an assertion of two values apart for seconds, here once for all.
+fn equal<T: Copy + PartialEq + Debug>(rt: &impl Abort, left: T, right: T) {
+    assert_eq!(rt; left, right);
+}
+
+// The same of bytes.
+fn same_bytes(rt: &impl Abort, left: &[u8], right: &[u8]) {
+    assert_eq!(rt; left, right);
+}
 
 // A write, a sync, a read, a cut and a sync: which of them fail, and what is there then.
 #[test]
@@ -13,17 +26,27 @@ fn calls_that_fail(rt: HostRuntime) -> Result<(), Fail> {
         (Fuse::Fail(6), [false, false, false, false, false], b""),
     ];
     for (fuse, failed, bytes) in cases {
-        let mut disk = FuseDisk::new(MemDisk::new(alloc), fuse);
-        let written = disk.write_at(0, b"ab").is_err();
-        let synced = disk.sync().is_err();
-        let read = disk.read_at(0, &mut []).is_err();
-        let cut = disk.cut(0).is_err();
-        let last = disk.sync().is_err();
-        assert_eq!(rt; [written, synced, read, cut, last], failed);
-        assert_eq!(rt; disk.calls(), 5);
-        let faults = failed.iter().filter(|fault| **fault).count();
-        assert_eq!(rt; disk.faults(), faults as u64);
-        assert_eq!(rt; disk.into_inner().as_bytes(), bytes);
+        expect_failed(&rt, alloc, fuse, failed, bytes);
     }
     Ok(())
+}
+
+// These of five calls fail under this fuse, and these bytes are there then.
+fn expect_failed(rt: &impl Abort, alloc: Global, fuse: Fuse, failed: [bool; 5], bytes: &[u8]) {
+    let mut disk = FuseDisk::new(MemDisk::new(alloc), fuse);
+    equal(rt, five_calls(&mut disk), failed);
+    equal(rt, disk.calls(), 5);
+    let faults = failed.iter().filter(|fault| **fault).count();
+    equal(rt, disk.faults(), faults as u64);
+    same_bytes(rt, disk.into_inner().as_bytes(), bytes);
+}
+
+// Which of the calls fail.
+fn five_calls(disk: &mut FuseDisk<MemDisk>) -> [bool; 5] {
+    let written = disk.write_at(0, b"ab").is_err();
+    let synced = disk.sync().is_err();
+    let read = disk.read_at(0, &mut []).is_err();
+    let cut = disk.cut(0).is_err();
+    let last = disk.sync().is_err();
+    [written, synced, read, cut, last]
 }

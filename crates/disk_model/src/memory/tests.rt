@@ -1,8 +1,19 @@
 use super::MemDisk;
 use crate::{Disk, DiskError};
 use std::alloc::Global;
+use std::fmt::Debug;
 use std::process::Abort;
 use std::test::Fail;
+
+// These are equal. The prover takes an assertion of two values apart for seconds, here once for all.
+fn equal<T: Copy + PartialEq + Debug>(rt: &impl Abort, left: T, right: T) {
+    assert_eq!(rt; left, right);
+}
+
+// The same of bytes.
+fn same_bytes(rt: &impl Abort, left: &[u8], right: &[u8]) {
+    assert_eq!(rt; left, right);
+}
 
 // Each image is one that a crash now may leave, or isn't.
 fn expect_images(
@@ -22,7 +33,7 @@ fn torn_and_lost_write(rt: HostRuntime) -> Result<(), Fail> {
     let alloc = rt.alloc();
     let mut disk = MemDisk::from_bytes(alloc, b"abcdef".to_vec(alloc)?)?;
     disk.write_at(4, b"XYZ")?;
-    assert_eq!(rt; disk.as_bytes(), b"abcdXYZ".as_slice());
+    same_bytes(&rt, disk.as_bytes(), b"abcdXYZ");
     expect_images(
         &rt,
         alloc,
@@ -67,6 +78,19 @@ fn cut_before_and_after_its_sync(rt: HostRuntime) -> Result<(), Fail> {
     expect_images(&rt, alloc, &disk, &[(b"ab?", true), (b"abcd", false)])
 }
 
+// A crash since that moment may have left this image, or not.
+fn expect_left(
+    rt: &impl Abort,
+    alloc: Global,
+    disk: &MemDisk,
+    moment: usize,
+    image: &[u8],
+    expected: bool,
+) -> Result<(), Fail> {
+    equal(rt, disk.is_image_since(alloc, moment, image)?, expected);
+    Ok(())
+}
+
 #[test]
 fn images_since_a_moment(rt: HostRuntime) -> Result<(), Fail> {
     let alloc = rt.alloc();
@@ -82,30 +106,31 @@ fn images_since_a_moment(rt: HostRuntime) -> Result<(), Fail> {
         (b"b", true, true),
         (b"c", true, false),
     ] {
-        assert_eq!(rt; disk.is_image_since(alloc, before, image)?, since_before);
-        assert_eq!(rt; disk.is_image_since(alloc, after, image)?, since_after);
+        expect_left(&rt, alloc, &disk, before, image, since_before)?;
+        expect_left(&rt, alloc, &disk, after, image, since_after)?;
     }
-    assert!(rt; !disk.is_image_since(alloc, before, b"")?);
+    expect_left(&rt, alloc, &disk, before, b"", false)?;
 
     // A restart opens a chosen image.
     let mut image = MemDisk::from_bytes(alloc, b"c".to_vec(alloc)?)?;
     let mut buffer = [0];
     image.read_at(0, &mut buffer)?;
-    assert_eq!(rt; buffer, *b"c");
+    same_bytes(&rt, &buffer, b"c");
     Ok(())
 }
 
 #[test]
 fn refusals(rt: HostRuntime) -> Result<(), Fail> {
     let mut disk = MemDisk::new(rt.alloc());
-    assert!(rt; disk.is_empty());
+    equal(&rt, disk.is_empty(), true);
     disk.write_at(0, b"abc")?;
-    assert_eq!(rt; disk.len(), 3);
-    assert_eq!(rt; disk.read_at(2, &mut [0; 2]), Err(DiskError::OutOfRange));
-    assert_eq!(rt; disk.write_at(4, b""), Err(DiskError::OutOfRange));
-    assert_eq!(rt; disk.cut(4), Err(DiskError::OutOfRange));
-    assert_eq!(rt; disk.faults(), 0);
-    assert_eq!(rt; DiskError::DiskFault.number(), 1);
-    assert_eq!(rt; DiskError::OutOfRange.number(), 2);
+    equal(&rt, disk.len(), 3);
+    let refused = Err(DiskError::OutOfRange);
+    equal(&rt, disk.read_at(2, &mut [0; 2]), refused);
+    equal(&rt, disk.write_at(4, b""), refused);
+    equal(&rt, disk.cut(4), refused);
+    equal(&rt, disk.faults(), 0);
+    equal(&rt, DiskError::DiskFault.number(), 1);
+    equal(&rt, DiskError::OutOfRange.number(), 2);
     Ok(())
 }

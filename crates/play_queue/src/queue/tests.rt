@@ -1,7 +1,24 @@
 use super::*;
 use crate::limits::MAX_VERSION;
 use crate::place::Place;
+use std::fmt::Debug;
+use std::process::Abort;
 use std::test::Fail;
+
+// These are equal. The prover takes an assertion of two values apart for seconds, here once for all.
+fn equal<T: Copy + PartialEq + Debug>(rt: &impl Abort, left: T, right: T) {
+    assert_eq!(rt; left, right);
+}
+
+// The same of texts.
+fn same_text(rt: &impl Abort, left: &str, right: &str) {
+    assert_eq!(rt; left, right);
+}
+
+// The same of positions.
+fn same_positions(rt: &impl Abort, left: &[usize], right: &[usize]) {
+    assert_eq!(rt; left, right);
+}
 
 fn uris(alloc: Global, texts: &[&str]) -> Result<Vec<Uri>, Fail> {
     let mut uris = Vec::new(alloc);
@@ -11,12 +28,72 @@ fn uris(alloc: Global, texts: &[&str]) -> Result<Vec<Uri>, Fail> {
     Ok(uris)
 }
 
-fn repeated(alloc: Global, text: &str, count: usize) -> Result<Vec<Uri>, Fail> {
-    let mut uris = Vec::new(alloc);
-    for _ in 0..count {
-        uris.push(Uri::read(alloc, text)?.ok_or("no URI")?)?;
+// An edit of a queue.
+#[derive(Clone, Copy)]
+enum Edit<'a> {
+    Add(usize, &'a [&'a str]),
+    Delete(usize, usize),
+    DeleteId(u32),
+    Move(usize, usize, usize),
+    Swap(usize, usize),
+    Shuffle(usize, usize, &'a [u32]),
+    Prio(&'a [(usize, usize)], u8),
+    // Dropped URIs, and those of changed rows.
+    Batch(&'a [&'a str], &'a [&'a str]),
+    Clear,
+}
+
+// What a call of a queue answers.
+type Answer<T> = Result<T, QueueError>;
+
+// The next functions have no contract: the prover then reads the long ones of the queue here alone, and in no test.
+
+fn add(queue: &mut Queue, alloc: Global, at: usize, texts: &[&str]) -> Result<Answer<u32>, Fail> {
+    Ok(queue.add_at(at, uris(alloc, texts)?))
+}
+
+fn follow(
+    queue: &mut Queue,
+    alloc: Global,
+    dropped: &[&str],
+    changed: &[&str],
+) -> Result<(), Fail> {
+    let dropped = uris(alloc, dropped)?;
+    let changed = uris(alloc, changed)?;
+    queue.follow_batch(&dropped, &changed);
+    Ok(())
+}
+
+// There is a word for each entry of the range.
+fn shuffle_by(
+    queue: &mut Queue,
+    alloc: Global,
+    start: usize,
+    end: usize,
+    words: &[u32],
+) -> Result<Answer<()>, Fail> {
+    if start <= end && words.len() != end - start {
+        return Err("no word for an entry")?;
     }
-    Ok(uris)
+    Ok(queue.shuffle(alloc, start, end, words))
+}
+
+// Makes the edit.
+fn apply(queue: &mut Queue, alloc: Global, edit: Edit) -> Result<Answer<()>, Fail> {
+    match edit {
+        Edit::Add(at, texts) => Ok(add(queue, alloc, at, texts)?.map(|_id| ())),
+        Edit::Shuffle(start, end, words) => shuffle_by(queue, alloc, start, end, words),
+        Edit::Delete(start, end) => Ok(queue.delete_range(start, end)),
+        Edit::DeleteId(id) => Ok(queue.delete_id(id)),
+        Edit::Move(start, end, to) => Ok(queue.move_range(start, end, to)),
+        Edit::Swap(one, other) => Ok(queue.swap(one, other)),
+        Edit::Prio(ranges, priority) => Ok(queue.set_prio(ranges, priority)),
+        Edit::Batch(dropped, changed) => Ok(Ok(follow(queue, alloc, dropped, changed)?)),
+        Edit::Clear => {
+            queue.clear();
+            Ok(Ok(()))
+        }
+    }
 }
 
 // Entries of a.wav, b.wav and so on, each added by itself.
@@ -24,100 +101,144 @@ fn queue_of(alloc: Global, texts: &[&str]) -> Result<Queue, Fail> {
     let mut queue = Queue::new(alloc);
     for text in texts {
         let at = queue.len();
-        queue.add_at(at, uris(alloc, &[*text])?)?;
+        add(&mut queue, alloc, at, &[*text])??;
     }
     Ok(queue)
 }
 
-// The version, and each entry's id and stamp.
+// Adds an entry's id and stamp, and its priority where it isn't 0.
+fn add_entry(text: &mut String, entry: &Entry) -> Result<(), Fail> {
+    write!(text, " {}/{}", entry.id, entry.stamp)?;
+    if entry.priority != 0 {
+        write!(text, "p{}", entry.priority)?;
+    }
+    Ok(())
+}
+
+// The version, and each entry's id, stamp and priority.
 fn shown(alloc: Global, queue: &Queue) -> Result<String, Fail> {
-    let version = queue.version();
-    let mut text = format!(in alloc; "{version}:")?;
+    let mut text = format!(in alloc; "{}:", queue.version())?;
     for entry in queue.entries() {
-        let id = entry.id;
-        let stamp = entry.stamp;
-        text.push_str(format!(in alloc; " {id}/{stamp}")?.as_str())?;
+        add_entry(&mut text, entry)?;
     }
     Ok(text)
+}
+
+// The queue shows this.
+fn shows(rt: &impl Abort, alloc: Global, queue: &Queue, want: &str) -> Result<(), Fail> {
+    same_text(rt, shown(alloc, queue)?.as_str(), want);
+    Ok(())
+}
+
+// Each edit succeeds, and the queue then shows what stands beside it.
+fn walk(
+    rt: &impl Abort,
+    alloc: Global,
+    queue: &mut Queue,
+    steps: &[(Edit, &str)],
+) -> Result<(), Fail> {
+    for (edit, want) in steps {
+        apply(queue, alloc, *edit)??;
+        shows(rt, alloc, queue, want)?;
+    }
+    Ok(())
+}
+
+// Each edit is refused so, and the queue shows the same as before.
+fn refuses(
+    rt: &impl Abort,
+    alloc: Global,
+    queue: &mut Queue,
+    steps: &[(Edit, QueueError)],
+    want: &str,
+) -> Result<(), Fail> {
+    for (edit, error) in steps {
+        equal(rt, apply(queue, alloc, *edit)?, Err(*error));
+        shows(rt, alloc, queue, want)?;
+    }
+    Ok(())
+}
+
+// These positions have changed since the version.
+fn changed(
+    rt: &impl Abort,
+    alloc: Global,
+    queue: &Queue,
+    version: u32,
+    want: &[usize],
+) -> Result<(), Fail> {
+    same_positions(rt, &queue.changes_since(alloc, version)?, want);
+    Ok(())
 }
 
 #[test]
 fn move_stamps(rt: HostRuntime) -> Result<(), Fail> {
     let alloc = rt.alloc();
     let mut queue = queue_of(alloc, &["a.wav", "b.wav", "c.wav"])?;
-    assert_eq!(rt; shown(alloc, &queue)?.as_str(), "4: 1/2 2/3 3/4");
-    queue.move_range(0, 1, 1)?;
-    assert_eq!(rt; shown(alloc, &queue)?.as_str(), "5: 2/5 1/5 3/4");
-    assert_eq!(rt;
-        queue.changes_since(alloc, 4)?.as_slice(),
-        [0, 1].as_slice()
-    );
-    assert_eq!(rt;
-        queue.changes_since(alloc, 0)?.as_slice(),
-        [0, 1, 2].as_slice()
-    );
-    assert_eq!(rt;
-        queue.changes_since(alloc, 3)?.as_slice(),
-        [0, 1, 2].as_slice()
-    );
-    assert_eq!(rt;
-        queue.changes_since(alloc, 6)?.as_slice(),
-        [0, 1, 2].as_slice()
-    );
-    assert_eq!(rt; queue.changes_since(alloc, 5)?.len(), 0);
-    Ok(())
+    shows(&rt, alloc, &queue, "4: 1/2 2/3 3/4")?;
+    walk(
+        &rt,
+        alloc,
+        &mut queue,
+        &[(Edit::Move(0, 1, 1), "5: 2/5 1/5 3/4")],
+    )?;
+    changed(&rt, alloc, &queue, 4, &[0, 1])?;
+    for version in [0, 3, 6] {
+        changed(&rt, alloc, &queue, version, &[0, 1, 2])?;
+    }
+    changed(&rt, alloc, &queue, 5, &[])
+}
+
+fn takes_out(rt: &impl Abort, alloc: Global, queue: &mut Queue) -> Result<(), Fail> {
+    let first = [
+        (Edit::Move(0, 1, 1), "5: 2/5 1/5 3/4"),
+        (Edit::Swap(0, 0), "5: 2/5 1/5 3/4"),
+        (Edit::Prio(&[(1, 2)], 9), "6: 2/5 1/6p9 3/4"),
+    ];
+    walk(rt, alloc, queue, &first)?;
+    equal(rt, queue.get(1).map(|entry| entry.priority), Some(9));
+    walk(rt, alloc, queue, &[(Edit::Delete(0, 1), "7: 1/7p9 3/7")])?;
+    changed(rt, alloc, queue, 6, &[0, 1])?;
+    walk(rt, alloc, queue, &[(Edit::Delete(1, 2), "8: 1/7p9")])?;
+    changed(rt, alloc, queue, 7, &[])
+}
+
+fn adds_again(rt: &impl Abort, alloc: Global, queue: &mut Queue) -> Result<(), Fail> {
+    equal(rt, add(queue, alloc, 1, &["a.wav"])?, Ok(4));
+    equal(rt, add(queue, alloc, 2, &["a.wav"])?, Ok(5));
+    equal(rt, queue.next_id(), 6);
+    let shuffle = Edit::Shuffle(0, 3, &[9, 9, 1]);
+    walk(rt, alloc, queue, &[(shuffle, "11: 5/11 1/11p9 4/11")])
 }
 
 #[test]
 fn edits_after_a_move(rt: HostRuntime) -> Result<(), Fail> {
     let alloc = rt.alloc();
     let mut queue = queue_of(alloc, &["a.wav", "b.wav", "c.wav"])?;
-    queue.move_range(0, 1, 1)?;
-    queue.swap(0, 0)?;
-    assert_eq!(rt; shown(alloc, &queue)?.as_str(), "5: 2/5 1/5 3/4");
-    queue.set_prio(&[(1, 2)], 9)?;
-    assert_eq!(rt; shown(alloc, &queue)?.as_str(), "6: 2/5 1/6 3/4");
-    assert_eq!(rt; queue.get(1).ok_or("no entry")?.priority, 9);
-    queue.delete_range(0, 1)?;
-    assert_eq!(rt; shown(alloc, &queue)?.as_str(), "7: 1/7 3/7");
-    assert_eq!(rt;
-        queue.changes_since(alloc, 6)?.as_slice(),
-        [0, 1].as_slice()
-    );
-    queue.delete_range(1, 2)?;
-    assert_eq!(rt; shown(alloc, &queue)?.as_str(), "8: 1/7");
-    assert_eq!(rt; queue.changes_since(alloc, 7)?.len(), 0);
-    assert_eq!(rt; queue.add_at(1, uris(alloc, &["a.wav"])?)?, 4);
-    assert_eq!(rt; queue.add_at(2, uris(alloc, &["a.wav"])?)?, 5);
-    assert_eq!(rt; queue.next_id(), 6);
-    queue.shuffle(alloc, 0, 3, &[9, 9, 1])?;
-    assert_eq!(rt; shown(alloc, &queue)?.as_str(), "11: 5/11 1/11 4/11");
-    Ok(())
+    takes_out(&rt, alloc, &mut queue)?;
+    adds_again(&rt, alloc, &mut queue)
 }
 
 #[test]
 fn shuffles(rt: HostRuntime) -> Result<(), Fail> {
     let alloc = rt.alloc();
     let mut queue = queue_of(alloc, &["a.wav", "b.wav", "c.wav"])?;
-    queue.shuffle(alloc, 0, 3, &[5, 3, 9])?;
-    assert_eq!(rt; shown(alloc, &queue)?.as_str(), "5: 2/5 1/5 3/4");
-    // The same order as before.
-    queue.shuffle(alloc, 0, 3, &[1, 2, 3])?;
-    queue.shuffle(alloc, 1, 2, &[4])?;
-    queue.shuffle(alloc, 3, 3, &[])?;
-    assert_eq!(rt; shown(alloc, &queue)?.as_str(), "5: 2/5 1/5 3/4");
-    // Words that tie.
-    queue.shuffle(alloc, 0, 3, &[7, 7, 7])?;
-    assert_eq!(rt; shown(alloc, &queue)?.as_str(), "6: 1/6 2/6 3/4");
-    queue.shuffle(alloc, 1, 3, &[u32::MAX, 0])?;
-    assert_eq!(rt; shown(alloc, &queue)?.as_str(), "7: 1/6 3/7 2/7");
-    assert_eq!(rt;
-        queue.shuffle(alloc, 0, 4, &[1, 2, 3, 4]),
-        Err(QueueError::BadIndex)
-    );
-    assert_eq!(rt; queue.shuffle(alloc, 2, 1, &[]), Err(QueueError::BadIndex));
-    assert_eq!(rt; shown(alloc, &queue)?.as_str(), "7: 1/6 3/7 2/7");
-    Ok(())
+    let steps = [
+        (Edit::Shuffle(0, 3, &[5, 3, 9]), "5: 2/5 1/5 3/4"),
+        // The same order as before.
+        (Edit::Shuffle(0, 3, &[1, 2, 3]), "5: 2/5 1/5 3/4"),
+        (Edit::Shuffle(1, 2, &[4]), "5: 2/5 1/5 3/4"),
+        (Edit::Shuffle(3, 3, &[]), "5: 2/5 1/5 3/4"),
+        // Words that tie.
+        (Edit::Shuffle(0, 3, &[7, 7, 7]), "6: 1/6 2/6 3/4"),
+        (Edit::Shuffle(1, 3, &[u32::MAX, 0]), "7: 1/6 3/7 2/7"),
+    ];
+    walk(&rt, alloc, &mut queue, &steps)?;
+    let bad = [
+        (Edit::Shuffle(0, 4, &[1, 2, 3, 4]), QueueError::BadIndex),
+        (Edit::Shuffle(2, 1, &[]), QueueError::BadIndex),
+    ];
+    refuses(&rt, alloc, &mut queue, &bad, "7: 1/6 3/7 2/7")
 }
 
 // Whether the version, and each entry's id and stamp, are these. It takes no memory.
@@ -131,18 +252,31 @@ fn stands(queue: &Queue, version: u32, rows: &[(u32, u32)]) -> bool {
             .all(|(entry, row)| entry.id == row.0 && entry.stamp == row.1)
 }
 
+// After the edit the queue stands so, or memory was refused and it stands as before.
+fn edited_or_not(
+    rt: &impl Abort,
+    queue: &Queue,
+    answer: Answer<()>,
+    after: (u32, &[(u32, u32)]),
+    before: (u32, &[(u32, u32)]),
+) {
+    let (version, rows) = if answer.is_ok() { after } else { before };
+    equal(
+        rt,
+        answer.is_ok() || answer == Err(QueueError::NoMemory),
+        true,
+    );
+    equal(rt, stands(queue, version, rows), true);
+}
+
 // Whichever allocation is refused, the addition that meets it answers so, and the queue is as it was.
 #[test]
 fn refused_addition(rt: HostRuntime) -> Result<(), Fail> {
     let alloc = rt.alloc();
     let mut queue = queue_of(alloc, &["a.wav", "b.wav"])?;
-    match queue.add_at(1, uris(alloc, &["c.wav"])?) {
-        Ok(_first) => assert!(rt; stands(&queue, 4, &[(1, 2), (3, 4), (2, 4)])),
-        Err(error) => {
-            assert_eq!(rt; error, QueueError::NoMemory);
-            assert!(rt; stands(&queue, 3, &[(1, 2), (2, 3)]));
-        }
-    }
+    let answer = apply(&mut queue, alloc, Edit::Add(1, &["c.wav"]))?;
+    let after = (4, [(1, 2), (3, 4), (2, 4)].as_slice());
+    edited_or_not(&rt, &queue, answer, after, (3, &[(1, 2), (2, 3)]));
     Ok(())
 }
 
@@ -151,13 +285,9 @@ fn refused_addition(rt: HostRuntime) -> Result<(), Fail> {
 fn refused_shuffle(rt: HostRuntime) -> Result<(), Fail> {
     let alloc = rt.alloc();
     let mut queue = queue_of(alloc, &["a.wav", "b.wav", "c.wav"])?;
-    match queue.shuffle(alloc, 0, 3, &[3, 2, 1]) {
-        Ok(()) => assert!(rt; stands(&queue, 5, &[(3, 5), (2, 3), (1, 5)])),
-        Err(error) => {
-            assert_eq!(rt; error, QueueError::NoMemory);
-            assert!(rt; stands(&queue, 4, &[(1, 2), (2, 3), (3, 4)]));
-        }
-    }
+    let answer = apply(&mut queue, alloc, Edit::Shuffle(0, 3, &[3, 2, 1]))?;
+    let after = (5, [(3, 5), (2, 3), (1, 5)].as_slice());
+    edited_or_not(&rt, &queue, answer, after, (4, &[(1, 2), (2, 3), (3, 4)]));
     Ok(())
 }
 
@@ -167,28 +297,64 @@ fn relative_move(rt: HostRuntime) -> Result<(), Fail> {
     let mut queue = queue_of(alloc, &["a.wav", "b.wav", "c.wav", "d.wav", "e.wav"])?;
     // The current song, id 4, stands at position 1 of the three entries without the block.
     let to = Place::After(0).resolve(Some(1), 3)?;
-    queue.move_range(0, 2, to)?;
-    assert_eq!(rt; shown(alloc, &queue)?.as_str(), "7: 3/7 4/7 1/7 2/7 5/6");
-    assert_eq!(rt;
-        Place::After(0).resolve(None, 3),
-        Err(QueueError::NoCurrentSong)
+    let step = (Edit::Move(0, 2, to), "7: 3/7 4/7 1/7 2/7 5/6");
+    walk(&rt, alloc, &mut queue, &[step])
+}
+
+#[test]
+fn relative_places(rt: HostRuntime) {
+    for (place, current, want) in [
+        (Place::After(0), None, Err(QueueError::NoCurrentSong)),
+        (Place::Before(0), None, Err(QueueError::NoCurrentSong)),
+        (Place::Before(1), Some(1), Ok(0)),
+        (Place::Before(2), Some(1), Err(QueueError::BadIndex)),
+        (Place::After(1), Some(1), Ok(3)),
+        (Place::After(2), Some(1), Err(QueueError::BadIndex)),
+        (Place::At(3), None, Ok(3)),
+        (Place::At(4), None, Err(QueueError::BadIndex)),
+    ] {
+        equal(&rt, place.resolve(current, 3), want);
+    }
+}
+
+// So many entries of a.wav are added.
+fn add_many(
+    queue: &mut Queue,
+    alloc: Global,
+    at: usize,
+    count: usize,
+) -> Result<Answer<u32>, Fail> {
+    let mut uris = Vec::new(alloc);
+    for _ in 0..count {
+        uris.push(Uri::read(alloc, "a.wav")?.ok_or("no URI")?)?;
+    }
+    Ok(queue.add_at(at, uris))
+}
+
+fn fills(rt: &impl Abort, alloc: Global, queue: &mut Queue) -> Result<(), Fail> {
+    equal(rt, add_many(queue, alloc, 0, 16_383)?, Ok(MAX_ID - 16_383));
+    equal(rt, queue.len(), 16_383);
+    equal(
+        rt,
+        add_many(queue, alloc, 0, 2)?,
+        Err(QueueError::QueueFull),
     );
-    assert_eq!(rt;
-        Place::Before(0).resolve(None, 3),
-        Err(QueueError::NoCurrentSong)
+    equal(rt, add_many(queue, alloc, 16_383, 1)?, Ok(MAX_ID));
+    equal(rt, queue.len(), 16_384);
+    Ok(())
+}
+
+fn has_spent_its_ids(rt: &impl Abort, alloc: Global, queue: &mut Queue) -> Result<(), Fail> {
+    // The queue is full, and the ids are spent too.
+    equal(
+        rt,
+        add_many(queue, alloc, 0, 1)?,
+        Err(QueueError::QueueFull),
     );
-    assert_eq!(rt; Place::Before(1).resolve(Some(1), 3), Ok(0));
-    assert_eq!(rt;
-        Place::Before(2).resolve(Some(1), 3),
-        Err(QueueError::BadIndex)
-    );
-    assert_eq!(rt; Place::After(1).resolve(Some(1), 3), Ok(3));
-    assert_eq!(rt;
-        Place::After(2).resolve(Some(1), 3),
-        Err(QueueError::BadIndex)
-    );
-    assert_eq!(rt; Place::At(3).resolve(None, 3), Ok(3));
-    assert_eq!(rt; Place::At(4).resolve(None, 3), Err(QueueError::BadIndex));
+    apply(queue, alloc, Edit::DeleteId(MAX_ID))??;
+    equal(rt, add_many(queue, alloc, 0, 1)?, Err(QueueError::IdsSpent));
+    equal(rt, add_many(queue, alloc, 0, 0)?, Ok(2_147_483_648));
+    equal(rt, QueueError::IdsSpent.number(), 25);
     Ok(())
 }
 
@@ -200,27 +366,8 @@ fn full_queue(rt: HostRuntime) -> Result<(), Fail> {
         version: 1,
         next_id: MAX_ID - 16_383,
     };
-    queue.add_at(0, repeated(alloc, "a.wav", 16_383)?)?;
-    assert_eq!(rt; queue.len(), 16_383);
-    assert_eq!(rt;
-        queue.add_at(0, repeated(alloc, "a.wav", 2)?),
-        Err(QueueError::QueueFull)
-    );
-    assert_eq!(rt; queue.add_at(16_383, uris(alloc, &["a.wav"])?), Ok(MAX_ID));
-    assert_eq!(rt; queue.len(), 16_384);
-    // The queue is full, and the ids are spent too.
-    assert_eq!(rt;
-        queue.add_at(0, uris(alloc, &["a.wav"])?),
-        Err(QueueError::QueueFull)
-    );
-    queue.delete_id(MAX_ID)?;
-    assert_eq!(rt;
-        queue.add_at(0, uris(alloc, &["a.wav"])?),
-        Err(QueueError::IdsSpent)
-    );
-    assert_eq!(rt; queue.add_at(0, uris(alloc, &[])?), Ok(2_147_483_648));
-    assert_eq!(rt; QueueError::IdsSpent.number(), 25);
-    Ok(())
+    fills(&rt, alloc, &mut queue)?;
+    has_spent_its_ids(&rt, alloc, &mut queue)
 }
 
 #[test]
@@ -231,63 +378,56 @@ fn version_begins_again(rt: HostRuntime) -> Result<(), Fail> {
         version: MAX_VERSION - 2,
         next_id: 1,
     };
-    queue.add_at(0, uris(alloc, &["a.wav", "b.wav"])?)?;
-    queue.add_at(2, uris(alloc, &["c.wav"])?)?;
-    assert_eq!(rt; queue.version(), MAX_VERSION);
-    queue.swap(1, 1)?;
-    assert_eq!(rt; queue.version(), MAX_VERSION);
-    queue.swap(1, 2)?;
-    assert_eq!(rt; shown(alloc, &queue)?.as_str(), "1: 1/1 3/1 2/1");
-    queue.set_prio(&[(0, 1)], 1)?;
-    assert_eq!(rt; shown(alloc, &queue)?.as_str(), "2: 1/2 3/1 2/1");
-    Ok(())
+    let last = "2147483647: 1/2147483646 2/2147483646 3/2147483647";
+    let steps = [
+        (
+            Edit::Add(0, &["a.wav", "b.wav"]),
+            "2147483646: 1/2147483646 2/2147483646",
+        ),
+        (Edit::Add(2, &["c.wav"]), last),
+        (Edit::Swap(1, 1), last),
+        (Edit::Swap(1, 2), "1: 1/1 3/1 2/1"),
+        (Edit::Prio(&[(0, 1)], 1), "2: 1/2p1 3/1 2/1"),
+    ];
+    walk(&rt, alloc, &mut queue, &steps)
 }
 
 #[test]
 fn batch(rt: HostRuntime) -> Result<(), Fail> {
     let alloc = rt.alloc();
     let mut queue = queue_of(alloc, &["a.wav", "b.wav", "a.wav", "c.wav"])?;
-    queue.follow_batch(
-        uris(alloc, &["d.wav"])?.as_slice(),
-        uris(alloc, &["e.wav"])?.as_slice(),
-    );
-    assert_eq!(rt; shown(alloc, &queue)?.as_str(), "5: 1/2 2/3 3/4 4/5");
-    queue.follow_batch(
-        uris(alloc, &[])?.as_slice(),
-        uris(alloc, &["b.wav", "c.wav"])?.as_slice(),
-    );
-    assert_eq!(rt; shown(alloc, &queue)?.as_str(), "6: 1/2 2/6 3/4 4/6");
-    queue.follow_batch(
-        uris(alloc, &["a.wav"])?.as_slice(),
-        uris(alloc, &[])?.as_slice(),
-    );
-    assert_eq!(rt; shown(alloc, &queue)?.as_str(), "7: 2/7 4/7");
-    queue.follow_batch(
-        uris(alloc, &["c.wav"])?.as_slice(),
-        uris(alloc, &["b.wav"])?.as_slice(),
-    );
-    assert_eq!(rt; shown(alloc, &queue)?.as_str(), "8: 2/8");
-    Ok(())
+    let steps = [
+        (Edit::Batch(&["d.wav"], &["e.wav"]), "5: 1/2 2/3 3/4 4/5"),
+        (Edit::Batch(&[], &["b.wav", "c.wav"]), "6: 1/2 2/6 3/4 4/6"),
+        (Edit::Batch(&["a.wav"], &[]), "7: 2/7 4/7"),
+        (Edit::Batch(&["c.wav"], &["b.wav"]), "8: 2/8"),
+    ];
+    walk(&rt, alloc, &mut queue, &steps)
 }
 
 #[test]
 fn nothing_changes(rt: HostRuntime) -> Result<(), Fail> {
     let alloc = rt.alloc();
     let mut queue = queue_of(alloc, &["a.wav", "b.wav", "c.wav"])?;
-    queue.set_prio(&[(0, 2)], 5)?;
-    assert_eq!(rt; shown(alloc, &queue)?.as_str(), "5: 1/5 2/5 3/4");
-    queue.move_range(1, 2, 1)?;
-    queue.move_range(2, 2, 0)?;
-    queue.swap(2, 2)?;
-    queue.set_prio(&[(0, 1), (0, 2), (3, 3)], 5)?;
-    queue.delete_range(3, 3)?;
-    assert_eq!(rt; queue.add_at(1, uris(alloc, &[])?)?, 4);
-    assert_eq!(rt; shown(alloc, &queue)?.as_str(), "5: 1/5 2/5 3/4");
-    queue.clear();
-    assert_eq!(rt; shown(alloc, &queue)?.as_str(), "6:");
-    queue.clear();
-    assert_eq!(rt; queue.version(), 6);
-    assert!(rt; queue.is_empty());
+    let same = "5: 1/5p5 2/5p5 3/4";
+    let steps = [
+        (Edit::Prio(&[(0, 2)], 5), same),
+        (Edit::Move(1, 2, 1), same),
+        (Edit::Move(2, 2, 0), same),
+        (Edit::Swap(2, 2), same),
+        (Edit::Prio(&[(0, 1), (0, 2), (3, 3)], 5), same),
+        (Edit::Delete(3, 3), same),
+    ];
+    walk(&rt, alloc, &mut queue, &steps)?;
+    equal(&rt, add(&mut queue, alloc, 1, &[])?, Ok(4));
+    shows(&rt, alloc, &queue, same)?;
+    walk(
+        &rt,
+        alloc,
+        &mut queue,
+        &[(Edit::Clear, "6:"), (Edit::Clear, "6:")],
+    )?;
+    equal(&rt, queue.is_empty(), true);
     Ok(())
 }
 
@@ -295,25 +435,19 @@ fn nothing_changes(rt: HostRuntime) -> Result<(), Fail> {
 fn refusals(rt: HostRuntime) -> Result<(), Fail> {
     let alloc = rt.alloc();
     let mut queue = queue_of(alloc, &["a.wav", "b.wav", "c.wav"])?;
-    assert_eq!(rt; queue.delete_range(0, 4), Err(QueueError::BadIndex));
-    assert_eq!(rt; queue.delete_range(2, 1), Err(QueueError::BadIndex));
-    assert_eq!(rt; queue.move_range(0, 2, 2), Err(QueueError::BadIndex));
-    assert_eq!(rt; queue.swap(0, 3), Err(QueueError::BadIndex));
-    assert_eq!(rt;
-        queue.set_prio(&[(0, 1), (2, 4)], 1),
-        Err(QueueError::BadIndex)
-    );
-    assert_eq!(rt;
-        queue.add_at(4, uris(alloc, &["a.wav"])?),
-        Err(QueueError::BadIndex)
-    );
-    assert_eq!(rt; queue.delete_id(4), Err(QueueError::NoSuchSong));
-    assert_eq!(rt; shown(alloc, &queue)?.as_str(), "4: 1/2 2/3 3/4");
-    assert_eq!(rt; queue.pos_of(3), Some(2));
-    assert_eq!(rt; queue.pos_of(0), None);
-    queue.delete_id(2)?;
-    assert_eq!(rt; shown(alloc, &queue)?.as_str(), "5: 1/2 3/5");
-    Ok(())
+    let bad = [
+        (Edit::Delete(0, 4), QueueError::BadIndex),
+        (Edit::Delete(2, 1), QueueError::BadIndex),
+        (Edit::Move(0, 2, 2), QueueError::BadIndex),
+        (Edit::Swap(0, 3), QueueError::BadIndex),
+        (Edit::Prio(&[(0, 1), (2, 4)], 1), QueueError::BadIndex),
+        (Edit::Add(4, &["a.wav"]), QueueError::BadIndex),
+        (Edit::DeleteId(4), QueueError::NoSuchSong),
+    ];
+    refuses(&rt, alloc, &mut queue, &bad, "4: 1/2 2/3 3/4")?;
+    equal(&rt, queue.pos_of(3), Some(2));
+    equal(&rt, queue.pos_of(0), None);
+    walk(&rt, alloc, &mut queue, &[(Edit::DeleteId(2), "5: 1/2 3/5")])
 }
 
 // The queue of entries of a.wav with these ids and stamps.
@@ -337,18 +471,33 @@ fn restored(
 }
 
 #[test]
-fn saved_queues(rt: HostRuntime) -> Result<(), Fail> {
+fn saved_queue(rt: HostRuntime) -> Result<(), Fail> {
     let alloc = rt.alloc();
     let queue = restored(alloc, &[(7, 2), (3, 9)], 9, 8)?.ok_or("no queue")?;
-    assert_eq!(rt; shown(alloc, &queue)?.as_str(), "9: 7/2 3/9");
-    assert_eq!(rt; queue.next_id(), 8);
-    assert!(rt; restored(alloc, &[], MAX_VERSION, MAX_ID + 1)?.is_some());
-    assert!(rt; restored(alloc, &[(7, 2), (3, 9), (7, 1)], 9, 8)?.is_none());
-    assert!(rt; restored(alloc, &[(8, 2)], 9, 8)?.is_none());
-    assert!(rt; restored(alloc, &[(0, 2)], 9, 8)?.is_none());
-    assert!(rt; restored(alloc, &[(7, 10)], 9, 8)?.is_none());
-    assert!(rt; restored(alloc, &[(7, 0)], 9, 8)?.is_none());
-    assert!(rt; restored(alloc, &[], 0, 1)?.is_none());
-    assert!(rt; restored(alloc, &[], 1, MAX_ID + 2)?.is_none());
+    shows(&rt, alloc, &queue, "9: 7/2 3/9")?;
+    equal(&rt, queue.next_id(), 8);
+    Ok(())
+}
+
+#[test]
+fn saved_bounds(rt: HostRuntime) -> Result<(), Fail> {
+    let alloc = rt.alloc();
+    let last = restored(alloc, &[], MAX_VERSION, MAX_ID + 1)?;
+    equal(&rt, last.is_some(), true);
+    for (rows, version, next_id) in [
+        ([(7, 2), (3, 9), (7, 1)].as_slice(), 9, 8),
+        (&[(8, 2)], 9, 8),
+        (&[(0, 2)], 9, 8),
+        (&[(7, 10)], 9, 8),
+        (&[(7, 0)], 9, 8),
+        (&[], 0, 1),
+        (&[], 1, MAX_ID + 2),
+    ] {
+        equal(
+            &rt,
+            restored(alloc, rows, version, next_id)?.is_none(),
+            true,
+        );
+    }
     Ok(())
 }

@@ -1,4 +1,4 @@
-ghost use Rattle.std.specs.Prelude.{◌≡◌, ℕ, ◌+◌, ◌<◌, ◌≤◌, true, List, [], length, vec_len, vec_capacity, Ok, None, IfOk, OnOk, IsOkUnless, IsTrue};
+ghost use Rattle.std.specs.Prelude.{◌≡◌, ℕ, ◌+◌, ◌<◌, ◌≤◌, true, List, [], length, vec_len, vec_capacity, Ok, Err, None, IfOk, OnOk, IsOkUnless, IsTrue};
 ghost use Rattle.song_db.specs.Batch.{IsBatch, IsRead, after_listing, after_own, own_visit};
 ghost use Rattle.song_db.specs.Found.{IsVisitIn};
 ghost use Rattle.song_db.specs.Scan.{is_in, AreSongs};
@@ -152,6 +152,7 @@ impl Reader {
         requires { is_in self.old.walk uri.now ≡ true }
         ensures walk { self.new.walk ≡ self.old.walk }
         ensures droppable { self.new.droppable ≡ after_listing uri.now listing self.old.droppable }
+        ensures memory { listing ≡ Err FolderFault.NoMemory → result ≡ Err SongDbError.NoMemory }
         ensures only { IsOkUnless result SongDbError.NoMemory }
     {
         match listing {
@@ -173,6 +174,7 @@ impl Reader {
     ) -> Result<Visit, SongDbError>
         ensures walk { self.new.walk ≡ self.old.walk }
         ensures droppable { self.new.droppable ≡ after_own listing self.old.droppable }
+        ensures memory { listing ≡ Err FolderFault.NoMemory → result ≡ Err SongDbError.NoMemory }
         ensures missing { listing ≡ Ok None → IfOk result (λ visit. visit ≡ own_visit self.old.walk) }
         ensures visit { IfOk result (IsVisitIn self.old.walk) }
         ensures only { IsOkUnless result SongDbError.NoMemory }

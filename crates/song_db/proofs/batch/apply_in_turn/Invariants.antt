@@ -1,6 +1,6 @@
 use Rattle.std.proofs.Common.{◌≡◌, ◌+◌, ◌<◌, ◌≤◌, ◌++◌, length, vec_capacity}
 use Rattle.std.specs.Vec.Iter.{into_iter_items}
-use Rattle.song_db.specs.declared.limits.TheConstants.{MAX_ROWS}
+use Rattle.song_db.specs.Limits.{MAX_ROWS}
 use Rattle.song_db.specs.Change.{IsDatabase, after_batch, left_out}
 use Rattle.song_db.proofs.batch.apply_in_turn.Given as goal
 

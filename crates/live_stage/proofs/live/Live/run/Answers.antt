@@ -1,4 +1,4 @@
-use Rattle.std.proofs.Common.{◌≡◌, List, [], ◌∷◌, length, refl, sym, ap, subst, ◌∙◌, append_assoc, arith}
+use Rattle.std.proofs.Common.{◌≡◌, true, List, [], ◌∷◌, length, refl, sym, ap, subst, ◌∙◌, append_assoc, arith}
 use Rattle.std.proofs.lemmas.List.{append-nil, nil_from_length}
 use Rattle.std.specs.Vec.Iter.{into_iter_items}
 use Rattle.daemon_core.specs.declared.event.Event.{Event}
@@ -17,6 +17,7 @@ loop-event-init g c =
       left = refl;
       room = omega (arith, items, room, c.in-Ok.ensures.len, c.len.ensures);
       counted = omega (arith, items, from.1);
+      stays = λ was. refl;
       later_a = omega arith;
       later_b = omega arith;
       fault = λ ha hb usable broken. absurd cc;
@@ -60,6 +61,7 @@ loop-event-preserved g c =
       left = append_assoc at.yielded (c.in-Some.event ∷ []) _ ∙ rw (← steps) at.invariant.left;
       room = omega (arith, room, short, c.push_reserved.ensures.len, c.push_reserved.ensures.capacity);
       counted = omega (arith, was, gone, short);
+      stays = λ was. let same = at.invariant.stays was in let broken : at.self.is_broken ≡ true = rw same was in (turn.broken broken).1 ∙ same;
       later_a = omega (arith, at.invariant.later_a, turn.later_a);
       later_b = omega (arith, at.invariant.later_b, turn.later_b);
       fault = λ ha hb usable. fails_on g.D.Disk.honest g.D.Disk.history g.D.Disk.faults c.args.self.now at.self c.turn-answer.new.self c.in-Some.event c.turn-answer.result made at.invariant.later_a at.invariant.later_b

@@ -1,12 +1,13 @@
-use Rattle.std.proofs.Common.{◌≡◌, ℕ, Bool, true, false, List, Ok, Err, refl, ap}
-use Rattle.std.specs.Prelude.{if◌then◌else◌, Result, IfOk, option_map}
+use Rattle.std.proofs.Common.{◌≡◌, ◌∙◌, ℕ, Bool, true, false, List, Ok, Err, refl, ap}
+use Rattle.std.specs.Prelude.{if◌then◌else◌, Result, IfOk, IfErr, option_map}
 use Rattle.std.specs.Result.{result_ok}
-use Rattle.wave_pcm.specs.Reading.{wave_reading}
+use Rattle.wave_pcm.specs.Reading.{wave_reading, IsVerdict}
 use Rattle.wave_pcm.specs.declared.info.WaveInfo.{WaveInfo}
 use Rattle.wave_pcm.specs.declared.error.WaveError.{WaveError}
 use Rattle.wave_pcm.specs.declared.error.WaveError.TheVariants.{NoMemory, NotWave, NoFormat, Unsupported, NoData, ReadFault, TooManyTurns}
 use Rattle.song_db.specs.declared.scan.found.Found.TheVariants.{Song, NoSong}
-use Rattle.song_db.specs.Found.{found_of, IsOf, IsSongIn}
+use Rattle.song_db.specs.Found.{found_of, has_row, IsOf, IsSongIn}
+use Rattle.song_db.specs.Scan.{song_in}
 use Rattle.song_db.specs.Row.{row_of, is_within_limits}
 use Rattle.song_db.proofs.scan.found.found_in.Goals as goal
 
@@ -24,19 +25,22 @@ of_uri uri (Err (Unsupported tag bits channels)) = tt
 of_uri uri (Err NoData) = tt
 of_uri uri (Err TooManyTurns) = tt
 
-song_of : (uri bytes : List ℕ) (head : Result WaveInfo WaveError) → IfOk head (λ info. wave_reading bytes ≡ Ok info) → IfOk (found_of uri head) (IsSongIn uri bytes)
-song_of uri bytes (Ok info) read = by_cases (is_within_limits (row_of uri info))
+refused : (uri bytes : List ℕ) (e : WaveError) → wave_reading bytes ≡ Err e → has_row (song_in uri bytes) ≡ false
+refused uri bytes e read = ap (λ reading. has_row (option_map (row_of uri) (result_ok reading))) read
+
+song_of : (uri bytes : List ℕ) (head : Result WaveInfo WaveError) → IfOk head (λ info. wave_reading bytes ≡ Ok info) → IfErr head (λ e. IsVerdict e → wave_reading bytes ≡ Err e) → IfOk (found_of uri head) (IsSongIn uri bytes)
+song_of uri bytes (Ok info) read verdict = by_cases (is_within_limits (row_of uri info)) refl
   where
-    by_cases : (b : Bool) → IsSongIn uri bytes (if b then Song (row_of uri info) else NoSong)
-    by_cases true = ap (λ reading. option_map (row_of uri) (result_ok reading)) read
-    by_cases false = tt
-song_of uri bytes (Err NoMemory) read = tt
-song_of uri bytes (Err ReadFault) read = tt
-song_of uri bytes (Err NotWave) read = tt
-song_of uri bytes (Err NoFormat) read = tt
-song_of uri bytes (Err (Unsupported tag bits channels)) read = tt
-song_of uri bytes (Err NoData) read = tt
-song_of uri bytes (Err TooManyTurns) read = tt
+    by_cases : (b : Bool) → is_within_limits (row_of uri info) ≡ b → IsSongIn uri bytes (if b then Song (row_of uri info) else NoSong)
+    by_cases true told = ap (λ reading. option_map (row_of uri) (result_ok reading)) read
+    by_cases false told = ap (λ reading. has_row (option_map (row_of uri) (result_ok reading))) read ∙ told
+song_of uri bytes (Err NoMemory) read verdict = tt
+song_of uri bytes (Err ReadFault) read verdict = tt
+song_of uri bytes (Err NotWave) read verdict = refused uri bytes NotWave (verdict tt)
+song_of uri bytes (Err NoFormat) read verdict = refused uri bytes NoFormat (verdict tt)
+song_of uri bytes (Err (Unsupported tag bits channels)) read verdict = refused uri bytes (Unsupported tag bits channels) (verdict tt)
+song_of uri bytes (Err NoData) read verdict = refused uri bytes NoData (verdict tt)
+song_of uri bytes (Err TooManyTurns) read verdict = refused uri bytes TooManyTurns (verdict tt)
 
 pub returns-in-Ok-Some-clause-of : goal.returns-in-Ok-Some-clause-of
 returns-in-Ok-Some-clause-of g c = rw c.found_of.ensures (of_uri c.args.uri c.read_head-head.result)
@@ -44,4 +48,4 @@ returns-in-Ok-Some-clause-of g c = rw c.found_of.ensures (of_uri c.args.uri c.re
 pub returns-in-Ok-Some-clause-song : goal.returns-in-Ok-Some-clause-song
 returns-in-Ok-Some-clause-song g c = λ source is told.
     let same : source ≡ c.in-Ok-Some.source = cc in
-    rw (c.found_of.ensures, same) (song_of c.args.uri (g.S.Source.bytes c.in-Ok-Some.source) c.read_head-head.result (c.read_head-head.ensures.head (rw same at told)))
+    rw (c.found_of.ensures, same) (song_of c.args.uri (g.S.Source.bytes c.in-Ok-Some.source) c.read_head-head.result (c.read_head-head.ensures.head (rw same at told)) (c.read_head-head.ensures.refused (rw same at told)))

@@ -1,5 +1,5 @@
 use Rattle.std.proofs.Common.{◌+◌, ◌≤◌, ◌∙◌, length, sym, ap, arith}
-use Rattle.song_db.specs.declared.limits.TheConstants.{MAX_ROWS}
+use Rattle.song_db.specs.Limits.{MAX_ROWS}
 use Rattle.song_db.specs.Change.{after_batch, left_out}
 use Rattle.song_db.proofs.Merging.{after_all, none_left, database_made}
 use Rattle.song_db.proofs.song_db.SongDb.apply_batch.Goals as goal

@@ -1,6 +1,6 @@
 use Rattle.std.proofs.Common.{◌≡◌, ◌<◌, true, false, is_some, sym, arith}
 use Rattle.std.proofs.lemmas.Grind.{common_steps}
-use Rattle.stickers.specs.declared.limits.TheConstants.{MAX_STICKERS}
+use Rattle.stickers.specs.Limits.{MAX_STICKERS}
 use Rattle.stickers.specs.Sticker.{value_at}
 use Rattle.stickers.proofs.Counted.{counted_new, counted_other}
 use Rattle.stickers.proofs.stickers.Stickers.set.Goals as goal

@@ -1,5 +1,5 @@
 use Rattle.std.proofs.Common.{◌≡◌, ◌-◌, ◌≤◌, ◌++◌, vec_len, vec_capacity}
-use Rattle.song_db.specs.declared.limits.TheConstants.{MAX_CHANGES}
+use Rattle.song_db.specs.Limits.{MAX_CHANGES}
 use Rattle.song_db.specs.Scan.{drops_of, puts_of}
 use Rattle.song_db.proofs.scan.droppable.Droppable.drop_rest.Given as goal
 

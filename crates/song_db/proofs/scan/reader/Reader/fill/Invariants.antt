@@ -1,5 +1,5 @@
 use Rattle.std.proofs.Common.{◌≡◌, ℕ, ◌≤◌, List, vec_len, vec_capacity}
-use Rattle.song_db.specs.declared.limits.TheConstants.{MAX_CHANGES}
+use Rattle.song_db.specs.Limits.{MAX_CHANGES}
 use Rattle.song_db.specs.Batch.{IsBatch}
 use Rattle.song_db.specs.Scan.{AreSongs}
 use Rattle.song_db.proofs.scan.reader.Reader.fill.Given as goal

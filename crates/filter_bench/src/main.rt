@@ -1,0 +1,48 @@
+//! Measures how many rows a second a filter tests, beside a plain pass over the same rows.
+#![tactic(auto)]
+
+mod pass;
+mod rows;
+mod timing;
+
+use anyhow::Result;
+use pass::Pass;
+use rows::{ROWS, rows};
+use std::env;
+use timing::{measure, per_second, ratio};
+
+/// The passes in the order in which they are printed; the plain one comes first.
+const PASSES: [Pass; 4] = [
+    Pass::Plain,
+    Pass::Equality,
+    Pass::Containment,
+    Pass::FoldedPair,
+];
+
+/// Prints the rows a second of each pass, and how many times as long it takes as the plain one.
+fn run(rt: &HostRuntime) -> Result<()> {
+    let rows = rows(rt.alloc())?;
+    let mut plain = 0;
+    for pass in PASSES {
+        let time = measure(rt, pass, rows.as_slice())?;
+        if plain == 0 {
+            plain = time;
+        }
+        println!(rt;
+            "{}: {} rows a second, ratio {}",
+            pass.name(),
+            per_second(ROWS, time),
+            ratio(time, plain)
+        )?;
+    }
+    Ok(())
+}
+
+fn main(rt: HostRuntime) -> Result<()> {
+    let mut args = env::args(&rt)?;
+    let _program = args.next();
+    match args.next() {
+        Some(word) if word.as_str() == "measure" => run(&rt),
+        _ => Ok(println!(rt; "usage: filter_bench measure")?),
+    }
+}

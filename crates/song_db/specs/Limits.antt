@@ -1,0 +1,22 @@
+-- The limits of the database and of scans.
+use Rattle.std.specs.Prelude.{ℕ}
+
+-- how many bytes a URI may have
+abbrev pub MAX_URI_BYTES : ℕ
+MAX_URI_BYTES = 1024
+
+-- the highest rate of a song, in frames a second
+abbrev pub MAX_RATE : ℕ
+MAX_RATE = 192000
+
+-- how many rows the database may have
+abbrev pub MAX_ROWS : ℕ
+MAX_ROWS = 65536
+
+-- how many changes an answer of a scan may have
+abbrev pub MAX_CHANGES : ℕ
+MAX_CHANGES = 64
+
+-- how many folders a scanned song may stand in, counted from the root of the music
+abbrev pub MAX_FOLDERS : ℕ
+MAX_FOLDERS = 32

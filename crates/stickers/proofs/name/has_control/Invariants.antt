@@ -1,7 +1,0 @@
-use Rattle.std.proofs.Common.{◌≡◌, drop}
-use Rattle.stickers.specs.Name.{has_control}
-use Rattle.stickers.proofs.name.has_control.Given as goal
-
--- what is left of the text decides
-abbrev pub invariant-loop-at : goal.invariant-loop-at
-invariant-loop-at l = has_control (drop l.at l.text) ≡ has_control l.text
