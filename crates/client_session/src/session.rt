@@ -158,6 +158,3 @@ impl Session {
         refusal
     }
 }
-
-#[cfg(test)]
-mod tests;

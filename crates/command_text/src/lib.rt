@@ -24,6 +24,3 @@ pub use place::Place;
 pub use refusal::{AckCode, CommandRefusal, ReadError, Refusal};
 pub use request::{Line, Lines, Request};
 pub use words::{Word, WordsError};
-
-#[cfg(test)]
-mod tests;

@@ -22,7 +22,7 @@ fn equal<T: Copy + PartialEq + Debug>(rt: &impl Abort, left: T, right: T) {
 
 /// The same of texts.
 fn same_text(rt: &impl Abort, left: &str, right: &str) {
-    assert_eq!(rt; left, right);
+    equal(rt, left, right);
 }
 
 // The next functions have no contract: the prover then reads the long ones of the daemon here alone, and in no test.

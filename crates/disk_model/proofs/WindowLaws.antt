@@ -122,13 +122,7 @@ one_byte history at bytes image is_settled within left =
     rw (add-one, ← drop-cons image at 0) (sym (take-append-drop at image)) in
     (get_or image at 0, left.bytes at 0 inside, parts ∙ rw (torn.before, torn.after) refl)
 
--- The same two laws where the bytes are given in parts.
-pub front_kept : (changes history : List Change) (front rest image : List ℕ) → window history ≡ settled (front ++ rest) → IsBehind (length front) changes → IsImage (window (changes ++ history)) image → (behind : List ℕ) × (image ≡ front ++ behind)
-front_kept changes history front rest image is_settled behind left =
-    let stays = front_stays changes history (length front) (front ++ rest) image is_settled (omega (arith, length-append front rest)) behind left in
-    let same : take (length front) image ≡ front = stays.1 ∙ take_at front rest (length front) refl in
-    (drop (length front) image, sym (take-append-drop (length front) image) ∙ ap (λ part. part ++ drop (length front) image) same)
-
+-- The same law where the bytes are given in parts.
 pub one_byte_at : (history : List Change) (front rest : List ℕ) (old : ℕ) (image : List ℕ) → window history ≡ settled (front ++ old ∷ rest) → IsImage (window (Wrote (length front) 1 ∷ history)) image → (byte : ℕ) × (byte < 256) × (image ≡ front ++ byte ∷ rest)
 one_byte_at history front rest old image is_settled left =
     let bytes : List ℕ = front ++ old ∷ rest in

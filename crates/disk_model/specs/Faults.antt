@@ -1,5 +1,5 @@
 -- The count of a disk's faults.
-use Rattle.std.specs.Prelude.{◌≡◌, ℕ, ◌-◌, ◌^◌, ◌<◌, ◌≤◌, Result, IsErrOf}
+use Rattle.std.specs.Prelude.{◌≡◌, ℕ, ◌-◌, ◌^◌, ◌<◌, ◌≤◌, Result, OnOk, IsErrOf}
 use Rattle.disk_model.specs.declared.disk.DiskError.{DiskError}
 use Rattle.disk_model.specs.declared.disk.DiskError.TheVariants.{DiskFault, OutOfRange}
 
@@ -7,8 +7,9 @@ use Rattle.disk_model.specs.declared.disk.DiskError.TheVariants.{DiskFault, OutO
 abbrev pub HasGrown : ℕ → ℕ → Type 0
 HasGrown before now = now < 2 ^ 64 - 1 → before < now
 
--- a fault is answered only where it was counted, and a call out of range isn't counted
+-- a fault is answered only where it was counted, and no other answer is counted
 pub record IsCounted {T : Type 0} (before now : ℕ) (result : Result T DiskError) : Type 0 where
   pub later : before ≤ now
   pub fault : IsErrOf result DiskFault → HasGrown before now
+  pub ok : OnOk result (now ≡ before)
   pub out_of_range : IsErrOf result OutOfRange → now ≡ before

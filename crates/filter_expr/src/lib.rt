@@ -23,6 +23,3 @@ pub use name::tag_named;
 pub use order::{SortKey, SortOrder, sort_rows, window};
 pub use refusal::{FilterError, FilterPlace, NoMemory};
 pub use subject::{Comparison, Subject};
-
-#[cfg(test)]
-mod tests;

@@ -270,6 +270,3 @@ fn mark_all(clients: &mut [Watched], changed: Subsystems)
         watched.grow(changed);
     }
 }
-
-#[cfg(test)]
-mod tests;

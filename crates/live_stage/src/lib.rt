@@ -11,6 +11,3 @@ mod turn;
 pub use error::{LiveError, Refused, StartError};
 pub use live::Live;
 pub use turn::{Receipt, Turn, TurnResult};
-
-#[cfg(test)]
-mod tests;

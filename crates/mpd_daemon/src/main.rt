@@ -2,6 +2,8 @@
 #![tactic(auto)]
 
 mod arguments;
+#[cfg(test)]
+mod assertions;
 mod config;
 mod console;
 mod exit;

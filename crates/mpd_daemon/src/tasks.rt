@@ -1,4 +1,7 @@
 //! The tasks of the program. Faults are found in the order configuration, journal files, journal.
+ghost use Rattle.std.specs.Prelude.{◌≡◌};
+ghost use Rattle.mpd_daemon.specs.Lives.{refusal_of, status_of};
+
 use crate::arguments::Task;
 use crate::config::{Config, ConfigError};
 use crate::console::{Status, run_console};
@@ -39,7 +42,9 @@ fn open_file(rt: &HostRuntime, path: &str) -> Result<FileDisk<File>, Exit> {
 }
 
 /// Why no journal was made.
-fn refused<D: Disk + Drop>(refused: Refused<D>) -> Exit {
+fn refused<D: Disk + Drop>(refused: Refused<D>) -> Exit
+    ensures { result ≡ Exit.Ended (status_of (refusal_of refused.error)) }
+{
     match refused.error {
         StartError::Broken => Exit::Ended(Status::DiskFault),
         error => Exit::Ended(Status::JournalRefused(error.number())),

@@ -312,6 +312,3 @@ fn opened_journal<D: Disk>(
     };
     (journal, snapshot, records)
 }
-
-#[cfg(test)]
-mod tests;

@@ -266,6 +266,3 @@ fn id_after(first: u32, count: usize) -> Option<u32>
     }
     Some(first + count)
 }
-
-#[cfg(test)]
-mod tests;

@@ -6,6 +6,3 @@ pub mod volume;
 
 pub use options::{Options, Single};
 pub use volume::Volume;
-
-#[cfg(test)]
-mod tests;

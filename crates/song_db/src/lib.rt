@@ -27,6 +27,3 @@ pub use scan::Scan;
 pub use song_db::SongDb;
 pub use texts::Texts;
 pub use uri::{Uri, is_uri};
-
-#[cfg(test)]
-mod tests;

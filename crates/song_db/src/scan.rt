@@ -107,6 +107,3 @@ impl Scan {
         }
     }
 }
-
-#[cfg(test)]
-mod tests;

@@ -14,6 +14,3 @@ pub use op::{Op, Setting};
 pub use reading::{take_ops, take_saved};
 pub use saved::Saved;
 pub use writing::{put_op, put_saved};
-
-#[cfg(test)]
-mod tests;

@@ -169,6 +169,3 @@ impl Stickers {
         self.count -= self.songs.remove_song(uri);
     }
 }
-
-#[cfg(test)]
-mod tests;

@@ -222,6 +222,3 @@ impl Lists {
         Ok(())
     }
 }
-
-#[cfg(test)]
-mod tests;

@@ -87,6 +87,3 @@ impl fmt::Display for Thousandths {
         write!(f, "{whole}.{rest:03}")
     }
 }
-
-#[cfg(test)]
-mod tests;

@@ -33,6 +33,3 @@ pub use source::{MemSource, Source, SourceFault};
 pub use tags::{Tag, Tags};
 pub use text::{MAX_TAG_BYTES, has_control};
 pub use volume::scale;
-
-#[cfg(test)]
-mod tests;

@@ -100,7 +100,7 @@ fn goes_well(rt: &impl Abort, alloc: Global, row: Row) -> Result<(), Fail> {
 
 /// This was a refusal for want of memory.
 fn is_for_want_of_memory(rt: &impl Abort, refused: bool, found: &str) {
-    assert!(rt; refused, "{found}");
+    equal(rt, (found, refused), (found, true));
 }
 
 fn was_refused(rt: &impl Abort, alloc: Global, row: Row, found: &str) -> Result<(), Fail> {

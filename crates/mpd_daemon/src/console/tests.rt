@@ -1,8 +1,10 @@
 use super::{ConsoleEnd, Ending, Status, run_console};
+use crate::assertions::{equal, same_bytes, same_text};
 use disk_model::{Disk, Fuse, FuseDisk, MemDisk};
 use live_stage::{Live, Refused};
 use std::alloc::Global;
 use std::io::{self, Read, Write};
+use std::process::Abort;
 use std::test::Fail;
 
 const GREETING: &[u8] = b"OK MPD 0.23.0\n";
@@ -64,44 +66,86 @@ impl Write for Narrow {
     }
 }
 
+// Runs a console. It has no contract, so the long one of `run_console` is read here alone.
+fn run<D: Disk>(
+    alloc: Global,
+    (a, b): (D, D),
+    reader: &mut impl Read,
+    writer: &mut impl Write,
+) -> ConsoleEnd<D> {
+    run_console(alloc, a, b, reader, writer)
+}
+
 // Runs a console whose input comes line by line, and gives what it wrote too.
-fn run_lines<D: Disk>(alloc: Global, a: D, b: D, input: &[u8]) -> (ConsoleEnd<D>, Vec<u8>) {
+fn run_lines<D: Disk>(alloc: Global, disks: (D, D), input: &[u8]) -> (ConsoleEnd<D>, Vec<u8>) {
     let mut reader = Lines {
         rest: input,
         reads: 0,
         failing: 0,
     };
     let mut written = Vec::new(alloc);
-    let end = run_console(alloc, a, b, &mut reader, &mut written);
+    let end = run(alloc, disks, &mut reader, &mut written);
     (end, written)
 }
 
+// A console has ended so.
+fn has_ended<D>(rt: &impl Abort, end: &ConsoleEnd<D>, status: Status, ending: Ending) {
+    equal(rt, end.status, status);
+    equal(rt, end.ending, ending);
+}
+
+// The console greets its client, and writes these answers.
+fn answers_are(rt: &(impl Abort + AllocGlobal), input: &str, answers: &str) -> Result<(), Fail> {
+    let alloc = rt.alloc();
+    let (end, written) = run_lines(alloc, fresh_disks(alloc)?, input.as_bytes());
+    has_ended(rt, &end, Status::Done, Ending::Whole);
+    let (front, rest) = written.split_at(GREETING.len().min(written.len()));
+    same_bytes(rt, front, GREETING);
+    same_bytes(rt, rest, answers.as_bytes());
+    Ok(())
+}
+
+const STATUS: &str = "volume: 100\nrepeat: 0\nrandom: 0\nsingle: 0\nconsume: 0\nplaylist: 1\n\
+                      playlistlength: 0\nstate: stop\nOK\n";
+
+const ANSWERS: [(&str, &str); 6] = [
+    ("status\n", STATUS),
+    (
+        "foo\n\nping \"x\n",
+        "ACK [5@0] {} unknown command \"foo\"\nACK [5@0] {} No command given\n\
+         ACK [2@0] {} bad quoting\n",
+    ),
+    ("ping\nclose\nping\n", "OK\n"),
+    ("kill\nping\n", ""),
+    ("ping\nping", "OK\n"),
+    ("setvol 101\n", "ACK [2@0] {setvol} bad argument 1\n"),
+];
+
 #[test]
 fn answers(rt: HostRuntime) -> Result<(), Fail> {
-    let status = "volume: 100\nrepeat: 0\nrandom: 0\nsingle: 0\nconsume: 0\nplaylist: 1\n\
-                  playlistlength: 0\nstate: stop\nOK\n";
-    let cases = [
-        ("status\n", status),
-        (
-            "foo\n\nping \"x\n",
-            "ACK [5@0] {} unknown command \"foo\"\nACK [5@0] {} No command given\n\
-             ACK [2@0] {} bad quoting\n",
-        ),
-        ("ping\nclose\nping\n", "OK\n"),
-        ("kill\nping\n", ""),
-        ("ping\nping", "OK\n"),
-        ("setvol 101\n", "ACK [2@0] {setvol} bad argument 1\n"),
-    ];
-    let alloc = rt.alloc();
-    for (input, answers) in cases {
-        let (a, b) = fresh_disks(alloc)?;
-        let (end, written) = run_lines(alloc, a, b, input.as_bytes());
-        assert_eq!(rt; end.status, Status::Done, "{input}");
-        assert_eq!(rt; end.ending, Ending::Whole, "{input}");
-        let mut wanted = Vec::from_slice(alloc, GREETING)?;
-        wanted.extend_from_slice(answers.as_bytes())?;
-        assert_eq!(rt; written.as_slice(), wanted.as_slice(), "{input}");
+    for (input, answers) in &ANSWERS {
+        answers_are(&rt, input, answers)?;
     }
+    Ok(())
+}
+
+// An input that comes in two pieces is answered like one that comes line by line.
+fn is_answered_cut(
+    rt: &(impl Abort + AllocGlobal),
+    front: &[u8],
+    back: &[u8],
+    whole: &[u8],
+) -> Result<(), Fail> {
+    let alloc = rt.alloc();
+    let mut written = Vec::new(alloc);
+    let end = run(
+        alloc,
+        fresh_disks(alloc)?,
+        &mut front.chain(back),
+        &mut written,
+    );
+    has_ended(rt, &end, Status::Done, Ending::Whole);
+    same_bytes(rt, &written, whole);
     Ok(())
 }
 
@@ -109,144 +153,180 @@ fn answers(rt: HostRuntime) -> Result<(), Fail> {
 fn cut_anywhere(rt: HostRuntime) -> Result<(), Fail> {
     let alloc = rt.alloc();
     let input = b"ping\nstatus\n";
-    let (a, b) = fresh_disks(alloc)?;
-    let (_, whole) = run_lines(alloc, a, b, input);
+    let (_, whole) = run_lines(alloc, fresh_disks(alloc)?, input);
     for cut in 1..input.len() {
         let (front, back) = input.split_at(cut);
-        let (a, b) = fresh_disks(alloc)?;
-        let mut written = Vec::new(alloc);
-        let end = run_console(alloc, a, b, &mut front.chain(back), &mut written);
-        assert_eq!(rt; end.ending, Ending::Whole, "cut at {cut}");
-        assert_eq!(rt; written.as_slice(), whole.as_slice(), "cut at {cut}");
+        is_answered_cut(&rt, front, back, &whole)?;
     }
     Ok(())
 }
 
+// Runs a console of one line; its file a then has this length.
+fn length_after(
+    rt: &(impl Abort + AllocGlobal),
+    disks: (MemDisk, MemDisk),
+    line: &[u8],
+    length: usize,
+) -> ((MemDisk, MemDisk), Vec<u8>) {
+    let (end, written) = run_lines(rt.alloc(), disks, line);
+    equal(rt, end.a.as_bytes().len(), length);
+    ((end.a, end.b), written)
+}
+
 #[test]
 fn changes_are_kept(rt: HostRuntime) -> Result<(), Fail> {
-    let alloc = rt.alloc();
-    let (a, b) = fresh_disks(alloc)?;
-    let (first, _) = run_lines(alloc, a, b, b"setvol 40\n");
-    assert_eq!(rt; first.a.as_bytes().len(), 109);
-    let (second, written) = run_lines(alloc, first.a, first.b, b"status\n");
-    assert_eq!(rt;
-        written.as_slice(),
+    let disks = fresh_disks(rt.alloc())?;
+    let (disks, _) = length_after(&rt, disks, b"setvol 40\n", 109);
+    let (_, written) = length_after(&rt, disks, b"status\n", 109);
+    same_bytes(
+        &rt,
+        &written,
         b"OK MPD 0.23.0\nvolume: 40\nrepeat: 0\nrandom: 0\nsingle: 0\nconsume: 0\nplaylist: 1\n\
-          playlistlength: 0\nstate: stop\nOK\n"
-            .as_slice()
+          playlistlength: 0\nstate: stop\nOK\n",
     );
-    assert_eq!(rt; second.a.as_bytes().len(), 109);
+    Ok(())
+}
 
-    let (a, b) = fresh_disks(alloc)?;
-    let (once, _) = run_lines(alloc, a, b, b"random 1\n");
-    assert_eq!(rt; once.a.as_bytes().len(), 119);
-    let (again, _) = run_lines(alloc, once.a, once.b, b"random 1\n");
-    assert_eq!(rt; again.a.as_bytes().len(), 119);
+#[test]
+fn no_change_is_not_written(rt: HostRuntime) -> Result<(), Fail> {
+    let disks = fresh_disks(rt.alloc())?;
+    let (disks, _) = length_after(&rt, disks, b"random 1\n", 119);
+    length_after(&rt, disks, b"random 1\n", 119);
+    Ok(())
+}
+
+// How many bytes a write takes, the read and the write that fail (0: none), how much is written, and how the console ends.
+const FAILING_STREAMS: [(usize, u64, u64, usize, Ending); 13] = [
+    (3, 0, 0, 117, Ending::Whole),
+    (64, 1, 0, 14, Ending::Cut),
+    (64, 2, 0, 17, Ending::Cut),
+    (64, 3, 0, 20, Ending::Cut),
+    (64, 4, 0, 117, Ending::Cut),
+    (64, 0, 1, 0, Ending::Cut),
+    (64, 0, 2, 14, Ending::Cut),
+    (64, 0, 3, 17, Ending::Cut),
+    (64, 0, 4, 20, Ending::Cut),
+    (3, 0, 7, 17, Ending::Cut),
+    (64, 0, 5, 84, Ending::Cut),
+    (64, 0, 6, 117, Ending::Whole),
+    (0, 0, 0, 0, Ending::Cut),
+];
+
+// Runs a console whose read or write of these numbers fails, and gives how it ended and what it wrote.
+fn run_failing(
+    alloc: Global,
+    width: usize,
+    failing_read: u64,
+    failing_write: u64,
+) -> Result<(ConsoleEnd<MemDisk>, Vec<u8>), Fail> {
+    let mut reader = Lines {
+        rest: b"setvol 40\nping\nstatus\n",
+        reads: 0,
+        failing: failing_read,
+    };
+    let mut writer = Narrow {
+        taken: Vec::new(alloc),
+        width,
+        writes: 0,
+        failing: failing_write,
+    };
+    let end = run(alloc, fresh_disks(alloc)?, &mut reader, &mut writer);
+    Ok((end, writer.taken))
+}
+
+// What such a console wrote is a front of this length of the whole.
+fn writes_a_front(
+    rt: &(impl Abort + AllocGlobal),
+    case: &(usize, u64, u64, usize, Ending),
+    whole: &[u8],
+) -> Result<(), Fail> {
+    let (width, failing_read, failing_write, length, ending) = *case;
+    let (end, written) = run_failing(rt.alloc(), width, failing_read, failing_write)?;
+    has_ended(rt, &end, Status::Done, ending);
+    same_bytes(rt, &written, &whole[..length.min(whole.len())]);
     Ok(())
 }
 
 #[test]
 fn streams_that_fail(rt: HostRuntime) -> Result<(), Fail> {
-    let alloc = rt.alloc();
-    let input = b"setvol 40\nping\nstatus\n";
-    let (a, b) = fresh_disks(alloc)?;
-    let (_, whole) = run_lines(alloc, a, b, input);
-    assert_eq!(rt; whole.len(), 117);
-    for (width, failing_read, failing_write, length, ending) in [
-        (3, 0, 0, 117, Ending::Whole),
-        (64, 1, 0, 14, Ending::Cut),
-        (64, 2, 0, 17, Ending::Cut),
-        (64, 3, 0, 20, Ending::Cut),
-        (64, 4, 0, 117, Ending::Cut),
-        (64, 0, 1, 0, Ending::Cut),
-        (64, 0, 2, 14, Ending::Cut),
-        (64, 0, 3, 17, Ending::Cut),
-        (64, 0, 4, 20, Ending::Cut),
-        (3, 0, 7, 17, Ending::Cut),
-        (64, 0, 5, 84, Ending::Cut),
-        (64, 0, 6, 117, Ending::Whole),
-        (0, 0, 0, 0, Ending::Cut),
-    ] {
-        let (a, b) = fresh_disks(alloc)?;
-        let mut reader = Lines {
-            rest: input,
-            reads: 0,
-            failing: failing_read,
-        };
-        let mut writer = Narrow {
-            taken: Vec::with_capacity(alloc, whole.len())?,
-            width,
-            writes: 0,
-            failing: failing_write,
-        };
-        let end = run_console(alloc, a, b, &mut reader, &mut writer);
-        let case = (width, failing_read, failing_write);
-        assert_eq!(rt; end.status, Status::Done, "{case:?}");
-        assert_eq!(rt; end.ending, ending, "{case:?}");
-        assert_eq!(rt; writer.taken.len(), length, "{case:?}");
-        assert!(rt; whole.starts_with(&writer.taken), "{case:?}");
+    let (_, whole) = run_failing(rt.alloc(), 64, 0, 0)?;
+    equal(&rt, whole.len(), 117);
+    for case in &FAILING_STREAMS {
+        writes_a_front(&rt, case, &whole)?;
     }
     Ok(())
+}
+
+// Runs a console of three lines over fresh files, of which the first has this fuse.
+fn run_fused(alloc: Global, fuse: Fuse) -> Result<(ConsoleEnd<FuseDisk<MemDisk>>, Vec<u8>), Fail> {
+    let (a, b) = fresh_disks(alloc)?;
+    let disks = (FuseDisk::new(a, fuse), FuseDisk::new(b, Fuse::Fail(100)));
+    Ok(run_lines(alloc, disks, b"ping\nsetvol 40\nping\n"))
+}
+
+// The console goes on after a fault of this call. Whether the fault came in the event, so that the client had to be greeted again.
+fn goes_on(rt: &(impl Abort + AllocGlobal), call: u64) -> Result<bool, Fail> {
+    let (end, written) = run_fused(rt.alloc(), Fuse::Fail(call))?;
+    equal(rt, end.status, Status::Done);
+    let has_failed = end.a.faults() > 0;
+    equal(rt, end.ending == Ending::Faulted, has_failed);
+    let is_again = written.len() == 34;
+    if is_again {
+        equal(rt, has_failed, true);
+        same_bytes(rt, &written, b"OK MPD 0.23.0\nOK\nOK MPD 0.23.0\nOK\n");
+    } else {
+        same_bytes(rt, &written, b"OK MPD 0.23.0\nOK\nOK\nOK\n");
+    }
+    Ok(is_again)
 }
 
 #[test]
 fn disks_that_fail(rt: HostRuntime) -> Result<(), Fail> {
-    let alloc = rt.alloc();
-    let input = b"ping\nsetvol 40\nping\n";
     let mut in_event = 0u32;
     for call in 1..30 {
-        let (a, b) = fresh_disks(alloc)?;
-        let a = FuseDisk::new(a, Fuse::Fail(call));
-        let b = FuseDisk::new(b, Fuse::Fail(100));
-        let (end, written) = run_lines(alloc, a, b, input);
-        assert_eq!(rt; end.status, Status::Done, "call {call}");
-        let has_failed = end.a.faults() > 0;
-        assert_eq!(rt; end.ending == Ending::Faulted, has_failed, "call {call}");
-        let again = b"OK MPD 0.23.0\nOK\nOK MPD 0.23.0\nOK\n";
-        if written.as_slice() == again.as_slice() {
-            assert!(rt; has_failed, "call {call}");
-            in_event = in_event.saturating_add(1);
-        } else {
-            assert_eq!(rt;
-                written.as_slice(),
-                b"OK MPD 0.23.0\nOK\nOK\nOK\n".as_slice(),
-                "call {call}"
-            );
-        }
+        in_event = in_event.saturating_add(u32::from(goes_on(&rt, call)?));
     }
-    assert!(rt; in_event > 0);
+    equal(&rt, in_event > 0, true);
+    Ok(())
+}
 
-    let (a, b) = fresh_disks(alloc)?;
-    let a = FuseDisk::new(a, Fuse::Stop(1));
-    let b = FuseDisk::new(b, Fuse::Fail(100));
-    let (end, written) = run_lines(alloc, a, b, input);
-    assert_eq!(rt; end.status, Status::DiskFault);
-    assert_eq!(rt; end.ending, Ending::Faulted);
-    assert_eq!(rt; end.status.code(), 3);
-    assert_eq!(rt; format!(in alloc; "{}", end.status)?.as_str(), "disk fault");
-    assert!(rt; written.is_empty());
+// The console has ended so, without a word to its client, and the program prints this line.
+fn ends_silently<D>(
+    rt: &(impl Abort + AllocGlobal),
+    (end, written): &(ConsoleEnd<D>, Vec<u8>),
+    status: Status,
+    line: &str,
+) -> Result<(), Fail> {
+    has_ended(rt, end, status, Ending::Faulted);
+    same_text(rt, format!(in rt.alloc(); "{}", end.status)?.as_str(), line);
+    same_bytes(rt, written, b"");
     Ok(())
 }
 
 #[test]
-fn refusals(rt: HostRuntime) -> Result<(), Fail> {
-    let alloc = rt.alloc();
-    let (end, written) = run_lines(alloc, MemDisk::new(alloc), MemDisk::new(alloc), b"ping\n");
-    assert_eq!(rt; end.status, Status::JournalRefused(4));
-    assert_eq!(rt; end.ending, Ending::Faulted);
-    assert_eq!(rt; end.status.code(), 2);
-    assert_eq!(rt;
-        format!(in alloc; "{}", end.status)?.as_str(),
-        "journal refused: 4"
-    );
-    assert!(rt; written.is_empty());
+fn disk_that_stops(rt: HostRuntime) -> Result<(), Fail> {
+    let done = run_fused(rt.alloc(), Fuse::Stop(1))?;
+    ends_silently(&rt, &done, Status::DiskFault, "disk fault")?;
+    equal(&rt, done.0.status.code(), 3);
+    Ok(())
+}
 
-    let (a, b) = fresh_disks(alloc)?;
+#[test]
+fn files_without_a_journal(rt: HostRuntime) -> Result<(), Fail> {
+    let alloc = rt.alloc();
+    let done = run_lines(alloc, (MemDisk::new(alloc), MemDisk::new(alloc)), b"ping\n");
+    ends_silently(&rt, &done, Status::JournalRefused(4), "journal refused: 4")?;
+    equal(&rt, done.0.status.code(), 2);
+    Ok(())
+}
+
+#[test]
+fn too_long_a_line(rt: HostRuntime) -> Result<(), Fail> {
+    let alloc = rt.alloc();
     let line = vec![in alloc; b'x'; 8_193]?;
-    let (end, written) = run_lines(alloc, a, b, &line);
-    assert_eq!(rt; end.status, Status::Done);
-    assert_eq!(rt; end.ending, Ending::Cut);
-    assert_eq!(rt; end.status.code(), 0);
-    assert_eq!(rt; written.as_slice(), GREETING);
+    let (end, written) = run_lines(alloc, fresh_disks(alloc)?, &line);
+    has_ended(&rt, &end, Status::Done, Ending::Cut);
+    equal(&rt, end.status.code(), 0);
+    same_bytes(&rt, &written, GREETING);
     Ok(())
 }

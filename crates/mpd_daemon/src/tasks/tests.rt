@@ -1,5 +1,6 @@
 use super::run;
 use crate::arguments::Task;
+use crate::assertions::equal;
 use crate::console::Status;
 use crate::exit::Exit;
 use std::fs;
@@ -23,12 +24,16 @@ fn create(rt: &HostRuntime) -> Result<Result<(), Exit>, Fail> {
 fn creates_once(rt: HostRuntime) -> Result<(), Fail> {
     let _ = fs::remove_file(&rt, "mpd_daemon_test_a");
     let _ = fs::remove_file(&rt, "mpd_daemon_test_b");
-    assert_eq!(rt; create(&rt)?, Err(Exit::BadConfiguration));
+    equal(&rt, create(&rt)?, Err(Exit::BadConfiguration));
     fs::write(&rt, CONFIG, TEXT)?;
-    assert_eq!(rt; create(&rt)?, Ok(()));
-    assert_eq!(rt; fs::metadata(&rt, "mpd_daemon_test_a")?.len(), 102);
-    assert_eq!(rt; fs::metadata(&rt, "mpd_daemon_test_b")?.len(), 0);
-    assert_eq!(rt; create(&rt)?, Err(Exit::Ended(Status::JournalRefused(3))));
+    equal(&rt, create(&rt)?, Ok(()));
+    equal(&rt, fs::metadata(&rt, "mpd_daemon_test_a")?.len(), 102);
+    equal(&rt, fs::metadata(&rt, "mpd_daemon_test_b")?.len(), 0);
+    equal(
+        &rt,
+        create(&rt)?,
+        Err(Exit::Ended(Status::JournalRefused(3))),
+    );
     fs::remove_file(&rt, "mpd_daemon_test_a")?;
     fs::remove_file(&rt, "mpd_daemon_test_b")?;
     fs::remove_file(&rt, CONFIG)?;
@@ -45,7 +50,7 @@ fn no_file(rt: HostRuntime) -> Result<(), Fail> {
         "music = \"m\"\njournal_a = \"no/such/a\"\njournal_b = \"no/such/b\"\nkey = \"0000000000000000000000000000000000000000000000000000000000000000\"\n",
     )?;
     let task = Task::Create(String::from_str(rt.alloc(), path)?);
-    assert_eq!(rt; run(&rt, task), Err(Exit::Ended(Status::DiskFault)));
+    equal(&rt, run(&rt, task), Err(Exit::Ended(Status::DiskFault)));
     fs::remove_file(&rt, path)?;
     Ok(())
 }

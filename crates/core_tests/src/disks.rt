@@ -1,0 +1,4 @@
+// Disks: in memory, over a real file, and such as fail.
+mod file;
+mod fuse;
+mod memory;

@@ -1,0 +1,33 @@
+// What a test asserts. The prover takes an assertion of two values apart for seconds, here once for all.
+use std::fmt::Debug;
+use std::process::Abort;
+
+/// These are equal.
+pub fn equal<T: Copy + PartialEq + Debug>(rt: &impl Abort, left: T, right: T) {
+    assert_eq!(rt; left, right);
+}
+
+/// The same of texts.
+pub fn same_text(rt: &impl Abort, left: &str, right: &str) {
+    equal(rt, left, right);
+}
+
+/// The same of texts of a case of a table, which the message names.
+pub fn case_has(rt: &impl Abort, case: &str, found: &str, want: &str) {
+    equal(rt, (case, found), (case, want));
+}
+
+/// A case of a table, which the message names, is so.
+pub fn case_is(rt: &impl Abort, case: &str, found: bool, want: bool) {
+    equal(rt, (case, found), (case, want));
+}
+
+/// The same of samples.
+pub fn same_samples(rt: &impl Abort, left: &[i16], right: &[i16]) {
+    equal(rt, left, right);
+}
+
+/// The same of positions.
+pub fn same_positions(rt: &impl Abort, left: &[usize], right: &[usize]) {
+    equal(rt, left, right);
+}
