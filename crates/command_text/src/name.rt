@@ -5,7 +5,7 @@ ghost use Rattle.command_text.specs.NextWord.{spelled};
 use crate::words::WordText;
 
 /// The name of a command of the MPD protocol reference 0.23.
-#[derive(Clone, Copy, Debug, PartialEq, Eq, Hash)]
+#[derive(Clone, Copy, Debug, PartialEq, Eq)]
 pub enum CommandName {
     Close,
     Consume,

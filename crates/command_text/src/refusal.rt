@@ -6,7 +6,7 @@ use crate::words::Word;
 use thiserror::Error;
 
 /// The error codes of `ACK` lines, as the MPD protocol reference 0.23 numbers them ("Failure responses").
-#[derive(Clone, Copy, Debug, PartialEq, Eq, Hash)]
+#[derive(Clone, Copy, Debug, PartialEq, Eq)]
 pub enum AckCode {
     NotList = 1,
     Argument = 2,

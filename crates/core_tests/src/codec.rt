@@ -1,5 +1,5 @@
 // The stored bytes of ops and of a state.
-use crate::equal::{equal, prints, same_bytes};
+use crate::assertions::{equal, prints, same_bytes};
 use player_core::{Options, Single, Volume};
 use state_codec::{
     CodecError, NoMemory, Op, Saved, Setting, put_op, put_saved, take_ops, take_saved,

@@ -1,5 +1,5 @@
 // What clients wait for, and what they are told.
-use crate::equal::{equal, same_text};
+use crate::assertions::{equal, same_text};
 use idle_masks::{ClientId, Report, Reports, Subsystem, Subsystems, Watch, WatchError};
 use std::alloc::Global;
 use std::process::Abort;

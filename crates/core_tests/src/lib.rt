@@ -1,18 +1,12 @@
-//! The tests of the player, its journal and its disks, of texts, clients and the stage, through their public calls.
+//! The tests of the options, of what is stored of them, of texts, of a client's stream and of clients that wait.
 #![tactic(auto)]
 
 #[cfg(test)]
+mod assertions;
+#[cfg(test)]
 mod codec;
 #[cfg(test)]
-mod disks;
-#[cfg(test)]
-mod equal;
-#[cfg(test)]
 mod idle;
-#[cfg(test)]
-mod journal;
-#[cfg(test)]
-mod live;
 #[cfg(test)]
 mod options;
 #[cfg(test)]

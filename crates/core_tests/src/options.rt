@@ -1,5 +1,5 @@
 // The options and the volume.
-use crate::equal::equal;
+use crate::assertions::equal;
 use player_core::{Options, Single, Volume};
 
 #[test]

@@ -1,5 +1,5 @@
 // A client's stream, cut into lines, and what is queued for it.
-use crate::equal::{equal, prints, same_at};
+use crate::assertions::{equal, prints, same_at};
 use client_session::{LINE_LIMIT, OUTPUT_LIMIT, Requests, Session, SessionError};
 use command_text::Request;
 use std::alloc::{AllocError, Global};

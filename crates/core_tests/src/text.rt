@@ -1,5 +1,5 @@
 // The words of a line, its command, and what is written.
-use crate::equal::{equal, same_bytes, same_of};
+use crate::assertions::{equal, same_bytes, same_of};
 use command_text::words::words;
 use command_text::{
     Line, Lines, NoMemory, Place, ReadError, Request, read_line, want_of_memory, write_ack,

@@ -12,7 +12,7 @@ use idle_masks::Subsystems;
 use std::alloc::Global;
 
 /// How a command of a request ended.
-#[derive(Debug, Drop)]
+#[derive(Drop)]
 pub enum Attempt {
     /// It went well, and changed these subsystems.
     Goes(Subsystems),
@@ -23,7 +23,7 @@ pub enum Attempt {
 }
 
 /// What came of a request.
-#[derive(Debug, Drop)]
+#[derive(Drop)]
 pub struct RunEnd {
     pub ending: Ending,
     /// The subsystems that one of its commands changed.

@@ -27,7 +27,7 @@ pub struct StepRoom {
 }
 
 /// What an event does before clients that wait are told.
-#[derive(Debug, Drop)]
+#[derive(Drop)]
 pub struct Acts {
     outputs: Vec<Output>,
     closes: Vec<ClientId>,

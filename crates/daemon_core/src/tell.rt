@@ -14,7 +14,7 @@ use std::marker::Model;
 const TELL_ROOM: usize = 145;
 
 /// Room for what one client is told.
-#[derive(Debug, Drop)]
+#[derive(Drop)]
 pub struct TellRoom {
     text: Vec<u8>,
 }

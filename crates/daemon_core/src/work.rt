@@ -16,7 +16,7 @@ const WANT_ROOM: usize = 64;
 const COMMAND_ROOM: usize = 72;
 
 /// What a request's commands have made so far: the answer's bytes, and the ops with their size in bytes.
-#[derive(Debug, Drop)]
+#[derive(Drop)]
 pub struct Work {
     pub text: Vec<u8>,
     pub ops: Vec<Op>,
@@ -25,7 +25,7 @@ pub struct Work {
 }
 
 /// Why a command did nothing.
-#[derive(Debug, Drop)]
+#[derive(Drop)]
 pub enum Failure {
     Refused(CommandRefusal),
     NoMemory,

@@ -12,7 +12,8 @@ pub settled_image : (bytes : List ℕ) → All (λ b. b < 256) bytes → IsImage
 settled_image bytes fit = record { bytes = fit; no_shorter = omega arith; no_longer = omega arith; kept = λ i below free. refl }
 
 -- bytes that are cut
-pub cut_image : (history : List Change) (content : List ℕ) (len : ℕ) → len ≤ length content → IsImage (window history) content → IsImage (window (CutTo len ∷ history)) (take len content)
+pub cut_image : (history : List Change) (content : List ℕ) (len : ℕ) → len ≤ length content → IsImage (window history) content
+    → IsImage (window (CutTo len ∷ history)) (take len content)
 cut_image history content len within image = record {
   bytes = grind (arith, common_steps, image.bytes);
   no_shorter = grind (arith, common_steps);
@@ -21,7 +22,9 @@ cut_image history content len within image = record {
 }
 
 -- bytes that are written over
-pub write_image : (history : List Change) (content : List ℕ) (at : ℕ) (bytes : List ℕ) → at ≤ length content → All (λ b. b < 256) (overwritten content at bytes) → IsImage (window history) content → IsImage (window (Wrote at (length bytes) ∷ history)) (overwritten content at bytes)
+pub write_image : (history : List Change) (content : List ℕ) (at : ℕ) (bytes : List ℕ) → at ≤ length content
+    → All (λ b. b < 256) (overwritten content at bytes) → IsImage (window history) content
+    → IsImage (window (Wrote at (length bytes) ∷ history)) (overwritten content at bytes)
 write_image history content at bytes within fit image = record {
   bytes = fit;
   no_shorter = omega (arith, length-overwritten content at bytes within, image.no_shorter);

@@ -1,8 +1,10 @@
+pub mod BehindLaws
 pub mod FaultLaws
 pub mod Overwrites
 mod Replay
 mod ReplayedMoments
 pub mod ImageLaws
+pub mod LaterLaws
 pub mod MomentLaws
 pub mod WindowLaws
 mod Written

@@ -17,7 +17,8 @@ counts_now [] t image now = now
 counts_now (change ∷ earlier) t image now = inl now
 
 -- a call goes on from what was possible before it
-pub left_before : (change : Change) (earlier : List Change) (t : ℕ) (image : List ℕ) → t ≤ length earlier → LeftSince earlier t image → LeftSince (change ∷ earlier) t image
+pub left_before : (change : Change) (earlier : List Change) (t : ℕ) (image : List ℕ) → t ≤ length earlier → LeftSince earlier t image
+    → LeftSince (change ∷ earlier) t image
 left_before change earlier t image within left = inr (within, left)
 
 -- a run begins
@@ -25,12 +26,14 @@ pub all_begin : (P : List ℕ → Type 0) (history : List Change) → AllNow P h
 all_begin P history now image left = now image (now_only history image left)
 
 -- a call is made
-pub all_step : (P : List ℕ → Type 0) (change : Change) (earlier : List Change) (t : ℕ) → AllNow P (change ∷ earlier) → AllSince P earlier t → AllSince P (change ∷ earlier) t
+pub all_step : (P : List ℕ → Type 0) (change : Change) (earlier : List Change) (t : ℕ) → AllNow P (change ∷ earlier)
+    → AllSince P earlier t → AllSince P (change ∷ earlier) t
 all_step P change earlier t now before image (inl left) = now image left
 all_step P change earlier t now before image (inr left) = before image left.1
 
 -- a call counts as made, or not
-pub all_step_or : (P : List ℕ → Type 0) (change : Change) (old new : List Change) (t : ℕ) → IsSameOrAdds change old new → AllNow P (change ∷ old) → AllSince P old t → AllSince P new t
+pub all_step_or : (P : List ℕ → Type 0) (change : Change) (old new : List Change) (t : ℕ) → IsSameOrAdds change old new
+    → AllNow P (change ∷ old) → AllSince P old t → AllSince P new t
 all_step_or P change old new t (inl same) now before = subst (λ h. AllSince P h t) (sym same) before
 all_step_or P change old new t (inr adds) now before = subst (λ h. AllSince P h t) (sym adds) (all_step P change old t now before)
 
@@ -38,11 +41,13 @@ all_step_or P change old new t (inr adds) now before = subst (λ h. AllSince P h
 pub all_now : (P : List ℕ → Type 0) (history : List Change) (t : ℕ) → AllSince P history t → AllNow P history
 all_now P history t since image now = since image (counts_now history t image now)
 
-pub all_weaker : (P Q : List ℕ → Type 0) (history : List Change) (t : ℕ) → ((image : List ℕ) → P image → Q image) → AllSince P history t → AllSince Q history t
+pub all_weaker : (P Q : List ℕ → Type 0) (history : List Change) (t : ℕ) → ((image : List ℕ) → P image → Q image)
+    → AllSince P history t → AllSince Q history t
 all_weaker P Q history t weaker since image left = weaker image (since image left)
 
 -- A crash since a moment before a run was before the run or in it.
-pub left_split : (made history : List Change) (t : ℕ) (image : List ℕ) → LeftSince (made ++ history) t image → LeftSince (made ++ history) (length history) image ⊎ LeftSince history t image
+pub left_split : (made history : List Change) (t : ℕ) (image : List ℕ) → LeftSince (made ++ history) t image
+    → LeftSince (made ++ history) (length history) image ⊎ LeftSince history t image
 left_split [] history t image left = inr left
 left_split (change ∷ made) history t image (inl now) = inl (inl now)
 left_split (change ∷ made) history t image (inr before) = elim (left_split made history t image before.1) [
@@ -51,7 +56,8 @@ left_split (change ∷ made) history t image (inr before) = elim (left_split mad
 ]
 
 -- one run after another
-pub all_join : (P : List ℕ → Type 0) (old new : List Change) (t : ℕ) → Continues old new → AllSince P old t → AllSince P new (length old) → AllSince P new t
+pub all_join : (P : List ℕ → Type 0) (old new : List Change) (t : ℕ) → Continues old new → AllSince P old t
+    → AllSince P new (length old) → AllSince P new t
 all_join P old new t run before during image left =
     elim (left_split run.0 old t image (subst (λ h. LeftSince h t image) run.1 left)) [
       | inl since ↦ during image (subst (λ h. LeftSince h (length old) image) (sym run.1) since)
@@ -64,7 +70,8 @@ continues_same history = ([], refl)
 pub continues_step : (change : Change) (old new : List Change) → Continues old new → Continues old (change ∷ new)
 continues_step change old new run = (change ∷ run.0, ap (λ h. change ∷ h) run.1)
 
-pub continues_step_or : (change : Change) (old before new : List Change) → IsSameOrAdds change before new → Continues old before → Continues old new
+pub continues_step_or : (change : Change) (old before new : List Change) → IsSameOrAdds change before new → Continues old before
+    → Continues old new
 continues_step_or change old before new (inl same) run = subst (λ h. Continues old h) (sym same) run
 continues_step_or change old before new (inr adds) run = subst (λ h. Continues old h) (sym adds) (continues_step change old before run)
 

@@ -4,24 +4,28 @@ use Rattle.std.proofs.Math.Seq.{drop-append-add}
 use Rattle.std.proofs.lemmas.Grind.{common_steps, same_number_lists}
 use Rattle.std.proofs.lemmas.List.{length-take-le, take-append-drop, take_at, get_or-drop}
 use Rattle.disk_model.specs.Behind.{IsBehind}
+use Rattle.disk_model.specs.Calls.{IsSameOrAdds}
 use Rattle.disk_model.specs.History.{Change, Wrote, CutTo, Synced}
 use Rattle.disk_model.specs.Images.{Window, settled, window, IsUnwritten, IsImage}
 use Rattle.disk_model.specs.Moments.{AllSince, AllNow}
 use Rattle.disk_model.specs.Torn.{Torn}
-use Rattle.disk_model.proofs.MomentLaws.{all_step}
+use Rattle.disk_model.proofs.MomentLaws.{all_begin, all_step, all_step_or}
 
 -- a settled file has one image
 pub settled_only : (bytes image : List ℕ) → IsImage (settled bytes) image → image ≡ bytes
 settled_only bytes image left =
-    same_number_lists image bytes (omega (arith, left.no_shorter, left.no_longer)) (λ i below. left.kept i (omega (arith, left.no_longer)) tt)
+    same_number_lists image bytes (omega (arith, left.no_shorter, left.no_longer)) (λ i below. left.kept i (omega
+    (arith, left.no_longer)) tt)
 
 -- so whatever holds of its bytes holds after a crash
-pub settled_all : (P : List ℕ → Type 0) (history : List Change) (bytes : List ℕ) → window history ≡ settled bytes → P bytes → AllNow P history
+pub settled_all : (P : List ℕ → Type 0) (history : List Change) (bytes : List ℕ) → window history ≡ settled bytes → P bytes
+    → AllNow P history
 settled_all P history bytes is_settled holds image left =
     subst P (sym (settled_only bytes image (subst (λ w. IsImage w image) is_settled left))) holds
 
 -- and a read gives its bytes
-pub settled_content : (history : List Change) (bytes content : List ℕ) → window history ≡ settled bytes → IsImage (window history) content → content ≡ bytes
+pub settled_content : (history : List Change) (bytes content : List ℕ) → window history ≡ settled bytes
+    → IsImage (window history) content → content ≡ bytes
 settled_content history bytes content is_settled image = settled_only bytes content (subst (λ w. IsImage w content) is_settled image)
 
 -- a sync settles what a read gives
@@ -29,13 +33,15 @@ pub synced_settled : (old new : List Change) (bytes : List ℕ) → new ≡ Sync
 synced_settled old new bytes made = ap window made
 
 -- so a run goes on by a sync whose bytes have P
-pub all_synced : (P : List ℕ → Type 0) (old new : List Change) (bytes : List ℕ) (t : ℕ) → new ≡ Synced bytes ∷ old → P bytes → AllSince P old t → AllSince P new t
+pub all_synced : (P : List ℕ → Type 0) (old new : List Change) (bytes : List ℕ) (t : ℕ) → new ≡ Synced bytes ∷ old → P bytes
+    → AllSince P old t → AllSince P new t
 all_synced P old new bytes t made holds since =
     subst (λ history. AllSince P history t) (sym made)
     (all_step P (Synced bytes) old t (settled_all P (Synced bytes ∷ old) bytes refl holds) since)
 
 -- a write or a cut takes no image away
-pub write_keeps : (history : List Change) (at count : ℕ) (image : List ℕ) → IsImage (window history) image → IsImage (window (Wrote at count ∷ history)) image
+pub write_keeps : (history : List Change) (at count : ℕ) (image : List ℕ) → IsImage (window history) image
+    → IsImage (window (Wrote at count ∷ history)) image
 write_keeps history at count image left = record {
   bytes = left.bytes;
   no_shorter = left.no_shorter;
@@ -43,7 +49,8 @@ write_keeps history at count image left = record {
   kept = λ i below free. left.kept i below free.1;
 }
 
-pub cut_keeps : (history : List Change) (len : ℕ) (image : List ℕ) → IsImage (window history) image → IsImage (window (CutTo len ∷ history)) image
+pub cut_keeps : (history : List Change) (len : ℕ) (image : List ℕ) → IsImage (window history) image
+    → IsImage (window (CutTo len ∷ history)) image
 cut_keeps history len image left = record {
   bytes = left.bytes;
   no_shorter = omega (arith, left.no_shorter);
@@ -57,7 +64,8 @@ record KeepsFront (k : ℕ) (bytes : List ℕ) (w : Window) : Type 0 where
   least : k ≤ w.least
   unwritten : (i : ℕ) → i < k → IsUnwritten w.written i
 
-keeps_front : (changes history : List Change) (k : ℕ) (bytes : List ℕ) → window history ≡ settled bytes → k ≤ length bytes → IsBehind k changes → KeepsFront k bytes (window (changes ++ history))
+keeps_front : (changes history : List Change) (k : ℕ) (bytes : List ℕ) → window history ≡ settled bytes → k ≤ length bytes
+    → IsBehind k changes → KeepsFront k bytes (window (changes ++ history))
 keeps_front [] history k bytes is_settled within behind =
     let at_first : KeepsFront k bytes (settled bytes) = record { base = refl; least = within; unwritten = λ i below. tt } in
     subst (λ w. KeepsFront k bytes w) (sym is_settled) at_first
@@ -70,18 +78,28 @@ keeps_front (CutTo len ∷ changes) history k bytes is_settled within behind =
 keeps_front (Synced synced ∷ changes) history k bytes is_settled within behind = absurd behind
 
 -- What stands before k stays, where all that was done since the sync lies behind it.
-pub front_stays : (changes history : List Change) (k : ℕ) (bytes image : List ℕ) → window history ≡ settled bytes → k ≤ length bytes → IsBehind k changes → IsImage (window (changes ++ history)) image → (k ≤ length image) × (take k image ≡ take k bytes)
+pub front_stays : (changes history : List Change) (k : ℕ) (bytes image : List ℕ) → window history ≡ settled bytes → k ≤ length bytes
+    → IsBehind k changes → IsImage (window (changes ++ history)) image → (k ≤ length image) × (take k image ≡ take k bytes)
 front_stays changes history k bytes image is_settled within behind left =
     let front = keeps_front changes history k bytes is_settled within behind in
     let long : k ≤ length image = omega (arith, front.least, left.no_shorter) in
     let taken : length (take k image) ≡ k = length-take-le k image long in
     let given : length (take k bytes) ≡ k = length-take-le k bytes within in
     let each : (i : ℕ) → i < k → get_or image i 0 ≡ get_or bytes i 0 =
-    λ i below. left.kept i (omega (arith, front.least)) (front.unwritten i below) ∙ ap (λ b. get_or b i 0) front.base in
-    (long, same_number_lists (take k image) (take k bytes) (taken ∙ sym given) (λ i below. grind (arith, common_steps, each i (omega arith))))
+    λ i below. left.kept i (omega (arith, front.least)) (front.unwritten i below) ∙ ap (λ b. get_or b i 0) front.base in (
+      long,
+      same_number_lists (take k image) (take k bytes) (taken ∙ sym given) (λ i below. grind (
+        arith,
+        common_steps,
+        each i
+            (omega arith),
+      )),
+    )
 
 -- a cut since the sync
-pub cut_leaves : (history : List Change) (len : ℕ) (bytes image : List ℕ) → window history ≡ settled bytes → len ≤ length bytes → IsImage (window (CutTo len ∷ history)) image → (take len image ≡ take len bytes) × (len ≤ length image) × (length image ≤ length bytes)
+pub cut_leaves : (history : List Change) (len : ℕ) (bytes image : List ℕ) → window history ≡ settled bytes → len ≤ length bytes
+    → IsImage (window (CutTo len ∷ history)) image → (take len image ≡ take len bytes) × (len ≤ length image)
+    × (length image ≤ length bytes)
 cut_leaves history len bytes image is_settled within left =
     let front = front_stays (CutTo len ∷ []) history len bytes image is_settled within (omega arith, tt) left in
     (front.1, front.0, subst (λ w. length image ≤ w.greatest) is_settled left.no_longer)
@@ -90,7 +108,8 @@ cut_leaves history len bytes image is_settled within left =
 abbrev one_write : ℕ → ℕ → Window → Window
 one_write at count w = record w { greatest = max w.greatest (at + count); written = record { at = at; count = count } ∷ w.written }
 
-tears : (at count : ℕ) (bytes image : List ℕ) → at ≤ length bytes → IsImage (one_write at count (settled bytes)) image → Torn at count bytes image
+tears : (at count : ℕ) (bytes image : List ℕ) → at ≤ length bytes → IsImage (one_write at count (settled bytes)) image
+    → Torn at count bytes image
 tears at count bytes image within left =
     let shorter : length bytes ≤ length image = left.no_shorter in
     let longer : length image ≤ max (length bytes) (at + count) = left.no_longer in
@@ -103,18 +122,21 @@ tears at count bytes image within left =
     λ i h. left.kept (at + count + i) h (inr (omega arith), tt) in
     record {
       before = same_number_lists _ _ (front ∙ sym front') (λ i h. grind (arith, common_steps, below i (omega arith)));
-      after = same_number_lists _ _ rest (λ i h. rw (get_or-drop (at + count) image i 0, get_or-drop (at + count) bytes i 0) (above i (omega (arith, length-drop (at + count) image))));
+      after = same_number_lists _ _ rest (λ i h. rw (get_or-drop (at + count) image i 0, get_or-drop (at + count) bytes i 0) (above i
+          (omega (arith, length-drop (at + count) image))));
       no_shorter = shorter;
       no_longer = longer;
     }
 
 -- a write since the sync
-pub write_tears : (history : List Change) (at count : ℕ) (bytes image : List ℕ) → window history ≡ settled bytes → at ≤ length bytes → IsImage (window (Wrote at count ∷ history)) image → Torn at count bytes image
+pub write_tears : (history : List Change) (at count : ℕ) (bytes image : List ℕ) → window history ≡ settled bytes → at ≤ length bytes
+    → IsImage (window (Wrote at count ∷ history)) image → Torn at count bytes image
 write_tears history at count bytes image is_settled within left =
     tears at count bytes image within (subst (λ w. IsImage (one_write at count w) image) is_settled left)
 
 -- A write of one byte over another leaves some byte there, and nothing else changed.
-pub one_byte : (history : List Change) (at : ℕ) (bytes image : List ℕ) → window history ≡ settled bytes → at < length bytes → IsImage (window (Wrote at 1 ∷ history)) image → (byte : ℕ) × (byte < 256) × (image ≡ take at bytes ++ byte ∷ drop (at + 1) bytes)
+pub one_byte : (history : List Change) (at : ℕ) (bytes image : List ℕ) → window history ≡ settled bytes → at < length bytes
+    → IsImage (window (Wrote at 1 ∷ history)) image → (byte : ℕ) × (byte < 256) × (image ≡ take at bytes ++ byte ∷ drop (at + 1) bytes)
 one_byte history at bytes image is_settled within left =
     let torn = write_tears history at 1 bytes image is_settled (omega arith) left in
     let inside : at < length image = omega (arith, torn.no_shorter) in
@@ -123,10 +145,36 @@ one_byte history at bytes image is_settled within left =
     (get_or image at 0, left.bytes at 0 inside, parts ∙ rw (torn.before, torn.after) refl)
 
 -- The same law where the bytes are given in parts.
-pub one_byte_at : (history : List Change) (front rest : List ℕ) (old : ℕ) (image : List ℕ) → window history ≡ settled (front ++ old ∷ rest) → IsImage (window (Wrote (length front) 1 ∷ history)) image → (byte : ℕ) × (byte < 256) × (image ≡ front ++ byte ∷ rest)
+pub one_byte_at : (history : List Change) (front rest : List ℕ) (old : ℕ) (image : List ℕ)
+    → window history ≡ settled (front ++ old ∷ rest) → IsImage (window (Wrote (length front) 1 ∷ history)) image
+    → (byte : ℕ) × (byte < 256) × (image ≡ front ++ byte ∷ rest)
 one_byte_at history front rest old image is_settled left =
     let bytes : List ℕ = front ++ old ∷ rest in
     let torn = one_byte history (length front) bytes image is_settled (omega (arith, length-append front (old ∷ rest))) left in
     let before : take (length front) bytes ≡ front = take_at front (old ∷ rest) (length front) refl in
-    let after : drop (length front + 1) bytes ≡ rest = drop-append-add front (old ∷ rest) 1 in
-    (torn.0, torn.1, torn.2 ∙ ap (λ part. part ++ torn.0 ∷ drop (length front + 1) bytes) before ∙ ap (λ part. front ++ torn.0 ∷ part) after)
+    let after : drop (length front + 1) bytes ≡ rest = drop-append-add front (old ∷ rest) 1 in (
+      torn.0,
+      torn.1,
+      torn.2 ∙ ap (λ part. part ++ torn.0 ∷ drop (length front + 1) bytes) before
+          ∙ ap (λ part. front ++ torn.0 ∷ part) after,
+    )
+
+torn_itself : (at count : ℕ) (bytes : List ℕ) → Torn at count bytes bytes
+torn_itself at count bytes = record { before = refl; after = refl; no_shorter = omega arith; no_longer = omega arith }
+
+-- whatever a crash leaves since a settled file was written to
+pub torn_since : (old new : List Change) (at count : ℕ) (bytes : List ℕ) → window old ≡ settled bytes → at ≤ length bytes
+    → IsSameOrAdds (Wrote at count) old new → AllSince (Torn at count bytes) new (length old)
+torn_since old new at count bytes is_settled within step =
+    all_step_or (Torn at count bytes) (Wrote at count) old new (length old) step
+    (λ image left. write_tears old at count bytes image is_settled within left)
+    (all_begin (Torn at count bytes) old (settled_all (Torn at count bytes) old bytes is_settled (torn_itself at count bytes)))
+
+-- and since it was synced then
+pub torn_synced : (old between new : List Change) (at count : ℕ) (bytes after : List ℕ) → window old ≡ settled bytes
+    → at ≤ length bytes → between ≡ Wrote at count ∷ old → IsImage (window between) after → new ≡ Synced after ∷ between
+    → AllSince (Torn at count bytes) new (length old)
+torn_synced old between new at count bytes after is_settled within made image synced =
+    all_synced (Torn at count bytes) between new after (length old) synced
+    (write_tears old at count bytes after is_settled within (subst (λ (l : List Change). IsImage (window l) after) made image))
+    (torn_since old between at count bytes is_settled within (inr made))

@@ -7,6 +7,7 @@ pub mod FileLength
 pub mod Fuse
 pub mod History
 pub mod Images
+pub mod Later
 pub mod Memory
 pub mod Moments
 pub mod Replayed

@@ -1,6 +1,6 @@
 // The interface of a disk, and all that is promised of an honest one.
 ghost use Rattle.std.specs.Prelude.{◌≡◌, ◌+◌, ◌-◌, ◌^◌, ◌<◌, ◌≤◌, min, ◌↔◌, List, ℕ, [], ◌∷◌, length, take, slice_range, OnOk, OnErr, IsErrOf, IsTrue, ◌≢◌};
-ghost use Rattle.disk_model.specs.Calls.{overwritten, IsSameOrAdds};
+ghost use Rattle.disk_model.specs.Calls.{overwritten, IsMadeOrNothing};
 ghost use Rattle.disk_model.specs.DiskErrors.{number_of};
 ghost use Rattle.disk_model.specs.Faults.{IsCounted};
 ghost use Rattle.disk_model.specs.History.{Change, Wrote, CutTo, Synced};
@@ -72,7 +72,8 @@ pub trait Disk {
         ensures counted { IsCounted (faults self.old) (faults self.new) result };
 
     /// Writes over what is there, and past the end. A write that would pass 2^63 - 1 is a fault.
-    /// Until a sync, a crash may leave any bytes in the range. After a fault a read gives one of the images.
+    /// Until a sync, a crash may leave any bytes in the range. One that fails counts as made, and a read then gives one of the
+    /// images.
     fn write_at(&mut self, at: u64, bytes: &[u8]) -> Result<(), DiskError>
         ensures honest { honest self.old ↔ honest self.new }
         ensures written { honest self.old →
@@ -80,7 +81,8 @@ pub trait Disk {
         ensures made { honest self.old →
             OnOk result (history self.new ≡ Wrote at (length bytes.now) ∷ history self.old) }
         ensures in_part { honest self.old →
-            OnErr result (IsSameOrAdds (Wrote at (length bytes.now)) (history self.old) (history self.new)) }
+            OnErr result (IsMadeOrNothing (Wrote at (length bytes.now)) (history self.old) (history self.new)
+            (content self.old) (content self.new)) }
         ensures too_long { honest self.old → OnOk result (at + length bytes.now < 2 ^ 63) }
         ensures out_of_range { honest self.old →
             (IsErrOf result DiskError.OutOfRange ↔ (length (content self.old) < at)) }
@@ -90,13 +92,15 @@ pub trait Disk {
             IsErrOf result DiskError.OutOfRange → history self.new ≡ history self.old }
         ensures counted { IsCounted (faults self.old) (faults self.new) result };
 
-    /// Cuts the file to a length. Until a sync, a crash may leave any length between, and any bytes behind the cut.
+    /// Cuts the file to a length. Until a sync, a crash may leave any length between, and any bytes behind the cut. One that
+    /// fails counts as made.
     fn cut(&mut self, len: u64) -> Result<(), DiskError>
         ensures honest { honest self.old ↔ honest self.new }
         ensures cut { honest self.old → OnOk result (content self.new ≡ take len (content self.old)) }
         ensures made { honest self.old → OnOk result (history self.new ≡ CutTo len ∷ history self.old) }
         ensures in_part { honest self.old →
-            OnErr result (IsSameOrAdds (CutTo len) (history self.old) (history self.new)) }
+            OnErr result (IsMadeOrNothing (CutTo len) (history self.old) (history self.new)
+            (content self.old) (content self.new)) }
         ensures out_of_range { honest self.old →
             (IsErrOf result DiskError.OutOfRange ↔ (length (content self.old) < len)) }
         ensures content_stays { honest self.old →

@@ -1,7 +1,7 @@
 // A disk over a real file.
-ghost use Rattle.std.specs.Prelude.{◌≡◌, ◌≢◌, ◌+◌, ◌-◌, ◌^◌, ◌<◌, ◌≤◌, ◌↔◌, min, max, ℕ, List, [], length, IfOk, OnOk, IsErrOf};
+ghost use Rattle.std.specs.Prelude.{◌≡◌, ◌≢◌, ◌+◌, ◌-◌, ◌^◌, ◌<◌, ◌≤◌, ◌↔◌, true, false, min, max, ℕ, List, [], length, IfOk, OnOk, OnErr, IsErrOf};
 ghost use Rattle.disk_model.specs.Faults.{IsCounted};
-ghost use Rattle.disk_model.specs.FileLength.{length_of, file_faults};
+ghost use Rattle.disk_model.specs.FileLength.{length_of, file_faults, is_lost};
 
 use crate::disk::count_fault;
 use crate::{Disk, DiskError};
@@ -22,8 +22,10 @@ pub struct FileDisk<F> {
     file: F,
     len: u64,
     faults: u64,
-    // Its length could not be measured behind a write or a cut that failed: from then on each call fails.
+    // A sync failed, or the length could not be measured behind a write or a cut that failed: from then on each call fails.
     is_lost: bool,
+    // What the system said of the last call that failed.
+    error: Option<io::Error>,
 }
 
 impl<F: OpenFile + FileExt> FileDisk<F> {
@@ -46,11 +48,29 @@ impl<F: OpenFile + FileExt> FileDisk<F> {
             len,
             faults: 0,
             is_lost: false,
+            error: None,
         })
     }
 
+    /// What the operating system said of the last call that it failed, if it failed one.
+    pub fn error(&self) -> Option<io::Error> {
+        self.error
+    }
+
+    // Counts a fault that the system told.
+    fn failed(&mut self, error: io::Error) -> DiskError
+        ensures counted { self.new.faults ≡ min (self.old.faults + 1) (2 ^ 64 - 1) }
+        ensures later { self.old.faults ≤ self.new.faults }
+        ensures length_stays { self.new.len ≡ self.old.len }
+        ensures lost { self.new.is_lost ≡ self.old.is_lost }
+        ensures fault { result ≡ DiskError.DiskFault }
+    {
+        self.error = Some(error);
+        count_fault(&mut self.faults)
+    }
+
     // Counts a fault of a call that may have been done in part, and measures the file again.
-    fn changed_in_part(&mut self) -> DiskError
+    fn changed_in_part(&mut self, error: io::Error) -> DiskError
         ensures counted { self.new.faults ≡ min (self.old.faults + 1) (2 ^ 64 - 1) }
         ensures later { self.old.faults ≤ self.new.faults }
         ensures fault { result ≡ DiskError.DiskFault }
@@ -59,7 +79,7 @@ impl<F: OpenFile + FileExt> FileDisk<F> {
             Ok(metadata) => self.len = metadata.len(),
             Err(_) => self.is_lost = true,
         }
-        count_fault(&mut self.faults)
+        self.failed(error)
     }
 }
 
@@ -96,6 +116,8 @@ impl<F: OpenFile + FileExt> Disk for FileDisk<F> {
         ensures buffer_stays { IsErrOf result DiskError.OutOfRange → buffer.new ≡ buffer.old }
         ensures length_stays { length_of self.new ≡ length_of self.old }
         ensures counted { IsCounted (file_faults self.old) (file_faults self.new) result }
+        ensures lost { OnOk result (is_lost self.old ≡ false) }
+        ensures stays_lost { is_lost self.old ≡ true → is_lost self.new ≡ true }
     {
         if at > self.len || buffer.len() as u64 > self.len - at {
             return Err(DiskError::OutOfRange);
@@ -105,7 +127,7 @@ impl<F: OpenFile + FileExt> Disk for FileDisk<F> {
         }
         match self.file.read_exact_at(buffer, at) {
             Ok(()) => Ok(()),
-            Err(_) => Err(count_fault(&mut self.faults)),
+            Err(error) => Err(self.failed(error)),
         }
     }
 
@@ -115,6 +137,8 @@ impl<F: OpenFile + FileExt> Disk for FileDisk<F> {
         ensures out_of_range { IsErrOf result DiskError.OutOfRange ↔ (length_of self.old < at) }
         ensures length_stays { IsErrOf result DiskError.OutOfRange → length_of self.new ≡ length_of self.old }
         ensures counted { IsCounted (file_faults self.old) (file_faults self.new) result }
+        ensures lost { OnOk result (is_lost self.old ≡ false) }
+        ensures stays_lost { is_lost self.old ≡ true → is_lost self.new ≡ true }
     {
         if at > self.len {
             return Err(DiskError::OutOfRange);
@@ -127,7 +151,7 @@ impl<F: OpenFile + FileExt> Disk for FileDisk<F> {
                 self.len = self.len.max(at + bytes.len() as u64);
                 Ok(())
             }
-            Err(_) => Err(self.changed_in_part()),
+            Err(error) => Err(self.changed_in_part(error)),
         }
     }
 
@@ -136,6 +160,8 @@ impl<F: OpenFile + FileExt> Disk for FileDisk<F> {
         ensures out_of_range { IsErrOf result DiskError.OutOfRange ↔ (length_of self.old < len) }
         ensures length_stays { IsErrOf result DiskError.OutOfRange → length_of self.new ≡ length_of self.old }
         ensures counted { IsCounted (file_faults self.old) (file_faults self.new) result }
+        ensures lost { OnOk result (is_lost self.old ≡ false) }
+        ensures stays_lost { is_lost self.old ≡ true → is_lost self.new ≡ true }
     {
         if len > self.len {
             return Err(DiskError::OutOfRange);
@@ -148,7 +174,7 @@ impl<F: OpenFile + FileExt> Disk for FileDisk<F> {
                 self.len = len;
                 Ok(())
             }
-            Err(_) => Err(self.changed_in_part()),
+            Err(error) => Err(self.changed_in_part(error)),
         }
     }
 
@@ -156,6 +182,9 @@ impl<F: OpenFile + FileExt> Disk for FileDisk<F> {
         ensures in_range { result ≢ Err DiskError.OutOfRange }
         ensures length_stays { length_of self.new ≡ length_of self.old }
         ensures counted { IsCounted (file_faults self.old) (file_faults self.new) result }
+        ensures lost { OnOk result (is_lost self.old ≡ false) }
+        ensures stays_lost { is_lost self.old ≡ true → is_lost self.new ≡ true }
+        ensures loses { OnErr result (is_lost self.new ≡ true) }
     {
         if self.is_lost {
             return Err(count_fault(&mut self.faults));
@@ -164,7 +193,11 @@ impl<F: OpenFile + FileExt> Disk for FileDisk<F> {
         // ftruncate, since the data can't be read back without it. Only times and the like may be lost.
         match self.file.sync_data() {
             Ok(()) => Ok(()),
-            Err(_) => Err(count_fault(&mut self.faults)),
+            Err(error) => {
+                // Linux may mark the pages of a failed write clean: a later sync that succeeds then says nothing of them.
+                self.is_lost = true;
+                Err(self.failed(error))
+            }
         }
     }
 

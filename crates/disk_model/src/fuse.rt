@@ -1,8 +1,8 @@
 // A disk that fails when a test wants it to.
 ghost use Rattle.std.specs.Prelude.{◌≡◌, ◌+◌, ◌-◌, ◌^◌, ◌<◌, ◌↔◌, ◌≢◌, ◌≤◌, ⊤, ℕ, min, [], ◌∷◌, length, take, slice_range, OnOk, OnErr, IsErrOf, IsTrue};
-ghost use Rattle.disk_model.specs.Calls.{overwritten, IsSameOrAdds};
+ghost use Rattle.disk_model.specs.Calls.{overwritten, IsMadeOrNothing};
 ghost use Rattle.disk_model.specs.Faults.{IsCounted};
-ghost use Rattle.disk_model.specs.Fuse.{IsBlown, ObeysFuse, inner_of, fuse_of, calls_of, next_call, faults_of};
+ghost use Rattle.disk_model.specs.Fuse.{IsBlown, ObeysFuse, IsHeldBack, IsMadeBlown, inner_of, fuse_of, calls_of, next_call, faults_of};
 ghost use Rattle.disk_model.specs.History.{Wrote, CutTo, Synced};
 
 use crate::disk::count_fault;
@@ -17,8 +17,10 @@ pub enum Fuse {
     Fail(u64),
 }
 
-/// A disk that fails by a fuse, and is as honest as the disk in it. A call that the fuse fails
-/// does nothing; one out of range is counted, and refused by the disk in it.
+/// A disk that fails by a fuse, and is as honest as the disk in it.
+///
+/// A write or a cut that the fuse fails is made in the disk in it all the same, so that a crash may leave it, in part or in whole, or not;
+/// a read or a sync that it fails isn't made. A call out of range is counted, and refused by the disk in it.
 #[derive(Debug, Drop)]
 pub struct FuseDisk<D> {
     inner: D,
@@ -119,6 +121,8 @@ impl<D: Disk> Disk for FuseDisk<D> {
         ensures counted { IsCounted (faults_of D.faults self.old) (faults_of D.faults self.new) result }
         ensures fuse { ObeysFuse (D.honest (inner_of self.old) × (at + length buffer.old ≤ length (D.content (inner_of self.old))))
             D.faults self.old self.new result }
+        ensures held_back { IsHeldBack (D.honest (inner_of self.old) × (at + length buffer.old ≤ length (D.content (inner_of self.old))))
+            self.old self.new }
     {
         let len = self.inner.len();
         self.burn(at <= len && buffer.len() as u64 <= len - at)?;
@@ -134,7 +138,8 @@ impl<D: Disk> Disk for FuseDisk<D> {
             OnOk result (D.history (inner_of self.new) ≡
             Wrote at (length bytes.now) ∷ D.history (inner_of self.old)) }
         ensures in_part { D.honest (inner_of self.old) →
-            OnErr result (IsSameOrAdds (Wrote at (length bytes.now)) (D.history (inner_of self.old)) (D.history (inner_of self.new))) }
+            OnErr result (IsMadeOrNothing (Wrote at (length bytes.now)) (D.history (inner_of self.old)) (D.history (inner_of self.new))
+            (D.content (inner_of self.old)) (D.content (inner_of self.new))) }
         ensures too_long { D.honest (inner_of self.old) → OnOk result (at + length bytes.now < 2 ^ 63) }
         ensures out_of_range { D.honest (inner_of self.old) →
             (IsErrOf result DiskError.OutOfRange ↔ (length (D.content (inner_of self.old)) < at)) }
@@ -147,10 +152,14 @@ impl<D: Disk> Disk for FuseDisk<D> {
         ensures counted { IsCounted (faults_of D.faults self.old) (faults_of D.faults self.new) result }
         ensures fuse { ObeysFuse (D.honest (inner_of self.old) × (at ≤ length (D.content (inner_of self.old))))
             D.faults self.old self.new result }
+        ensures through { IsMadeBlown (D.honest (inner_of self.old) × (at ≤ length (D.content (inner_of self.old))))
+            (Wrote at (length bytes.now)) D.history D.faults self.old self.new }
     {
         let in_range = at <= self.inner.len();
-        self.burn(in_range)?;
-        self.inner.write_at(at, bytes)
+        let burnt = self.burn(in_range);
+        let done = self.inner.write_at(at, bytes);
+        burnt?;
+        done
     }
 
     fn cut(&mut self, len: u64) -> Result<(), DiskError>
@@ -160,8 +169,8 @@ impl<D: Disk> Disk for FuseDisk<D> {
         ensures made { D.honest (inner_of self.old) →
             OnOk result (D.history (inner_of self.new) ≡ CutTo len ∷ D.history (inner_of self.old)) }
         ensures in_part { D.honest (inner_of self.old) →
-            OnErr result (IsSameOrAdds (CutTo len)
-            (D.history (inner_of self.old)) (D.history (inner_of self.new))) }
+            OnErr result (IsMadeOrNothing (CutTo len) (D.history (inner_of self.old)) (D.history (inner_of self.new))
+            (D.content (inner_of self.old)) (D.content (inner_of self.new))) }
         ensures out_of_range { D.honest (inner_of self.old) →
             (IsErrOf result DiskError.OutOfRange ↔ (length (D.content (inner_of self.old)) < len)) }
         ensures content_stays { D.honest (inner_of self.old) →
@@ -173,10 +182,14 @@ impl<D: Disk> Disk for FuseDisk<D> {
         ensures counted { IsCounted (faults_of D.faults self.old) (faults_of D.faults self.new) result }
         ensures fuse { ObeysFuse (D.honest (inner_of self.old) × (len ≤ length (D.content (inner_of self.old))))
             D.faults self.old self.new result }
+        ensures through { IsMadeBlown (D.honest (inner_of self.old) × (len ≤ length (D.content (inner_of self.old))))
+            (CutTo len) D.history D.faults self.old self.new }
     {
         let in_range = len <= self.inner.len();
-        self.burn(in_range)?;
-        self.inner.cut(len)
+        let burnt = self.burn(in_range);
+        let done = self.inner.cut(len);
+        burnt?;
+        done
     }
 
     fn sync(&mut self) -> Result<(), DiskError>
@@ -191,6 +204,7 @@ impl<D: Disk> Disk for FuseDisk<D> {
         ensures in_range { D.honest (inner_of self.old) → result ≢ Err DiskError.OutOfRange }
         ensures counted { IsCounted (faults_of D.faults self.old) (faults_of D.faults self.new) result }
         ensures fuse { ObeysFuse ⊤ D.faults self.old self.new result }
+        ensures held_back { IsHeldBack ⊤ self.old self.new }
     {
         self.burn(true)?;
         self.inner.sync()

@@ -8,7 +8,7 @@ use crate::name::{Key, key_named};
 use std::alloc::{AllocError, AllocFailed, Global};
 
 /// Why a part of a text wasn't read: a fault, with how many bytes stand from it to the end of the text, or want of memory.
-#[derive(Clone, Copy, Debug)]
+#[derive(Clone, Copy)]
 pub(crate) enum Stop<'a> {
     Bad(usize),
     Unknown(&'a [u8]),

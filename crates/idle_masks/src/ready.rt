@@ -10,7 +10,7 @@ use std::marker::Model;
 use std::slice;
 
 /// What an answer to `idle` tells one client.
-#[derive(Clone, Copy, Debug, PartialEq, Eq, Hash)]
+#[derive(Clone, Copy, Debug, PartialEq, Eq)]
 pub struct Report {
     pub client: ClientId,
     /// The subsystems that changed, at least one.

@@ -3,7 +3,7 @@ ghost use Rattle.idle_masks.specs.Subsystem.{name_of, subsystem_named};
 ghost use Rattle.idle_masks.specs.Subsystems.{none, every, only, contains, union, intersection, difference, is_empty, mask_named, is_unreported_name};
 
 /// A part of the daemon's state whose changes `idle` reports (MPD protocol reference 0.23, "Querying MPD's status"), in the order in which they are printed.
-#[derive(Clone, Copy, Debug, PartialEq, Eq, Hash)]
+#[derive(Clone, Copy, Debug, PartialEq, Eq)]
 pub enum Subsystem {
     /// The song database, after an update that changed it.
     Database,
@@ -64,7 +64,7 @@ impl Subsystem {
 }
 
 /// A set of subsystems.
-#[derive(Clone, Copy, Debug, PartialEq, Eq, Hash, Default)]
+#[derive(Clone, Copy, Debug, PartialEq, Eq, Default)]
 pub struct Subsystems {
     pub database: bool,
     pub update: bool,

@@ -12,7 +12,7 @@ use std::marker::Model;
 use std::slice;
 
 /// What is kept for one client.
-#[derive(Clone, Copy, Debug, PartialEq, Eq, Hash)]
+#[derive(Clone, Copy, Debug, PartialEq, Eq)]
 pub struct Watched {
     pub client: ClientId,
     /// The subsystems that changed and were not reported to it yet.

@@ -2,8 +2,8 @@
 use Rattle.std.proofs.Common.{◌≡◌, ℕ, ◌+◌, ◌-◌, ◌^◌, min, List, [], ◌∷◌, length, Some, None, Result, Ok, Err, refl, sym, subst, ◌∙◌, arith}
 use Rattle.state_codec.specs.SavedState.{SavedState}
 use Rattle.state_codec.specs.Answers.{GivesSaved}
-use Rattle.state_codec.specs.declared.error.CodecError.{CodecError}
-use Rattle.state_codec.specs.declared.error.CodecError.TheVariants.{NoMemory, BadOp, BadSnapshot}
+use Rattle.state_codec.specs.declared.refusal.CodecError.{CodecError}
+use Rattle.state_codec.specs.declared.refusal.CodecError.TheVariants.{NoMemory, BadOp, BadSnapshot}
 use Rattle.live_stage.specs.declared.error.StartError.TheVariants.{Damaged}
 use Rattle.live_stage.specs.Decoding.{GivesState}
 use Rattle.state_codec.specs.Reading.{saved_reading}

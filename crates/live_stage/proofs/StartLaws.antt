@@ -7,10 +7,10 @@ use Rattle.play_journal.specs.declared.error.JournalError.{JournalError}
 use Rattle.play_journal.specs.declared.error.JournalError.TheVariants as journal
 use Rattle.play_journal.specs.Content.{Content, fresh}
 use Rattle.play_journal.specs.Errors.{IsRefusalOfCreate}
-use Rattle.play_journal.specs.File.{File, IsFile, gated, spelling, content_of}
+use Rattle.play_journal.specs.File.{IsFile, gated, spelling}
 use Rattle.play_journal.specs.Pair.{reading, found, IsPair}
 use Rattle.play_journal.proofs.FileLaws.{length-spelling}
-use Rattle.play_journal.proofs.PairLaws.{says-found}
+use Rattle.play_journal.proofs.PairLaws.{pair-found}
 use Rattle.play_journal.proofs.RecordLaws.{IsBytes}
 use Rattle.state_codec.specs.SavedState.{SavedState, IsSavedState}
 use Rattle.state_codec.specs.SavedState as state
@@ -66,7 +66,7 @@ stored_within snapshot bodies at is =
     ]) is
 
 -- one of two files is this one
-file_size : (bytes : List ℕ) (file : File) → IsFile bytes file → 32 + length file.snapshot + length (flat_map gated file.records) ≤ length bytes
+file_size : (bytes : List ℕ) (file : Content) → IsFile bytes file → 32 + length file.snapshot + length (flat_map gated file.records) ≤ length bytes
 file_size bytes file is =
     omega (arith, ap length is.spelled, length-append (spelling file) (is.gate ∷ is.free), length-spelling file)
 
@@ -74,18 +74,17 @@ pub record IsSmall (content : Content) : Type 0 where
   pub size : 32 + length content.snapshot + length (flat_map gated content.records) < 2 ^ 64
   pub numbers : content.base + length content.records < 2 ^ 64
 
-small_file : (bytes : List ℕ) (file : File) → length bytes < 2 ^ 63 → IsFile bytes file → IsSmall (content_of file)
+small_file : (bytes : List ℕ) (file : Content) → length bytes < 2 ^ 63 → IsFile bytes file → IsSmall file
 small_file bytes file short is = record { size = omega (arith, file_size bytes file is); numbers = is.fits.numbers }
 
-small_pair : (a b : List ℕ) (file : File) → length a < 2 ^ 63 → length b < 2 ^ 63 → IsPair a b file → IsSmall (content_of file)
+small_pair : (a b : List ℕ) (file : Content) → length a < 2 ^ 63 → length b < 2 ^ 63 → IsPair a b file → IsSmall file
 small_pair a b file short_a short_b (inl first) = small_file a file short_a first.0
 small_pair a b file short_a short_b (inr second) = small_file b file short_b second.0
 
 -- content that is found in files that are not too long has small numbers
 pub found_small : (a b : List ℕ) (content : Content) → IsBytes a → IsBytes b → length a < 2 ^ 63 → length b < 2 ^ 63 → reading a b ≡ Ok content → IsSmall content
 found_small a b content bytes_a bytes_b short_a short_b read =
-    let says = says-found a b content bytes_a bytes_b (found_as_read a b content read) in
-    subst IsSmall says.says (small_pair a b says.file short_a short_b says.pair)
+    small_pair a b content short_a short_b (pair-found a b content bytes_a bytes_b (found_as_read a b content read))
 
 -- ---- content that stands for no state
 

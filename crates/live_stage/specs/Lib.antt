@@ -4,3 +4,4 @@ pub mod Errors
 pub mod Answer
 pub mod Decoding
 pub mod Transcript
+pub mod Turns

@@ -2,9 +2,9 @@
 use Rattle.std.specs.Prelude.{◌≡◌, ◌⊎◌, ◌↔◌, ℕ, ◌+◌, ◌-◌, ◌^◌, List, [], ◌∷◌, ◌++◌, length, Bool, true, false, Option, Some, None, Result, Ok, Err}
 use Rattle.daemon_core.specs.declared.event.Event.{Event}
 use Rattle.state_codec.specs.SavedState.{SavedState}
-use Rattle.daemon_core.specs.State.{State}
+use Rattle.daemon_core.specs.State.{State, start}
 use Rattle.daemon_core.specs.Step.{Stepped}
-use Rattle.daemon_core.specs.Replay.{Entry, stepped, reply}
+use Rattle.daemon_core.specs.Replay.{Entry, stepped, reply, replay}
 use Rattle.live_stage.specs.declared.error.LiveError.{LiveError}
 use Rattle.live_stage.specs.declared.error.LiveError.TheVariants.{Broken, NoMemory, NumbersSpent}
 use Rattle.live_stage.specs.Answer.{Answer, record_number, last_record_after}
@@ -123,3 +123,22 @@ pub record FindsPrefix (s : State) (events : List Event) (answers : List (Result
   pub prefix : List Entry
   pub parts : whole ≡ later ++ prefix
   pub finds : let now = replayed s prefix in found ≡ Some now.saved
+
+-- The answers of a run are those of the steps of its one history, in order, of the events that were answered; and the stage at its end
+-- has counted these, and has the state after them.
+pub record IsRun {D : Type 0} (first last : LiveState D) (events : List Event) (answers : List (Result Answer LiveError)) : Type 0 where
+  pub transcript : IsTranscript first [] events answers
+  pub state : last.is_broken ≡ false → last.state ≡ replayed first.state (history_of [] events answers)
+  pub event : last.event ≡ first.event + length (history_of [] events answers)
+  pub last_record : last.is_broken ≡ false → last.last_record ≡ last_record_of first.state first.last_record (history_of [] events answers)
+
+-- From the first disk fault on each answer is `Broken`, and `NumbersSpent` comes exactly where the numbers are spent.
+pub record RunRefuses {D : Type 0} (first last : LiveState D) (events : List Event) (answers : List (Result Answer LiveError)) : Type 0 where
+  pub broken : StaysBroken first.is_broken answers
+  pub is_broken : last.is_broken ≡ broken_after first.is_broken answers
+  pub numbers_spent : SpendsNumbers first [] first.is_broken events answers
+
+-- in a life that began with what was kept, each answer is the reply of its one history, and the state its replay
+pub record IsOfOneLife {D : Type 0} (first last : LiveState D) (events : List Event) (answers : List (Result Answer LiveError)) (kept : SavedState) : Type 0 where
+  pub replies : AreReplies kept [] events answers
+  pub state : last.is_broken ≡ false → last.state ≡ replay kept (history_of [] events answers)

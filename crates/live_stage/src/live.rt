@@ -1,7 +1,6 @@
 // The stage.
 ghost use Rattle.std.specs.Prelude.{◌≡◌, ◌≢◌, ◌⊎◌, ◌↔◌, ◌+◌, ◌-◌, ◌^◌, ◌<◌, ◌≤◌, ℕ, true, false, [], length, Ok, Err, Some, None, Option, IsSome, IfOk, IfErr, OnOk, OnErr, IsErrAnd, MatchResult, MatchBool, vec_capacity};
-ghost use Rattle.disk_model.specs.Faults.{HasGrown};
-ghost use Rattle.disk_model.specs.Moments.{Continues};
+ghost use Rattle.disk_model.specs.Later.{AreLater, HasFailed};
 ghost use Rattle.state_codec.specs.SavedState.{IsSavedState, fresh};
 ghost use Rattle.state_codec.specs.Spelling.{saved_bytes};
 ghost use Rattle.play_journal.specs.Content.{Content};
@@ -10,6 +9,7 @@ ghost use Rattle.daemon_core.specs.State.{start};
 ghost use Rattle.daemon_core.specs.Step.{step};
 ghost use Rattle.live_stage.specs.Answer.{IsTurn};
 ghost use Rattle.live_stage.specs.Errors.{IsRefusalOfCreate, IsRefusalOfOpen, IsCause, start_error};
+ghost use Rattle.live_stage.specs.Turns.{IsBegun, StaysInFile, RefusesInOrder};
 ghost use Rattle.live_stage.specs.Found.{found_state, AllFindNow, AllFindSince, KeepsFoundState};
 
 use crate::decoding::take_state;
@@ -56,26 +56,19 @@ impl<D: Disk> Live<D> {
     pub fn create(alloc: Global, a: D, b: D, key: [u8; 32]) -> Result<Live<D>, Refused<D>>
         // From `Ok` on a restart finds the fresh state.
         ensures kept { D.honest a → D.honest b → IfOk result (λ live. AllFindNow (λ f. f ≡ Some (fresh key)) (D.history live.a) (D.history live.b)) }
-        ensures state { IfOk result (λ live. live.state ≡ start (fresh key)) }
-        ensures event { IfOk result (λ live. live.event ≡ 0) }
+        ensures begun { IfOk result (λ live. IsBegun (fresh key) live) }
         ensures last_record { IfOk result (λ live. live.last_record ≡ 0) }
-        ensures usable { IfOk result (λ live. live.is_broken ≡ false) }
 
         ensures not_empty { D.honest a → D.honest b
             → (IsErrAnd result (λ e. e.error ≡ StartError.NotEmpty) ↔ ((D.content a ≢ []) ⊎ (D.content b ≢ []))) }
-        ensures fault { D.honest a → D.honest b → IfErr result (λ e. e.error ≡ StartError.Broken
-            → HasGrown (D.faults a) (D.faults e.a) ⊎ HasGrown (D.faults b) (D.faults e.b)) }
+        ensures fault { D.honest a → D.honest b
+            → IfErr result (λ e. e.error ≡ StartError.Broken → HasFailed D.faults a b e.a e.b) }
         ensures nothing_else { IfErr result (λ e. IsRefusalOfCreate e.error) }
 
         // Another refusal than a disk fault hands the disks back as they were.
-        ensures stays_a { IfErr result (λ e. e.error ≢ StartError.Broken → e.a ≡ a) }
-        ensures stays_b { IfErr result (λ e. e.error ≢ StartError.Broken → e.b ≡ b) }
-        ensures honest_a { MatchResult result (λ live. D.honest a ↔ D.honest live.a) (λ e. D.honest a ↔ D.honest e.a) }
-        ensures honest_b { MatchResult result (λ live. D.honest b ↔ D.honest live.b) (λ e. D.honest b ↔ D.honest e.b) }
-
-        // The count of a disk's faults never falls, whatever the disk.
-        ensures later_a { MatchResult result (λ live. D.faults a ≤ D.faults live.a) (λ e. D.faults a ≤ D.faults e.a) }
-        ensures later_b { MatchResult result (λ live. D.faults b ≤ D.faults live.b) (λ e. D.faults b ≤ D.faults e.b) }
+        ensures stays { IfErr result (λ e. e.error ≢ StartError.Broken → (e.a ≡ a) × (e.b ≡ b)) }
+        ensures later { MatchResult result (λ live. AreLater D.honest D.history D.faults a b live.a live.b)
+            (λ e. AreLater D.honest D.history D.faults a b e.a e.b) }
     {
         if !a.is_empty() || !b.is_empty() {
             return Err(Refused {
@@ -112,7 +105,7 @@ impl<D: Disk> Live<D> {
     pub fn open(alloc: Global, a: D, b: D) -> Result<Live<D>, Refused<D>>
         // It answers the state that the files give, and names what is wrong with them.
         ensures found { D.honest a → D.honest b → IfOk result (λ live. found_state (D.content a) (D.content b) ≡ Some live.state.saved) }
-        ensures begins { IfOk result (λ live. live.state ≡ start live.state.saved) }
+        ensures begun { IfOk result (λ live. IsBegun live.state.saved live) }
         ensures cause { D.honest a → D.honest b → IfErr result (λ e. IsCause (D.content a) (D.content b) e.error) }
 
         // Stopped at any moment, a restart finds what it might have found before, and from `Ok` on what is answered.
@@ -124,22 +117,14 @@ impl<D: Disk> Live<D> {
         // Where each pair that a crash may have left gives a state, it opens, unless memory is wanting or a disk fails.
         ensures opens { D.honest a → D.honest b → AllFindNow (λ f. IsSome f) (D.history a) (D.history b)
             → IfErr result (λ e. (e.error ≡ StartError.NoMemory) ⊎ (e.error ≡ StartError.Broken)) }
-        ensures fault { D.honest a → D.honest b → IfErr result (λ e. e.error ≡ StartError.Broken
-            → HasGrown (D.faults a) (D.faults e.a) ⊎ HasGrown (D.faults b) (D.faults e.b)) }
+        ensures fault { D.honest a → D.honest b
+            → IfErr result (λ e. e.error ≡ StartError.Broken → HasFailed D.faults a b e.a e.b) }
         ensures nothing_else { IfErr result (λ e. IsRefusalOfOpen e.error) }
 
-        ensures event { IfOk result (λ live. live.event ≡ 0) }
         ensures last_record { D.honest a → D.honest b → IfOk result (λ live. (content : Content) → found (D.content a) (D.content b) ≡ Some content
             → live.last_record ≡ content.base + length content.records) }
-        ensures usable { IfOk result (λ live. live.is_broken ≡ false) }
-        ensures continues_a { D.honest a → MatchResult result (λ live. Continues (D.history a) (D.history live.a)) (λ e. Continues (D.history a) (D.history e.a)) }
-        ensures continues_b { D.honest b → MatchResult result (λ live. Continues (D.history b) (D.history live.b)) (λ e. Continues (D.history b) (D.history e.b)) }
-        ensures honest_a { MatchResult result (λ live. D.honest a ↔ D.honest live.a) (λ e. D.honest a ↔ D.honest e.a) }
-        ensures honest_b { MatchResult result (λ live. D.honest b ↔ D.honest live.b) (λ e. D.honest b ↔ D.honest e.b) }
-
-        // The count of a disk's faults never falls, whatever the disk.
-        ensures later_a { MatchResult result (λ live. D.faults a ≤ D.faults live.a) (λ e. D.faults a ≤ D.faults e.a) }
-        ensures later_b { MatchResult result (λ live. D.faults b ≤ D.faults live.b) (λ e. D.faults b ≤ D.faults e.b) }
+        ensures later { MatchResult result (λ live. AreLater D.honest D.history D.faults a b live.a live.b)
+            (λ e. AreLater D.honest D.history D.faults a b e.a e.b) }
     {
         let room = match Vec::with_capacity(alloc, LONGEST_BODY) {
             Ok(room) => room,
@@ -188,31 +173,13 @@ impl<D: Disk> Live<D> {
         // From then on it finds the state after, and after a refusal without a fault the state from before, which stays.
         ensures kept { D.honest self.old.a → D.honest self.old.b → self.new.is_broken ≡ false
             → AllFindNow (λ f. f ≡ Some self.new.state.saved) (D.history self.new.a) (D.history self.new.b) }
-        ensures usable { OnOk result (self.new.is_broken ≡ false) }
-        ensures other_file { MatchBool self.old.is_in_b (self.new.a ≡ self.old.a) (self.new.b ≡ self.old.b) }
-        ensures same_file { self.new.is_in_b ≡ self.old.is_in_b }
         ensures no_call { IfOk result (λ t. (let now = step self.old.state event t.refused_at in now.ops ≡ []) → (self.new.a ≡ self.old.a) × (self.new.b ≡ self.old.b)) }
+        ensures file { StaysInFile self.old self.new }
 
-        // It refuses in this order.
-        ensures broken { self.old.is_broken ≡ true → (result ≡ Err LiveError.Broken) × (self.new ≡ self.old) }
-        ensures numbers_spent { self.old.is_broken ≡ false
-            → ((result ≡ Err LiveError.NumbersSpent) ↔ ((self.old.event ≡ 2 ^ 64 - 1) ⊎ (self.old.last_record ≡ 2 ^ 64 - 1))) }
+        ensures refuses { RefusesInOrder self.old self.new result }
         ensures fault { D.honest self.old.a → D.honest self.old.b → self.old.is_broken ≡ false → result ≡ Err LiveError.Broken
-            → HasGrown (D.faults self.old.a) (D.faults self.new.a) ⊎ HasGrown (D.faults self.old.b) (D.faults self.new.b) }
-
-        // A disk fault breaks the stage, and another refusal leaves it as it was. No refused event is counted.
-        ensures breaks { result ≡ Err LiveError.Broken → self.new.is_broken ≡ true }
-        ensures stays { OnErr result (result ≢ Err LiveError.Broken → self.new ≡ self.old) }
-        ensures not_counted { OnErr result (self.new.event ≡ self.old.event) }
-
-        ensures continues_a { D.honest self.old.a → Continues (D.history self.old.a) (D.history self.new.a) }
-        ensures continues_b { D.honest self.old.b → Continues (D.history self.old.b) (D.history self.new.b) }
-        ensures honest_a { D.honest self.old.a ↔ D.honest self.new.a }
-        ensures honest_b { D.honest self.old.b ↔ D.honest self.new.b }
-
-        // The count of a disk's faults never falls, whatever the disk.
-        ensures later_a { D.faults self.old.a ≤ D.faults self.new.a }
-        ensures later_b { D.faults self.old.b ≤ D.faults self.new.b }
+            → HasFailed D.faults self.old.a self.old.b self.new.a self.new.b }
+        ensures later { AreLater D.honest D.history D.faults self.old.a self.old.b self.new.a self.new.b }
     {
         if self.journal.is_spent() {
             return Err(LiveError::Broken);

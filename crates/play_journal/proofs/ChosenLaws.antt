@@ -29,7 +29,8 @@ no_answer s e is = cc
 same_answer : (s t : Bool) → answer s ≡ answer t → s ≡ t
 same_answer s t is = cc
 
-picks_open : (generation other : ℕ) (s same newer : Bool) → eqb generation other ≡ same → ltb generation other ≡ newer → answer s ≡ chosen_file (Open generation) (Open other) → Picks s (Open generation) (Open other)
+picks_open : (generation other : ℕ) (s same newer : Bool) → eqb generation other ≡ same → ltb generation other ≡ newer
+    → answer s ≡ chosen_file (Open generation) (Open other) → Picks s (Open generation) (Open other)
 picks_open generation other s true newer same_is newer_is is =
     let none : answer s ≡ refusal (Damaged 12) = rw same_is at is in
     absurd (no_answer s (Damaged 12) none)

@@ -19,11 +19,15 @@ module _ (s : List ℕ) (len : ℕ) (within : len ≤ length s) where
   pub begins : (h : List Change) → window h ≡ settled s → AllSince (BeginsWith (take len s)) h (length h)
   begins h is_settled = all_begin (BeginsWith (take len s)) h (settled_all (BeginsWith (take len s)) h s is_settled (parts s refl))
 
-  pub cuts : (h h' : List Change) (t : ℕ) → window h ≡ settled s → IsSameOrAdds (CutTo len) h h' → AllSince (BeginsWith (take len s)) h t → AllSince (BeginsWith (take len s)) h' t
+  pub cuts : (h h' : List Change) (t : ℕ) → window h ≡ settled s → IsSameOrAdds (CutTo len) h h'
+      → AllSince (BeginsWith (take len s)) h t → AllSince (BeginsWith (take len s)) h' t
   cuts h h' t is_settled step since =
-      let now : AllNow (BeginsWith (take len s)) (CutTo len ∷ h) = λ image left. parts image (cut_leaves h len s image is_settled within left).0 in
+      let now : AllNow (BeginsWith (take len s)) (CutTo len ∷ h) = λ image left. parts image
+      (cut_leaves h len s image is_settled within left).0 in
       all_step_or (BeginsWith (take len s)) (CutTo len) h h' t step now since
 
-  pub syncs : (h h' : List Change) (c : List ℕ) (t : ℕ) → c ≡ take len s → h' ≡ Synced c ∷ h → AllSince (BeginsWith (take len s)) h t → AllSince (BeginsWith (take len s)) h' t
+  pub syncs : (h h' : List Change) (c : List ℕ) (t : ℕ) → c ≡ take len s → h' ≡ Synced c ∷ h → AllSince (BeginsWith (take len s)) h t
+      → AllSince (BeginsWith (take len s)) h' t
   syncs h h' c t is made since =
-      all_step_or (BeginsWith (take len s)) (Synced c) h h' t (inr made) (settled_all (BeginsWith (take len s)) (Synced c ∷ h) c refl ([], is ∙ sym (append-nil (take len s)))) since
+      all_step_or (BeginsWith (take len s)) (Synced c) h h' t (inr made) (settled_all (BeginsWith (take len s)) (Synced c ∷ h) c refl
+      ([], is ∙ sym (append-nil (take len s)))) since

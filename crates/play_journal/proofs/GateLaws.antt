@@ -22,13 +22,16 @@ module _ (bytes : List ℕ) (at before : ℕ) where
   missing_gate ended = ap (λ (l : List ℕ). records_at 0 at before l) (drop_all at bytes (omega arith)) ∙ records_at-end at before
 
   pub closed_gate : at < length bytes → get_or bytes at 0 ≢ open_gate → records_at 0 at before (drop at bytes) ≡ Ok []
-  closed_gate within closed = ap (λ (l : List ℕ). records_at 0 at before l) (ahead within) ∙ records_at-closed at before (get_or bytes at 0) (drop (at + 1) bytes) closed
+  closed_gate within closed = ap (λ (l : List ℕ). records_at 0 at before l) (ahead within)
+      ∙ records_at-closed at before (get_or bytes at 0) (drop (at + 1) bytes) closed
 
   is_open : at < length bytes → get_or bytes at 0 ≡ open_gate → drop at bytes ≡ open_gate ∷ drop (at + 1) bytes
   is_open within gate = ahead within ∙ ap (λ (n : ℕ). n ∷ drop (at + 1) bytes) gate
 
-  no_record : at < length bytes → get_or bytes at 0 ≡ open_gate → passes before (drop (at + 1) bytes) ≡ true → records_at 0 at before (drop at bytes) ≡ Err at
-  no_record within gate passed = ap (λ (l : List ℕ). records_at 0 at before l) (is_open within gate) ∙ records_at-passes at before (drop (at + 1) bytes) passed
+  no_record : at < length bytes → get_or bytes at 0 ≡ open_gate → passes before (drop (at + 1) bytes) ≡ true
+      → records_at 0 at before (drop at bytes) ≡ Err at
+  no_record within gate passed = ap (λ (l : List ℕ). records_at 0 at before l) (is_open within gate)
+      ∙ records_at-passes at before (drop (at + 1) bytes) passed
 
   or_left : (x y : Bool) → x ≡ true → (x || y) ≡ true
   or_left true y is = refl
@@ -38,24 +41,34 @@ module _ (bytes : List ℕ) (at before : ℕ) where
   or_right true y is = refl
   or_right false y is = is
 
-  pub short_field : at < length bytes → get_or bytes at 0 ≡ open_gate → length bytes < at + 5 → records_at 0 at before (drop at bytes) ≡ Err at
+  pub short_field : at < length bytes → get_or bytes at 0 ≡ open_gate → length bytes < at + 5
+      → records_at 0 at before (drop at bytes) ≡ Err at
   short_field within gate short =
-      no_record within gate (or_left _ _ (or_left _ _ (or_left _ _ (lt-ltb (length (drop (at + 1) bytes)) 4 (omega (arith, length-behind))))))
+      no_record within gate (or_left _ _ (or_left _ _ (or_left _ _ (lt-ltb (length (drop (at + 1) bytes)) 4 (omega
+      (arith, length-behind))))))
 
-  pub long_body : at < length bytes → get_or bytes at 0 ≡ open_gate → longest_body < number_at w32 (at + 1) bytes → records_at 0 at before (drop at bytes) ≡ Err at
+  pub long_body : at < length bytes → get_or bytes at 0 ≡ open_gate → longest_body < number_at w32 (at + 1) bytes
+      → records_at 0 at before (drop at bytes) ≡ Err at
   long_body within gate long =
-      no_record within gate (or_left _ _ (or_left _ _ (or_right _ _ (lt-ltb longest_body (number_at w32 0 (drop (at + 1) bytes)) (omega (arith, size-behind, long))))))
+      no_record within gate (or_left _ _ (or_left _ _ (or_right _ _ (lt-ltb longest_body (number_at w32 0 (drop (at + 1) bytes)) (omega
+      (arith, size-behind, long))))))
 
-  pub passed_end : at + 5 ≤ length bytes → get_or bytes at 0 ≡ open_gate → length bytes < at + 5 + number_at w32 (at + 1) bytes → records_at 0 at before (drop at bytes) ≡ Err at
+  pub passed_end : at + 5 ≤ length bytes → get_or bytes at 0 ≡ open_gate → length bytes < at + 5 + number_at w32 (at + 1) bytes
+      → records_at 0 at before (drop at bytes) ≡ Err at
   passed_end within gate passed =
-      no_record (omega arith) gate (or_left _ _ (or_right _ _ (lt-ltb (length (drop (at + 1) bytes)) (4 + number_at w32 0 (drop (at + 1) bytes)) (omega (arith, size-behind, length-behind)))))
+      no_record (omega arith) gate (or_left _ _ (or_right _ _ (lt-ltb (length (drop (at + 1) bytes)) (4 + number_at w32 0 (drop
+      (at + 1) bytes)) (omega (arith, size-behind, length-behind)))))
 
-  pub last_number : at < length bytes → get_or bytes at 0 ≡ open_gate → 2 ^ 64 - 1 ≤ before → records_at 0 at before (drop at bytes) ≡ Err at
+  pub last_number : at < length bytes → get_or bytes at 0 ≡ open_gate → 2 ^ 64 - 1 ≤ before
+      → records_at 0 at before (drop at bytes) ≡ Err at
   last_number within gate last =
       no_record within gate (or_right _ _ (le-leb (2 ^ 64 - 1) before last))
 
-  pub open_record : (size : ℕ) → at + 5 ≤ length bytes → get_or bytes at 0 ≡ open_gate → size ≡ number_at w32 (at + 1) bytes → size ≤ longest_body → at + 5 + size ≤ length bytes → before + 1 < 2 ^ 64
-      → records_at 0 at before (drop at bytes) ≡ with_first (slice_range bytes (at + 5) (at + 5 + size)) (records_at 0 (at + 5 + length (slice_range bytes (at + 5) (at + 5 + size))) (before + 1) (drop (at + 5 + length (slice_range bytes (at + 5) (at + 5 + size))) bytes))
+  pub open_record : (size : ℕ) → at + 5 ≤ length bytes → get_or bytes at 0 ≡ open_gate → size ≡ number_at w32 (at + 1) bytes
+      → size ≤ longest_body → at + 5 + size ≤ length bytes → before + 1 < 2 ^ 64
+      → records_at 0 at before (drop at bytes) ≡ with_first (slice_range bytes (at + 5) (at + 5 + size)) (records_at 0 (at + 5 + length
+      (slice_range bytes (at + 5) (at + 5 + size))) (before + 1) (drop (at + 5 + length (slice_range bytes (at + 5)
+      (at + 5 + size))) bytes))
   open_record size within gate is short all number =
       let stands : IsRecord before (drop (at + 1) bytes) size = record {
         field = omega (arith, length-behind);
@@ -65,11 +78,16 @@ module _ (bytes : List ℕ) (at before : ℕ) where
         number = number;
       } in
       let own : take size (drop 4 (drop (at + 1) bytes)) ≡ slice_range bytes (at + 5) (at + 5 + size) =
-      ap (λ (l : List ℕ). take size l) (drop-drop 4 (at + 1) bytes) ∙ at_number (λ (n : ℕ). take size (drop n bytes)) (at + 1 + 4) (at + 5) (omega arith) ∙ at_number (λ (n : ℕ). take n (drop (at + 5) bytes)) size (at + 5 + size - (at + 5)) (omega arith) in
-      let next : drop (4 + size) (drop (at + 1) bytes) ≡ drop (at + 5 + size) bytes = drop-drop (4 + size) (at + 1) bytes ∙ at_number (λ (n : ℕ). drop n bytes) (at + 1 + (4 + size)) (at + 5 + size) (omega arith) in
+      ap (λ (l : List ℕ). take size l) (drop-drop 4 (at + 1) bytes) ∙ at_number (λ (n : ℕ). take size (drop n bytes)) (at + 1 + 4)
+      (at + 5) (omega arith) ∙ at_number (λ (n : ℕ). take n (drop (at + 5) bytes)) size (at + 5 + size - (at + 5)) (omega arith) in
+      let next : drop (4 + size) (drop (at + 1) bytes) ≡ drop (at + 5 + size) bytes = drop-drop (4 + size) (at + 1) bytes
+      ∙ at_number (λ (n : ℕ). drop n bytes) (at + 1 + (4 + size)) (at + 5 + size) (omega arith) in
       let same : at + 5 + size - (at + 5) ≡ size = omega arith in
-      let long : length (slice_range bytes (at + 5) (at + 5 + size)) ≡ size = length-take-le (at + 5 + size - (at + 5)) (drop (at + 5) bytes) (omega (arith, length-drop (at + 5) bytes)) ∙ same in
-      ap (λ (l : List ℕ). records_at 0 at before l) (is_open (omega arith) gate) ∙ records_at-record at before size (drop (at + 1) bytes) stands
+      let long : length (slice_range bytes (at + 5) (at + 5 + size)) ≡ size =
+      length-take-le (at + 5 + size - (at + 5)) (drop (at + 5) bytes) (omega (arith, length-drop (at + 5) bytes)) ∙ same in
+      ap (λ (l : List ℕ). records_at 0 at before l) (is_open (omega arith) gate)
+      ∙ records_at-record at before size (drop (at + 1) bytes) stands
       ∙ ap (λ (l : List ℕ). with_first l (records_at 0 (at + 5 + size) (before + 1) (drop (4 + size) (drop (at + 1) bytes)))) own
       ∙ ap (λ (l : List ℕ). with_first (slice_range bytes (at + 5) (at + 5 + size)) (records_at 0 (at + 5 + size) (before + 1) l)) next
-      ∙ ap (λ (n : ℕ). with_first (slice_range bytes (at + 5) (at + 5 + size)) (records_at 0 (at + 5 + n) (before + 1) (drop (at + 5 + n) bytes))) (sym long)
+      ∙ ap (λ (n : ℕ). with_first (slice_range bytes (at + 5) (at + 5 + size)) (records_at 0 (at + 5 + n) (before + 1) (drop
+      (at + 5 + n) bytes))) (sym long)

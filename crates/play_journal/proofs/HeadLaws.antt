@@ -6,6 +6,7 @@ use Rattle.std.proofs.lemmas.Bool.{cases_lt, and_parts, and_left, and_right, bot
 use Rattle.std.proofs.lemmas.List.{take-append-drop, length-take-le, get_or-take, take-take, drop-take, drop-drop, drop_more}
 use Rattle.std.proofs.lemmas.Nat.{le_bytes_4, le_bytes_8, from_le_bytes-to_le_bytes_4, from_le_bytes-to_le_bytes_8}
 use Rattle.std.proofs.lemmas.Slice.Eq.{bytes_eq-Decides}
+use Rattle.play_journal.specs.Content.{present_layout, IsKnownLayout}
 use Rattle.play_journal.specs.File.{open_gate, name, head, IsShut, IsOpenAt}
 use Rattle.play_journal.specs.Reading.{Front, Closed, Bad, Open, number_at, is_open, front}
 use Rattle.play_journal.proofs.RecordLaws.{IsBytes, IsBytes-drop, IsBytes-take, number_below_4}
@@ -14,46 +15,72 @@ number_below_8 : (bytes : List ℕ) → IsBytes bytes → from_le_bytes w64 byte
 number_below_8 bytes fits = omega (arith, fits 0, fits 1, fits 2, fits 3, fits 4, fits 5, fits 6, fits 7)
 
 pub head_number_8 : (at : ℕ) (bytes : List ℕ) → IsBytes bytes → number_at w64 at bytes < 2 ^ 64
-head_number_8 at bytes fits = number_below_8 (take (at + 8 - at) (drop at bytes)) (IsBytes-take (at + 8 - at) (drop at bytes) (IsBytes-drop at bytes fits))
+head_number_8 at bytes fits = number_below_8 (take (at + 8 - at) (drop at bytes)) (IsBytes-take (at + 8 - at) (drop at bytes)
+    (IsBytes-drop at bytes fits))
 
 pub head_number_4 : (at : ℕ) (bytes : List ℕ) → IsBytes bytes → number_at w32 at bytes < 2 ^ 32
-head_number_4 at bytes fits = number_below_4 (take (at + 4 - at) (drop at bytes)) (IsBytes-take (at + 4 - at) (drop at bytes) (IsBytes-drop at bytes fits))
+head_number_4 at bytes fits = number_below_4 (take (at + 4 - at) (drop at bytes)) (IsBytes-take (at + 4 - at) (drop at bytes)
+    (IsBytes-drop at bytes fits))
 
 -- ---- what is spelled
 
-pub length-head : (generation base size : ℕ) → length (head generation base size) ≡ 31
+pub length-head : (layout generation base size : ℕ) → length (head layout generation base size) ≡ 31
 unfolding head
-length-head generation base size = refl
+length-head layout generation base size = refl
 
-pub spelled_rest : (generation base size : ℕ) (rest : List ℕ) → drop 32 (open_gate ∷ head generation base size ++ rest) ≡ rest
+pub spelled_rest : (layout generation base size : ℕ) (rest : List ℕ) → drop 32 (open_gate ∷ head layout generation base size ++ rest) ≡ rest
 unfolding head
-spelled_rest generation base size rest = refl
+spelled_rest layout generation base size rest = refl
 
-pub spelled_base : (generation base size : ℕ) (rest : List ℕ) → base < 2 ^ 64 → number_at w64 20 (open_gate ∷ head generation base size ++ rest) ≡ base
+pub spelled_layout : (layout generation base size : ℕ) (rest : List ℕ) → layout < 2 ^ 32
+    → number_at w32 8 (open_gate ∷ head layout generation base size ++ rest) ≡ layout
 unfolding head
-spelled_base generation base size rest fits = from_le_bytes-to_le_bytes_8 base fits
+spelled_layout layout generation base size rest fits = from_le_bytes-to_le_bytes_4 layout fits
 
-pub spelled_size : (generation base size : ℕ) (rest : List ℕ) → size < 2 ^ 32 → number_at w32 28 (open_gate ∷ head generation base size ++ rest) ≡ size
+pub spelled_generation : (layout generation base size : ℕ) (rest : List ℕ) → generation < 2 ^ 64
+    → number_at w64 12 (open_gate ∷ head layout generation base size ++ rest) ≡ generation
 unfolding head
-spelled_size generation base size rest fits = from_le_bytes-to_le_bytes_4 size fits
+spelled_generation layout generation base size rest fits = from_le_bytes-to_le_bytes_8 generation fits
 
-spelled_front : (generation base size : ℕ) (rest : List ℕ) → ltb (length (open_gate ∷ head generation base size ++ rest)) 32 ≡ false → front (open_gate ∷ head generation base size ++ rest) ≡ Open (from_le_bytes w64 (to_le_bytes w64 generation))
+pub spelled_base : (layout generation base size : ℕ) (rest : List ℕ) → base < 2 ^ 64
+    → number_at w64 20 (open_gate ∷ head layout generation base size ++ rest) ≡ base
+unfolding head
+spelled_base layout generation base size rest fits = from_le_bytes-to_le_bytes_8 base fits
+
+pub spelled_size : (layout generation base size : ℕ) (rest : List ℕ) → size < 2 ^ 32
+    → number_at w32 28 (open_gate ∷ head layout generation base size ++ rest) ≡ size
+unfolding head
+spelled_size layout generation base size rest fits = from_le_bytes-to_le_bytes_4 size fits
+
+spelled_front : (generation base size : ℕ) (rest : List ℕ) → ltb (length (open_gate ∷ head present_layout generation base size
+    ++ rest)) 32 ≡ false
+    → front (open_gate ∷ head present_layout generation base size ++ rest) ≡ Open (from_le_bytes w64 (to_le_bytes w64 generation))
 unfolding front head
 spelled_front generation base size rest long = rw long refl
 
-pub front-open : (generation base size : ℕ) (rest : List ℕ) → generation < 2 ^ 64 → front (open_gate ∷ head generation base size ++ rest) ≡ Open generation
-front-open generation base size rest fits =
-    let long : ltb (length (open_gate ∷ head generation base size ++ rest)) 32 ≡ false =
-    le-ltb (length (open_gate ∷ head generation base size ++ rest)) 32 (omega (arith, length-append (head generation base size) rest, length-head generation base size)) in
-    spelled_front generation base size rest long ∙ ap Open (from_le_bytes-to_le_bytes_8 generation fits)
+pub front-open : (layout generation base size : ℕ) (rest : List ℕ) → IsKnownLayout layout → generation < 2 ^ 64
+    → front (open_gate ∷ head layout generation base size ++ rest) ≡ Open generation
+front-open layout generation base size rest known fits =
+    let long : ltb (length (open_gate ∷ head present_layout generation base size ++ rest)) 32 ≡ false =
+    le-ltb (length (open_gate ∷ head present_layout generation base size
+    ++ rest)) 32 (omega (
+      arith,
+      length-append (head present_layout generation base size) rest,
+      length-head present_layout generation
+          base size,
+    )) in
+    ap (λ (n : ℕ). front (open_gate ∷ head n generation base size ++ rest)) known
+    ∙ spelled_front generation base size rest long ∙ ap Open (from_le_bytes-to_le_bytes_8 generation fits)
 
 pub front-open_at : (bytes : List ℕ) (generation : ℕ) → IsOpenAt bytes generation → front bytes ≡ Open generation
 front-open_at bytes generation opened =
-    ap front opened.spelled ∙ front-open generation opened.base opened.size opened.rest opened.generation_fits
+    ap front opened.spelled ∙ front-open opened.layout generation opened.base opened.size opened.rest opened.known opened.generation_fits
 
 is_open-shut : (bytes : List ℕ) → IsShut bytes → is_open bytes ≡ false
-is_open-shut bytes (inl short) = and_left (not (ltb (length bytes) 32)) (eqb (slice_index bytes 0) open_gate) (ap not (lt-ltb (length bytes) 32 short))
-is_open-shut bytes (inr closed) = and_right (not (ltb (length bytes) 32)) (eqb (slice_index bytes 0) open_gate) (ne_eqb (slice_index bytes 0) open_gate closed)
+is_open-shut bytes (inl short) = and_left (not (ltb (length bytes) 32)) (eqb (slice_index bytes 0) open_gate) (ap not (lt-ltb
+    (length bytes) 32 short))
+is_open-shut bytes (inr closed) = and_right (not (ltb (length bytes) 32)) (eqb (slice_index bytes 0) open_gate) (ne_eqb
+    (slice_index bytes 0) open_gate closed)
 
 pub front-shut : (bytes : List ℕ) → IsShut bytes → front bytes ≡ Closed
 unfolding front
@@ -106,36 +133,51 @@ passed bytes generation is = elim (chosen_when (not (is_open bytes)) _ _ _ is) [
 
 -- a list is a part of it and what follows the part
 part : (from count : ℕ) (bytes : List ℕ) → drop from bytes ≡ take count (drop from bytes) ++ drop (from + count) bytes
-part from count bytes = sym (take-append-drop count (drop from bytes)) ∙ ap (λ (l : List ℕ). take count (drop from bytes) ++ l) (drop-drop count from bytes)
+part from count bytes = sym (take-append-drop count (drop from bytes))
+    ∙ ap (λ (l : List ℕ). take count (drop from bytes) ++ l) (drop-drop count from bytes)
 
-pub spelled_head : (bytes : List ℕ) (generation : ℕ) → IsBytes bytes → Passed bytes generation → bytes ≡ open_gate ∷ head generation (number_at w64 20 bytes) (number_at w32 28 bytes) ++ drop 32 bytes
+pub spelled_head : (bytes : List ℕ) (generation : ℕ) → IsBytes bytes → Passed bytes generation
+    → bytes ≡ open_gate ∷ head present_layout generation (number_at w64 20 bytes) (number_at w32 28 bytes) ++ drop 32 bytes
 unfolding head
 spelled_head bytes generation fits passed =
     let base : ℕ = number_at w64 20 bytes in
     let size : ℕ = number_at w32 28 bytes in
-    let first : bytes ≡ open_gate ∷ drop 1 bytes = drop_more bytes 0 0 (omega (arith, passed.long)) ∙ ap (λ (n : ℕ). n ∷ drop 1 bytes) passed.gate in
+    let first : bytes ≡ open_gate ∷ drop 1 bytes = drop_more bytes 0 0 (omega (arith, passed.long))
+    ∙ ap (λ (n : ℕ). n ∷ drop 1 bytes) passed.gate in
     let named : drop 1 bytes ≡ name ++ drop 8 bytes = part 1 7 bytes ∙ ap (λ (l : List ℕ). l ++ drop 8 bytes) passed.named in
     let layout : take 4 (drop 8 bytes) ≡ to_le_bytes w32 1 =
-    sym (le_bytes_4 (take 4 (drop 8 bytes)) 1 (length-take-le 4 (drop 8 bytes) (omega (arith, length-drop 8 bytes, passed.long))) (IsBytes-take 4 (drop 8 bytes) (IsBytes-drop 8 bytes fits)) (sym passed.layout)) in
+    sym (le_bytes_4 (take 4 (drop 8 bytes)) 1 (length-take-le 4 (drop 8 bytes) (omega (arith, length-drop 8 bytes, passed.long)))
+    (IsBytes-take 4 (drop 8 bytes) (IsBytes-drop 8 bytes fits)) (sym passed.layout)) in
     let generation_field : take 8 (drop 12 bytes) ≡ to_le_bytes w64 generation =
-    sym (le_bytes_8 (take 8 (drop 12 bytes)) generation (length-take-le 8 (drop 12 bytes) (omega (arith, length-drop 12 bytes, passed.long))) (IsBytes-take 8 (drop 12 bytes) (IsBytes-drop 12 bytes fits)) (sym passed.numbered)) in
+    sym (le_bytes_8 (take 8 (drop 12 bytes)) generation (length-take-le 8 (drop 12 bytes) (omega
+    (arith, length-drop 12 bytes, passed.long))) (IsBytes-take 8 (drop 12 bytes) (IsBytes-drop 12 bytes fits))
+    (sym passed.numbered)) in
     let base_field : take 8 (drop 20 bytes) ≡ to_le_bytes w64 base =
-    sym (le_bytes_8 (take 8 (drop 20 bytes)) base (length-take-le 8 (drop 20 bytes) (omega (arith, length-drop 20 bytes, passed.long))) (IsBytes-take 8 (drop 20 bytes) (IsBytes-drop 20 bytes fits)) refl) in
+    sym (le_bytes_8 (take 8 (drop 20 bytes)) base (length-take-le 8 (drop 20 bytes) (omega (arith, length-drop 20 bytes, passed.long)))
+    (IsBytes-take 8 (drop 20 bytes) (IsBytes-drop 20 bytes fits)) refl) in
     let size_field : take 4 (drop 28 bytes) ≡ to_le_bytes w32 size =
-    sym (le_bytes_4 (take 4 (drop 28 bytes)) size (length-take-le 4 (drop 28 bytes) (omega (arith, length-drop 28 bytes, passed.long))) (IsBytes-take 4 (drop 28 bytes) (IsBytes-drop 28 bytes fits)) refl) in
-    let from_28 : drop 28 bytes ≡ to_le_bytes w32 size ++ drop 32 bytes = part 28 4 bytes ∙ ap (λ (l : List ℕ). l ++ drop 32 bytes) size_field in
-    let from_20 : drop 20 bytes ≡ to_le_bytes w64 base ++ drop 28 bytes = part 20 8 bytes ∙ ap (λ (l : List ℕ). l ++ drop 28 bytes) base_field in
-    let from_12 : drop 12 bytes ≡ to_le_bytes w64 generation ++ drop 20 bytes = part 12 8 bytes ∙ ap (λ (l : List ℕ). l ++ drop 20 bytes) generation_field in
+    sym (le_bytes_4 (take 4 (drop 28 bytes)) size (length-take-le 4 (drop 28 bytes) (omega (arith, length-drop 28 bytes, passed.long)))
+    (IsBytes-take 4 (drop 28 bytes) (IsBytes-drop 28 bytes fits)) refl) in
+    let from_28 : drop 28 bytes ≡ to_le_bytes w32 size ++ drop 32 bytes = part 28 4 bytes
+    ∙ ap (λ (l : List ℕ). l ++ drop 32 bytes) size_field in
+    let from_20 : drop 20 bytes ≡ to_le_bytes w64 base ++ drop 28 bytes = part 20 8 bytes
+    ∙ ap (λ (l : List ℕ). l ++ drop 28 bytes) base_field in
+    let from_12 : drop 12 bytes ≡ to_le_bytes w64 generation ++ drop 20 bytes = part 12 8 bytes
+    ∙ ap (λ (l : List ℕ). l ++ drop 20 bytes) generation_field in
     let from_8 : drop 8 bytes ≡ to_le_bytes w32 1 ++ drop 12 bytes = part 8 4 bytes ∙ ap (λ (l : List ℕ). l ++ drop 12 bytes) layout in
-    first ∙ ap (λ (l : List ℕ). open_gate ∷ l) (named ∙ ap (λ (l : List ℕ). name ++ l) (from_8 ∙ ap (λ (l : List ℕ). to_le_bytes w32 1 ++ l) (from_12 ∙ ap (λ (l : List ℕ). to_le_bytes w64 generation ++ l) (from_20 ∙ ap (λ (l : List ℕ). to_le_bytes w64 base ++ l) from_28))))
+    first ∙ ap (λ (l : List ℕ). open_gate ∷ l) (named ∙ ap (λ (l : List ℕ). name ++ l) (from_8
+    ∙ ap (λ (l : List ℕ). to_le_bytes w32 1 ++ l) (from_12 ∙ ap (λ (l : List ℕ). to_le_bytes w64 generation ++ l) (from_20
+    ∙ ap (λ (l : List ℕ). to_le_bytes w64 base ++ l) from_28))))
 
 pub open_at-front : (bytes : List ℕ) (generation : ℕ) → IsBytes bytes → front bytes ≡ Open generation → IsOpenAt bytes generation
 open_at-front bytes generation fits is =
     let tests = passed bytes generation is in
     record {
+      layout = present_layout;
       base = number_at w64 20 bytes;
       size = number_at w32 28 bytes;
       rest = drop 32 bytes;
+      known = refl;
       generation_fits = subst (λ (n : ℕ). n < 2 ^ 64) tests.numbered (head_number_8 12 bytes fits);
       base_fits = head_number_8 20 bytes fits;
       size_fits = head_number_4 28 bytes fits;
@@ -168,14 +210,17 @@ shut-front bytes is = elim (chosen_when (not (is_open bytes)) _ _ _ is) [
 
 -- ---- the first 32 bytes tell it
 
-front_by : (a b : List ℕ) → is_open a ≡ is_open b → slice_range a 1 8 ≡ slice_range b 1 8 → number_at w32 8 a ≡ number_at w32 8 b → number_at w64 12 a ≡ number_at w64 12 b → front a ≡ front b
+front_by : (a b : List ℕ) → is_open a ≡ is_open b → slice_range a 1 8 ≡ slice_range b 1 8 → number_at w32 8 a ≡ number_at w32 8 b
+    → number_at w64 12 a ≡ number_at w64 12 b → front a ≡ front b
 unfolding front
 front_by a b opened named layout numbered = rw (opened, named, layout, numbered) refl
 
 -- a part of the first 32 bytes
-taken_part : (bytes : List ℕ) (at count rest : ℕ) → at + (count + rest) ≡ 32 → take count (drop at (take 32 bytes)) ≡ take count (drop at bytes)
+taken_part : (bytes : List ℕ) (at count rest : ℕ) → at + (count + rest) ≡ 32
+    → take count (drop at (take 32 bytes)) ≡ take count (drop at bytes)
 taken_part bytes at count rest fits =
-    ap (λ (n : ℕ). take count (drop at (take n bytes))) (sym fits) ∙ ap (λ (l : List ℕ). take count l) (drop-take at (count + rest) bytes) ∙ take-take count (count + rest) (drop at bytes) (omega arith)
+    ap (λ (n : ℕ). take count (drop at (take n bytes))) (sym fits) ∙ ap (λ (l : List ℕ). take count l) (drop-take at
+    (count + rest) bytes) ∙ take-take count (count + rest) (drop at bytes) (omega arith)
 
 pub front-take : (bytes : List ℕ) → 32 ≤ length bytes → front (take 32 bytes) ≡ front bytes
 front-take bytes long =
@@ -183,4 +228,5 @@ front-take bytes long =
     let here : ltb (length (take 32 bytes)) 32 ≡ false = le-ltb (length (take 32 bytes)) 32 (omega (arith, length-take 32 bytes)) in
     let there : ltb (length bytes) 32 ≡ false = le-ltb (length bytes) 32 long in
     let opened : is_open (take 32 bytes) ≡ is_open bytes = rw (here, there, gate) refl in
-    front_by (take 32 bytes) bytes opened (taken_part bytes 1 7 24 refl) (ap (λ (l : List ℕ). from_le_bytes w32 l) (taken_part bytes 8 4 20 refl)) (ap (λ (l : List ℕ). from_le_bytes w64 l) (taken_part bytes 12 8 12 refl))
+    front_by (take 32 bytes) bytes opened (taken_part bytes 1 7 24 refl) (ap (λ (l : List ℕ). from_le_bytes w32 l)
+    (taken_part bytes 8 4 20 refl)) (ap (λ (l : List ℕ). from_le_bytes w64 l) (taken_part bytes 12 8 12 refl))

@@ -12,25 +12,32 @@ use Rattle.disk_model.specs.Images.{window, settled, IsImage}
 use Rattle.disk_model.specs.Moments.{AllSince}
 use Rattle.disk_model.proofs.MomentLaws.{now_only}
 use Rattle.disk_model.proofs.WindowLaws.{settled_only}
-use Rattle.play_journal.specs.Content.{Content, fresh, with_record, IsBeforeOrAfter}
-use Rattle.play_journal.specs.File.{File, content_of, open_gate, longest_body, head, gated, spelling, Fits, IsFile}
-use Rattle.play_journal.specs.JournalState.{content_in, IsInUse, IsKept}
+use Rattle.play_journal.specs.Content.{Content, present_layout, fresh, with_record, IsBeforeOrAfter}
+use Rattle.play_journal.specs.File.{open_gate, longest_body, head, gated, spelling, Fits, IsFile}
+use Rattle.play_journal.specs.JournalState.{no_content, content_in, IsInUse, IsKept}
 use Rattle.play_journal.specs.Opening.{IsAppending}
-use Rattle.play_journal.specs.Pair.{found, AllPairsNow, AllPairsSince}
+use Rattle.play_journal.specs.Pair.{found, IsBelow, AllPairsNow, AllPairsSince}
 use Rattle.play_journal.proofs.FileLaws.{length-spelling, read-file}
 use Rattle.play_journal.proofs.PairLaws.{found_first, found_second}
 
 -- the same file with one record more
-abbrev pub longer : File → List ℕ → File
+abbrev pub longer : Content → List ℕ → Content
 longer file body = record file { records = file.records ++ body ∷ [] }
 
-pub content-file : (bytes : List ℕ) (file : File) → IsFile bytes file → content_in bytes ≡ content_of file
-content-file bytes file is = ap (λ r. unwrap_or (result_ok r) (record { base = 0; snapshot = []; records = [] })) (read-file bytes file is)
+pub content-file : (bytes : List ℕ) (file : Content) → IsFile bytes file → content_in bytes ≡ file
+content-file bytes file is = ap (λ r. unwrap_or (result_ok r) no_content) (read-file bytes file is)
 
-module _ (here there : List ℕ) (end base count : ℕ) (used : IsInUse here there end base count) where
+module _ (here there : List ℕ) (end generation base count : ℕ) (used : IsInUse here there end generation base count) where
   -- nothing stands behind the closing gate
   pub none_free : used.is_file.free ≡ []
-  none_free = nil_from_length used.is_file.free (omega (arith, ap (λ (l : List ℕ). length l) used.is_file.spelled, length-append (spelling used.file) (used.is_file.gate ∷ used.is_file.free), used.ends, used.gate))
+  none_free = nil_from_length used.is_file.free (omega (
+    arith,
+    ap (λ (l : List ℕ). length l) used.is_file.spelled,
+    length-append
+        (spelling used.file) (used.is_file.gate ∷ used.is_file.free),
+    used.ends,
+    used.gate,
+  ))
 
   pub parts : here ≡ spelling used.file ++ used.is_file.gate ∷ []
   parts = used.is_file.spelled ∙ ap (λ (l : List ℕ). spelling used.file ++ used.is_file.gate ∷ l) none_free
@@ -42,22 +49,28 @@ module _ (here there : List ℕ) (end base count : ℕ) (used : IsInUse here the
   gate_is = ap (λ (l : List ℕ). slice_index l end) parts ∙ get_or_at (spelling used.file) used.is_file.gate [] 0 end used.gate
 
   -- bytes behind the closed gate, or behind one that isn't open
-  pub still_file : (x : List ℕ) (gate : ℕ) (rest : List ℕ) → (gate ≡ open_gate → ⊥) → x ≡ spelling used.file ++ gate ∷ rest → IsFile x used.file
+  pub still_file : (x : List ℕ) (gate : ℕ) (rest : List ℕ) → (gate ≡ open_gate → ⊥) → x ≡ spelling used.file ++ gate ∷ rest
+      → IsFile x used.file
   still_file x gate rest closed is = record { fits = used.is_file.fits; gate = gate; free = rest; closed = closed; spelled = is }
 
-  module _ (body added : List ℕ) (is_added : added ≡ to_le_bytes w32 (length body) ++ body ++ 0 ∷ []) (short : length body ≤ longest_body) (number : base + count + 1 < 2 ^ 64) where
+  module _ (body added : List ℕ) (is_added : added ≡ to_le_bytes w32 (length body) ++ body
+      ++ 0 ∷ []) (short : length body ≤ longest_body) (number : base + count + 1 < 2 ^ 64) where
     longer_fits : Fits (longer used.file body)
     longer_fits = record {
+      layout = used.is_file.fits.layout;
       generation = used.is_file.fits.generation;
       numbers = omega (arith, length-append used.file.records (body ∷ []), used.before, used.counted);
       snapshot = used.is_file.fits.snapshot;
-      records = All-append (λ (b : List ℕ). length b ≤ longest_body) used.file.records (body ∷ []) used.is_file.fits.records (All-cons (λ (b : List ℕ). length b ≤ longest_body) body [] short (All-nil (λ (b : List ℕ). length b ≤ longest_body)));
+      records = All-append (λ (b : List ℕ). length b ≤ longest_body) used.file.records (body ∷ []) used.is_file.fits.records (All-cons
+          (λ (b : List ℕ). length b ≤ longest_body) body [] short (All-nil (λ (b : List ℕ). length b ≤ longest_body)));
     }
 
     longer_spelling : spelling (longer used.file body) ≡ spelling used.file ++ gated body
     longer_spelling =
-        let start : List ℕ = open_gate ∷ head used.file.generation used.file.base (length used.file.snapshot) ++ used.file.snapshot in
-        ap (λ (l : List ℕ). start ++ l) (flat_map-append gated used.file.records (body ∷ []) ∙ ap (λ (l : List ℕ). flat_map gated used.file.records ++ l) (append-nil (gated body)))
+        let start : List ℕ = open_gate ∷ head used.file.layout used.file.generation used.file.base (length used.file.snapshot)
+        ++ used.file.snapshot in
+        ap (λ (l : List ℕ). start ++ l) (flat_map-append gated used.file.records (body ∷ [])
+        ∙ ap (λ (l : List ℕ). flat_map gated used.file.records ++ l) (append-nil (gated body)))
         ∙ sym (append_assoc start (flat_map gated used.file.records) (gated body))
 
     pub longer_file : (x : List ℕ) → x ≡ spelling used.file ++ open_gate ∷ added → IsFile x (longer used.file body)
@@ -66,12 +79,16 @@ module _ (here there : List ℕ) (end base count : ℕ) (used : IsInUse here the
       gate = 0;
       free = [];
       closed = λ same. omega arith;
-      spelled = is ∙ ap (λ (l : List ℕ). spelling used.file ++ open_gate ∷ l) is_added ∙ sym (append_assoc (spelling used.file) (gated body) (0 ∷ [])) ∙ ap (λ (l : List ℕ). l ++ 0 ∷ []) (sym longer_spelling);
+      spelled = is ∙ ap (λ (l : List ℕ). spelling used.file ++ open_gate ∷ l) is_added
+          ∙ sym (append_assoc (spelling used.file) (gated body) (0 ∷ [])) ∙ ap (λ (l : List ℕ). l ++ 0 ∷ []) (sym longer_spelling);
     }
 
     -- each image is the file from before, or with the record
-    pub either : (x : List ℕ) → IsAppending (take end here) (slice_index here end) added x → IsFile x used.file ⊎ IsFile x (longer used.file body)
-    either x (inl behind) = inl (still_file x used.is_file.gate behind.0 used.is_file.closed (behind.1 ∙ ap (λ (l : List ℕ). l ++ slice_index here end ∷ behind.0) front_is ∙ ap (λ (n : ℕ). spelling used.file ++ n ∷ behind.0) gate_is))
+    pub either : (x : List ℕ) → IsAppending (take end here) (slice_index here end) added x
+        → IsFile x used.file ⊎ IsFile x (longer used.file body)
+    either x (inl behind) = inl (still_file x used.is_file.gate behind.0 used.is_file.closed (behind.1
+        ∙ ap (λ (l : List ℕ). l ++ slice_index here end ∷ behind.0) front_is
+        ∙ ap (λ (n : ℕ). spelling used.file ++ n ∷ behind.0) gate_is))
     either x (inr before) =
         let spelled : x ≡ spelling used.file ++ before.0 ∷ added = before.1 ∙ ap (λ (l : List ℕ). l ++ before.0 ∷ added) front_is in
         elim (cases_eq before.0 open_gate) [
@@ -79,19 +96,29 @@ module _ (here there : List ℕ) (end base count : ℕ) (used : IsInUse here the
           | inr closed ↦ inl (still_file x before.0 added closed spelled)
         ]
 
-    pub before_content : content_of used.file ≡ content_in here
+    pub before_content : used.file ≡ content_in here
     before_content = sym (content-file here used.file used.is_file)
 
     -- the file in use after the last sync
-    pub longer_in_use : (x : List ℕ) → x ≡ take end here ++ open_gate ∷ added → IsInUse x there (end + 5 + length body) base (count + 1)
+    pub longer_in_use : (x : List ℕ) → x ≡ take end here ++ open_gate ∷ added
+        → IsInUse x there (end + 5 + length body) generation base (count + 1)
     longer_in_use x is =
         let spelled : x ≡ spelling used.file ++ open_gate ∷ added = is ∙ ap (λ (l : List ℕ). l ++ open_gate ∷ added) front_is in
-        let size : length added ≡ 4 + length body + 1 = ap (λ (l : List ℕ). length l) is_added ∙ omega (arith, length-append body (0 ∷ [])) in
+        let size : length added ≡ 4 + length body + 1 = ap (λ (l : List ℕ). length l) is_added
+        ∙ omega (arith, length-append body (0 ∷ [])) in
         record {
           file = longer used.file body;
           is_file = longer_file x spelled;
-          ends = omega (arith, ap (λ (l : List ℕ). length l) spelled, length-append (spelling used.file) (open_gate ∷ added), size, used.gate);
+          ends = omega (
+            arith,
+            ap (λ (l : List ℕ). length l) spelled,
+            length-append (spelling used.file)
+                (open_gate ∷ added),
+            size,
+            used.gate,
+          );
           gate = omega (arith, ap (λ (l : List ℕ). length l) longer_spelling, length-append (spelling used.file) (gated body), used.gate);
+          numbered = used.numbered;
           before = used.before;
           counted = omega (arith, length-append used.file.records (body ∷ []), used.counted);
           other = used.other;
@@ -102,21 +129,27 @@ module _ (here there : List ℕ) (end base count : ℕ) (used : IsInUse here the
         let spelled : x ≡ spelling used.file ++ open_gate ∷ added = is ∙ ap (λ (l : List ℕ). l ++ open_gate ∷ added) front_is in
         content-file x (longer used.file body) (longer_file x spelled) ∙ ap (λ (c : Content). with_record c body) before_content
 
-    first_found : (x : List ℕ) → IsFile x used.file ⊎ IsFile x (longer used.file body) → IsBeforeOrAfter (content_in here) body (found x there)
+    first_found : (x : List ℕ) → IsFile x used.file ⊎ IsFile x (longer used.file body)
+        → IsBeforeOrAfter (content_in here) body (found x there)
     first_found x (inl before) = inl (found_first x there used.file before used.other ∙ ap Some before_content)
-    first_found x (inr after) = inr (found_first x there (longer used.file body) after used.other ∙ ap (λ (c : Content). Some (with_record c body)) before_content)
+    first_found x (inr after) = inr (found_first x there (longer used.file body) after used.other
+        ∙ ap (λ (c : Content). Some (with_record c body)) before_content)
 
-    second_found : (x : List ℕ) → IsFile x used.file ⊎ IsFile x (longer used.file body) → IsBeforeOrAfter (content_in here) body (found there x)
+    second_found : (x : List ℕ) → IsFile x used.file ⊎ IsFile x (longer used.file body)
+        → IsBeforeOrAfter (content_in here) body (found there x)
     second_found x (inl before) = inl (found_second x there used.file before used.other ∙ ap Some before_content)
-    second_found x (inr after) = inr (found_second x there (longer used.file body) after used.other ∙ ap (λ (c : Content). Some (with_record c body)) before_content)
+    second_found x (inr after) = inr (found_second x there (longer used.file body) after used.other
+        ∙ ap (λ (c : Content). Some (with_record c body)) before_content)
 
-    pub first_since : (h h' o : List Change) → window o ≡ settled there → AllSince (IsAppending (take end here) (slice_index here end) added) h' (length h)
+    pub first_since : (h h' o : List Change) → window o ≡ settled there
+        → AllSince (IsAppending (take end here) (slice_index here end) added) h' (length h)
         → AllPairsSince (IsBeforeOrAfter (content_in here) body) h' (length h) o (length o)
     first_since h h' o is_settled since x y left right =
         let y_is : y ≡ there = settled_only there y (subst (λ w. IsImage w y) is_settled (now_only o y right)) in
         subst (λ (l : List ℕ). IsBeforeOrAfter (content_in here) body (found x l)) (sym y_is) (first_found x (either x (since x left)))
 
-    pub second_since : (h h' o : List Change) → window o ≡ settled there → AllSince (IsAppending (take end here) (slice_index here end) added) h' (length h)
+    pub second_since : (h h' o : List Change) → window o ≡ settled there
+        → AllSince (IsAppending (take end here) (slice_index here end) added) h' (length h)
         → AllPairsSince (IsBeforeOrAfter (content_in here) body) o (length o) h' (length h)
     second_since h h' o is_settled since x y left right =
         let x_is : x ≡ there = settled_only there x (subst (λ w. IsImage w x) is_settled (now_only o x left)) in
@@ -129,51 +162,85 @@ module _ (here there : List ℕ) (end base count : ℕ) (used : IsInUse here the
   now_second : found there here ≡ Some (content_in here)
   now_second = found_second here there used.file used.is_file used.other ∙ ap Some (sym (content-file here used.file used.is_file))
 
-  pub all_first : (h o : List Change) → window h ≡ settled here → window o ≡ settled there → AllPairsNow (λ f. f ≡ Some (content_in here)) h o
+  pub all_first : (h o : List Change) → window h ≡ settled here → window o ≡ settled there
+      → AllPairsNow (λ f. f ≡ Some (content_in here)) h o
   all_first h o here_settled there_settled x y left right =
       let x_is : x ≡ here = settled_only here x (subst (λ w. IsImage w x) here_settled left) in
       let y_is : y ≡ there = settled_only there y (subst (λ w. IsImage w y) there_settled right) in
       ap (λ (l : List ℕ). found l y) x_is ∙ ap (λ (l : List ℕ). found here l) y_is ∙ now_first
 
-  pub all_second : (h o : List Change) → window h ≡ settled here → window o ≡ settled there → AllPairsNow (λ f. f ≡ Some (content_in here)) o h
+  pub all_second : (h o : List Change) → window h ≡ settled here → window o ≡ settled there
+      → AllPairsNow (λ f. f ≡ Some (content_in here)) o h
   all_second h o here_settled there_settled x y left right =
       let x_is : x ≡ there = settled_only there x (subst (λ w. IsImage w x) there_settled left) in
       let y_is : y ≡ here = settled_only here y (subst (λ w. IsImage w y) here_settled right) in
       ap (λ (l : List ℕ). found l y) x_is ∙ ap (λ (l : List ℕ). found there l) y_is ∙ now_second
 
--- a new file
-pub fresh_in_use : (here snapshot : List ℕ) (end : ℕ) → here ≡ open_gate ∷ head 1 0 (length snapshot) ++ snapshot ++ 0 ∷ [] → end ≡ 32 + length snapshot → length snapshot < 2 ^ 32 → IsInUse here [] end 0 0 × (content_in here ≡ fresh snapshot)
-fresh_in_use here snapshot end is is_end short =
-    let file : File = record { generation = 1; base = 0; snapshot = snapshot; records = [] } in
-    let long : length (spelling file) ≡ end = length-spelling file ∙ omega arith in
-    let spelled : here ≡ spelling file ++ 0 ∷ [] = is ∙ ap (λ (l : List ℕ). l ++ 0 ∷ []) (sym (append-nil (open_gate ∷ head 1 0 (length snapshot) ++ snapshot))) in
-    let is_file : IsFile here file = record {
-      fits = record { generation = lit< tt; numbers = lit< tt; snapshot = short; records = All-nil (λ (b : List ℕ). length b ≤ longest_body) };
-      gate = 0;
-      free = [];
-      closed = λ same. omega arith;
-      spelled = spelled;
-    } in (
-      record {
-        file = file;
-        is_file = is_file;
-        ends = omega (arith, ap (λ (l : List ℕ). length l) spelled, length-append (spelling file) (0 ∷ []), long);
-        gate = long;
-        before = refl;
-        counted = refl;
-        other = inl (inl (lit< tt));
-      },
-      content-file here file is_file,
-    )
+-- a new file without records
+pub laid_file : (here snapshot : List ℕ) (generation base : ℕ) → here ≡ open_gate ∷ head present_layout generation base
+    (length snapshot) ++ snapshot ++ 0 ∷ [] → generation < 2 ^ 64 → base < 2 ^ 64 → length snapshot < 2 ^ 32
+    → IsFile here (record { layout = present_layout; generation = generation; base = base; snapshot = snapshot; records = [] })
+laid_file here snapshot generation base is generation_fits base_fits short = record {
+  fits = record {
+    layout = refl;
+    generation = generation_fits;
+    numbers = omega arith;
+    snapshot = short;
+    records = All-nil (λ (b : List ℕ). length b ≤ longest_body);
+  };
+  gate = 0;
+  free = [];
+  closed = λ same. omega arith;
+  spelled = is ∙ ap (λ (l : List ℕ). l ++ 0 ∷ []) (sym (append-nil (open_gate ∷ head present_layout generation base (length snapshot)
+      ++ snapshot)));
+}
 
-pub fresh_kept : (here there was snapshot : List ℕ) (h o : List Change) (end : ℕ) → here ≡ open_gate ∷ head 1 0 (length snapshot) ++ snapshot ++ 0 ∷ [] → was ≡ [] → there ≡ was → end ≡ 32 + length snapshot → length snapshot < 2 ^ 32
-    → window h ≡ settled here → window o ≡ settled was → IsKept here there h o end 0 0
-fresh_kept here there was snapshot h o end is empty same is_end short here_settled there_settled = record {
+-- it is in use beside a file that doesn't count
+pub laid_in_use : (here there snapshot : List ℕ) (end generation base : ℕ)
+    → here ≡ open_gate ∷ head present_layout generation base (length snapshot) ++ snapshot ++ 0 ∷ [] → end ≡ 32 + length snapshot
+    → generation < 2 ^ 64 → base < 2 ^ 64 → length snapshot < 2 ^ 32 → IsBelow generation there → IsInUse here there end generation base 0
+laid_in_use here there snapshot end generation base is is_end generation_fits base_fits short below =
+    let file : Content = record { layout = present_layout; generation = generation; base = base; snapshot = snapshot; records = [] } in
+    let is_file = laid_file here snapshot generation base is generation_fits base_fits short in
+    let long : length (spelling file) ≡ end = length-spelling file ∙ omega arith in
+    let spelled : here ≡ spelling file ++ 0 ∷ [] = is ∙ ap (λ (l : List ℕ). l
+    ++ 0 ∷ []) (sym (append-nil (open_gate ∷ head present_layout generation base (length snapshot) ++ snapshot))) in
+    record {
+      file = file;
+      is_file = is_file;
+      ends = omega (arith, ap (λ (l : List ℕ). length l) spelled, length-append (spelling file) (0 ∷ []), long);
+      gate = long;
+      numbered = refl;
+      before = refl;
+      counted = refl;
+      other = below;
+    }
+
+pub laid_content : (here snapshot : List ℕ) (generation base : ℕ) → here ≡ open_gate ∷ head present_layout generation base
+    (length snapshot) ++ snapshot ++ 0 ∷ [] → generation < 2 ^ 64 → base < 2 ^ 64 → length snapshot < 2 ^ 32
+    → content_in here ≡ record { layout = present_layout; generation = generation; base = base; snapshot = snapshot; records = [] }
+laid_content here snapshot generation base is generation_fits base_fits short =
+    content-file here (record {
+      layout = present_layout;
+      generation = generation;
+      base = base;
+      snapshot = snapshot;
+      records = [];
+    }) (laid_file here snapshot generation base is generation_fits base_fits short)
+
+-- a journal that was just made
+pub fresh_kept : (here there snapshot : List ℕ) (h o : List Change) (end : ℕ)
+    → here ≡ open_gate ∷ head present_layout 1 0 (length snapshot) ++ snapshot ++ 0 ∷ [] → there ≡ [] → end ≡ 32 + length snapshot
+    → length snapshot < 2 ^ 32
+    → window h ≡ settled here → window o ≡ settled there → IsKept here there h o end 1 0 0
+fresh_kept here there snapshot h o end is empty is_end short here_settled there_settled = record {
   here_settled = here_settled;
-  there_settled = there_settled ∙ ap settled (sym same);
-  in_use = subst (λ (l : List ℕ). IsInUse here l end 0 0) (sym (same ∙ empty)) (fresh_in_use here snapshot end is is_end short).0;
+  there_settled = there_settled;
+  in_use = laid_in_use here there snapshot end 1 0 is is_end (lit< tt) (lit< tt) short (inl (inl (subst (λ (l : List ℕ). length l < 32)
+      (sym empty) (lit< tt))));
 }
 
 -- the front of a buffer that a record was put into
-pub buffer_front : (new rest : List ℕ) (count room : ℕ) → count ≤ room → count ≤ length new → take count (take room (new ++ rest)) ≡ take count new
+pub buffer_front : (new rest : List ℕ) (count room : ℕ) → count ≤ room → count ≤ length new
+    → take count (take room (new ++ rest)) ≡ take count new
 buffer_front new rest count room fits long = take-take count room (new ++ rest) fits ∙ take-append-le count new rest long

@@ -1,10 +1,12 @@
 pub mod AppendLaws
+pub mod CheckpointLaws
 pub mod ChosenLaws
 pub mod CutLaws
 pub mod FileLaws
 pub mod GateLaws
 pub mod HeadLaws
 pub mod InUseLaws
+pub mod LayLaws
 pub mod LoopLaws
 pub mod OpenLaws
 pub mod PairLaws

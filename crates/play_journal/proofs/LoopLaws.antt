@@ -15,22 +15,28 @@ pub with_front-nil : (read : Result (List (List ℕ)) ℕ) → with_front [] rea
 with_front-nil (Ok bodies) = refl
 with_front-nil (Err offset) = refl
 
-with_front-first : (front : List (List ℕ)) (body : List ℕ) (read : Result (List (List ℕ)) ℕ) → with_front front (with_first body read) ≡ with_front (front ++ body ∷ []) read
+with_front-first : (front : List (List ℕ)) (body : List ℕ) (read : Result (List (List ℕ)) ℕ)
+    → with_front front (with_first body read) ≡ with_front (front ++ body ∷ []) read
 with_front-first front body (Ok bodies) = ap Ok (sym (append_assoc front (body ∷ []) bodies))
 with_front-first front body (Err offset) = refl
 
 -- a record was read
-pub goes_on : (front : List (List ℕ)) (body : List ℕ) (read rest total : Result (List (List ℕ)) ℕ) → read ≡ with_first body rest → with_front front read ≡ total → with_front (front ++ body ∷ []) rest ≡ total
+pub goes_on : (front : List (List ℕ)) (body : List ℕ) (read rest total : Result (List (List ℕ)) ℕ) → read ≡ with_first body rest
+    → with_front front read ≡ total → with_front (front ++ body ∷ []) rest ≡ total
 goes_on front body read rest total is so_far = sym (with_front-first front body rest) ∙ ap (λ r. with_front front r) (sym is) ∙ so_far
 
 -- the closing gate was read
-pub is_done : (front : List (List ℕ)) (read total : Result (List (List ℕ)) ℕ) → read ≡ Ok [] → with_front front read ≡ total → total ≡ Ok front
+pub is_done : (front : List (List ℕ)) (read total : Result (List (List ℕ)) ℕ) → read ≡ Ok [] → with_front front read ≡ total
+    → total ≡ Ok front
 is_done front read total is so_far = sym so_far ∙ ap (λ r. with_front front r) is ∙ ap Ok (append-nil front)
 
 -- a fault was met
-pub fails : (front : List (List ℕ)) (read total : Result (List (List ℕ)) ℕ) (offset : ℕ) → read ≡ Err offset → with_front front read ≡ total → total ≡ Err offset
+pub fails : (front : List (List ℕ)) (read total : Result (List (List ℕ)) ℕ) (offset : ℕ) → read ≡ Err offset
+    → with_front front read ≡ total → total ≡ Err offset
 fails front read total offset is so_far = sym so_far ∙ ap (λ r. with_front front r) is
 
-pub length-gated : (front : List (List ℕ)) (body : List ℕ) → length (flat_map gated (front ++ body ∷ [])) ≡ length (flat_map gated front) + 5 + length body
+pub length-gated : (front : List (List ℕ)) (body : List ℕ) → length (flat_map gated (front
+    ++ body ∷ [])) ≡ length (flat_map gated front) + 5 + length body
 length-gated front body =
-    ap (λ (l : List ℕ). length l) (flat_map-append gated front (body ∷ [])) ∙ omega (arith, length-append (flat_map gated front) (gated body ++ []), length-append body [])
+    ap (λ (l : List ℕ). length l) (flat_map-append gated front (body ∷ []))
+    ∙ omega (arith, length-append (flat_map gated front) (gated body ++ []), length-append body [])

@@ -12,9 +12,9 @@ use Rattle.disk_model.proofs.WindowLaws.{settled_all}
 use Rattle.play_journal.specs.declared.error.JournalError.{JournalError}
 use Rattle.play_journal.specs.declared.error.JournalError.TheVariants.{NotEmpty, NoJournal, Damaged, DiskFault, NoMemory, TooLong, NumbersSpent}
 use Rattle.play_journal.specs.Content.{Content}
-use Rattle.play_journal.specs.File.{File, content_of, IsFile}
+use Rattle.play_journal.specs.File.{IsFile}
 use Rattle.play_journal.specs.Opening.{ReadsSame, KeepsFile, IsCause}
-use Rattle.play_journal.specs.Pair.{told, chosen, reading, found, IsBelow, IsPair, Says, KeepsFound}
+use Rattle.play_journal.specs.Pair.{told, chosen, reading, found, IsBelow, IsPair, KeepsFound}
 use Rattle.play_journal.specs.Reading.{Front, Closed, Bad, Open, front, read}
 use Rattle.play_journal.proofs.FileLaws.{front-file, read-file, read-inverse}
 use Rattle.play_journal.proofs.HeadLaws.{front-shut, front-open_at, shut-front, open_at-front}
@@ -25,25 +25,31 @@ use Rattle.play_journal.proofs.RecordLaws.{IsBytes}
 pub found_same : (x y v w : List ℕ) → ReadsSame x v → ReadsSame y w → found x y ≡ found v w
 unfolding found
 found_same x y v w first second =
-    ap (λ f. result_ok (chosen f (front y) (read x) (read y))) first.front ∙ ap (λ f. result_ok (chosen (front v) f (read x) (read y))) second.front
-    ∙ ap (λ r. result_ok (chosen (front v) (front w) r (read y))) first.read ∙ ap (λ r. result_ok (chosen (front v) (front w) (read v) r)) second.read
+    ap (λ f. result_ok (chosen f (front y) (read x) (read y))) first.front
+    ∙ ap (λ f. result_ok (chosen (front v) f (read x) (read y))) second.front
+    ∙ ap (λ r. result_ok (chosen (front v) (front w) r (read y))) first.read
+    ∙ ap (λ r. result_ok (chosen (front v) (front w) (read v) r)) second.read
 
 -- the fronts of files that don't count beside an open one
-pub below_front : (generation : ℕ) (bytes : List ℕ) → IsBelow generation bytes → (front bytes ≡ Closed) ⊎ ((lower : ℕ) × (lower < generation) × (front bytes ≡ Open lower))
+pub below_front : (generation : ℕ) (bytes : List ℕ) → IsBelow generation bytes
+    → (front bytes ≡ Closed) ⊎ ((lower : ℕ) × (lower < generation) × (front bytes ≡ Open lower))
 below_front generation bytes (inl shut) = inl (front-shut bytes shut)
 below_front generation bytes (inr opened) = inr (opened.0, opened.1, front-open_at bytes opened.0 opened.2)
 
-pub front_below : (generation : ℕ) (bytes : List ℕ) → IsBytes bytes → (front bytes ≡ Closed) ⊎ ((lower : ℕ) × (lower < generation) × (front bytes ≡ Open lower)) → IsBelow generation bytes
+pub front_below : (generation : ℕ) (bytes : List ℕ) → IsBytes bytes → (front bytes ≡ Closed) ⊎ ((lower : ℕ) × (lower < generation)
+    × (front bytes ≡ Open lower)) → IsBelow generation bytes
 front_below generation bytes fits (inl shut) = inl (shut-front bytes shut)
 front_below generation bytes fits (inr opened) = inr (opened.0, opened.1, open_at-front bytes opened.0 fits opened.2)
 
-chosen_open_first : (generation lower : ℕ) (a b : Result Content ℕ) → lower < generation → chosen (Open generation) (Open lower) a b ≡ told a
+chosen_open_first : (generation lower : ℕ) (a b : Result Content ℕ) → lower < generation
+    → chosen (Open generation) (Open lower) a b ≡ told a
 chosen_open_first generation lower a b below =
     let differ : eqb generation lower ≡ false = ne_eqb generation lower (λ same. omega arith) in
     let less : ltb lower generation ≡ true = lt-ltb lower generation below in
     rw (differ, less) refl
 
-chosen_open_second : (generation lower : ℕ) (a b : Result Content ℕ) → lower < generation → chosen (Open lower) (Open generation) b a ≡ told a
+chosen_open_second : (generation lower : ℕ) (a b : Result Content ℕ) → lower < generation
+    → chosen (Open lower) (Open generation) b a ≡ told a
 chosen_open_second generation lower a b below =
     let differ : eqb lower generation ≡ false = ne_eqb lower generation (λ same. omega arith) in
     let less : ltb generation lower ≡ false = le-ltb generation lower (omega arith) in
@@ -53,44 +59,51 @@ chosen_open_second generation lower a b below =
 pub reading_first : (x y : List ℕ) (generation : ℕ) → front x ≡ Open generation → IsBelow generation y → reading x y ≡ told (read x)
 reading_first x y generation opened below = elim (below_front generation y below) [
   | inl shut ↦ ap (λ f. chosen f (front y) (read x) (read y)) opened ∙ ap (λ f. chosen (Open generation) f (read x) (read y)) shut
-  | inr lower ↦ ap (λ f. chosen f (front y) (read x) (read y)) opened ∙ ap (λ f. chosen (Open generation) f (read x) (read y)) lower.2 ∙ chosen_open_first generation lower.0 (read x) (read y) lower.1
+  | inr lower ↦ ap (λ f. chosen f (front y) (read x) (read y)) opened ∙ ap (λ f. chosen (Open generation) f (read x) (read y)) lower.2
+      ∙ chosen_open_first generation lower.0 (read x) (read y) lower.1
 ]
 
 -- the second is
 pub reading_second : (x y : List ℕ) (generation : ℕ) → front x ≡ Open generation → IsBelow generation y → reading y x ≡ told (read x)
 reading_second x y generation opened below = elim (below_front generation y below) [
   | inl shut ↦ ap (λ f. chosen (front y) f (read y) (read x)) opened ∙ ap (λ f. chosen f (Open generation) (read y) (read x)) shut
-  | inr lower ↦ ap (λ f. chosen (front y) f (read y) (read x)) opened ∙ ap (λ f. chosen f (Open generation) (read y) (read x)) lower.2 ∙ chosen_open_second generation lower.0 (read x) (read y) lower.1
+  | inr lower ↦ ap (λ f. chosen (front y) f (read y) (read x)) opened ∙ ap (λ f. chosen f (Open generation) (read y) (read x)) lower.2
+      ∙ chosen_open_second generation lower.0 (read x) (read y) lower.1
 ]
 
-pub found_first : (x y : List ℕ) (file : File) → IsFile x file → IsBelow file.generation y → found x y ≡ Some (content_of file)
+pub found_first : (x y : List ℕ) (file : Content) → IsFile x file → IsBelow file.generation y → found x y ≡ Some file
 unfolding found
 found_first x y file is below =
     ap result_ok (reading_first x y file.generation (front-file x file is) below ∙ ap told (read-file x file is))
 
-pub found_second : (x y : List ℕ) (file : File) → IsFile x file → IsBelow file.generation y → found y x ≡ Some (content_of file)
+pub found_second : (x y : List ℕ) (file : Content) → IsFile x file → IsBelow file.generation y → found y x ≡ Some file
 unfolding found
 found_second x y file is below =
     ap result_ok (reading_second x y file.generation (front-file x file is) below ∙ ap told (read-file x file is))
 
 -- ---- what each image reads as
 
-pub keeps_pairs : (old_a old_b new_a new_b : List Change) → KeepsFile old_a new_a → KeepsFile old_b new_b → KeepsFound old_a old_b new_a new_b
+pub keeps_pairs : (old_a old_b new_a new_b : List Change) → KeepsFile old_a new_a → KeepsFile old_b new_b
+    → KeepsFound old_a old_b new_a new_b
 keeps_pairs old_a old_b new_a new_b first second x y left right =
     let v = first x left in
     let w = second y right in
     (v.0, w.0, v.1, w.1, found_same x y v.0 w.0 v.2 w.2)
 
 -- the file was synced, or wasn't
-pub keeps_synced : (old new : List Change) (content : List ℕ) → IsImage (window old) content → IsSameOrAdds (Synced content) old new → KeepsFile old new
+pub keeps_synced : (old new : List Change) (content : List ℕ) → IsImage (window old) content → IsSameOrAdds (Synced content) old new
+    → KeepsFile old new
 keeps_synced old new content image step =
     let P : List ℕ → Type 0 = λ x. (v : List ℕ) × IsImage (window old) v × ReadsSame x v in
-    all_step_or P (Synced content) old new (length old) step (settled_all P (Synced content ∷ old) content refl (content, image, same_file content)) (all_begin P old (λ x left. (x, left, same_file x)))
+    all_step_or P (Synced content) old new (length old) step (settled_all P (Synced content ∷ old) content refl
+    (content, image, same_file content)) (all_begin P old (λ x left. (x, left, same_file x)))
 
 -- and then each image read as what was synced
-pub keeps_then : (old mid new : List Change) (content : List ℕ) → IsImage (window old) content → KeepsFile old mid → Continues mid new → AllSince (λ x. ReadsSame x content) new (length mid) → KeepsFile old new
+pub keeps_then : (old mid new : List Change) (content : List ℕ) → IsImage (window old) content → KeepsFile old mid → Continues mid new
+    → AllSince (λ x. ReadsSame x content) new (length mid) → KeepsFile old new
 keeps_then old mid new content image before run during =
-    all_join (λ x. (v : List ℕ) × IsImage (window old) v × ReadsSame x v) mid new (length old) run before (λ x left. (content, image, during x left))
+    all_join (λ x. (v : List ℕ) × IsImage (window old) v × ReadsSame x v) mid new (length old) run before (λ x left.
+    (content, image, during x left))
 
 -- ---- what is found, and what the files are
 
@@ -107,7 +120,8 @@ pub record Chosen (a b : Front) (ra rb : Result Content ℕ) (content : Content)
 not_told : (e : JournalError) (content : Content) → result_ok {E = JournalError} (Err e) ≡ Some content → ⊥
 not_told e content is = cc
 
-newest : (generation other : ℕ) (ra rb : Result Content ℕ) (content : Content) (same newer : Bool) → eqb generation other ≡ same → ltb other generation ≡ newer
+newest : (generation other : ℕ) (ra rb : Result Content ℕ) (content : Content) (same newer : Bool) → eqb generation other ≡ same
+    → ltb other generation ≡ newer
     → result_ok (chosen (Open generation) (Open other) ra rb) ≡ Some content → Chosen (Open generation) (Open other) ra rb content
 newest generation other ra rb content true newer same_is newer_is is =
     let none : result_ok {E = JournalError} (Err (Damaged 12)) ≡ Some content = rw same_is at is in
@@ -121,34 +135,41 @@ newest generation other ra rb content false false same_is newer_is is =
     let least = ltb-false other generation newer_is in
     record { generation = other; one = inr (refl, told_ok rb content second, inr (generation, omega arith, refl)) }
 
-pub chosen-inverse : (a b : Front) (ra rb : Result Content ℕ) (content : Content) → result_ok (chosen a b ra rb) ≡ Some content → Chosen a b ra rb content
+pub chosen-inverse : (a b : Front) (ra rb : Result Content ℕ) (content : Content) → result_ok (chosen a b ra rb) ≡ Some content
+    → Chosen a b ra rb content
 chosen-inverse (Bad offset) b ra rb content is = absurd (not_told (Damaged offset) content is)
 chosen-inverse Closed (Bad offset) ra rb content is = absurd (not_told (Damaged offset) content is)
 chosen-inverse (Open generation) (Bad offset) ra rb content is = absurd (not_told (Damaged offset) content is)
 chosen-inverse Closed Closed ra rb content is = absurd (not_told NoJournal content is)
-chosen-inverse (Open generation) Closed ra rb content is = record { generation = generation; one = inl (refl, told_ok ra content is, inl refl) }
-chosen-inverse Closed (Open generation) ra rb content is = record { generation = generation; one = inr (refl, told_ok rb content is, inl refl) }
-chosen-inverse (Open generation) (Open other) ra rb content is = newest generation other ra rb content (eqb generation other) (ltb other generation) refl refl is
+chosen-inverse (Open generation) Closed ra rb content is = record {
+  generation = generation;
+  one = inl (refl, told_ok ra content is, inl refl);
+}
+chosen-inverse Closed (Open generation) ra rb content is = record {
+  generation = generation;
+  one = inr (refl, told_ok rb content is, inl refl);
+}
+chosen-inverse (Open generation) (Open other) ra rb content is = newest generation other ra rb content (eqb generation other)
+    (ltb other generation) refl refl is
 
-pub says-found : (a b : List ℕ) (content : Content) → IsBytes a → IsBytes b → found a b ≡ Some content → Says a b content
+pub pair-found : (a b : List ℕ) (content : Content) → IsBytes a → IsBytes b → found a b ≡ Some content → IsPair a b content
 unfolding found
-says-found a b content first second is =
+pair-found a b content first second is =
     let one = chosen-inverse (front a) (front b) (read a) (read b) content is in
     elim one.one [
       | inl here ↦
           let own = read-inverse a one.generation content first here.0 here.1 in
-          record { file = own.file; pair = inl (own.is_file, subst (λ (n : ℕ). IsBelow n b) (sym own.generation_is) (front_below one.generation b second here.2)); says = own.says }
+          subst (λ (file : Content). IsPair a b file) own.says
+          (inl (own.is_file, subst (λ (n : ℕ). IsBelow n b) (sym own.generation_is) (front_below one.generation b second here.2)))
       | inr there ↦
           let own = read-inverse b one.generation content second there.0 there.1 in
-          record { file = own.file; pair = inr (own.is_file, subst (λ (n : ℕ). IsBelow n a) (sym own.generation_is) (front_below one.generation a first there.2)); says = own.says }
+          subst (λ (file : Content). IsPair a b file) own.says
+          (inr (own.is_file, subst (λ (n : ℕ). IsBelow n a) (sym own.generation_is) (front_below one.generation a first there.2)))
     ]
 
-says_pair : (a b : List ℕ) (file : File) → IsPair a b file → found a b ≡ Some (content_of file)
-says_pair a b file (inl first) = found_first a b file first.0 first.1
-says_pair a b file (inr second) = found_second b a file second.0 second.1
-
-pub found-says : (a b : List ℕ) (content : Content) → Says a b content → found a b ≡ Some content
-found-says a b content says = says_pair a b says.file says.pair ∙ ap Some says.says
+pub found-pair : (a b : List ℕ) (file : Content) → IsPair a b file → found a b ≡ Some file
+found-pair a b file (inl first) = found_first a b file first.0 first.1
+found-pair a b file (inr second) = found_second b a file second.0 second.1
 
 not_some : (e : JournalError) (r : Result Content JournalError) → r ≡ Err e → IsSome (result_ok r) → ⊥
 not_some e r is some = false≢true (rw is at some)

@@ -1,26 +1,40 @@
 -- The two disks of a journal, whichever of them is in use.
 use Rattle.std.proofs.Common.{◌≡◌, inl, ℕ, Bool, true, false, List, length, Option, Some, refl, ap, ◌∙◌}
 use Rattle.disk_model.specs.History.{Change}
+use Rattle.std.specs.Prelude.{not}
+use Rattle.disk_model.specs.Later.{IsLater, AreLater}
+use Rattle.disk_model.proofs.LaterLaws.{later_begin}
 use Rattle.disk_model.proofs.MomentLaws.{now_only}
-use Rattle.play_journal.specs.Content.{Content, IsBeforeOrAfter}
+use Rattle.play_journal.specs.Content.{Content, IsBeforeOrAfter, IsOldOrNew}
 use Rattle.play_journal.specs.JournalState.{at_place, content_in, IsKept}
 use Rattle.play_journal.specs.Pair.{AllPairsNow, AllPairsSince}
 use Rattle.play_journal.proofs.InUseLaws.{all_first, all_second, content-file}
 
-pub honest_both : {D : Type 0} (honest : D → Type 0) (swapped : Bool) (here there : D) → honest (at_place swapped here there) → honest (at_place swapped there here) → honest here × honest there
+pub honest_both : {D : Type 0} (honest : D → Type 0) (swapped : Bool) (here there : D) → honest (at_place swapped here there)
+    → honest (at_place swapped there here) → honest here × honest there
 honest_both honest true here there a b = (b, a)
 honest_both honest false here there a b = (a, b)
 
-pub kept_now : {D : Type 0} (content : D → List ℕ) (history : D → List Change) (swapped : Bool) (here there : D) (end base count : ℕ) → IsKept (content here) (content there) (history here) (history there) end base count
-    → AllPairsNow (λ f. f ≡ Some (content_in (content here))) (history (at_place swapped here there)) (history (at_place swapped there here))
-kept_now content history true here there end base count kept = all_second (content here) (content there) end base count kept.in_use (history here) (history there) kept.here_settled kept.there_settled
-kept_now content history false here there end base count kept = all_first (content here) (content there) end base count kept.in_use (history here) (history there) kept.here_settled kept.there_settled
+pub kept_now : {D : Type 0} (content : D → List ℕ) (history : D → List Change) (swapped : Bool) (here there : D)
+    (end generation base count : ℕ) → IsKept (content here) (content there) (history here) (history there) end generation base count
+    → AllPairsNow (λ f. f ≡ Some (content_in (content here))) (history (at_place swapped here there)) (history
+    (at_place swapped there here))
+kept_now content history true here there end generation base count kept =
+    all_second (content here) (content there) end generation base count kept.in_use (history here)
+    (history there) kept.here_settled kept.there_settled
+kept_now content history false here there end generation base count kept =
+    all_first (content here) (content there) end generation base count kept.in_use (history here)
+    (history there) kept.here_settled kept.there_settled
 
-pub kept_base : (here there : List ℕ) (h o : List Change) (end base count : ℕ) → IsKept here there h o end base count → (content_in here).base ≡ base
-kept_base here there h o end base count kept = ap (λ (c : Content). c.base) (content-file here kept.in_use.file kept.in_use.is_file) ∙ kept.in_use.before
+pub kept_base : (here there : List ℕ) (h o : List Change) (end generation base count : ℕ)
+    → IsKept here there h o end generation base count → (content_in here).base ≡ base
+kept_base here there h o end generation base count kept = ap (λ (c : Content). c.base)
+    (content-file here kept.in_use.file kept.in_use.is_file) ∙ kept.in_use.before
 
-pub kept_count : (here there : List ℕ) (h o : List Change) (end base count : ℕ) → IsKept here there h o end base count → length (content_in here).records ≡ count
-kept_count here there h o end base count kept = ap (λ (c : Content). length c.records) (content-file here kept.in_use.file kept.in_use.is_file) ∙ kept.in_use.counted
+pub kept_count : (here there : List ℕ) (h o : List Change) (end generation base count : ℕ)
+    → IsKept here there h o end generation base count → length (content_in here).records ≡ count
+kept_count here there h o end generation base count kept = ap (λ (c : Content). length c.records)
+    (content-file here kept.in_use.file kept.in_use.is_file) ∙ kept.in_use.counted
 
 -- what stands at the place of the file in use stands where it was
 pub placed_back : {D : Type 0} (swapped : Bool) (a b : D) → at_place swapped (at_place swapped a b) (at_place swapped b a) ≡ a
@@ -31,7 +45,8 @@ placed_back false a b = refl
 pub added_since : {D : Type 0} (history : D → List Change) (P : Option Content → Type 0) (swapped : Bool) (here new there : D)
     → AllPairsSince P (history new) (length (history here)) (history there) (length (history there))
     → AllPairsSince P (history there) (length (history there)) (history new) (length (history here))
-    → AllPairsSince P (history (at_place swapped new there)) (length (history (at_place swapped here there))) (history (at_place swapped there new)) (length (history (at_place swapped there here)))
+    → AllPairsSince P (history (at_place swapped new there)) (length (history (at_place swapped here there))) (history
+    (at_place swapped there new)) (length (history (at_place swapped there here)))
 added_since history P true here new there first second = second
 added_since history P false here new there first second = first
 
@@ -43,8 +58,51 @@ pub before_or_after : (content : Content) (body : List ℕ) (f : Option Content)
 before_or_after content body f is = inl is
 
 -- the same, of files a and b
-pub placed_now : {D : Type 0} (content : D → List ℕ) (history : D → List Change) (swapped : Bool) (a b : D) (end base count : ℕ)
-    → IsKept (content (at_place swapped a b)) (content (at_place swapped b a)) (history (at_place swapped a b)) (history (at_place swapped b a)) end base count
+pub placed_now : {D : Type 0} (content : D → List ℕ) (history : D → List Change) (swapped : Bool) (a b : D) (end generation base count : ℕ)
+    → IsKept (content (at_place swapped a b)) (content (at_place swapped b a)) (history (at_place swapped a b)) (history
+    (at_place swapped b a)) end generation base count
     → AllPairsNow (λ f. f ≡ Some (content_in (content (at_place swapped a b)))) (history a) (history b)
-placed_now content history true a b end base count kept = all_second (content b) (content a) end base count kept.in_use (history b) (history a) kept.here_settled kept.there_settled
-placed_now content history false a b end base count kept = all_first (content a) (content b) end base count kept.in_use (history a) (history b) kept.here_settled kept.there_settled
+placed_now content history true a b end generation base count kept = all_second (content b)
+    (content a) end generation base count kept.in_use (history b) (history a) kept.here_settled kept.there_settled
+placed_now content history false a b end generation base count kept = all_first (content a)
+    (content b) end generation base count kept.in_use (history a) (history b) kept.here_settled kept.there_settled
+
+-- something was done to the file that isn't in use
+pub other_since : {D : Type 0} (history : D → List Change) (P : Option Content → Type 0) (swapped : Bool) (here there new : D)
+    → AllPairsSince P (history here) (length (history here)) (history new) (length (history there))
+    → AllPairsSince P (history new) (length (history there)) (history here) (length (history here))
+    → AllPairsSince P (history (at_place swapped here new)) (length (history (at_place swapped here there))) (history
+    (at_place swapped new here)) (length (history (at_place swapped there here)))
+other_since history P true here there new first second = second
+other_since history P false here there new first second = first
+
+-- and then it was taken into use
+pub swapped_since : {D : Type 0} (history : D → List Change) (P : Option Content → Type 0) (swapped : Bool) (here there new : D)
+    → AllPairsSince P (history here) (length (history here)) (history new) (length (history there))
+    → AllPairsSince P (history new) (length (history there)) (history here) (length (history here))
+    → AllPairsSince P (history (at_place (not swapped) new here)) (length (history (at_place swapped here there))) (history (at_place
+    (not swapped) here new)) (length (history (at_place swapped there here)))
+swapped_since history P true here there new first second = second
+swapped_since history P false here there new first second = first
+
+module _ {D : Type 0} (honest : D → Type 0) (history : D → List Change) (faults : D → ℕ) where
+  pub later_here : (swapped : Bool) (here there new : D) → IsLater honest history faults here new
+      → AreLater honest history faults (at_place swapped here there) (at_place swapped there here) (at_place swapped new there)
+      (at_place swapped there new)
+  later_here true here there new later = record { a = later_begin honest history faults there; b = later }
+  later_here false here there new later = record { a = later; b = later_begin honest history faults there }
+
+  pub later_there : (swapped : Bool) (here there new : D) → IsLater honest history faults there new
+      → AreLater honest history faults (at_place swapped here there) (at_place swapped there here) (at_place swapped here new)
+      (at_place swapped new here)
+  later_there true here there new later = record { a = later; b = later_begin honest history faults here }
+  later_there false here there new later = record { a = later_begin honest history faults here; b = later }
+
+  pub later_swapped : (swapped : Bool) (here there new : D) → IsLater honest history faults there new
+      → AreLater honest history faults (at_place swapped here there) (at_place swapped there here) (at_place (not swapped) new here)
+      (at_place (not swapped) here new)
+  later_swapped true here there new later = record { a = later; b = later_begin honest history faults here }
+  later_swapped false here there new later = record { a = later_begin honest history faults here; b = later }
+
+pub old_or_new : (content : Content) (snapshot : List ℕ) (f : Option Content) → f ≡ Some content → IsOldOrNew content snapshot f
+old_or_new content snapshot f is = inl is

@@ -53,7 +53,8 @@ or_from true y is other = absurd cc
 or_from false y is other = other
 
 -- the bytes of a record behind its gate are skipped at once
-pub records_at-skip : (bytes : List ℕ) (skip offset before : ℕ) → skip ≤ length bytes → records_at skip offset before bytes ≡ records_at 0 (offset + skip) before (drop skip bytes)
+pub records_at-skip : (bytes : List ℕ) (skip offset before : ℕ) → skip ≤ length bytes
+    → records_at skip offset before bytes ≡ records_at 0 (offset + skip) before (drop skip bytes)
 unfolding records_at
 records_at-skip bytes zero offset before within = rw add-zero refl
 records_at-skip [] (suc skip) offset before within = absurd (omega arith)
@@ -91,16 +92,19 @@ passes-inverse before bytes is =
 
 -- a record is read, and then what follows it
 pub records_at-record : (offset before size : ℕ) (bytes : List ℕ) → IsRecord before bytes size
-    → records_at 0 offset before (open_gate ∷ bytes) ≡ with_first (take size (drop 4 bytes)) (records_at 0 (offset + 5 + size) (before + 1) (drop (4 + size) bytes))
+    → records_at 0 offset before (open_gate ∷ bytes) ≡ with_first (take size (drop 4 bytes)) (records_at 0 (offset + 5 + size)
+    (before + 1) (drop (4 + size) bytes))
 unfolding records_at
 records_at-record offset before size bytes is =
     let none : passes before bytes ≡ false = passes-false before bytes size is in
     let body : take (4 + size - 4) (drop 4 bytes) ≡ take size (drop 4 bytes) = ap (λ (n : ℕ). take n (drop 4 bytes)) (omega arith) in
-    let skipped : records_at (4 + size) (suc offset) (suc before) bytes ≡ records_at 0 (offset + 5 + size) (before + 1) (drop (4 + size) bytes) =
+    let skipped : records_at (4 + size) (suc offset) (suc before) bytes ≡ records_at 0 (offset + 5 + size) (before + 1) (drop
+    (4 + size) bytes) =
     records_at-skip bytes (4 + size) (suc offset) (suc before) is.within
     ∙ ap (λ (n : ℕ). records_at 0 n (suc before) (drop (4 + size) bytes)) (omega arith)
     ∙ ap (λ (n : ℕ). records_at 0 (offset + 5 + size) n (drop (4 + size) bytes)) (omega arith) in
-    rw (none, is.size_is) (ap (λ (b : List ℕ). with_first b (records_at (4 + size) (suc offset) (suc before) bytes)) body ∙ ap (λ r. with_first (take size (drop 4 bytes)) r) skipped)
+    rw (none, is.size_is) (ap (λ (b : List ℕ). with_first b (records_at (4 + size) (suc offset) (suc before) bytes)) body
+    ∙ ap (λ r. with_first (take size (drop 4 bytes)) r) skipped)
 
 -- a closed gate ends the list
 pub records_at-closed : (offset before gate : ℕ) (bytes : List ℕ) → gate ≢ open_gate → records_at 0 offset before (gate ∷ bytes) ≡ Ok []
@@ -108,7 +112,8 @@ unfolding records_at
 records_at-closed offset before gate bytes closed = rw (ne_eqb gate open_gate closed) refl
 
 -- records that are spelled
-pub records_at-gated : (bodies : List (List ℕ)) (offset before gate : ℕ) (free : List ℕ) → gate ≢ open_gate → All (λ body. length body ≤ longest_body) bodies → before + length bodies < 2 ^ 64
+pub records_at-gated : (bodies : List (List ℕ)) (offset before gate : ℕ) (free : List ℕ) → gate ≢ open_gate
+    → All (λ body. length body ≤ longest_body) bodies → before + length bodies < 2 ^ 64
     → records_at 0 offset before (flat_map gated bodies ++ gate ∷ free) ≡ Ok bodies
 records_at-gated [] offset before gate free closed small numbers = records_at-closed offset before gate free closed
 records_at-gated (body ∷ bodies) offset before gate free closed small numbers =
@@ -127,7 +132,9 @@ records_at-gated (body ∷ bodies) offset before gate free closed small numbers 
     } in
     let own : take size (drop 4 bytes) ≡ body = take_at body rest size refl in
     let next : drop (4 + size) bytes ≡ rest = sym (drop-drop size 4 bytes) ∙ drop_at body rest size refl in
-    let others : records_at 0 (offset + 5 + size) (before + 1) rest ≡ Ok bodies = records_at-gated bodies (offset + 5 + size) (before + 1) gate free closed (λ k d lt. small (suc k) d (omega arith)) (omega (arith, numbers)) in
+    let others : records_at 0 (offset + 5 + size) (before + 1) rest ≡ Ok bodies =
+    records_at-gated bodies (offset + 5 + size) (before + 1) gate free closed (λ k d lt. small (suc k) d (omega arith)) (omega
+    (arith, numbers)) in
     ap (λ (l : List ℕ). records_at 0 offset before l) regrouped ∙ records_at-record offset before size bytes is
     ∙ ap (λ (l : List ℕ). with_first l (records_at 0 (offset + 5 + size) (before + 1) (drop (4 + size) bytes))) own
     ∙ ap (λ (l : List ℕ). with_first body (records_at 0 (offset + 5 + size) (before + 1) l)) next ∙ ap (λ r. with_first body r) others
@@ -146,22 +153,27 @@ pub record Stands (skip before : ℕ) (bytes : List ℕ) (bodies : List (List �
 abbrev done : List (List ℕ) → Result (List (List ℕ)) ℕ
 done bodies = Ok bodies
 
-with_first-ok : (body : List ℕ) (r : Result (List (List ℕ)) ℕ) (bodies : List (List ℕ)) → with_first body r ≡ Ok bodies → (others : List (List ℕ)) × (r ≡ Ok others) × (body ∷ others ≡ bodies)
+with_first-ok : (body : List ℕ) (r : Result (List (List ℕ)) ℕ) (bodies : List (List ℕ)) → with_first body r ≡ Ok bodies
+    → (others : List (List ℕ)) × (r ≡ Ok others) × (body ∷ others ≡ bodies)
 with_first-ok body (Ok others) bodies is = (others, refl, cc)
 with_first-ok body (Err offset) bodies is = absurd cc
 
 -- the length field and the body of a record
-field_and_body : (bytes : List ℕ) (size : ℕ) → IsBytes bytes → 4 + size ≤ length bytes → number_at w32 0 bytes ≡ size → take (4 + size) bytes ≡ to_le_bytes w32 (length (take size (drop 4 bytes))) ++ take size (drop 4 bytes)
+field_and_body : (bytes : List ℕ) (size : ℕ) → IsBytes bytes → 4 + size ≤ length bytes → number_at w32 0 bytes ≡ size
+    → take (4 + size) bytes ≡ to_le_bytes w32 (length (take size (drop 4 bytes))) ++ take size (drop 4 bytes)
 field_and_body bytes size fits within size_is =
     let own : length (take size (drop 4 bytes)) ≡ size = length-take-le size (drop 4 bytes) (omega (arith, length-drop 4 bytes)) in
-    let field : to_le_bytes w32 size ≡ take 4 bytes = le_bytes_4 (take 4 bytes) size (length-take-le 4 bytes (omega arith)) (IsBytes-take 4 bytes fits) (sym size_is) in
+    let field : to_le_bytes w32 size ≡ take 4 bytes = le_bytes_4 (take 4 bytes) size (length-take-le 4 bytes (omega arith))
+    (IsBytes-take 4 bytes fits) (sym size_is) in
     let front : take 4 (take (4 + size) bytes) ≡ take 4 bytes = take-take 4 (4 + size) bytes (omega arith) in
     let back : drop 4 (take (4 + size) bytes) ≡ take size (drop 4 bytes) = drop-take 4 size bytes in
-    sym (take-append-drop 4 (take (4 + size) bytes)) ∙ ap (λ (l : List ℕ). l ++ drop 4 (take (4 + size) bytes)) (front ∙ sym field) ∙ ap (λ (l : List ℕ). to_le_bytes w32 size ++ l) back
+    sym (take-append-drop 4 (take (4 + size) bytes)) ∙ ap (λ (l : List ℕ). l ++ drop 4 (take (4 + size) bytes)) (front ∙ sym field)
+    ∙ ap (λ (l : List ℕ). to_le_bytes w32 size ++ l) back
     ∙ ap (λ (n : ℕ). to_le_bytes w32 n ++ take size (drop 4 bytes)) (sym own)
 
 -- records that were read
-pub records_at-inverse : (bytes : List ℕ) (skip offset before : ℕ) (bodies : List (List ℕ)) → IsBytes bytes → before < 2 ^ 64 → records_at skip offset before bytes ≡ Ok bodies → Stands skip before bytes bodies
+pub records_at-inverse : (bytes : List ℕ) (skip offset before : ℕ) (bodies : List (List ℕ)) → IsBytes bytes → before < 2 ^ 64
+    → records_at skip offset before bytes ≡ Ok bodies → Stands skip before bytes bodies
 unfolding records_at
 records_at-inverse [] skip offset before bodies fits number is = absurd cc
 records_at-inverse (byte ∷ bytes) (suc skip) offset before bodies fits number is =
@@ -181,18 +193,30 @@ records_at-inverse (gate ∷ bytes) zero offset before bodies fits number is = e
       let opened : eqb gate open_gate ≡ true = eq-eqb gate open_gate is_open in
       let size : ℕ = number_at w32 0 bytes in
       let body : List ℕ = take (4 + size - 4) (drop 4 bytes) in
-      let tested : cond (passes before bytes) (Err offset) (with_first body (records_at (4 + size) (suc offset) (suc before) bytes)) ≡ Ok bodies = rw opened at is in
-      let guarded = guard_ok (passes before bytes) offset (with_first body (records_at (4 + size) (suc offset) (suc before) bytes)) bodies tested in
+      let tested : cond (passes before bytes) (Err offset) (with_first body (records_at (4 + size) (suc offset)
+      (suc before) bytes)) ≡ Ok bodies = rw opened at is in
+      let guarded = guard_ok (passes before bytes) offset (with_first body (records_at (4 + size) (suc offset)
+      (suc before) bytes)) bodies tested in
       let stands = passes-inverse before bytes guarded.0 in
       let first = with_first-ok body (records_at (4 + size) (suc offset) (suc before) bytes) bodies guarded.1 in
-      let later = records_at-inverse bytes (4 + size) (suc offset) (suc before) first.0 (IsBytes-rest gate bytes fits) (omega (arith, stands.number)) first.1 in
+      let later = records_at-inverse bytes (4 + size) (suc offset) (suc before) first.0 (IsBytes-rest gate bytes fits) (omega
+      (arith, stands.number)) first.1 in
       let own : body ≡ take size (drop 4 bytes) = ap (λ (n : ℕ). take n (drop 4 bytes)) (omega arith) in
       let front : later.front ≡ to_le_bytes w32 (length body) ++ body =
-      sym (ap (λ (l : List ℕ). take (4 + size) l) later.parts ∙ take_at later.front (flat_map gated first.0 ++ later.gate ∷ later.free) (4 + size) later.skipped)
-      ∙ field_and_body bytes size (IsBytes-rest gate bytes fits) stands.within refl ∙ ap (λ (b : List ℕ). to_le_bytes w32 (length b) ++ b) (sym own) in
+      sym (ap (λ (l : List ℕ). take (4 + size) l) later.parts ∙ take_at later.front (flat_map gated first.0
+      ++ later.gate ∷ later.free) (4 + size) later.skipped)
+      ∙ field_and_body bytes size (IsBytes-rest gate bytes fits) stands.within refl
+      ∙ ap (λ (b : List ℕ). to_le_bytes w32 (length b) ++ b) (sym own) in
       let whole : gate ∷ bytes ≡ gated body ++ (flat_map gated first.0 ++ later.gate ∷ later.free) =
-      ap (λ (n : ℕ). n ∷ bytes) is_open ∙ ap (λ (l : List ℕ). open_gate ∷ l) (later.parts ∙ ap (λ (l : List ℕ). l ++ (flat_map gated first.0 ++ later.gate ∷ later.free)) front) in
-      let short : length body ≤ longest_body = omega (arith, ap (λ (l : List ℕ). length l) own, length-take size (drop 4 bytes), stands.short) in
+      ap (λ (n : ℕ). n ∷ bytes) is_open ∙ ap (λ (l : List ℕ). open_gate ∷ l) (later.parts
+      ∙ ap (λ (l : List ℕ). l ++ (flat_map gated first.0 ++ later.gate ∷ later.free)) front) in
+      let short : length body ≤ longest_body = omega (
+        arith,
+        ap (λ (l : List ℕ). length l) own,
+        length-take size
+            (drop 4 bytes),
+        stands.short,
+      ) in
       let stand : Stands 0 before (gate ∷ bytes) (body ∷ first.0) = record {
         front = [];
         gate = later.gate;
@@ -222,7 +246,8 @@ records_at-inverse (gate ∷ bytes) zero offset before bodies fits number is = e
 ]
 
 -- what stands behind the gate isn't a record
-pub records_at-passes : (offset before : ℕ) (bytes : List ℕ) → passes before bytes ≡ true → records_at 0 offset before (open_gate ∷ bytes) ≡ Err offset
+pub records_at-passes : (offset before : ℕ) (bytes : List ℕ) → passes before bytes ≡ true
+    → records_at 0 offset before (open_gate ∷ bytes) ≡ Err offset
 unfolding records_at
 records_at-passes offset before bytes is = rw is refl
 

@@ -1,20 +1,48 @@
 -- What a journal says, without where it lies.
-use Rattle.std.specs.Prelude.{◌≡◌, ◌⊎◌, ℕ, List, [], ◌∷◌, ◌++◌, Option, Some}
+use Rattle.std.specs.Prelude.{◌≡◌, ◌⊎◌, ℕ, ◌+◌, List, [], ◌∷◌, ◌++◌, length, Option, Some}
 
--- how many records went before the snapshot, the snapshot, and the records after it in order
+-- The layout and the generation of its file, how many records went before the snapshot, the snapshot, and the records after
+-- it in order. A file of a greater generation takes the place of the other.
 pub record Content : Type 0 where
+  pub layout : ℕ
+  pub generation : ℕ
   pub base : ℕ
   pub snapshot : List ℕ
   pub records : List (List ℕ)
 
+-- the layout that is written
+abbrev pub present_layout : ℕ
+present_layout = 1
+
+-- a layout that is read
+abbrev pub IsKnownLayout : ℕ → Type 0
+IsKnownLayout layout = layout ≡ present_layout
+
 -- a new journal
 abbrev pub fresh : List ℕ → Content
-fresh snapshot = record { base = 0; snapshot = snapshot; records = [] }
+fresh snapshot = record { layout = present_layout; generation = 1; base = 0; snapshot = snapshot; records = [] }
+
+-- the number of the last record
+abbrev pub last_record : Content → ℕ
+last_record content = content.base + length content.records
 
 -- the same with one record more
 abbrev pub with_record : Content → List ℕ → Content
 with_record content body = record content { records = content.records ++ body ∷ [] }
 
+-- the next generation: this snapshot in place of the snapshot before and its records
+abbrev pub with_snapshot : Content → List ℕ → Content
+with_snapshot content snapshot =
+    record { layout = present_layout; generation = content.generation + 1; base = last_record content; snapshot = snapshot; records = [] }
+
+-- one content or the other is found, and nothing else
+abbrev pub IsEither : Content → Content → Option Content → Type 0
+IsEither before after found = (found ≡ Some before) ⊎ (found ≡ Some after)
+
 -- the content from before, or with the new record
 abbrev pub IsBeforeOrAfter : Content → List ℕ → Option Content → Type 0
-IsBeforeOrAfter before body found = (found ≡ Some before) ⊎ (found ≡ Some (with_record before body))
+IsBeforeOrAfter before body found = IsEither before (with_record before body) found
+
+-- the content from before, or the new snapshot without records
+abbrev pub IsOldOrNew : Content → List ℕ → Option Content → Type 0
+IsOldOrNew before snapshot found = IsEither before (with_snapshot before snapshot) found

@@ -39,3 +39,12 @@ IsRefusalOfAppend DiskFault = Unit {0}
 IsRefusalOfAppend NoMemory = ⊥
 IsRefusalOfAppend TooLong = Unit {0}
 IsRefusalOfAppend NumbersSpent = Unit {0}
+
+abbrev pub IsRefusalOfCheckpoint : JournalError → Type 0
+IsRefusalOfCheckpoint NotEmpty = ⊥
+IsRefusalOfCheckpoint NoJournal = ⊥
+IsRefusalOfCheckpoint (Damaged offset) = ⊥
+IsRefusalOfCheckpoint DiskFault = Unit {0}
+IsRefusalOfCheckpoint NoMemory = Unit {0}
+IsRefusalOfCheckpoint TooLong = Unit {0}
+IsRefusalOfCheckpoint NumbersSpent = Unit {0}

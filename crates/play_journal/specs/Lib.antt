@@ -1,8 +1,11 @@
+pub mod Calls
 pub mod Content
 pub mod Errors
 pub mod File
+pub mod FileRead
 pub mod JournalState
 pub mod Laws
+pub mod Laying
 pub mod Opening
 pub mod Pair
 pub mod Reading

@@ -7,7 +7,7 @@ use Rattle.disk_model.specs.Moments.{LeftSince}
 use Rattle.play_journal.specs.declared.error.JournalError.{JournalError}
 use Rattle.play_journal.specs.declared.error.JournalError.TheVariants.{NoJournal, Damaged}
 use Rattle.play_journal.specs.Content.{Content}
-use Rattle.play_journal.specs.File.{File, IsFile, IsShut, IsOpenAt, content_of}
+use Rattle.play_journal.specs.File.{IsFile, IsShut, IsOpenAt}
 use Rattle.play_journal.specs.Reading.{Front, Closed, Bad, Open, front, read}
 
 abbrev pub told : Result Content ℕ → Result Content JournalError
@@ -38,14 +38,8 @@ abbrev pub IsBelow : ℕ → List ℕ → Type 0
 IsBelow generation bytes = IsShut bytes ⊎ ((lower : ℕ) × (lower < generation) × IsOpenAt bytes lower)
 
 -- one of the two is this file, and the other doesn't count beside it
-abbrev pub IsPair : List ℕ → List ℕ → File → Type 0
+abbrev pub IsPair : List ℕ → List ℕ → Content → Type 0
 IsPair a b file = (IsFile a file × IsBelow file.generation b) ⊎ (IsFile b file × IsBelow file.generation a)
-
--- the pair has this content
-pub record Says (a b : List ℕ) (content : Content) : Type 0 where
-  pub file : File
-  pub pair : IsPair a b file
-  pub says : content_of file ≡ content
 
 -- whatever a crash now leaves of two files, what they give has P
 abbrev pub AllPairsNow : (Option Content → Type 0) → List Change → List Change → Type 0

@@ -43,14 +43,26 @@ records_at (suc skip) offset before (byte ∷ bytes) = records_at skip (suc offs
 records_at zero offset before (gate ∷ bytes) =
     if not (gate == open_gate) then Ok []
     else if passes before bytes then Err offset
-    else with_first (slice_range bytes 4 (4 + number_at w32 0 bytes)) (records_at (4 + number_at w32 0 bytes) (suc offset) (suc before) bytes)
+    else with_first (slice_range bytes 4 (4 + number_at w32 0 bytes)) (records_at (4 + number_at w32 0 bytes) (suc offset)
+    (suc before) bytes)
 
-abbrev pub with_snapshot : ℕ → List ℕ → Result (List (List ℕ)) ℕ → Result Content ℕ
-with_snapshot base snapshot (Ok records) = Ok (record { base = base; snapshot = snapshot; records = records })
-with_snapshot base snapshot (Err offset) = Err offset
+abbrev pub with_records : Content → Result (List (List ℕ)) ℕ → Result Content ℕ
+with_records content (Ok records) = Ok (record content { records = records })
+with_records content (Err offset) = Err offset
+
+-- what a file says before its records, whose snapshot has this length
+abbrev pub before_records : List ℕ → ℕ → Content
+before_records bytes size = record {
+  layout = number_at w32 8 bytes;
+  generation = number_at w64 12 bytes;
+  base = number_at w64 20 bytes;
+  snapshot = slice_range bytes 32 (32 + size);
+  records = [];
+}
 
 -- the content of a file whose head is right, or the offset of its first fault
 unfoldable pub read : List ℕ → Result Content ℕ
 read bytes =
     if nat_lt (length bytes) (32 + number_at w32 28 bytes) then Err 28
-    else with_snapshot (number_at w64 20 bytes) (slice_range bytes 32 (32 + number_at w32 28 bytes)) (records_at 0 (32 + number_at w32 28 bytes) (number_at w64 20 bytes) (drop (32 + number_at w32 28 bytes) bytes))
+    else with_records (before_records bytes (number_at w32 28 bytes))
+    (records_at 0 (32 + number_at w32 28 bytes) (number_at w64 20 bytes) (drop (32 + number_at w32 28 bytes) bytes))

@@ -1,13 +1,15 @@
 // The device calls that add a record.
-ghost use Rattle.std.specs.Prelude.{◌≡◌, ◌≢◌, ◌↔◌, ◌+◌, ◌-◌, ◌^◌, ◌<◌, ◌≤◌, [], ◌∷◌, ◌++◌, length, take, slice_index, OnOk, OnErr, IfErr};
+ghost use Rattle.std.specs.Prelude.{◌≡◌, ◌≢◌, ◌+◌, ◌-◌, ◌^◌, ◌<◌, ◌≤◌, [], ◌∷◌, ◌++◌, length, take, slice_index, OnOk, OnErr};
 ghost use Rattle.std.specs.Int.{w32, to_le_bytes};
 ghost use Rattle.disk_model.specs.Faults.{HasGrown};
 ghost use Rattle.disk_model.specs.Images.{window, settled};
-ghost use Rattle.disk_model.specs.Moments.{AllSince, Continues};
+ghost use Rattle.disk_model.specs.Later.{IsLater};
+ghost use Rattle.disk_model.specs.Moments.{AllSince};
 ghost use Rattle.play_journal.specs.File.{open_gate};
 ghost use Rattle.play_journal.specs.Opening.{IsAppending};
 
 use crate::JournalError;
+use crate::laying::write_synced;
 use crate::reading::{CLOSED, OPEN};
 use disk_model::Disk;
 
@@ -25,22 +27,21 @@ pub(crate) fn put_record(buffer: &mut [u8], body: &[u8])
 
 // Writes a record behind the closed gate at the end of a settled file, and then opens the gate: four calls of the disk.
 pub(crate) fn append_at<D: Disk>(disk: &mut D, gate: u64, added: &[u8]) -> Result<(), JournalError>
-    ensures honest { D.honest disk.old ↔ D.honest disk.new }
-    ensures continues { D.honest disk.old → Continues (D.history disk.old) (D.history disk.new) }
-    ensures any_moment { D.honest disk.old → window (D.history disk.old) ≡ settled (D.content disk.old) → length (D.content disk.old) ≡ gate + 1
-        → AllSince (IsAppending (take gate (D.content disk.old)) (slice_index (D.content disk.old) gate) added.now) (D.history disk.new) (length (D.history disk.old)) }
+    ensures later { IsLater D.honest D.history D.faults disk.old disk.new }
+    ensures any_moment { D.honest disk.old → window (D.history disk.old) ≡ settled (D.content disk.old)
+        → length (D.content disk.old) ≡ gate + 1
+        → AllSince (IsAppending (take gate (D.content disk.old)) (slice_index (D.content disk.old) gate) added.now) (D.history disk.new)
+        (length (D.history disk.old)) }
     ensures settled { D.honest disk.old → length (D.content disk.old) ≡ gate + 1
         → OnOk result (window (D.history disk.new) ≡ settled (D.content disk.new)) }
     ensures written { D.honest disk.old → length (D.content disk.old) ≡ gate + 1
         → OnOk result (D.content disk.new ≡ take gate (D.content disk.old) ++ open_gate ∷ added.now) }
     ensures calls { D.honest disk.old → OnOk result (length (D.history disk.new) ≡ length (D.history disk.old) + 4) }
     ensures error { OnErr result (result ≡ Err JournalError.DiskFault) }
-    ensures later { D.faults disk.old ≤ D.faults disk.new }
-    ensures fault { D.honest disk.old → length (D.content disk.old) ≡ gate + 1 → OnErr result (HasGrown (D.faults disk.old) (D.faults disk.new)) }
+    ensures fault { D.honest disk.old → length (D.content disk.old) ≡ gate + 1
+        → OnErr result (HasGrown (D.faults disk.old) (D.faults disk.new)) }
 {
-    disk.write_at(gate.saturating_add(1), added)?;
-    disk.sync()?;
-    disk.write_at(gate, &[OPEN])?;
-    disk.sync()?;
-    Ok(())
+    let behind = gate.saturating_add(1);
+    write_synced(disk, behind, added)?;
+    write_synced(disk, gate, &[OPEN])
 }

@@ -6,6 +6,7 @@ mod creating;
 mod error;
 mod journal;
 pub mod laws;
+mod laying;
 mod opening;
 mod reading;
 mod record;

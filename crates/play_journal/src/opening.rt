@@ -4,10 +4,11 @@ ghost use Rattle.disk_model.specs.Calls.{IsSameOrAdds};
 ghost use Rattle.disk_model.specs.Faults.{HasGrown};
 ghost use Rattle.disk_model.specs.History.{Synced};
 ghost use Rattle.disk_model.specs.Images.{window, settled};
-ghost use Rattle.disk_model.specs.Moments.{AllSince, Continues};
-ghost use Rattle.play_journal.specs.Content.{Content};
+ghost use Rattle.disk_model.specs.Later.{IsLater, AreLater, HasFailed};
+ghost use Rattle.disk_model.specs.Moments.{AllSince};
 ghost use Rattle.play_journal.specs.Errors.{IsRefusalOfOpen};
 ghost use Rattle.play_journal.specs.File.{gated};
+ghost use Rattle.play_journal.specs.FileRead.{content_read};
 ghost use Rattle.play_journal.specs.JournalState.{at_place, content_in, IsKept};
 ghost use Rattle.play_journal.specs.Opening.{told_front, chosen_file, ReadsSame, KeepsFile, IsCause};
 ghost use Rattle.play_journal.specs.Pair.{told, reading};
@@ -31,12 +32,11 @@ pub(crate) fn record_room(alloc: Global) -> Result<Vec<u8>, AllocError>
 
 // The generation of a file that is open, or none.
 fn generation_on<D: Disk>(disk: &mut D) -> Result<Option<u64>, JournalError>
-    ensures honest { D.honest disk.old ↔ D.honest disk.new }
+    ensures later { IsLater D.honest D.history D.faults disk.old disk.new }
     ensures content { D.honest disk.old → D.content disk.new ≡ D.content disk.old }
     ensures history { D.honest disk.old → D.history disk.new ≡ D.history disk.old }
     ensures told { D.honest disk.old → (result ≡ Err JournalError.DiskFault) ⊎ (result ≡ told_front (front (D.content disk.old))) }
     ensures refusal { IfErr result IsRefusalOfOpen }
-    ensures later { D.faults disk.old ≤ D.faults disk.new }
     ensures fault { D.honest disk.old → result ≡ Err JournalError.DiskFault → HasGrown (D.faults disk.old) (D.faults disk.new) }
 {
     if disk.len() < HEAD_LEN as u64 {
@@ -49,12 +49,11 @@ fn generation_on<D: Disk>(disk: &mut D) -> Result<Option<u64>, JournalError>
 
 // All the bytes of a file.
 fn bytes_of<D: Disk>(alloc: Global, disk: &mut D) -> Result<Vec<u8>, JournalError>
-    ensures honest { D.honest disk.old ↔ D.honest disk.new }
+    ensures later { IsLater D.honest D.history D.faults disk.old disk.new }
     ensures content { D.honest disk.old → D.content disk.new ≡ D.content disk.old }
     ensures history { D.honest disk.old → D.history disk.new ≡ D.history disk.old }
     ensures bytes { D.honest disk.old → IfOk result (λ v. v.items ≡ D.content disk.old) }
     ensures error { IfErr result (λ e. (e ≡ JournalError.NoMemory) ⊎ (e ≡ JournalError.DiskFault)) }
-    ensures later { D.faults disk.old ≤ D.faults disk.new }
     ensures fault { D.honest disk.old → result ≡ Err JournalError.DiskFault → HasGrown (D.faults disk.old) (D.faults disk.new) }
 {
     let len = disk.len() as usize;
@@ -65,15 +64,14 @@ fn bytes_of<D: Disk>(alloc: Global, disk: &mut D) -> Result<Vec<u8>, JournalErro
 
 // Cuts a settled file to a length within it.
 fn cut_to<D: Disk>(disk: &mut D, len: u64) -> Result<(), JournalError>
-    ensures honest { D.honest disk.old ↔ D.honest disk.new }
-    ensures continues { D.honest disk.old → Continues (D.history disk.old) (D.history disk.new) }
+    ensures later { IsLater D.honest D.history D.faults disk.old disk.new }
     ensures any_moment { D.honest disk.old → window (D.history disk.old) ≡ settled (D.content disk.old) → len ≤ length (D.content disk.old)
         → AllSince (λ x. (rest : List _) × (x ≡ take len (D.content disk.old) ++ rest)) (D.history disk.new) (length (D.history disk.old)) }
     ensures settled { D.honest disk.old → OnOk result (window (D.history disk.new) ≡ settled (D.content disk.new)) }
     ensures cut { D.honest disk.old → OnOk result (D.content disk.new ≡ take len (D.content disk.old)) }
     ensures error { OnErr result (result ≡ Err JournalError.DiskFault) }
-    ensures later { D.faults disk.old ≤ D.faults disk.new }
-    ensures fault { D.honest disk.old → len ≤ length (D.content disk.old) → OnErr result (HasGrown (D.faults disk.old) (D.faults disk.new)) }
+    ensures fault { D.honest disk.old → len ≤ length (D.content disk.old)
+        → OnErr result (HasGrown (D.faults disk.old) (D.faults disk.new)) }
 {
     disk.cut(len)?;
     disk.sync()?;
@@ -89,21 +87,19 @@ pub(crate) struct Opened {
 
 // Reads a settled file whose head is right, and cuts off what follows its closing gate.
 fn open_file<D: Disk>(alloc: Global, disk: &mut D) -> Result<Opened, JournalError>
-    ensures honest { D.honest disk.old ↔ D.honest disk.new }
-    ensures continues { D.honest disk.old → Continues (D.history disk.old) (D.history disk.new) }
+    ensures later { IsLater D.honest D.history D.faults disk.old disk.new }
     ensures room { IfOk result (λ r. vec_len r.buffer ≡ room) }
     ensures numbers { IfOk result (λ r. r.file.base + length r.file.records.items < 2 ^ 64) }
-    ensures read { D.honest disk.old → IfOk result (λ r. read (D.content disk.old)
-        ≡ Ok (record { base = r.file.base; snapshot = r.file.snapshot.items; records = r.file.records.items })) }
+    ensures read { D.honest disk.old → IfOk result (λ r. read (D.content disk.old) ≡ Ok (content_read r.file)) }
     ensures end { IfOk result (λ r. r.file.end ≡ 32 + length r.file.snapshot.items + length (flat_map gated r.file.records.items)) }
     ensures cause { D.honest disk.old → IfErr result (IsCause (told (read (D.content disk.old)))) }
     ensures refusal { IfErr result IsRefusalOfOpen }
-    ensures any_moment { D.honest disk.old → window (D.history disk.old) ≡ settled (D.content disk.old) → (generation : _) → front (D.content disk.old) ≡ Open generation
+    ensures any_moment { D.honest disk.old → window (D.history disk.old) ≡ settled (D.content disk.old) → (generation : _)
+        → front (D.content disk.old) ≡ Open generation
         → AllSince (λ x. ReadsSame x (D.content disk.old)) (D.history disk.new) (length (D.history disk.old)) }
     ensures settled { D.honest disk.old → OnOk result (window (D.history disk.new) ≡ settled (D.content disk.new)) }
     ensures cut { D.honest disk.old → IfOk result (λ r. D.content disk.new ≡ take (r.file.end + 1) (D.content disk.old)) }
     ensures uncut { D.honest disk.old → IfErr result (λ e. e ≢ JournalError.DiskFault → D.content disk.new ≡ D.content disk.old) }
-    ensures later { D.faults disk.old ≤ D.faults disk.new }
     ensures fault { D.honest disk.old → (generation : _) → front (D.content disk.old) ≡ Open generation
         → result ≡ Err JournalError.DiskFault → HasGrown (D.faults disk.old) (D.faults disk.new) }
 {
@@ -118,6 +114,8 @@ fn open_file<D: Disk>(alloc: Global, disk: &mut D) -> Result<Opened, JournalErro
 fn file_in_use<D: Disk>(a: &mut D, b: &mut D) -> Result<bool, JournalError>
     ensures honest_a { D.honest a.old ↔ D.honest a.new }
     ensures honest_b { D.honest b.old ↔ D.honest b.new }
+    ensures later_a { D.faults a.old ≤ D.faults a.new }
+    ensures later_b { D.faults b.old ≤ D.faults b.new }
     ensures synced_a { D.honest a.old → IsSameOrAdds (Synced (D.content a.old)) (D.history a.old) (D.history a.new) }
     ensures synced_b { D.honest b.old → IsSameOrAdds (Synced (D.content b.old)) (D.history b.old) (D.history b.new) }
     ensures settled_a { D.honest a.old → OnOk result (window (D.history a.new) ≡ settled (D.content a.new)) }
@@ -129,10 +127,8 @@ fn file_in_use<D: Disk>(a: &mut D, b: &mut D) -> Result<bool, JournalError>
     ensures chosen { D.honest a.old → D.honest b.old → (result ≡ Err JournalError.DiskFault)
         ⊎ (result ≡ chosen_file (front (D.content a.old)) (front (D.content b.old))) }
     ensures refusal { IfErr result IsRefusalOfOpen }
-    ensures later_a { D.faults a.old ≤ D.faults a.new }
-    ensures later_b { D.faults b.old ≤ D.faults b.new }
     ensures fault { D.honest a.old → D.honest b.old → result ≡ Err JournalError.DiskFault
-        → HasGrown (D.faults a.old) (D.faults a.new) ⊎ HasGrown (D.faults b.old) (D.faults b.new) }
+        → HasFailed D.faults a.old b.old a.new b.new }
 {
     a.sync()?;
     b.sync()?;
@@ -147,28 +143,25 @@ pub(crate) fn open_files<D: Disk>(
     a: &mut D,
     b: &mut D,
 ) -> Result<(bool, Opened), JournalError>
-    ensures honest_a { D.honest a.old ↔ D.honest a.new }
-    ensures honest_b { D.honest b.old ↔ D.honest b.new }
-    ensures continues_a { D.honest a.old → Continues (D.history a.old) (D.history a.new) }
-    ensures continues_b { D.honest b.old → Continues (D.history b.old) (D.history b.new) }
+    ensures later { AreLater D.honest D.history D.faults a.old b.old a.new b.new }
     ensures kept_a { D.honest a.old → D.honest b.old → KeepsFile (D.history a.old) (D.history a.new) }
     ensures kept_b { D.honest a.old → D.honest b.old → KeepsFile (D.history b.old) (D.history b.new) }
     ensures room { IfOk result (λ r. vec_len r.1.buffer ≡ room) }
     ensures numbers { IfOk result (λ r. r.1.file.base + length r.1.file.records.items < 2 ^ 64) }
-    ensures read { D.honest a.old → D.honest b.old → IfOk result (λ r. reading (D.content a.old) (D.content b.old)
-        ≡ Ok (record { base = r.1.file.base; snapshot = r.1.file.snapshot.items; records = r.1.file.records.items })) }
-    ensures content { D.honest a.old → D.honest b.old → IfOk result (λ r. content_in (D.content (at_place r.0 a.new b.new))
-        ≡ record { base = r.1.file.base; snapshot = r.1.file.snapshot.items; records = r.1.file.records.items }) }
-    ensures in_use { D.honest a.old → D.honest b.old → IfOk result (λ r. IsKept (D.content (at_place r.0 a.new b.new)) (D.content (at_place r.0 b.new a.new))
-        (D.history (at_place r.0 a.new b.new)) (D.history (at_place r.0 b.new a.new)) r.1.file.end r.1.file.base (length r.1.file.records.items)) }
+    ensures read { D.honest a.old → D.honest b.old → IfOk result (λ r. reading (D.content a.old) (D.content b.old) ≡ Ok
+        (content_read r.1.file)) }
+    ensures content { D.honest a.old → D.honest b.old → IfOk result (λ r. content_in (D.content
+        (at_place r.0 a.new b.new)) ≡ content_read r.1.file) }
+    ensures in_use { D.honest a.old → D.honest b.old → IfOk result (λ r. IsKept (D.content (at_place r.0 a.new b.new)) (D.content
+        (at_place r.0 b.new a.new))
+        (D.history (at_place r.0 a.new b.new)) (D.history (at_place r.0 b.new a.new)) r.1.file.end r.1.file.generation r.1.file.base
+        (length r.1.file.records.items)) }
     ensures cause { D.honest a.old → D.honest b.old → IfErr result (IsCause (reading (D.content a.old) (D.content b.old))) }
     ensures refusal { IfErr result IsRefusalOfOpen }
     ensures uncut_a { D.honest a.old → IfErr result (λ e. e ≢ JournalError.DiskFault → D.content a.new ≡ D.content a.old) }
     ensures uncut_b { D.honest b.old → IfErr result (λ e. e ≢ JournalError.DiskFault → D.content b.new ≡ D.content b.old) }
-    ensures later_a { D.faults a.old ≤ D.faults a.new }
-    ensures later_b { D.faults b.old ≤ D.faults b.new }
     ensures fault { D.honest a.old → D.honest b.old → result ≡ Err JournalError.DiskFault
-        → HasGrown (D.faults a.old) (D.faults a.new) ⊎ HasGrown (D.faults b.old) (D.faults b.new) }
+        → HasFailed D.faults a.old b.old a.new b.new }
 {
     if file_in_use(a, b)? {
         Ok((true, open_file(alloc, b)?))

@@ -4,6 +4,7 @@ ghost use Rattle.std.specs.Int.{w32, w64};
 ghost use Rattle.play_journal.specs.File.{gated};
 ghost use Rattle.play_journal.specs.Opening.{told_front, is_second, IsCause};
 ghost use Rattle.play_journal.specs.Pair.{told};
+ghost use Rattle.play_journal.specs.FileRead.{content_read};
 ghost use Rattle.play_journal.specs.Reading.{front, number_at, records_at, with_first, read};
 
 use crate::{JournalError, Record};
@@ -83,7 +84,8 @@ fn body_at(bytes: &[u8], at: usize, before: u64) -> Result<Option<&[u8]>, Journa
         (records_at 0 at before (drop at bytes.now) ≡ Ok [])
         (λ body. records_at 0 at before (drop at bytes.now)
         ≡ with_first body.now (records_at 0 (at + 5 + length body.now) (before + 1) (drop (at + 5 + length body.now) bytes.now)))) }
-    ensures within { IfOk result (λ found. MatchOption found (at < length bytes.now) (λ body. at + 5 + length body.now ≤ length bytes.now)) }
+    ensures within { IfOk result (λ found. MatchOption found (at < length bytes.now)
+        (λ body. at + 5 + length body.now ≤ length bytes.now)) }
     ensures number { IfOk result (λ found. MatchOption found (before ≤ before) (λ body. before + 1 < 2 ^ 64)) }
     ensures fault { IfErr result (λ e. (e ≡ JournalError.Damaged at) × (records_at 0 at before (drop at bytes.now) ≡ Err at)) }
 {
@@ -132,6 +134,8 @@ fn records_from(
 // A file that was read.
 #[derive(Drop)]
 pub(crate) struct FileRead {
+    pub(crate) layout: u32,
+    pub(crate) generation: u64,
     pub(crate) base: u64,
     pub(crate) snapshot: Vec<u8>,
     pub(crate) records: Vec<Record>,
@@ -141,8 +145,7 @@ pub(crate) struct FileRead {
 
 // A file whose head is right.
 pub(crate) fn file_of(alloc: Global, bytes: &[u8]) -> Result<FileRead, JournalError>
-    ensures read { IfOk result (λ f. read bytes.now
-        ≡ Ok (record { base = f.base; snapshot = f.snapshot.items; records = f.records.items })) }
+    ensures read { IfOk result (λ f. read bytes.now ≡ Ok (content_read f)) }
     ensures end { IfOk result (λ f. f.end ≡ 32 + length f.snapshot.items + length (flat_map gated f.records.items)) }
     ensures numbers { IfOk result (λ f. f.base + length f.records.items < 2 ^ 64) }
     ensures fault { IfErr result (IsCause (told (read bytes.now))) }
@@ -155,11 +158,15 @@ pub(crate) fn file_of(alloc: Global, bytes: &[u8]) -> Result<FileRead, JournalEr
     if bytes.len() - HEAD_LEN < size {
         return Err(JournalError::Damaged(28));
     }
+    let layout = u32_at(bytes, 8);
+    let generation = u64_at(bytes, 12);
     let base = u64_at(bytes, 20);
     let start = HEAD_LEN + size;
     let (records, end) = records_from(alloc, bytes, start, base)?;
     let snapshot = Vec::from_slice(alloc, &bytes[HEAD_LEN..start])?;
     Ok(FileRead {
+        layout,
+        generation,
         base,
         snapshot,
         records,

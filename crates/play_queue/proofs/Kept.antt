@@ -205,3 +205,8 @@ kept-first q dropped =
     let first : ℕ = kept_front keep q.entries in
     let parts : kept q.entries dropped ≡ take first q.entries ++ filter keep (drop first q.entries) = before_dropped keep q.entries in
     omega (arith, ap length parts, length-append (take first q.entries) (filter keep (drop first q.entries)), length-take-le first q.entries (front_fits keep q.entries))
+
+-- where no URI is dropped
+pub kept-none : (entries : List Entry) → kept entries [] ≡ entries
+kept-none [] = refl
+kept-none (entry ∷ entries) = ap (λ l. entry ∷ l) (kept-none entries)

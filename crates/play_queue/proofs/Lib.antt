@@ -1,12 +1,16 @@
 pub mod Added
 pub mod Blocks
+pub mod Built
 pub mod Exchanged
 pub mod Kept
+pub mod Merged
 pub mod OwnIds
 pub mod Saved
+pub mod Searched
 pub mod Prioritized
 pub mod Ruling
 pub mod Sound
+pub mod Versions
 pub mod Where
 pub mod WordOrder
 pub mod Shuffled

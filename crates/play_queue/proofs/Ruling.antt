@@ -93,7 +93,7 @@ ruled-deleted q start end own below within =
     let made = ruled-tail q (take start q.entries) (drop start q.entries) (drop end q.entries) (sym (take-append-drop start q.entries)) (differ_drop q.entries start end own below) (omega arith) in
     rw long at made
 
-is_unchanged-itself : (entries : List Entry) → is_unchanged [] entries entries ≡ true
+pub is_unchanged-itself : (entries : List Entry) → is_unchanged [] entries entries ≡ true
 is_unchanged-itself [] = refl
 is_unchanged-itself (entry ∷ entries) = rw (is_same-itself entry, is_unchanged-itself entries) refl
 

@@ -1,5 +1,6 @@
 -- Edits of the list of entries. What they say of stamps doesn't count: the stamp rule gives those.
-use Rattle.std.specs.Prelude.{ℕ, ◌+◌, Bool, not, ◌&&◌, nat_lt, nat_le, List, [], ◌∷◌, ◌++◌, map, filter, take, drop, slice_range, if◌then◌else◌}
+use Rattle.std.specs.Prelude.{ℕ, ◌+◌, Bool, not, ◌&&◌, nat_lt, nat_le, List, [], ◌∷◌, ◌++◌, map, filter, take, drop}
+use Rattle.std.specs.Prelude.{slice_range, if◌then◌else◌}
 use Rattle.std.specs.List.{list_any, enumerate_from}
 use Rattle.std.specs.Str.{bytes_eq}
 use Rattle.play_queue.specs.declared.entry.Entry.{Entry}
@@ -41,7 +42,8 @@ with_priority priority entry = record entry { priority = priority }
 
 -- a priority is set on each entry of some range
 abbrev pub prioritized : List Entry → List (ℕ × ℕ) → ℕ → List Entry
-prioritized entries ranges priority = map (λ at. if is_in_some ranges at.0 then with_priority priority at.1 else at.1) (enumerate_from 0 entries)
+prioritized entries ranges priority =
+    map (λ at. if is_in_some ranges at.0 then with_priority priority at.1 else at.1) (enumerate_from 0 entries)
 
 -- a batch takes out the entries of dropped URIs
 abbrev pub kept : List Entry → Uris → List Entry

@@ -1,8 +1,12 @@
+pub mod Builder
+pub mod Changes
 pub mod Entries
+pub mod Fits
 pub mod Limits
-pub mod Place
 pub mod Queue
+pub mod Ranges
 pub mod Refusal
 pub mod Refused
 pub mod Restamp
 pub mod Shuffle
+pub mod Target

@@ -1,5 +1,6 @@
 -- The queue, and the rule by which its version and the stamps of its entries follow a change.
-use Rattle.std.specs.Prelude.{◌≢◌, ℕ, ◌+◌, ◌<◌, ◌≤◌, Bool, true, false, not, ◌==◌, ◌&&◌, ◌||◌, nat_lt, nat_le, filter, List, [], ◌∷◌, length, map, if◌then◌else◌}
+use Rattle.std.specs.Prelude.{◌≡◌, ◌≢◌, ◌↔◌, ℕ, ◌+◌, ◌<◌, ◌≤◌, Bool, true, false, not, ◌==◌, ◌&&◌, ◌||◌, nat_lt, nat_le}
+use Rattle.std.specs.Prelude.{filter, List, [], ◌∷◌, length, map, if◌then◌else◌}
 use Rattle.std.specs.List.{All, AllPairs, list_all, enumerate_from}
 use Rattle.std.specs.Str.{bytes_eq}
 use Rattle.play_queue.specs.declared.entry.Entry.{Entry}
@@ -39,7 +40,8 @@ pub record IsQueue (queue : QueueState) : Type 0 where
 
 -- nothing has changed at a position: id, priority and URI are as before, and so is the row of the URI
 abbrev pub is_same : Uris → Entry → Entry → Bool
-is_same changed before after = before.id == after.id && (before.priority == after.priority && (bytes_eq before.uri after.uri && not (is_among changed after.uri)))
+is_same changed before after =
+    before.id == after.id && (before.priority == after.priority && (bytes_eq before.uri after.uri && not (is_among changed after.uri)))
 
 -- nothing has changed at any position, and the lists are equally long
 abbrev pub is_unchanged : Uris → List Entry → List Entry → Bool
@@ -55,19 +57,28 @@ with_stamp stamp entry = record entry { stamp = stamp }
 abbrev pub stamped : Uris → ℕ → List Entry → List Entry → List Entry
 stamped changed stamp befores [] = []
 stamped changed stamp [] (after ∷ afters) = with_stamp stamp after ∷ stamped changed stamp [] afters
-stamped changed stamp (before ∷ befores) (after ∷ afters) = (if is_same changed before after then before else with_stamp stamp after) ∷ stamped changed stamp befores afters
+stamped changed stamp (before ∷ befores) (after ∷ afters) =
+    (if is_same changed before after then before else with_stamp stamp after) ∷ stamped changed stamp befores afters
 
 -- The stamp rule. `changed` has the URIs whose row is another one than before.
--- Where no position differs, the version and all stamps stay. Else the version grows by one and is the stamp of the positions that differ; past the greatest version it begins again at 1, and so do all stamps.
+-- Where no position differs, the version and all stamps stay. Else the version grows by one and is the stamp of the
+-- positions that differ; past the greatest version it begins again at 1, and so do all stamps.
 abbrev pub ruled : QueueState → List Entry → Uris → QueueState
 ruled before afters changed =
     if is_unchanged changed before.entries afters then before
     else if before.version == MAX_VERSION then record before { entries = map (with_stamp 1) afters; version = 1 }
     else record before { entries = stamped changed (before.version + 1) before.entries afters; version = before.version + 1 }
 
+-- the version stays exactly where nothing has changed at any position (and then, by the rule, the whole queue does)
+abbrev pub VersionTellsChanges : QueueState → Type 0
+VersionTellsChanges before =
+    (afters : List Entry) (changed : Uris) →
+    ((ruled before afters changed).version ≡ before.version) ↔ (is_unchanged changed before.entries afters ≡ true)
+
 -- the positions whose stamp is later than a version, and all where the version is later than the queue's
 abbrev pub changed_since : QueueState → ℕ → List ℕ
-changed_since queue version = map (λ at. at.0) (filter (λ at. nat_lt queue.version version || nat_lt version at.1.stamp) (enumerate_from 0 queue.entries))
+changed_since queue version =
+    map (λ at. at.0) (filter (λ at. nat_lt queue.version version || nat_lt version at.1.stamp) (enumerate_from 0 queue.entries))
 
 -- an entry, by the same bounds
 abbrev pub is_entry : ℕ → ℕ → Entry → Bool
@@ -79,4 +90,6 @@ are_numbers version next_id = nat_le 1 version && (nat_le version MAX_VERSION &&
 
 -- all that a queue keeps but for the ids that differ
 abbrev pub is_bounded : QueueState → Bool
-is_bounded queue = nat_le (length queue.entries) MAX_ENTRIES && (are_numbers queue.version queue.next_id && list_all (is_entry queue.next_id queue.version) queue.entries)
+is_bounded queue =
+    nat_le (length queue.entries) MAX_ENTRIES
+    && (are_numbers queue.version queue.next_id && list_all (is_entry queue.next_id queue.version) queue.entries)

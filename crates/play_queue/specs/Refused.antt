@@ -1,5 +1,6 @@
 -- Which refusal a call of the queue answers.
-use Rattle.std.specs.Prelude.{ℕ, Bool, ◌+◌, ◌-◌, ◌==◌, ◌||◌, nat_lt, nat_le, List, length, Option, Some, None, is_some, position, if◌then◌else◌}
+use Rattle.std.specs.Prelude.{ℕ, Bool, ◌+◌, ◌-◌, ◌==◌, ◌||◌, nat_lt, nat_le, List, length, Option, Some, None, is_some}
+use Rattle.std.specs.Prelude.{position, if◌then◌else◌}
 use Rattle.std.specs.List.{list_any}
 use Rattle.play_queue.specs.declared.entry.Entry.{Entry}
 use Rattle.play_queue.specs.Limits.{MAX_ENTRIES, MAX_ID}

@@ -29,7 +29,8 @@ marked uris stamp entries = map (λ entry. if is_among uris entry.uri then with_
 
 -- two blocks that follow each other change places
 abbrev pub exchanged : List Entry → ℕ → ℕ → ℕ → List Entry
-exchanged entries low middle high = take low entries ++ ((slice_range entries middle high ++ slice_range entries low middle) ++ drop high entries)
+exchanged entries low middle high =
+    take low entries ++ ((slice_range entries middle high ++ slice_range entries low middle) ++ drop high entries)
 
 abbrev pub restamped_batch : ℕ → ℕ → Uris → List Entry → List Entry
 restamped_batch version first changed entries =
@@ -42,7 +43,8 @@ raised priority stamp entry = if entry.priority == priority then entry else reco
 
 -- the same for the entries of some ranges
 abbrev pub raised_in : List (ℕ × ℕ) → ℕ → ℕ → List Entry → List Entry
-raised_in ranges priority stamp entries = map (λ at. if is_in_some ranges at.0 then raised priority stamp at.1 else at.1) (enumerate_from 0 entries)
+raised_in ranges priority stamp entries =
+    map (λ at. if is_in_some ranges at.0 then raised priority stamp at.1 else at.1) (enumerate_from 0 entries)
 
 abbrev pub reprioritized : ℕ → List (ℕ × ℕ) → ℕ → List Entry → List Entry
 reprioritized version ranges priority entries =

@@ -1,9 +1,11 @@
-ghost use Rattle.std.specs.Prelude.{◌≡◌, ◌+◌, ◌^◌, ◌≤◌, ◌<◌, ◌++◌, length, take, drop, slice_range, swap, OnOk, OnErr, vec_len, vec_capacity};
+ghost use Rattle.std.specs.Prelude.{◌≡◌, ◌+◌, ◌^◌, ◌≤◌, ◌<◌, ◌++◌, length, take, drop, slice_range};
+ghost use Rattle.std.specs.Prelude.{OnOk, vec_len, vec_capacity};
 ghost use Rattle.play_queue.specs.Entries.{deleted, added, new_entries};
 ghost use Rattle.play_queue.specs.Restamp.{exchanged};
 
 use crate::entry::Entry;
 use song_db::Uri;
+use std::alloc::{AllocError, Global};
 
 // Takes out a block. Entries in front of it aren't touched.
 pub(crate) fn delete(entries: &mut Vec<Entry>, start: usize, end: usize)
@@ -72,4 +74,19 @@ pub(crate) fn insert_all(entries: &mut Vec<Entry>, at: usize, first: u32, uris: 
     let before = entries.len();
     push_all(entries, first, uris);
     turn(entries, at, before);
+}
+
+// Adds a copy of each entry at the end.
+pub(crate) fn clone_all(
+    alloc: Global,
+    entries: &[Entry],
+    copies: &mut Vec<Entry>,
+) -> Result<(), AllocError>
+    ensures { OnOk result (copies.new.items ≡ copies.old.items ++ entries.now) }
+{
+    for entry in entries {
+        let copy = entry.try_clone(alloc)?;
+        copies.push(copy)?;
+    }
+    Ok(())
 }

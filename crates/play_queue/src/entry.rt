@@ -1,4 +1,7 @@
+ghost use Rattle.std.specs.Prelude.{◌≡◌, IfOk};
+
 use song_db::Uri;
+use std::alloc::{AllocError, Global};
 
 /// One entry of the queue.
 #[derive(Debug, Drop)]
@@ -11,4 +14,18 @@ pub struct Entry {
     pub priority: u8,
     /// The version of the queue that last changed what stands at the entry's position.
     pub stamp: u32,
+}
+
+impl Entry {
+    /// The same entry once more, with a URI in memory of its own.
+    pub fn try_clone(&self, alloc: Global) -> Result<Entry, AllocError>
+        ensures { IfOk result (λ copy. copy ≡ self.now) }
+    {
+        Ok(Entry {
+            id: self.id,
+            uri: self.uri.try_clone(alloc)?,
+            priority: self.priority,
+            stamp: self.stamp,
+        })
+    }
 }

@@ -20,7 +20,8 @@ pub(crate) fn has_bad(ranges: &[(usize, usize)], len: usize) -> bool
 
 // Whether an entry has another priority.
 fn has_other_in(entries: &[Entry], priority: u8) -> bool
-    ensures yes { OnTrue result ((k : ℕ) × (k < length entries.now) × ((d : Entry) → (slice_index_or entries.now k d).priority ≢ priority)) }
+    ensures yes { OnTrue result ((k : ℕ) × (k < length entries.now)
+        × ((d : Entry) → (slice_index_or entries.now k d).priority ≢ priority)) }
     ensures no { OnFalse result ((k : ℕ) (d : Entry) → k < length entries.now → (slice_index_or entries.now k d).priority ≡ priority) }
 {
     for entry in entries {
@@ -34,8 +35,10 @@ fn has_other_in(entries: &[Entry], priority: u8) -> bool
 // Whether an entry at a position of some range has another priority.
 pub(crate) fn has_other(entries: &[Entry], ranges: &[(usize, usize)], priority: u8) -> bool
     requires { AreRanges ranges.now (length entries.now) }
-    ensures yes { OnTrue result ((k : ℕ) × (k < length entries.now) × (is_in_some ranges.now k ≡ true) × ((d : Entry) → (slice_index_or entries.now k d).priority ≢ priority)) }
-    ensures no { OnFalse result ((k : ℕ) (d : Entry) → k < length entries.now → is_in_some ranges.now k ≡ true → (slice_index_or entries.now k d).priority ≡ priority) }
+    ensures yes { OnTrue result ((k : ℕ) × (k < length entries.now) × (is_in_some ranges.now k ≡ true)
+        × ((d : Entry) → (slice_index_or entries.now k d).priority ≢ priority)) }
+    ensures no { OnFalse result ((k : ℕ) (d : Entry) → k < length entries.now → is_in_some ranges.now k ≡ true
+        → (slice_index_or entries.now k d).priority ≡ priority) }
 {
     for range in ranges {
         if has_other_in(&entries[range.0..range.1], priority) {

@@ -1,5 +1,5 @@
-ghost use Rattle.std.specs.Prelude.{◌≡◌, ◌↔◌, ◌+◌, ◌-◌, ◌<◌, ◌≤◌, ◌==◌, [], length, swap, position, unwrap_or, OnOk, OnErr, IfOk, IfSome, IsSome};
-ghost use Rattle.std.specs.Option.{SomeIff};
+ghost use Rattle.std.specs.Prelude.{◌≡◌, ◌↔◌, ◌+◌, ◌-◌, ◌<◌, ◌≤◌, ◌==◌, [], length, swap, position, unwrap_or};
+ghost use Rattle.std.specs.Prelude.{OnOk, OnErr, IfOk, IfSome, IsSome};
 ghost use Rattle.std.specs.List.Sorted.{IsPermutation};
 ghost use Rattle.play_queue.specs.Entries.{deleted, moved, added, new_entries, kept, prioritized};
 ghost use Rattle.play_queue.specs.Queue.{IsQueue, ids_of, ruled};
@@ -10,23 +10,32 @@ ghost use Rattle.play_queue.specs.Shuffle.{shuffled};
 
 use crate::editing::{delete, exchange, insert_all};
 use crate::entry::Entry;
-use crate::limits::{MAX_ENTRIES, MAX_ID};
 use crate::parts::{have_own_ids, is_bounded};
-use crate::priority::{has_bad, has_other, prioritize};
+use crate::priority::{has_other, prioritize};
+use crate::ranges::Ranges;
 use crate::refusal::QueueError;
 use crate::rows::{before_first, has_any, keep_others, restamp_batch};
 use crate::shuffling::shuffle;
 use crate::stamping::{restamp, restamp_pair};
+use crate::uris::SortedUris;
 use song_db::Uri;
 use std::alloc::{AllocError, Global};
 use std::marker::Model;
 
+mod builder;
+mod checking;
+mod copying;
 mod finding;
 mod reading;
 
+pub use builder::QueueBuilder;
+
 /// The queue: entries in order, each with an id of its own, and a version that grows with each change.
 ///
-/// Each edit follows the stamp rule: the lists of id, priority, URI and the URI's row before and after are compared position by position. Where they differ, the version grows by one and exactly the positions that differ get it as their stamp. At version 2147483647 the next change sets the version and all stamps to 1. A refused call leaves everything as it was.
+/// Each edit follows the stamp rule: the lists of id, priority, URI and the URI's row before and after are compared
+/// position by position. Where they differ, the version grows by one and exactly the positions that differ get it as
+/// their stamp. At version 2147483647 the next change sets the version and all stamps to 1. A refused call leaves
+/// everything as it was.
 #[derive(Debug, Drop)]
 pub struct Queue {
     entries: Vec<Entry>,
@@ -56,7 +65,9 @@ impl Queue {
         }
     }
 
-    /// The queue of these entries, version and next id, as they were saved; `None` where they break what a queue keeps: at most 16,384 entries, a version from 1 to 2147483647, a next id from 1 to 2147483648, ids that differ, from 1 and below the next id, and stamps from 1 to the version.
+    /// The queue of these entries, version and next id, as they were saved; `None` where they break what a queue
+    /// keeps: at most 16,384 entries, a version from 1 to 2147483647, a next id from 1 to 2147483648, ids that differ,
+    /// from 1 and below the next id, and stamps from 1 to the version.
     ///
     /// For the test of the ids it takes memory, 4 bytes an entry, which it gives back.
     pub fn from_parts(
@@ -65,8 +76,10 @@ impl Queue {
         version: u32,
         next_id: u32,
     ) -> Result<Option<Queue>, AllocError>
-        ensures made { IfOk result (λ queue. IfSome queue (λ queue. queue ≡ record { entries = entries.items; version = version; next_id = next_id })) }
-        ensures where_sound { IfOk result (λ queue. IsSome queue ↔ IsQueue (record { entries = entries.items; version = version; next_id = next_id })) }
+        ensures made { IfOk result (λ queue. IfSome queue (λ queue.
+            queue ≡ record { entries = entries.items; version = version; next_id = next_id })) }
+        ensures where_sound { IfOk result (λ queue.
+            IsSome queue ↔ IsQueue (record { entries = entries.items; version = version; next_id = next_id })) }
     {
         if !is_bounded(&entries, version, next_id) {
             return Ok(None);
@@ -82,15 +95,14 @@ impl Queue {
         }))
     }
 
-    /// The entries from `start` up to, but not including, `end` are taken out. Refused by `BadIndex` where the range ends before it begins or past the end of the queue.
+    /// The entries from `start` up to, but not including, `end` are taken out. Refused by `BadIndex` where the range
+    /// ends before it begins or past the end of the queue.
     pub fn delete_range(&mut self, start: usize, end: usize) -> Result<(), QueueError>
         ensures ok { OnOk result (self.new ≡ ruled self.old (deleted self.old.entries start end) []) }
         ensures err { OnErr result (self.new ≡ self.old) }
         ensures answer { Answers (range_refusal self.old.entries start end) result }
     {
-        if end < start || self.entries.len() < end {
-            return Err(QueueError::BadIndex);
-        }
+        self.check_range(start, end)?;
         if start < end {
             delete(&mut self.entries, start, end);
             let left = self.entries.len();
@@ -99,25 +111,20 @@ impl Queue {
         Ok(())
     }
 
-    /// The entries from `start` up to, but not including, `end` are put so that the first of them stands at position `to` of the rest. Refused by `BadIndex` where the range ends before it begins or past the end of the queue, or where `to` is past the end of the rest.
+    /// The entries from `start` up to, but not including, `end` are put so that the first of them stands at position
+    /// `to` of the rest. Refused by `BadIndex` where the range ends before it begins or past the end of the queue, or
+    /// where `to` is past the end of the rest.
     pub fn move_range(&mut self, start: usize, end: usize, to: usize) -> Result<(), QueueError>
         ensures ok { OnOk result (self.new ≡ ruled self.old (moved self.old.entries start end to) []) }
         ensures err { OnErr result (self.new ≡ self.old) }
         ensures answer { Answers (move_refusal self.old.entries start end to) result }
     {
-        let len = self.len();
-        if end < start || len < end {
-            return Err(QueueError::BadIndex);
-        }
-        let count = end - start;
-        if len - count < to {
-            return Err(QueueError::BadIndex);
-        }
+        self.check_move(start, end, to)?;
         if start < end {
             if to < start {
                 self.exchange(to, start, end);
             } else if start < to {
-                self.exchange(start, end, to + count);
+                self.exchange(start, end, to + (end - start));
             }
         }
         Ok(())
@@ -140,10 +147,7 @@ impl Queue {
         ensures err { OnErr result (self.new ≡ self.old) }
         ensures answer { Answers (swap_refusal self.old.entries one other) result }
     {
-        let len = self.entries.len();
-        if len <= one || len <= other {
-            return Err(QueueError::BadIndex);
-        }
+        self.check_swap(one, other)?;
         if one != other {
             self.entries.swap(one, other);
             self.version = restamp_pair(&mut self.entries, one, other, self.version);
@@ -151,9 +155,11 @@ impl Queue {
         Ok(())
     }
 
-    /// The entries from `start` up to, but not including, `end` are sorted by words, one drawn for each of them in their order; of two entries with the same word the one with the smaller id goes first.
+    /// The entries from `start` up to, but not including, `end` are sorted by words, one drawn for each of them in
+    /// their order; of two entries with the same word the one with the smaller id goes first.
     ///
-    /// Refused by `BadIndex` where the range ends before it begins or past the end of the queue, and by `NoMemory`: it takes memory for the range, which it gives back.
+    /// Refused by `BadIndex` where the range ends before it begins or past the end of the queue, and by `NoMemory`: it
+    /// takes memory for the range, which it gives back.
     pub fn shuffle(
         &mut self,
         alloc: Global,
@@ -167,9 +173,7 @@ impl Queue {
         ensures err { OnErr result (self.new ≡ self.old) }
         ensures answer { AnswersIfMemory (range_refusal self.old.entries start end) result }
     {
-        if end < start || self.len() < end {
-            return Err(QueueError::BadIndex);
-        }
+        self.check_range(start, end)?;
         self.version = shuffle(alloc, &mut self.entries, start, end, words, self.version)?;
         Ok(())
     }
@@ -184,56 +188,54 @@ impl Queue {
         }
     }
 
-    /// Entries of these URIs, of priority 0, are added in front of position `at`, or at the end where that is the length. Answers the first one's id; the others' ids follow it. No URI adds nothing, and answers the id that the next entry gets.
+    /// Entries of these URIs, of priority 0, are added in front of position `at`, or at the end where that is the
+    /// length. Answers the first one's id; the others' ids follow it. No URI adds nothing, and answers the id that the
+    /// next entry gets.
     ///
-    /// Refused by `BadIndex` where `at` is past the end, by `QueueFull` where there would be more than 16,384 entries, then by `IdsSpent` where an id would pass 2147483647, and by `NoMemory`.
+    /// Refused by `BadIndex` where `at` is past the end, by `QueueFull` where there would be more than 16,384 entries,
+    /// then by `IdsSpent` where an id would pass 2147483647, and by `NoMemory`.
     pub fn add_at(&mut self, at: usize, uris: Vec<Uri>) -> Result<u32, QueueError>
         ensures first { IfOk result (λ id. id ≡ self.old.next_id) }
-        ensures ok { OnOk result (self.new ≡ record (ruled self.old (added self.old.entries at (new_entries self.old.next_id uris.items)) []) { next_id = self.old.next_id + length uris.items }) }
+        ensures ok { OnOk result (self.new
+            ≡ record (ruled self.old (added self.old.entries at (new_entries self.old.next_id uris.items)) []) {
+              next_id = self.old.next_id + length uris.items;
+            }) }
         ensures err { OnErr result (self.new ≡ self.old) }
         ensures answer { AnswersIfMemory (add_refusal self.old at (length uris.items)) result }
     {
-        let len = self.entries.len();
         let count = uris.len();
-        let first = self.next_id;
-        if len < at {
-            return Err(QueueError::BadIndex);
-        }
-        if MAX_ENTRIES - len < count {
-            return Err(QueueError::QueueFull);
-        }
-        let Some(next_id) = id_after(first, count) else {
-            return Err(QueueError::IdsSpent);
-        };
+        self.check_add(at, count)?;
         self.entries.reserve(count)?;
+        let first = self.next_id;
         if count > 0 {
             insert_all(&mut self.entries, at, first, uris);
             let left = self.entries.len();
             self.version = restamp(&mut self.entries, at, left, self.version);
-            self.next_id = next_id;
+            self.next_id = first + count as u32;
         }
         Ok(first)
     }
 
-    /// A priority is set on each entry at a position of some range, from the first number up to, but not including, the second. Refused by `BadIndex` where a range ends before it begins or past the end of the queue.
-    pub fn set_prio(&mut self, ranges: &[(usize, usize)], priority: u8) -> Result<(), QueueError>
+    /// A priority is set on each entry at a position of some range, from the first number up to, but not including,
+    /// the second. Refused by `BadIndex` where a range ends before it begins or past the end of the queue. Each entry
+    /// is looked at once, however many ranges it lies in.
+    pub fn set_prio(&mut self, ranges: &Ranges, priority: u8) -> Result<(), QueueError>
         ensures ok { OnOk result (self.new ≡ ruled self.old (prioritized self.old.entries ranges.now priority) []) }
         ensures err { OnErr result (self.new ≡ self.old) }
         ensures answer { Answers (ranges_refusal self.old.entries ranges.now) result }
     {
-        let len = self.entries.len();
-        if has_bad(ranges, len) {
-            return Err(QueueError::BadIndex);
-        }
-        if has_other(&self.entries, ranges, priority) {
-            self.version = prioritize(&mut self.entries, ranges, priority, self.version);
+        self.check_prio(ranges)?;
+        let merged = ranges.merged();
+        if has_other(&self.entries, merged, priority) {
+            self.version = prioritize(&mut self.entries, merged, priority, self.version);
         }
         Ok(())
     }
 
     /// The entry with an id is taken out. Refused by `NoSuchSong` where no entry has it.
     pub fn delete_id(&mut self, id: u32) -> Result<(), QueueError>
-        ensures ok { OnOk result (let at = unwrap_or (position (λ entry. entry.id == id) self.old.entries) 0 in self.new ≡ ruled self.old (deleted self.old.entries at (at + 1)) []) }
+        ensures ok { OnOk result (let at = unwrap_or (position (λ entry. entry.id == id) self.old.entries) 0 in
+            self.new ≡ ruled self.old (deleted self.old.entries at (at + 1)) []) }
         ensures err { OnErr result (self.new ≡ self.old) }
         ensures answer { Answers (id_refusal self.old.entries id) result }
     {
@@ -243,26 +245,20 @@ impl Queue {
         }
     }
 
-    /// What a batch of the database means for the queue: entries of dropped URIs are taken out, and those of changed URIs have changed. All of it is one change.
-    pub fn follow_batch(&mut self, dropped: &[Uri], changed: &[Uri])
+    /// What a batch of the database means for the queue: entries of dropped URIs are taken out, and those of changed
+    /// URIs have changed. All of it is one change.
+    ///
+    /// Where neither has a URI, no entry is looked at; else the entries are gone through once or twice, with a binary search for each.
+    pub fn follow_batch(&mut self, dropped: &SortedUris, changed: &SortedUris)
         ensures { self.new ≡ ruled self.old (kept self.old.entries dropped.now) changed.now }
     {
+        if dropped.is_empty() && changed.is_empty() {
+            return;
+        }
         let first = before_first(&self.entries, dropped);
         if first < self.entries.len() || has_any(&self.entries[..first], changed) {
             keep_others(&mut self.entries, dropped);
             self.version = restamp_batch(&mut self.entries, first, changed, self.version);
         }
     }
-}
-
-// The id after so many more, unless the ids are spent before.
-fn id_after(first: u32, count: usize) -> Option<u32>
-    requires { first ≤ MAX_ID + 1 }
-    ensures { SomeIff result (first + count ≤ MAX_ID + 1) (first + count) }
-{
-    let count = u32::try_from(count).ok()?;
-    if MAX_ID + 1 - first < count {
-        return None;
-    }
-    Some(first + count)
 }

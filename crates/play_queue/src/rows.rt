@@ -7,40 +7,34 @@ ghost use Rattle.play_queue.specs.Restamp.{marked, restamped_batch, next_version
 use crate::entry::Entry;
 use crate::limits::MAX_VERSION;
 use crate::stamping::stamp_all;
-use song_db::Uri;
-
-fn is_among(uris: &[Uri], uri: &Uri) -> bool
-    ensures { result ≡ is_among uris.now uri.now }
-{
-    uris.iter().any(|other| other.as_str() == uri.as_str())
-}
+use crate::uris::SortedUris;
 
 // How many entries stand in front of the first one of these URIs.
-pub(crate) fn before_first(entries: &[Entry], uris: &[Uri]) -> usize
+pub(crate) fn before_first(entries: &[Entry], uris: &SortedUris) -> usize
     ensures { result ≡ prefix_len (λ entry. not (is_among uris.now entry.uri)) entries.now }
 {
     entries
         .iter()
-        .take_while(|entry| !is_among(uris, &entry.uri))
+        .take_while(|entry| !uris.contains(&entry.uri))
         .count()
 }
 
 // Whether an entry has one of these URIs.
-pub(crate) fn has_any(entries: &[Entry], uris: &[Uri]) -> bool
+pub(crate) fn has_any(entries: &[Entry], uris: &SortedUris) -> bool
     ensures { result ≡ list_any (λ entry. is_among uris.now entry.uri) entries.now }
 {
-    entries.iter().any(|entry| is_among(uris, &entry.uri))
+    entries.iter().any(|entry| uris.contains(&entry.uri))
 }
 
 // Takes out the entries of these URIs.
-pub(crate) fn keep_others(entries: &mut Vec<Entry>, uris: &[Uri])
+pub(crate) fn keep_others(entries: &mut Vec<Entry>, uris: &SortedUris)
     ensures { entries.new.items ≡ kept entries.old.items uris.now }
 {
-    entries.retain(|entry| !is_among(uris, &entry.uri));
+    entries.retain(|entry| !uris.contains(&entry.uri));
 }
 
 // Gives the entries of these URIs the stamp.
-fn stamp_rows(entries: &mut [Entry], uris: &[Uri], stamp: u32)
+fn stamp_rows(entries: &mut [Entry], uris: &SortedUris, stamp: u32)
     ensures { entries.new ≡ marked uris.now stamp entries.old }
 {
     for entry in entries.iter_mut() {
@@ -48,10 +42,10 @@ fn stamp_rows(entries: &mut [Entry], uris: &[Uri], stamp: u32)
     }
 }
 
-fn stamp_row(entry: &mut Entry, uris: &[Uri], stamp: u32)
+fn stamp_row(entry: &mut Entry, uris: &SortedUris, stamp: u32)
     ensures { entry.new ≡ (if is_among uris.now entry.old.uri then with_stamp stamp entry.old else entry.old) }
 {
-    if is_among(uris, &entry.uri) {
+    if uris.contains(&entry.uri) {
         entry.stamp = stamp;
     }
 }
@@ -60,7 +54,7 @@ fn stamp_row(entry: &mut Entry, uris: &[Uri], stamp: u32)
 pub(crate) fn restamp_batch(
     entries: &mut Vec<Entry>,
     first: usize,
-    changed: &[Uri],
+    changed: &SortedUris,
     version: u32,
 ) -> u32
     requires in_range { first ≤ length entries.old.items }
@@ -76,7 +70,7 @@ pub(crate) fn restamp_batch(
     version + 1
 }
 
-fn stamp_batch(entries: &mut [Entry], first: usize, changed: &[Uri], stamp: u32)
+fn stamp_batch(entries: &mut [Entry], first: usize, changed: &SortedUris, stamp: u32)
     requires { first ≤ length entries.old }
     ensures { entries.new ≡ marked changed.now stamp (take first entries.old) ++ map (with_stamp stamp) (drop first entries.old) }
 {

@@ -25,7 +25,8 @@ pub(crate) fn stamp_range(entries: &mut [Entry], start: usize, end: usize, stamp
     stamp_all(&mut entries[start..end], stamp);
 }
 
-// Gives the entries of a range, which have changed, a new stamp: the version after this one. After the greatest version, all get 1. Answers the new version.
+// Gives the entries of a range, which have changed, a new stamp: the version after this one. After the greatest
+// version, all get 1. Answers the new version.
 pub(crate) fn restamp(entries: &mut Vec<Entry>, start: usize, end: usize, version: u32) -> u32
     requires forward { start ≤ end }
     requires in_range { end ≤ length entries.old.items }
@@ -71,7 +72,8 @@ pub(crate) fn has_moved_between(entries: &[Entry], start: usize, end: usize, ids
     requires forward { start ≤ end }
     requires in_range { end ≤ length entries.now }
     requires ids { length ids.now ≡ end - start }
-    ensures yes { OnTrue result ((k : ℕ) × (k < end - start) × (slice_index (ids_of (slice_range entries.now start end)) k ≢ slice_index ids.now k)) }
+    ensures yes { OnTrue result ((k : ℕ) × (k < end - start)
+        × (slice_index (ids_of (slice_range entries.now start end)) k ≢ slice_index ids.now k)) }
     ensures no { OnFalse result (ids_of (slice_range entries.now start end) ≡ ids.now) }
 {
     has_moved(&entries[start..end], ids)
@@ -117,7 +119,8 @@ fn stamp_moved_in(entries: &mut [Entry], start: usize, end: usize, ids: &[u32], 
     requires forward { start ≤ end }
     requires in_range { end ≤ length entries.old }
     requires ids { length ids.now ≡ end - start }
-    ensures { entries.new ≡ take start entries.old ++ (stamped_moved ids.now stamp (slice_range entries.old start end) ++ drop end entries.old) }
+    ensures { entries.new ≡ take start entries.old
+        ++ (stamped_moved ids.now stamp (slice_range entries.old start end) ++ drop end entries.old) }
 {
     stamp_moved(&mut entries[start..end], ids, stamp);
 }

@@ -1,5 +1,6 @@
-/// What the player does after the current song, as `single` of the MPD protocol reference 0.23 ("Playback options") sets it.
-#[derive(Clone, Copy, Debug, PartialEq, Eq, Hash, Default)]
+/// What the player does after the current song, as `single` of the MPD protocol reference 0.23 ("Playback
+/// options") sets it.
+#[derive(Clone, Copy, Debug, PartialEq, Eq, Default)]
 pub enum Single {
     /// It goes on with the next song.
     #[default]
@@ -11,7 +12,7 @@ pub enum Single {
 }
 
 /// The four playback options of the MPD protocol reference 0.23 ("Playback options"); all are off by default.
-#[derive(Clone, Copy, Debug, PartialEq, Eq, Hash, Default)]
+#[derive(Clone, Copy, Debug, PartialEq, Eq, Default)]
 pub struct Options {
     /// The queue starts again after its last song.
     pub repeat: bool,

@@ -2,8 +2,9 @@ ghost use Rattle.std.specs.Prelude.{◌≡◌, ℕ, ◌≤◌, ◌↔◌, IsSome
 
 use std::marker::Model;
 
-/// How loud the output plays, from 0 to 100, as `setvol` of the MPD protocol reference 0.23 ("Playback options") sets it.
-#[derive(Clone, Copy, Debug, PartialEq, Eq, Hash, PartialOrd, Ord)]
+/// How loud the output plays, from 0 to 100, as `setvol` of the MPD protocol reference 0.23 ("Playback
+/// options") sets it.
+#[derive(Clone, Copy, Debug, PartialEq, Eq)]
 pub struct Volume {
     percent: u8,
 }

@@ -1,5 +1,6 @@
 -- What one step does to a batch of a scan.
-use Rattle.std.proofs.Common.{◌≡◌, ℕ, Bool, true, false, not, ◌&&◌, ◌||◌, List, [], ◌∷◌, ◌++◌, Option, Some, None, Ok, Err, filter, cond, refl, sym, ap, ◌∙◌, append-nil}
+use Rattle.std.proofs.Common.{◌≡◌, ℕ, Bool, true, false, not, ◌&&◌, ◌||◌, List, [], ◌∷◌, ◌++◌, Option, Some, None, Ok}
+use Rattle.std.proofs.Common.{Err, filter, cond, refl, sym, ap, ◌∙◌, append-nil}
 use Rattle.std.specs.Prelude.{Result, IfOk, MatchOption}
 use Rattle.std.specs.List.{list_any}
 use Rattle.std.specs.Str.{bytes_eq}
@@ -19,7 +20,7 @@ use Rattle.song_db.specs.Found.{IsOf, IsSongIn, changes_of, still_droppable, wit
 use Rattle.song_db.specs.Place.{is_below}
 use Rattle.song_db.specs.Row.{Row}
 use Rattle.song_db.proofs.Folders.{filter_all}
-use Rattle.song_db.specs.Scan.{is_in, puts_of, drops_of, is_among, ArePartOf, song_in, song_at, AreSongs}
+use Rattle.song_db.specs.Scan.{is_sought, puts_of, drops_of, is_among, ArePartOf, song_in, song_at, AreSongs}
 
 pub puts-append : (xs ys : List RowChange) → puts_of (xs ++ ys) ≡ puts_of xs ++ puts_of ys
 puts-append [] ys = refl
@@ -35,7 +36,9 @@ filter_twice : (p q : List ℕ → Bool) (uris : List (List ℕ)) → filter p (
 filter_twice p q [] = refl
 filter_twice p q (uri ∷ uris) = by_cases (q uri) (p uri) refl (filter_twice p q uris)
   where
-    by_cases : (a b : Bool) → p uri ≡ b → filter p (filter q uris) ≡ filter (λ u. q u && p u) uris → filter p (cond a (uri ∷ filter q uris) (filter q uris)) ≡ cond (a && p uri) (uri ∷ filter (λ u. q u && p u) uris) (filter (λ u. q u && p u) uris)
+    by_cases : (a b : Bool) → p uri ≡ b → filter p (filter q uris) ≡ filter (λ u. q u && p u) uris
+        → filter p (cond a (uri ∷ filter q uris) (filter q uris)) ≡ cond (a && p uri) (uri ∷ filter (λ u. q u && p u) uris) (filter
+        (λ u. q u && p u) uris)
     by_cases true true told rest = rw told (ap (λ l. uri ∷ l) rest)
     by_cases true false told rest = rw told rest
     by_cases false b told rest = rest
@@ -44,11 +47,13 @@ pub part_of_part : (test : List ℕ → Bool) (part uris : List (List ℕ)) → 
 part_of_part test part uris left = (λ uri. left.0 uri && test uri, ap (filter test) left.1 ∙ filter_twice test left.0 uris)
 
 -- what isn't among some isn't among a part of them
-not_among_part : (test : List ℕ → Bool) (uri : List ℕ) (uris : List (List ℕ)) → is_among uris uri ≡ false → is_among (filter test uris) uri ≡ false
+not_among_part : (test : List ℕ → Bool) (uri : List ℕ) (uris : List (List ℕ)) → is_among uris uri ≡ false
+    → is_among (filter test uris) uri ≡ false
 not_among_part test uri [] none = refl
 not_among_part test uri (u ∷ uris) none = by_cases (bytes_eq uri u) refl (test u) none (not_among_part test uri uris)
   where
-    by_cases : (a : Bool) → bytes_eq uri u ≡ a → (b : Bool) → (a || is_among uris uri) ≡ false → (is_among uris uri ≡ false → is_among (filter test uris) uri ≡ false) → list_any (bytes_eq uri) (cond b (u ∷ filter test uris) (filter test uris)) ≡ false
+    by_cases : (a : Bool) → bytes_eq uri u ≡ a → (b : Bool) → (a || is_among uris uri) ≡ false → (is_among uris uri ≡ false
+        → is_among (filter test uris) uri ≡ false) → list_any (bytes_eq uri) (cond b (u ∷ filter test uris) (filter test uris)) ≡ false
     by_cases true told b rest after = absurd (cc)
     by_cases false told true rest after = rw told (after rest)
     by_cases false told false rest after = after rest
@@ -57,84 +62,111 @@ not_among_others : (uri : List ℕ) (uris : List (List ℕ)) → is_among (witho
 not_among_others uri [] = refl
 not_among_others uri (u ∷ uris) = by_cases (bytes_eq uri u) refl (not_among_others uri uris)
   where
-    by_cases : (a : Bool) → bytes_eq uri u ≡ a → is_among (without uri uris) uri ≡ false → list_any (bytes_eq uri) (cond (not a) (u ∷ without uri uris) (without uri uris)) ≡ false
+    by_cases : (a : Bool) → bytes_eq uri u ≡ a → is_among (without uri uris) uri ≡ false
+        → list_any (bytes_eq uri) (cond (not a) (u ∷ without uri uris) (without uri uris)) ≡ false
     by_cases true told after = after
     by_cases false told after = rw told after
 
 -- some more are kept
-pub batch_kept : (test : List ℕ → Bool) (place : Option (List ℕ)) (start droppable : List (List ℕ)) (changes : List RowChange) → IsBatch place start droppable changes → IsBatch place start (filter test droppable) changes
+pub batch_kept : (test : List ℕ → Bool) (place : Option (List ℕ)) (start droppable : List (List ℕ)) (changes : List RowChange)
+    → IsBatch place start droppable changes → IsBatch place start (filter test droppable) changes
 batch_kept test place start droppable changes batch =
     record {
       no_drop = batch.no_drop;
-      in_place = batch.in_place;
+      sought = batch.sought;
       left = part_of_part test droppable start batch.left;
-      read_stay = All-weaker (λ (row : Row). is_among droppable row.uri ≡ false) (λ (row : Row). is_among (filter test droppable) row.uri ≡ false) (λ row. not_among_part test row.uri droppable) (puts_of changes) batch.read_stay;
+      read_stay = All-weaker (λ (row : Row). is_among droppable row.uri ≡ false) (λ (row : Row). is_among (filter test droppable)
+          row.uri ≡ false) (λ row. not_among_part test row.uri droppable) (puts_of changes) batch.read_stay;
     }
 
-batch_put : (place : Option (List ℕ)) (start droppable : List (List ℕ)) (changes : List RowChange) (row : Row) → IsBatch place start droppable changes → is_in place row.uri ≡ true → is_among droppable row.uri ≡ false → IsBatch place start droppable (changes ++ Put row ∷ [])
+batch_put : (place : Option (List ℕ)) (start droppable : List (List ℕ)) (changes : List RowChange) (row : Row)
+    → IsBatch place start droppable changes → is_sought place row.uri ≡ true → is_among droppable row.uri ≡ false
+    → IsBatch place start droppable (changes ++ Put row ∷ [])
 batch_put place start droppable changes row batch within stays =
     record {
       no_drop = drops-append changes (Put row ∷ []) ∙ append-nil (drops_of changes) ∙ batch.no_drop;
-      in_place = All-same (λ (r : Row). is_in place r.uri ≡ true) _ _ (puts-append changes (Put row ∷ [])) (All-push (λ (r : Row). is_in place r.uri ≡ true) (puts_of changes) row batch.in_place within);
+      sought = All-same (λ (r : Row). is_sought place r.uri ≡ true) _ _ (puts-append changes (Put row ∷ [])) (All-push (λ (r :
+          Row). is_sought place r.uri ≡ true) (puts_of changes) row batch.sought within);
       left = batch.left;
-      read_stay = All-same (λ (r : Row). is_among droppable r.uri ≡ false) _ _ (puts-append changes (Put row ∷ [])) (All-push (λ (r : Row). is_among droppable r.uri ≡ false) (puts_of changes) row batch.read_stay stays);
+      read_stay = All-same (λ (r : Row). is_among droppable r.uri ≡ false) _ _ (puts-append changes (Put row ∷ [])) (All-push (λ (r
+          : Row). is_among droppable r.uri ≡ false) (puts_of changes) row batch.read_stay stays);
     }
 
-pub batch_settled : (place : Option (List ℕ)) (start droppable : List (List ℕ)) (changes : List RowChange) (uri : List ℕ) (found : Found) → IsBatch place start droppable changes → is_in place uri ≡ true → IsOf uri found → IsBatch place start (still_droppable found droppable) (changes ++ changes_of found)
+pub batch_settled : (place : Option (List ℕ)) (start droppable : List (List ℕ)) (changes : List RowChange) (uri : List ℕ) (found :
+    Found) → IsBatch place start droppable changes → is_sought place uri ≡ true → IsOf uri found
+    → IsBatch place start (still_droppable found droppable) (changes ++ changes_of found)
 batch_settled place start droppable changes uri (Song row) batch within of =
-    batch_put place start (without row.uri droppable) changes row (batch_kept (λ known. not (bytes_eq row.uri known)) place start droppable changes batch) (ap (is_in place) of ∙ within) (not_among_others row.uri droppable)
+    batch_put place start (without row.uri droppable) changes row (batch_kept (λ known. not (bytes_eq row.uri known)) place start
+    droppable changes batch) (ap (is_sought place) of ∙ within) (not_among_others row.uri droppable)
 batch_settled place start droppable changes uri (Kept kept) batch within of =
     rw (append-nil changes) (batch_kept (λ known. not (bytes_eq kept known)) place start droppable changes batch)
 batch_settled place start droppable changes uri NoSong batch within of = rw (append-nil changes) batch
 
-pub songs_settled : {S : Type 0} (bytes : S → List ℕ) (honest : S → Type 0) (files : List File) (uri : List ℕ) (changes : List RowChange) (opened : Result (Option S) FolderFault) (found : Found) (answer : Result Found SongDbError) → answer ≡ Ok found
-    → IfOk opened (λ file. MatchOption file (bytes_at files uri ≡ None) (λ source. (bytes_at files uri ≡ Some (bytes source)) × honest source))
-    → (opened ≡ Err Source → answer ≡ Ok (Kept uri)) → (opened ≡ Ok None → answer ≡ Ok NoSong) → (opened ≡ Err NoMemory → answer ≡ Err MemoryRefused)
+pub songs_settled : {S : Type 0} (bytes : S → List ℕ) (honest : S
+    → Type 0) (files : List File) (uri : List ℕ) (changes : List RowChange) (opened : Result (Option S) FolderFault) (found :
+    Found) (answer : Result Found SongDbError) → answer ≡ Ok found
+    → IfOk opened (λ file. MatchOption file (bytes_at files uri ≡ None) (λ source. (bytes_at files uri ≡ Some (bytes source)) ×
+    honest source))
+    → (opened ≡ Err Source → answer ≡ Ok (Kept uri)) → (opened ≡ Ok None → answer ≡ Ok NoSong) → (opened ≡ Err NoMemory
+    → answer ≡ Err MemoryRefused)
     → IsOf uri found → ((source : S) → opened ≡ Ok (Some source) → honest source → IsSongIn uri (bytes source) found)
     → AreSongs files changes → AreSongs files (changes ++ changes_of found)
 songs_settled bytes honest files uri changes opened NoSong answer is told fault none memory of song before = rw (append-nil changes) before
-songs_settled bytes honest files uri changes opened (Kept kept) answer is told fault none memory of song before = rw (append-nil changes) before
-songs_settled bytes honest files uri changes (Err Source) (Song row) answer is told fault none memory of song before = absurd (cc (fault refl))
-songs_settled bytes honest files uri changes (Err NoMemory) (Song row) answer is told fault none memory of song before = absurd (cc (memory refl))
+songs_settled bytes honest files uri changes opened (Kept kept) answer is told fault none memory of song before = rw (append-nil
+    changes) before
+songs_settled bytes honest files uri changes (Err Source) (Song row) answer is told fault none memory of song before = absurd (cc
+    (fault refl))
+songs_settled bytes honest files uri changes (Err NoMemory) (Song row) answer is told fault none memory of song before = absurd (cc
+    (memory refl))
 songs_settled bytes honest files uri changes (Ok None) (Song row) answer is told fault none memory of song before = absurd (cc (none refl))
 songs_settled bytes honest files uri changes (Ok (Some source)) (Song row) answer is told fault none memory of song before =
-    All-same (λ (r : Row). song_at files r.uri ≡ Some r) _ _ (puts-append changes (Put row ∷ [])) (All-push (λ (r : Row). song_at files r.uri ≡ Some r) (puts_of changes) row before
+    All-same (λ (r : Row). song_at files r.uri ≡ Some r) _ _ (puts-append changes (Put row ∷ [])) (All-push (λ (r : Row). song_at
+    files r.uri ≡ Some r) (puts_of changes) row before
     (ap (song_at files) of ∙ ap (option_and_then (song_in uri)) told.0 ∙ song source refl told.1))
 
-pub batch_listed : {A : Type 0} (place : Option (List ℕ)) (start droppable : List (List ℕ)) (changes : List RowChange) (folder : List ℕ) (listing : Result A FolderFault) → IsBatch place start droppable changes → IsBatch place start (after_listing folder listing droppable) changes
+pub batch_listed : {A : Type 0} (place : Option (List ℕ)) (start droppable : List (List ℕ)) (changes : List RowChange) (folder :
+    List ℕ) (listing : Result A FolderFault) → IsBatch place start droppable changes
+    → IsBatch place start (after_listing folder listing droppable) changes
 batch_listed place start droppable changes folder (Ok entries) batch = batch
-batch_listed place start droppable changes folder (Err Source) batch = batch_kept (λ known. not (is_below folder known)) place start droppable changes batch
+batch_listed place start droppable changes folder (Err Source) batch = batch_kept (λ known. not (is_below folder known)) place
+    start droppable changes batch
 batch_listed place start droppable changes folder (Err NoMemory) batch = batch
 
 filter_none : (uris : List (List ℕ)) → filter (λ _. false) uris ≡ []
 filter_none [] = refl
 filter_none (uri ∷ uris) = filter_none uris
 
-pub batch_all_kept : (place : Option (List ℕ)) (start droppable : List (List ℕ)) (changes : List RowChange) → IsBatch place start droppable changes → IsBatch place start [] changes
-batch_all_kept place start droppable changes batch = rw (filter_none droppable) at (batch_kept (λ _. false) place start droppable changes batch)
+pub batch_all_kept : (place : Option (List ℕ)) (start droppable : List (List ℕ)) (changes : List RowChange)
+    → IsBatch place start droppable changes → IsBatch place start [] changes
+batch_all_kept place start droppable changes batch = rw (filter_none droppable) at (batch_kept (λ _. false) place start droppable
+    changes batch)
 
-pub batch_own : {A : Type 0} (place : Option (List ℕ)) (start droppable : List (List ℕ)) (changes : List RowChange) (listing : Result A FolderFault) → IsBatch place start droppable changes → IsBatch place start (after_own listing droppable) changes
+pub batch_own : {A : Type 0} (place : Option (List ℕ)) (start droppable : List (List ℕ)) (changes : List RowChange) (listing :
+    Result A FolderFault) → IsBatch place start droppable changes → IsBatch place start (after_own listing droppable) changes
 batch_own place start droppable changes (Ok entries) batch = batch
 batch_own place start droppable changes (Err Source) batch = batch_all_kept place start droppable changes batch
 batch_own place start droppable changes (Err NoMemory) batch = batch
 
 -- a batch before its first step
-pub batch_none : (place : Option (List ℕ)) (start : List (List ℕ)) (changes : List RowChange) → changes ≡ [] → IsBatch place start start changes
+pub batch_none : (place : Option (List ℕ)) (start : List (List ℕ)) (changes : List RowChange) → changes ≡ []
+    → IsBatch place start start changes
 batch_none place start changes none =
     rw none
     (record {
       no_drop = refl;
-      in_place = All-nil (λ (row : Row). is_in place row.uri ≡ true);
+      sought = All-nil (λ (row : Row). is_sought place row.uri ≡ true);
       left = (λ _. true, sym (filter_all start));
       read_stay = All-nil (λ (row : Row). is_among start row.uri ≡ false);
     })
 
 -- a batch that was filled up with drops
-pub batch_read : (place : Option (List ℕ)) (start droppable after : List (List ℕ)) (changes whole : List RowChange) → IsBatch place start droppable changes → drops_of whole ++ after ≡ drops_of changes ++ droppable → puts_of whole ≡ puts_of changes → IsRead place start after whole
+pub batch_read : (place : Option (List ℕ)) (start droppable after : List (List ℕ)) (changes whole : List RowChange)
+    → IsBatch place start droppable changes → drops_of whole ++ after ≡ drops_of changes ++ droppable
+    → puts_of whole ≡ puts_of changes → IsRead place start after whole
 batch_read place start droppable after changes whole batch drops puts =
     let rest : drops_of whole ++ after ≡ droppable = drops ∙ ap (λ l. l ++ droppable) batch.no_drop in
     record {
-      in_place = All-same (λ (row : Row). is_in place row.uri ≡ true) _ _ puts batch.in_place;
+      sought = All-same (λ (row : Row). is_sought place row.uri ≡ true) _ _ puts batch.sought;
       drops = (batch.left.0, rest ∙ batch.left.1);
       read_stay = rw rest (All-same (λ (row : Row). is_among droppable row.uri ≡ false) _ _ puts batch.read_stay);
     }

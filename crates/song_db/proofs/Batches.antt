@@ -18,7 +18,8 @@ pub empty_database : IsDatabase []
 unfolding IsStrictlySortedBy
 empty_database = record { few = omega arith; rising = tt }
 
-rising_cons : {X : Type 0} (text : X → List ℕ) (x : X) (xs : List X) → AllByRecursion (λ y. texts (text x) (text y) ≡ Less) xs → IsRising text xs → IsRising text (x ∷ xs)
+pub rising_cons : {X : Type 0} (text : X → List ℕ) (x : X) (xs : List X)
+    → AllByRecursion (λ y. texts (text x) (text y) ≡ Less) xs → IsRising text xs → IsRising text (x ∷ xs)
 unfolding IsStrictlySortedBy
 rising_cons text x xs first rest = (first, rest)
 
@@ -41,37 +42,54 @@ flip a b greater = nat_list_cmp_total.antisymm b a ∙ ap ordering_reverse great
 pub flip_less : (a b : List ℕ) → texts a b ≡ Less → texts b a ≡ Greater
 flip_less a b less = nat_list_cmp_total.antisymm b a ∙ ap ordering_reverse less
 
-pub behind_trans : {X : Type 0} (text : X → List ℕ) (key other : List ℕ) (xs : List X) → texts key other ≡ Less → AreBehind text other xs → AreBehind text key xs
+pub behind_trans : {X : Type 0} (text : X → List ℕ) (key other : List ℕ) (xs : List X) → texts key other ≡ Less
+    → AreBehind text other xs → AreBehind text key xs
 behind_trans text key other [] less behind = tt
-behind_trans text key other (x ∷ xs) less behind = (nat_list_cmp_total.trans key other (text x) less behind.0, behind_trans text key other xs less behind.1)
+behind_trans text key other (x ∷ xs) less behind = (
+  nat_list_cmp_total.trans key other (text x) less behind.0,
+  behind_trans text
+      key other xs less behind.1,
+)
 
-pub behind_equal : {X : Type 0} (text : X → List ℕ) (key other : List ℕ) (xs : List X) → texts key other ≡ Equal → AreBehind text other xs → AreBehind text key xs
+pub behind_equal : {X : Type 0} (text : X → List ℕ) (key other : List ℕ) (xs : List X) → texts key other ≡ Equal
+    → AreBehind text other xs → AreBehind text key xs
 behind_equal text key other [] same behind = tt
-behind_equal text key other (x ∷ xs) same behind = (nat_list_cmp_total.congr key other (text x) same ∙ behind.0, behind_equal text key other xs same behind.1)
+behind_equal text key other (x ∷ xs) same behind = (
+  nat_list_cmp_total.congr key other (text x) same
+      ∙ behind.0,
+  behind_equal text key other xs same behind.1,
+)
 
-pub behind_keyed : {X : Type 0} (text : X → List ℕ) (key other : List ℕ) (new : List X) → texts other key ≡ Less → AllByRecursion (λ x. text x ≡ key) new → AreBehind text other new
+pub behind_keyed : {X : Type 0} (text : X → List ℕ) (key other : List ℕ) (new : List X) → texts other key ≡ Less
+    → AllByRecursion (λ x. text x ≡ key) new → AreBehind text other new
 behind_keyed text key other [] less keyed = tt
 behind_keyed text key other (x ∷ xs) less keyed = (ap (texts other) keyed.0 ∙ less, behind_keyed text key other xs less keyed.1)
 
-pub behind_append : {X : Type 0} (text : X → List ℕ) (key : List ℕ) (xs ys : List X) → AreBehind text key xs → AreBehind text key ys → AreBehind text key (xs ++ ys)
+pub behind_append : {X : Type 0} (text : X → List ℕ) (key : List ℕ) (xs ys : List X) → AreBehind text key xs
+    → AreBehind text key ys → AreBehind text key (xs ++ ys)
 behind_append text key [] ys front back = back
 behind_append text key (x ∷ xs) ys front back = (front.0, behind_append text key xs ys front.1 back)
 
-pub behind_replaced : {X : Type 0} (text : X → List ℕ) (low key : List ℕ) (new xs : List X) → AreBehind text low new → AreBehind text low xs → AreBehind text low (replaced text key new xs)
+pub behind_replaced : {X : Type 0} (text : X → List ℕ) (low key : List ℕ) (new xs : List X) → AreBehind text low new
+    → AreBehind text low xs → AreBehind text low (replaced text key new xs)
 behind_replaced text low key new [] front back = front
 behind_replaced {X} text low key new (x ∷ xs) front back = by_cases (texts key (text x)) (behind_replaced text low key new xs front back.1)
   where
-    by_cases : (o : Ordering) → AreBehind text low (replaced text key new xs) → AreBehind text low (match_ordering o (new ++ x ∷ xs) (new ++ xs) (x ∷ replaced text key new xs))
+    by_cases : (o : Ordering) → AreBehind text low (replaced text key new xs)
+        → AreBehind text low (match_ordering o (new ++ x ∷ xs) (new ++ xs) (x ∷ replaced text key new xs))
     by_cases Less rest = behind_append text low new (x ∷ xs) front back
     by_cases Equal rest = behind_append text low new xs front back.1
     by_cases Greater rest = (back.0, rest)
 
-attach : {X : Type 0} (text : X → List ℕ) (key : List ℕ) (new xs : List X) → IsNew text key new → AreBehind text key xs → IsRising text xs → IsRising text (new ++ xs)
+attach : {X : Type 0} (text : X → List ℕ) (key : List ℕ) (new xs : List X) → IsNew text key new → AreBehind text key xs
+    → IsRising text xs → IsRising text (new ++ xs)
 attach text key [] xs is_new behind rising = rising
-attach text key (x ∷ []) xs is_new behind rising = let P : List ℕ → Type 0 = λ k. AreBehind text k xs in rising_cons text x xs (subst P (sym is_new.keyed.0) behind) rising
+attach text key (x ∷ []) xs is_new behind rising = let P : List ℕ
+    → Type 0 = λ k. AreBehind text k xs in rising_cons text x xs (subst P (sym is_new.keyed.0) behind) rising
 attach text key (x ∷ y ∷ more) xs is_new behind rising = absurd (let few : length (x ∷ y ∷ more) ≤ 1 = is_new.few in omega arith)
 
-pub rising_replaced : {X : Type 0} (text : X → List ℕ) (key : List ℕ) (new xs : List X) → IsNew text key new → IsRising text xs → IsRising text (replaced text key new xs)
+pub rising_replaced : {X : Type 0} (text : X → List ℕ) (key : List ℕ) (new xs : List X) → IsNew text key new → IsRising text xs
+    → IsRising text (replaced text key new xs)
 rising_replaced text key new [] is_new rising = subst (IsRising text) (append-nil new) (attach text key new [] is_new tt rising)
 rising_replaced {X} text key new (x ∷ xs) is_new rising = by_cases (texts key (text x)) refl (rising_replaced text key new xs is_new rest)
   where
@@ -81,19 +99,23 @@ rising_replaced {X} text key new (x ∷ xs) is_new rising = by_cases (texts key 
     behind : AreBehind text (text x) xs
     behind = sorted_head (by_text text) x xs rising
 
-    by_cases : (o : Ordering) → texts key (text x) ≡ o → IsRising text (replaced text key new xs) → IsRising text (match_ordering o (new ++ x ∷ xs) (new ++ xs) (x ∷ replaced text key new xs))
+    by_cases : (o : Ordering) → texts key (text x) ≡ o → IsRising text (replaced text key new xs)
+        → IsRising text (match_ordering o (new ++ x ∷ xs) (new ++ xs) (x ∷ replaced text key new xs))
     by_cases Less h r = attach text key new (x ∷ xs) is_new (h, behind_trans text key (text x) xs h behind) rising
     by_cases Equal h r = attach text key new xs is_new (behind_equal text key (text x) xs h behind) rest
-    by_cases Greater h r = rising_cons text x (replaced text key new xs) (behind_replaced text (text x) key new xs (behind_keyed text key (text x) new (flip key (text x) h) is_new.keyed) behind) r
+    by_cases Greater h r = rising_cons text x (replaced text key new xs) (behind_replaced text (text x) key new xs (behind_keyed
+        text key (text x) new (flip key (text x) h) is_new.keyed) behind) r
 
 pub rising_changed : (change : RowChange) (rows : List Row) → IsRising row_uri rows → IsRising row_uri (changed change rows)
 rising_changed change rows rising = rising_replaced row_uri (uri_of change) (rows_of change) rows (new-rows_of change) rising
 
-pub length_replaced : {X : Type 0} (text : X → List ℕ) (key : List ℕ) (new xs : List X) → length (replaced text key new xs) ≤ length new + length xs
+pub length_replaced : {X : Type 0} (text : X → List ℕ) (key : List ℕ) (new xs : List X)
+    → length (replaced text key new xs) ≤ length new + length xs
 length_replaced text key new [] = omega arith
 length_replaced {X} text key new (x ∷ xs) = by_cases (texts key (text x)) (length_replaced text key new xs)
   where
-    by_cases : (o : Ordering) → length (replaced text key new xs) ≤ length new + length xs → length (match_ordering o (new ++ x ∷ xs) (new ++ xs) (x ∷ replaced text key new xs)) ≤ length new + length (x ∷ xs)
+    by_cases : (o : Ordering) → length (replaced text key new xs) ≤ length new + length xs
+        → length (match_ordering o (new ++ x ∷ xs) (new ++ xs) (x ∷ replaced text key new xs)) ≤ length new + length (x ∷ xs)
     by_cases Less rest = omega (arith, length-append new (x ∷ xs))
     by_cases Equal rest = omega (arith, length-append new xs)
     by_cases Greater rest = omega arith

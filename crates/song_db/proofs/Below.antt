@@ -1,5 +1,6 @@
 -- What stands below a folder, by bytes: its path has those of the folder and a slash in front.
-use Rattle.std.proofs.Common.{◌≡◌, ℕ, ◌<◌, ◌≤◌, Bool, true, false, ◌&&◌, List, [], ◌∷◌, length, take, get_or, nat_eq, refl, sym, ap, ◌∙◌, arith}
+use Rattle.std.proofs.Common.{◌≡◌, ℕ, ◌<◌, ◌≤◌, Bool, true, false, ◌&&◌, List, [], ◌∷◌, length, take, get_or, nat_eq}
+use Rattle.std.proofs.Common.{refl, sym, ap, ◌∙◌, arith}
 use Rattle.std.proofs.lemmas.Bool.Decides.{nat_tests}
 use Rattle.std.specs.Str.{bytes_eq}
 use Rattle.song_db.specs.Uri.{parts}
@@ -57,11 +58,23 @@ below-bytes (x ∷ xs) [] = by_cases (nat_eq x 47) refl (has_first xs)
     by_cases false other rest = rw (other, rest.is) refl
 below-bytes (x ∷ xs) (y ∷ ys) = by_cases (nat_eq x 47) refl (nat_eq y 47) refl (has_first xs) (has_first ys) (below-bytes xs ys)
   where
-    by_cases : (a : Bool) → nat_eq x 47 ≡ a → (b : Bool) → nat_eq y 47 ≡ b → HasFirst xs → HasFirst ys → is_below xs ys ≡ begins_below xs ys → is_below (x ∷ xs) (y ∷ ys) ≡ (nat_eq x y && begins_below xs ys)
+    by_cases : (a : Bool) → nat_eq x 47 ≡ a → (b : Bool) → nat_eq y 47 ≡ b → HasFirst xs → HasFirst ys
+        → is_below xs ys ≡ begins_below xs ys → is_below (x ∷ xs) (y ∷ ys) ≡ (nat_eq x y && begins_below xs ys)
     by_cases true x_is true y_is front whole rest = let same : nat_eq x y ≡ true = grind (arith, nat_tests) in rw (x_is, y_is, same) rest
-    by_cases true x_is false y_is front whole rest = let apart : nat_eq x y ≡ false = grind (arith, nat_tests) in rw (x_is, y_is, apart, whole.is) refl
-    by_cases false x_is true y_is front whole rest = let apart : nat_eq x y ≡ false = grind (arith, nat_tests) in rw (x_is, y_is, apart, front.is) refl
-    by_cases false x_is false y_is front whole rest = rw (x_is, y_is, front.is, whole.is) (and_assoc (nat_eq x y) (bytes_eq front.first whole.first) (goes_on front.others whole.others) ∙ ap (λ b. nat_eq x y && b) (rw (front.is, whole.is) at rest))
+    by_cases true x_is false y_is front whole rest = let apart : nat_eq x y ≡ false = grind (arith, nat_tests) in rw (
+      x_is,
+      y_is,
+      apart,
+      whole.is,
+    ) refl
+    by_cases false x_is true y_is front whole rest = let apart : nat_eq x y ≡ false = grind (arith, nat_tests) in rw (
+      x_is,
+      y_is,
+      apart,
+      front.is,
+    ) refl
+    by_cases false x_is false y_is front whole rest = rw (x_is, y_is, front.is, whole.is) (and_assoc (nat_eq x y) (bytes_eq
+        front.first whole.first) (goes_on front.others whole.others) ∙ ap (λ b. nat_eq x y && b) (rw (front.is, whole.is) at rest))
 
 pub below_short : (folder path : List ℕ) → length path ≤ length folder → is_below folder path ≡ false
 below_short folder path short = below-bytes folder path ∙ by_bytes folder path short
@@ -72,11 +85,14 @@ below_short folder path short = below-bytes folder path ∙ by_bytes folder path
     by_bytes (x ∷ xs) [] short = refl
     by_bytes (x ∷ xs) (y ∷ ys) short = rw (by_bytes xs ys (omega arith)) (and_false (nat_eq x y))
 
-pub below_long : (folder path : List ℕ) → length folder < length path → is_below folder path ≡ (bytes_eq (take (length folder) path) folder && nat_eq (get_or path (length folder) 0) 47)
+pub below_long : (folder path : List ℕ) → length folder < length path
+    → is_below folder path ≡ (bytes_eq (take (length folder) path) folder && nat_eq (get_or path (length folder) 0) 47)
 below_long folder path long = below-bytes folder path ∙ by_bytes folder path long
   where
-    by_bytes : (folder path : List ℕ) → length folder < length path → begins_below folder path ≡ (bytes_eq (take (length folder) path) folder && nat_eq (get_or path (length folder) 0) 47)
+    by_bytes : (folder path : List ℕ) → length folder < length path
+        → begins_below folder path ≡ (bytes_eq (take (length folder) path) folder && nat_eq (get_or path (length folder) 0) 47)
     by_bytes [] [] long = absurd (omega arith)
     by_bytes [] (y ∷ ys) long = refl
     by_bytes (x ∷ xs) [] long = absurd (omega arith)
-    by_bytes (x ∷ xs) (y ∷ ys) long = rw (by_bytes xs ys (omega arith), nat_eq_comm x y) (sym (and_assoc (nat_eq y x) (bytes_eq (take (length xs) ys) xs) (nat_eq (get_or ys (length xs) 0) 47)))
+    by_bytes (x ∷ xs) (y ∷ ys) long = rw (by_bytes xs ys (omega arith), nat_eq_comm x y) (sym (and_assoc (nat_eq y x) (bytes_eq
+        (take (length xs) ys) xs) (nat_eq (get_or ys (length xs) 0) 47)))

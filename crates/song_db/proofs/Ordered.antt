@@ -14,12 +14,15 @@ use Rattle.song_db.proofs.Rising.{texts}
 abbrev pub shown : List (Bor (List ℕ)) → List (List ℕ)
 shown keys = map (λ key. key.now) keys
 
-pub insert_key-shown : (keys : List (Bor (List ℕ))) (key : Bor (List ℕ)) → shown (insert_key (λ a b. texts a.now b.now) keys key) ≡ replaced (λ t. t) key.now (key.now ∷ []) (shown keys)
+pub insert_key-shown : (keys : List (Bor (List ℕ))) (key : Bor (List ℕ))
+    → shown (insert_key (λ a b. texts a.now b.now) keys key) ≡ replaced (λ t. t) key.now (key.now ∷ []) (shown keys)
 insert_key-shown [] key = refl
 insert_key-shown (x ∷ xs) key = by_cases (texts key.now x.now) refl (insert_key-shown xs key)
   where
-    by_cases : (o : Ordering) → texts key.now x.now ≡ o → shown (insert_key (λ a b. texts a.now b.now) xs key) ≡ replaced (λ t. t) key.now (key.now ∷ []) (shown xs)
-        → shown (match_ordering o (key ∷ x ∷ xs) (x ∷ xs) (x ∷ insert_key (λ a b. texts a.now b.now) xs key)) ≡ match_ordering o (key.now ∷ x.now ∷ shown xs) (key.now ∷ shown xs) (x.now ∷ replaced (λ t. t) key.now (key.now ∷ []) (shown xs))
+    by_cases : (o : Ordering) → texts key.now x.now ≡ o
+        → shown (insert_key (λ a b. texts a.now b.now) xs key) ≡ replaced (λ t. t) key.now (key.now ∷ []) (shown xs)
+        → shown (match_ordering o (key ∷ x ∷ xs) (x ∷ xs) (x ∷ insert_key (λ a b. texts a.now b.now) xs key)) ≡ match_ordering o
+        (key.now ∷ x.now ∷ shown xs) (key.now ∷ shown xs) (x.now ∷ replaced (λ t. t) key.now (key.now ∷ []) (shown xs))
     by_cases Less h rest = refl
     by_cases Equal h rest =
         let same : bytes_eq key.now x.now ≡ true = sym (is_eq-slice_cmp key.now x.now) ∙ ap is_eq h in

@@ -7,18 +7,18 @@ use Rattle.song_db.specs.declared.change.RowChange.{RowChange}
 use Rattle.song_db.specs.declared.scan.visit.Visit.{Visit}
 use Rattle.song_db.specs.declared.scan.visit.Visit.TheVariants.{Nothing}
 use Rattle.song_db.specs.Found.{visit_of, without_below}
-use Rattle.song_db.specs.Scan.{is_in, puts_of, drops_of, is_among, ArePartOf}
+use Rattle.song_db.specs.Scan.{is_sought, puts_of, drops_of, is_among, ArePartOf}
 
 -- the changes so far, and what may still be dropped of what might be at the start
 pub record IsBatch (place : Option (List ℕ)) (start droppable : List (List ℕ)) (changes : List RowChange) : Type 0 where
   pub no_drop : drops_of changes ≡ []
-  pub in_place : All (λ row. is_in place row.uri ≡ true) (puts_of changes)
+  pub sought : All (λ row. is_sought place row.uri ≡ true) (puts_of changes)
   pub left : ArePartOf droppable start
   pub read_stay : All (λ row. is_among droppable row.uri ≡ false) (puts_of changes)
 
 -- what a whole batch does
 pub record IsRead (place : Option (List ℕ)) (before after : List (List ℕ)) (changes : List RowChange) : Type 0 where
-  pub in_place : All (λ row. is_in place row.uri ≡ true) (puts_of changes)
+  pub sought : All (λ row. is_sought place row.uri ≡ true) (puts_of changes)
   pub drops : ArePartOf (drops_of changes ++ after) before
   pub read_stay : All (λ row. is_among (drops_of changes ++ after) row.uri ≡ false) (puts_of changes)
 

@@ -24,16 +24,6 @@ rows_of (Drop uri) = []
 abbrev pub changed : RowChange → List Row → List Row
 changed change rows = replaced row_uri (uri_of change) (rows_of change) rows
 
--- changes one after the other
-abbrev pub made : List RowChange → List Row → List Row
-made [] rows = rows
-made (change ∷ changes) rows = made changes (changed change rows)
-
--- what the first of them brings
-abbrev pub first_rows : List RowChange → List Row
-first_rows [] = []
-first_rows (change ∷ changes) = rows_of change
-
 abbrev pub has_uri : List Row → List ℕ → Bool
 has_uri rows uri = is_some (row_at rows uri)
 
@@ -42,12 +32,11 @@ abbrev pub fits : List Row → RowChange → Bool
 fits rows (Put row) = has_uri rows row.uri || nat_lt (length rows) MAX_ROWS
 fits rows (Drop uri) = true
 
+-- a change that fits is made
+abbrev pub after_change : List Row → RowChange → List Row
+after_change rows change = if fits rows change then changed change rows else rows
+
 -- a batch makes the changes that fit, in its order
 abbrev pub after_batch : List Row → List RowChange → List Row
 after_batch rows [] = rows
-after_batch rows (change ∷ changes) = after_batch (if fits rows change then changed change rows else rows) changes
-
--- and leaves the others out
-abbrev pub left_out : List Row → List RowChange → List RowChange
-left_out rows [] = []
-left_out rows (change ∷ changes) = if fits rows change then left_out (changed change rows) changes else change ∷ left_out rows changes
+after_batch rows (change ∷ changes) = after_batch (after_change rows change) changes

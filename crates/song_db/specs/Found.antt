@@ -1,6 +1,6 @@
 -- What a scan looks at, and what it finds there.
-use Rattle.std.specs.Prelude.{◌≡◌, ℕ, ◌-◌, Bool, true, false, not, ◌&&◌, ◌==◌, nat_lt, nat_le, List, [], ◌∷◌, ◌++◌, length, map, drop, filter, count_by, codes, Option, Some, None, Result, Ok, Err, if◌then◌else◌}
-use Rattle.std.specs.Char.{to_ascii_lowercase}
+use Rattle.std.specs.Prelude.{◌≡◌, ℕ, Bool, true, false, not, nat_lt, List, [], ◌∷◌, ◌++◌, filter, Option, Some, None}
+use Rattle.std.specs.Prelude.{Result, Ok, Err, if◌then◌else◌}
 use Rattle.std.specs.Str.{bytes_eq}
 use Rattle.wave_pcm.specs.declared.info.WaveInfo.{WaveInfo}
 use Rattle.wave_pcm.specs.declared.error.WaveError.{WaveError}
@@ -14,21 +14,11 @@ use Rattle.song_db.specs.declared.scan.found.Found.{Found}
 use Rattle.song_db.specs.declared.scan.found.Found.TheVariants.{Song, Kept, NoSong}
 use Rattle.song_db.specs.declared.scan.visit.Visit.{Visit}
 use Rattle.song_db.specs.declared.scan.visit.Visit.TheVariants.{File, Folder, Nothing}
+use Rattle.song_db.specs.Name.{folders_over, is_song}
 use Rattle.song_db.specs.Place.{is_below}
 use Rattle.song_db.specs.Row.{Row, row_of, is_within_limits}
-use Rattle.song_db.specs.Scan.{is_in, song_in}
+use Rattle.song_db.specs.Scan.{is_in, is_sought, song_in}
 use Rattle.song_db.specs.Uri.{is_uri}
-
--- the last four bytes are `.wav`, in any case
-abbrev pub ends_as_wave : List ℕ → Bool
-ends_as_wave path = bytes_eq (map to_ascii_lowercase (drop (length path - 4) path)) (codes ".wav")
-
--- how many folders a path names over what it ends in
-abbrev pub folders_over : List ℕ → ℕ
-folders_over path = count_by (λ b. b == 47) path
-
-abbrev pub is_song : List ℕ → Bool
-is_song path = ends_as_wave path && nat_le (folders_over path) MAX_FOLDERS
 
 -- what is done at a path, which is a folder's or a file's
 abbrev pub visit_of : List ℕ → Bool → Visit
@@ -40,7 +30,7 @@ abbrev pub visit_at : List ℕ → Bool → Visit
 visit_at path is_folder = if is_uri path then visit_of path is_folder else Nothing
 
 abbrev pub IsVisitIn : Option (List ℕ) → Visit → Type 0
-IsVisitIn place (File uri) = is_in place uri ≡ true
+IsVisitIn place (File uri) = is_sought place uri ≡ true
 IsVisitIn place (Folder uri) = is_in place uri ≡ true
 IsVisitIn place Nothing = Unit {0}
 

@@ -5,10 +5,6 @@ use Rattle.std.specs.Prelude.{ℕ}
 abbrev pub MAX_URI_BYTES : ℕ
 MAX_URI_BYTES = 1024
 
--- the highest rate of a song, in frames a second
-abbrev pub MAX_RATE : ℕ
-MAX_RATE = 192000
-
 -- how many rows the database may have
 abbrev pub MAX_ROWS : ℕ
 MAX_ROWS = 65536

@@ -1,5 +1,5 @@
 -- What is asked of the rows.
-use Rattle.std.specs.Prelude.{ℕ, ◌+◌, Bool, true, ◌==◌, List, [], ◌∷◌, length, take, drop, filter, Option, option_map}
+use Rattle.std.specs.Prelude.{ℕ, ◌+◌, Bool, true, ◌==◌, List, [], ◌∷◌, length, take, drop, filter, Option, option_map, is_none}
 use Rattle.std.specs.List.{position, list_any, filter_map}
 use Rattle.std.specs.Str.{bytes_eq}
 use Rattle.song_db.specs.declared.place.Place.{Place}
@@ -47,3 +47,11 @@ folder_of place path = option_map (λ n. take (skipped place + n) path) (positio
 -- the folders directly in a place
 abbrev pub folders_in : List Row → Place → List (List ℕ)
 folders_in rows place = distinct_of (filter_map (λ row. folder_of place row.uri) (rows_under rows place))
+
+-- right in a place, with no folder between
+abbrev pub is_right_in : Place → List ℕ → Bool
+is_right_in place path = is_none (folder_of place path)
+
+-- the songs right in a place, by URI
+abbrev pub songs_in : List Row → Place → List Row
+songs_in rows place = filter (λ row. is_right_in place row.uri) (rows_under rows place)

@@ -1,8 +1,10 @@
 -- The refusals: their numbers, and when a call is refused.
-use Rattle.std.specs.Prelude.{◌≡◌, ℕ, Bool, true, false, List, [], ◌∷◌, Option, Some, None, Result, Err, IsOk, IsOkUnless}
-use Rattle.song_db.specs.declared.change.RowChange.{RowChange}
+use Rattle.std.specs.Prelude.{◌≡◌, ℕ, Bool, true, false, List, Option, Some, None, Result, Err, IsOk, IsOkUnless, if◌then◌else◌}
+use Rattle.std.specs.List.{list_any}
+use Rattle.song_db.specs.declared.effect.Effect.{Effect}
 use Rattle.song_db.specs.declared.refusal.SongDbError.{SongDbError}
 use Rattle.song_db.specs.declared.refusal.SongDbError.TheVariants.{NoSuchUri, DbFull, NoMemory}
+use Rattle.song_db.specs.Effect.{is_left_out}
 
 abbrev pub number_of : SongDbError → ℕ
 number_of NoSuchUri = 17
@@ -20,6 +22,5 @@ AnswersIfThere true r = IsOkUnless r NoMemory
 AnswersIfThere false r = r ≡ Err NoSuchUri
 
 -- changes are left out of a full database alone
-abbrev pub refusal_of : List RowChange → Option SongDbError
-refusal_of [] = None
-refusal_of (change ∷ changes) = Some DbFull
+abbrev pub refusal_of : List Effect → Option SongDbError
+refusal_of effects = if list_any is_left_out effects then Some DbFull else None

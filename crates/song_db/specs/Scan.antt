@@ -1,5 +1,6 @@
 -- What a scan answers.
-use Rattle.std.specs.Prelude.{◌≡◌, ℕ, ◌<◌, ◌≤◌, Bool, true, false, ◌||◌, List, [], ◌∷◌, ◌++◌, length, filter, Option, Some, None, option_map}
+use Rattle.std.specs.Prelude.{◌≡◌, ℕ, ◌<◌, ◌≤◌, Bool, true, false, ◌||◌, ◌&&◌, List, [], ◌∷◌, ◌++◌, length, filter}
+use Rattle.std.specs.Prelude.{Option, Some, None, option_map}
 use Rattle.std.specs.Result.{result_ok}
 use Rattle.std.specs.List.{list_any, All}
 use Rattle.std.specs.Option.{option_and_then}
@@ -9,6 +10,7 @@ use Rattle.wave_pcm.specs.Reading.{wave_reading}
 use Rattle.song_db.specs.declared.change.RowChange.{RowChange}
 use Rattle.song_db.specs.declared.change.RowChange.TheVariants.{Put, Drop}
 use Rattle.song_db.specs.Limits.{MAX_CHANGES}
+use Rattle.song_db.specs.Name.{is_song}
 use Rattle.song_db.specs.Place.{is_below}
 use Rattle.song_db.specs.Row.{Row, row_of}
 
@@ -23,6 +25,10 @@ pub record Progress : Type 0 where
 abbrev pub is_in : Option (List ℕ) → List ℕ → Bool
 is_in None path = true
 is_in (Some uri) path = bytes_eq path uri || is_below uri path
+
+-- what a job seeks: files there that have the name of a song, within the depth
+abbrev pub is_sought : Option (List ℕ) → List ℕ → Bool
+is_sought place path = is_in place path && is_song path
 
 abbrev pub puts_of : List RowChange → List Row
 puts_of [] = []
@@ -41,11 +47,12 @@ is_among uris uri = list_any (bytes_eq uri) uris
 abbrev pub ArePartOf : List (List ℕ) → List (List ℕ) → Type 0
 ArePartOf part uris = (test : List ℕ → Bool) × (part ≡ filter test uris)
 
--- what one answer of changes does: each known URI is dropped once at most, in their order, and none that was read is dropped with it or later
+-- what one answer of changes does: each known URI is dropped once at most, in their order, and none that was read is
+-- dropped with it or later
 pub record IsAnswer (before after : Progress) (changes : List RowChange) : Type 0 where
   pub some : 0 < length changes
   pub few : length changes ≤ MAX_CHANGES
-  pub in_place : All (λ row. is_in before.place row.uri ≡ true) (puts_of changes)
+  pub sought : All (λ row. is_sought before.place row.uri ≡ true) (puts_of changes)
   pub drops : ArePartOf (drops_of changes ++ after.droppable) before.droppable
   pub read_stay : All (λ row. is_among (drops_of changes ++ after.droppable) row.uri ≡ false) (puts_of changes)
 

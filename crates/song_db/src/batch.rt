@@ -1,62 +1,110 @@
 ghost use Rattle.std.specs.Prelude.{◌≡◌, ◌<◌, ◌≤◌, ◌++◌, ◌+◌, length, vec_len, vec_capacity};
-ghost use Rattle.song_db.specs.Change.{IsDatabase, changed, fits, after_batch, left_out};
+ghost use Rattle.song_db.specs.Change.{IsDatabase, after_change, after_batch};
+ghost use Rattle.song_db.specs.Duration.{IsTimed};
+ghost use Rattle.song_db.specs.Effect.{effect_of, effects_of};
 ghost use Rattle.song_db.specs.Replaced.{IsRising};
 ghost use Rattle.song_db.specs.Row.{row_uri};
+ghost use Rattle.song_db.specs.declared.change.RowChange.TheVariants.{Put, Drop};
 
 use crate::change::RowChange;
+use crate::effect::{Effect, total_after};
 use crate::limits::MAX_ROWS;
 use crate::row::SongRow;
-use crate::rows::{place, position};
+use crate::rows::place;
+use crate::uri::Uri;
+use std::mem;
 
-// Makes one change among rows that have room for one more.
-pub(crate) fn apply_change(rows: &mut Vec<SongRow>, change: RowChange)
+// A row comes, unless the very row stands there or the database is full.
+fn put_row(rows: &mut Vec<SongRow>, row: SongRow) -> Effect
     requires rising { IsRising row_uri rows.old.items }
     requires room { vec_len rows.old < vec_capacity rows.old }
-    ensures rows { rows.new.items ≡ changed change rows.old.items }
+    ensures effect { result ≡ effect_of rows.old.items (Put row) }
+    ensures rows { rows.new.items ≡ after_change rows.old.items (Put row) }
+    ensures len { vec_len rows.new ≤ vec_len rows.old + 1 }
+    ensures capacity { vec_capacity rows.new ≡ vec_capacity rows.old }
+{
+    match place(rows, row.uri()) {
+        Ok(at) => {
+            if rows[at].is_same(&row) {
+                return Effect::Nothing;
+            }
+            Effect::Replaced(mem::replace(&mut rows[at], row))
+        }
+        Err(at) => {
+            if rows.len() >= MAX_ROWS {
+                return Effect::LeftOut(row);
+            }
+            rows.insert(at, row).unwrap();
+            Effect::Came
+        }
+    }
+}
+
+// The row of a URI goes, if there is one.
+fn drop_row(rows: &mut Vec<SongRow>, uri: &Uri) -> Effect
+    requires { IsRising row_uri rows.old.items }
+    ensures effect { result ≡ effect_of rows.old.items (Drop uri.now) }
+    ensures rows { rows.new.items ≡ after_change rows.old.items (Drop uri.now) }
+    ensures len { vec_len rows.new ≤ vec_len rows.old }
+    ensures capacity { vec_capacity rows.new ≡ vec_capacity rows.old }
+{
+    match place(rows, uri.as_str()) {
+        Ok(at) => Effect::Went(rows.remove(at)),
+        Err(_) => Effect::Nothing,
+    }
+}
+
+// Makes a change among rows that have room for one more.
+fn make_change(rows: &mut Vec<SongRow>, change: RowChange) -> Effect
+    requires rising { IsRising row_uri rows.old.items }
+    requires room { vec_len rows.old < vec_capacity rows.old }
+    ensures effect { result ≡ effect_of rows.old.items change }
+    ensures rows { rows.new.items ≡ after_change rows.old.items change }
+    ensures len { vec_len rows.new ≤ vec_len rows.old + 1 }
     ensures capacity { vec_capacity rows.new ≡ vec_capacity rows.old }
 {
     match change {
-        RowChange::Put(row) => match place(rows, row.uri()) {
-            Ok(at) => rows[at] = row,
-            Err(at) => rows.insert(at, row).unwrap(),
-        },
-        RowChange::Drop(uri) => {
-            if let Ok(at) = place(rows, uri.as_str()) {
-                rows.remove(at);
-            }
-        }
+        RowChange::Put(row) => put_row(rows, row),
+        RowChange::Drop(uri) => drop_row(rows, &uri),
     }
 }
 
-// Whether a change has room: a new row wants a place.
-fn fits(rows: &[SongRow], change: &RowChange) -> bool
-    requires { IsRising row_uri rows.now }
-    ensures { result ≡ fits rows.now change.now }
+// Makes a change, and keeps the milliseconds of all songs.
+fn make_timed(rows: &mut Vec<SongRow>, total: &mut u128, change: RowChange) -> Effect
+    requires database { IsDatabase rows.old.items }
+    requires timed { IsTimed rows.old.items total.old }
+    requires room { vec_len rows.old < vec_capacity rows.old }
+    ensures database { IsDatabase rows.new.items }
+    ensures timed { IsTimed rows.new.items total.new }
+    ensures effect { result ≡ effect_of rows.old.items change }
+    ensures rows { rows.new.items ≡ after_change rows.old.items change }
+    ensures len { vec_len rows.new ≤ vec_len rows.old + 1 }
+    ensures capacity { vec_capacity rows.new ≡ vec_capacity rows.old }
 {
-    match change {
-        RowChange::Put(row) => position(rows, row.uri()).is_some() || rows.len() < MAX_ROWS,
-        RowChange::Drop(_) => true,
-    }
+    let gain = change.gain();
+    let effect = make_change(rows, change);
+    *total = total_after(*total, gain, &effect);
+    effect
 }
 
-// Makes the changes that fit one after the other, and gives the others to `left`. Each new row moves those behind it.
-pub(crate) fn apply_in_turn(
+// Makes changes one after the other among rows that have room for all of them, and says what each did.
+pub(crate) fn make_changes(
     rows: &mut Vec<SongRow>,
+    total: &mut u128,
     changes: Vec<RowChange>,
-    left: &mut Vec<RowChange>,
+    effects: &mut Vec<Effect>,
 )
     requires database { IsDatabase rows.old.items }
-    requires room { MAX_ROWS < vec_capacity rows.old }
-    requires room_left { length left.old.items + length changes.items ≤ vec_capacity left.old }
+    requires timed { IsTimed rows.old.items total.old }
+    requires room { vec_len rows.old + length changes.items ≤ vec_capacity rows.old }
+    requires room_told { vec_len effects.old + length changes.items ≤ vec_capacity effects.old }
     ensures database { IsDatabase rows.new.items }
+    ensures timed { IsTimed rows.new.items total.new }
     ensures rows { rows.new.items ≡ after_batch rows.old.items changes.items }
-    ensures left { left.new.items ≡ left.old.items ++ left_out rows.old.items changes.items }
+    ensures effects { effects.new.items ≡ effects.old.items ++ effects_of rows.old.items changes.items }
 {
     for change in changes {
-        if fits(rows, &change) {
-            apply_change(rows, change);
-        } else {
-            left.push_reserved(change);
-        }
+        let effect = make_timed(rows, total, change);
+        effects.push_reserved(effect);
     }
 }

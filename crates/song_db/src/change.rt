@@ -1,11 +1,9 @@
-ghost use Rattle.std.specs.Prelude.{◌≡◌, ◌↔◌, [], length, IsTrue};
+ghost use Rattle.std.specs.Prelude.{◌≡◌, ◌<◌, ◌^◌};
 ghost use Rattle.song_db.specs.Change.{uri_of};
-ghost use Rattle.song_db.specs.Refusal.{refusal_of};
+ghost use Rattle.song_db.specs.Gain.{gain_of};
 
-use crate::refusal::SongDbError;
 use crate::row::SongRow;
 use crate::uri::Uri;
-use std::marker::Model;
 
 /// What a batch does to one row.
 #[derive(Debug, Drop)]
@@ -25,49 +23,15 @@ impl RowChange {
             RowChange::Drop(uri) => uri.as_str(),
         }
     }
-}
 
-/// The changes of a batch that would have passed the limit on rows, in its order.
-#[derive(Debug, Drop)]
-pub struct LeftOut {
-    pub(crate) changes: Vec<RowChange>,
-}
-
-impl Model for LeftOut {
-    ghost use Rattle.std.specs.Prelude.{List};
-    ghost use Rattle.song_db.specs.declared.change.RowChange.{RowChange};
-
-    ghost Value = { List RowChange };
-
-    ghost view = { λ l. l.changes.items };
-}
-
-impl LeftOut {
-    pub fn len(&self) -> usize
-        ensures { result ≡ length self.now }
+    // The milliseconds that its row brings, if it comes.
+    pub(crate) fn gain(&self) -> u128
+        ensures gain { result ≡ gain_of self.now }
+        ensures bound { result < 2 ^ 74 }
     {
-        self.changes.len()
-    }
-
-    pub fn is_empty(&self) -> bool
-        ensures { IsTrue result ↔ (self.now ≡ []) }
-    {
-        self.changes.is_empty()
-    }
-
-    pub fn as_slice(&self) -> &[RowChange]
-        ensures { result.now ≡ self.now }
-    {
-        self.changes.as_slice()
-    }
-
-    /// Why they were left out, if any were.
-    pub fn refusal(&self) -> Option<SongDbError>
-        ensures { result ≡ refusal_of self.now }
-    {
-        if self.changes.is_empty() {
-            return None;
+        match self {
+            RowChange::Put(row) => row.milliseconds(),
+            RowChange::Drop(_) => 0,
         }
-        Some(SongDbError::DbFull)
     }
 }

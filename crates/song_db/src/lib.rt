@@ -3,9 +3,10 @@
 
 mod batch;
 pub mod change;
+pub mod effect;
 mod folder_rows;
+mod known_rows;
 pub mod limits;
-mod merge;
 pub mod order;
 pub mod place;
 pub mod refusal;
@@ -17,11 +18,12 @@ pub mod texts;
 pub mod uri;
 mod values;
 
-pub use change::{LeftOut, RowChange};
+pub use change::RowChange;
+pub use effect::{Effect, Effects};
 pub use limits::{MAX_CHANGES, MAX_FOLDERS, MAX_ROWS, MAX_URI_BYTES};
 pub use order::ScanOrder;
 pub use place::Place;
-pub use refusal::SongDbError;
+pub use refusal::{PushError, SongDbError};
 pub use row::SongRow;
 pub use scan::Scan;
 pub use song_db::SongDb;

@@ -6,7 +6,8 @@ ghost use Rattle.song_db.specs.Order.{AreKnown};
 use crate::uri::Uri;
 use std::marker::Model;
 
-/// What a scan is to read: a folder or a song, and the URIs of the rows that were there when the job was taken, the song itself included. They rise by their bytes.
+/// What a scan is to read: a folder or a song, and the URIs of the rows that were there when the job was taken, the
+/// song itself included. They rise by their bytes.
 #[derive(Debug, Drop)]
 pub struct ScanOrder {
     job: u32,
@@ -27,12 +28,21 @@ impl Model for ScanOrder {
 impl ScanOrder {
     /// The order of a job for a folder or a song, or for the root; `None` where the known URIs don't rise.
     pub fn new(job: u32, uri: Option<Uri>, known: Vec<Uri>) -> Option<ScanOrder>
-        ensures { MatchOption result (AreKnown known.items → ⊥) (λ order. (order ≡ record { job = job; uri = uri; known = known.items }) × AreKnown known.items) }
+        ensures { MatchOption result (AreKnown known.items →
+            ⊥) (λ order. (order ≡ record { job = job; uri = uri; known = known.items }) × AreKnown known.items) }
     {
         if !are_rising(&known) {
             return None;
         }
         Some(ScanOrder { job, uri, known })
+    }
+
+    // The order of a job that knows these, which rise.
+    pub(crate) fn of_known(job: u32, uri: Option<Uri>, known: Vec<Uri>) -> ScanOrder
+        requires { AreKnown known.items }
+        ensures { result ≡ record { job = job; uri = uri; known = known.items } }
+    {
+        ScanOrder { job, uri, known }
     }
 
     /// The number of the job.

@@ -1,12 +1,13 @@
 ghost use Rattle.std.specs.Prelude.{◌≡◌};
 ghost use Rattle.song_db.specs.Refusal.{number_of};
 ghost use Rattle.song_db.specs.declared.refusal.SongDbError.TheVariants.{NoMemory};
+ghost use Rattle.song_db.specs.declared.refusal.PushError.TheVariants.{NoMemory as OutOfMemory};
 
 use std::alloc::{AllocError, AllocFailed};
 use thiserror::Error;
 
 /// Why a call of `SongDb` was refused. What it was called on stays as it was.
-#[derive(Clone, Copy, Debug, PartialEq, Eq, Hash, Error)]
+#[derive(Clone, Copy, Debug, PartialEq, Eq, Error)]
 pub enum SongDbError {
     /// No song has the URI, or no song stands below it.
     #[error("no such file or directory")]
@@ -44,5 +45,34 @@ impl<T: Drop> From<AllocFailed<T>> for SongDbError {
 
     fn from(_error: AllocFailed<T>) -> Self {
         SongDbError::NoMemory
+    }
+}
+
+/// Why `SongDb::push_last` was refused. The songs stay as they were.
+#[derive(Clone, Copy, Debug, PartialEq, Eq, Error)]
+pub enum PushError {
+    /// The URI doesn't stand behind that of the last row.
+    #[error("the rows don't rise")]
+    NotRising,
+    /// The limit on rows would be passed.
+    #[error("too many songs")]
+    Full,
+    #[error("out of memory")]
+    NoMemory,
+}
+
+impl From<AllocError> for PushError {
+    ghost from_gives = { λ _ e. e ≡ OutOfMemory };
+
+    fn from(_error: AllocError) -> Self {
+        PushError::NoMemory
+    }
+}
+
+impl<T: Drop> From<AllocFailed<T>> for PushError {
+    ghost from_gives = { λ _ e. e ≡ OutOfMemory };
+
+    fn from(_error: AllocFailed<T>) -> Self {
+        PushError::NoMemory
     }
 }

@@ -1,21 +1,31 @@
-ghost use Rattle.std.specs.Prelude.{◌≡◌, ◌&&◌, nat_le, IfOk, IsTrue, Some, None, if◌then◌else◌, option_map, option_copied, string_bytes};
+ghost use Rattle.std.specs.Prelude.{◌≡◌, ◌↔◌, ◌<◌, ◌^◌, ◌&&◌, nat_le, IfOk, IsTrue, Some, None, if◌then◌else◌, option_copied};
 ghost use Rattle.std.specs.List.{list_all};
 ghost use Rattle.wave_pcm.specs.Tag.{text_of};
-ghost use Rattle.wave_pcm.specs.Text.{is_tag_text};
+ghost use Rattle.song_db.specs.Duration.{milliseconds};
 ghost use Rattle.song_db.specs.Row.{row_of, six_texts, is_good_tag, is_within_limits, is_row};
+ghost use Rattle.song_db.specs.Same.{same_text, same_texts, same_row};
 
 use crate::uri::Uri;
 use std::alloc::{AllocError, Global};
 use std::marker::Model;
-use wave_pcm::{MAX_RATE, MAX_TAG_BYTES, Tag, Tags, WaveInfo, has_control};
+use std::sync::Arc;
+use wave_pcm::{MAX_RATE, Tag, Tags, WaveInfo, is_tag_text};
+
+// What a row says.
+#[derive(Debug, Drop)]
+struct RowParts {
+    uri: Uri,
+    info: WaveInfo,
+}
 
 /// A song of the database: its URI, how to find its frames, and its tags.
 ///
-/// Its rate is 1 to 192,000 frames a second, its channels are 1 or 2, and each of its six tags has no text or one of 1 to 512 bytes of UTF-8 without a control character.
+/// Its rate is 1 to 192,000 frames a second, its channels are 1 or 2, and each of its six tags has no text or one of 1
+/// to 512 bytes of UTF-8 without a control character. It is one block of memory beside its texts, which its copies
+/// share.
 #[derive(Debug, Drop)]
 pub struct SongRow {
-    uri: Uri,
-    info: WaveInfo,
+    parts: Arc<RowParts>,
 }
 
 impl Model for SongRow {
@@ -24,60 +34,91 @@ impl Model for SongRow {
 
     ghost Value = { Row };
 
-    ghost view = { λ r. row_of r.uri r.info };
+    ghost view = { λ r. row_of r.parts.value.uri r.parts.value.info };
 
-    ghost invariant = { λ r. IsTrue (is_within_limits (row_of r.uri r.info)) };
+    ghost invariant = { λ r. IsTrue (is_within_limits (row_of r.parts.value.uri r.parts.value.info)) };
 }
 
 impl SongRow {
     /// The row of a song whose file has the head; `None` where the head passes a limit.
-    pub fn new(uri: Uri, info: WaveInfo) -> Option<SongRow>
-        ensures { result ≡ (if is_within_limits (row_of uri info) then Some (row_of uri info) else None) }
+    pub fn new(alloc: Global, uri: Uri, info: WaveInfo) -> Result<Option<SongRow>, AllocError>
+        ensures { IfOk result (λ row. row ≡ (if is_within_limits (row_of uri info) then Some (row_of uri info) else None)) }
     {
         if !has_good_format(&info) || !has_good_tags(&info.tags) {
-            return None;
+            return Ok(None);
         }
-        Some(SongRow { uri, info })
+        let parts = Arc::new(alloc, RowParts { uri, info })?;
+        Ok(Some(SongRow { parts }))
     }
 
     pub fn uri(&self) -> &str
         ensures text { result.now ≡ self.now.uri }
         ensures row { IsTrue (is_row self.now) }
     {
-        self.uri.as_str()
+        self.parts.uri.as_str()
+    }
+
+    pub fn as_uri(&self) -> &Uri
+        ensures { result.now ≡ self.now.uri }
+    {
+        &self.parts.uri
     }
 
     /// How to find its frames.
     pub fn info(&self) -> &WaveInfo
         ensures { row_of self.now.uri result.now ≡ self.now }
     {
-        &self.info
+        &self.parts.info
     }
 
     pub fn tag(&self, tag: Tag) -> Option<&str>
         ensures { option_copied result ≡ text_of self.now.tags tag }
     {
-        self.info.tags.get(tag)
+        self.parts.info.tags.get(tag)
     }
 
-    /// The same row once more, in memory of its own.
-    pub fn try_clone(&self, alloc: Global) -> Result<SongRow, AllocError>
+    /// How many milliseconds it plays, rounded down.
+    pub fn milliseconds(&self) -> u128
+        ensures value { result ≡ milliseconds self.now }
+        ensures bound { result < 2 ^ 74 }
+    {
+        let info = &self.parts.info;
+        u128::from(info.frames) * 1_000 / u128::from(info.rate)
+    }
+
+    /// Whether the other row says the same: URI, frames and tags.
+    pub fn is_same(&self, other: &SongRow) -> bool
+        ensures value { result ≡ same_row self.now other.now }
+        ensures same { IsTrue result ↔ (self.now ≡ other.now) }
+    {
+        self.says_same(other)
+    }
+
+    fn says_same(&self, other: &SongRow) -> bool
+        ensures { result ≡ same_row self.now other.now }
+    {
+        let info = &self.parts.info;
+        let others = &other.parts.info;
+        self.uri() == other.uri()
+            && info.rate == others.rate
+            && info.channels == others.channels
+            && info.first_byte == others.first_byte
+            && info.frames == others.frames
+            && are_same(&info.tags, &others.tags)
+    }
+
+    /// The same row once more, in the same memory. Refused where it has 2^63 copies.
+    pub fn try_clone(&self) -> Result<SongRow, AllocError>
         ensures { IfOk result (λ row. row ≡ self.now) }
     {
-        let info = WaveInfo {
-            rate: self.info.rate,
-            channels: self.info.channels,
-            first_byte: self.info.first_byte,
-            frames: self.info.frames,
-            tags: clone_tags(alloc, &self.info.tags)?,
-        };
-        let uri = self.uri.try_clone(alloc)?;
-        Ok(SongRow { uri, info })
+        let parts = Arc::try_clone(&self.parts)?;
+        Ok(SongRow { parts })
     }
 }
 
 fn has_good_format(info: &WaveInfo) -> bool
-    ensures { result ≡ (nat_le 1 info.now.rate && (nat_le info.now.rate MAX_RATE && (nat_le 1 info.now.channels && nat_le info.now.channels 2))) }
+    ensures { result ≡ (nat_le 1 info.now.rate && (nat_le info.now.rate MAX_RATE && (nat_le 1 info.now.channels && nat_le
+        info.now.channels 2))) }
 {
     1 <= info.rate && info.rate <= MAX_RATE && 1 <= info.channels && info.channels <= 2
 }
@@ -102,30 +143,24 @@ fn is_good_tag(text: Option<&str>) -> bool
     }
 }
 
-fn is_tag_text(text: &str) -> bool
-    ensures { result ≡ is_tag_text text.now }
+// Whether each of the six tags has the same text in both, or none.
+fn are_same(tags: &Tags, others: &Tags) -> bool
+    ensures { result ≡ same_texts (six_texts tags.now) (six_texts others.now) }
 {
-    !text.is_empty() && text.len() <= MAX_TAG_BYTES && !has_control(text)
+    is_same_text(tags.get(Tag::Title), others.get(Tag::Title))
+        && is_same_text(tags.get(Tag::Artist), others.get(Tag::Artist))
+        && is_same_text(tags.get(Tag::Album), others.get(Tag::Album))
+        && is_same_text(tags.get(Tag::Date), others.get(Tag::Date))
+        && is_same_text(tags.get(Tag::Genre), others.get(Tag::Genre))
+        && is_same_text(tags.get(Tag::Comment), others.get(Tag::Comment))
 }
 
-fn clone_tags(alloc: Global, tags: &Tags) -> Result<Tags, AllocError>
-    ensures { IfOk result (λ copy. six_texts copy ≡ six_texts tags.now) }
+fn is_same_text(text: Option<&str>, other: Option<&str>) -> bool
+    ensures { result ≡ same_text (option_copied text.entry) (option_copied other.entry) }
 {
-    let mut copy = Tags::new();
-    copy.set(Tag::Title, clone_text(alloc, tags.get(Tag::Title))?);
-    copy.set(Tag::Artist, clone_text(alloc, tags.get(Tag::Artist))?);
-    copy.set(Tag::Album, clone_text(alloc, tags.get(Tag::Album))?);
-    copy.set(Tag::Date, clone_text(alloc, tags.get(Tag::Date))?);
-    copy.set(Tag::Genre, clone_text(alloc, tags.get(Tag::Genre))?);
-    copy.set(Tag::Comment, clone_text(alloc, tags.get(Tag::Comment))?);
-    Ok(copy)
-}
-
-fn clone_text(alloc: Global, text: Option<&str>) -> Result<Option<String>, AllocError>
-    ensures { IfOk result (λ copy. option_map string_bytes copy ≡ option_copied text.entry) }
-{
-    match text {
-        None => Ok(None),
-        Some(text) => Ok(Some(String::from_str(alloc, text)?)),
+    match (text, other) {
+        (None, None) => true,
+        (Some(text), Some(other)) => text == other,
+        _ => false,
     }
 }

@@ -1,12 +1,14 @@
-ghost use Rattle.std.specs.Prelude.{◌≡◌, ◌<◌, ◌≤◌, length, slice_get, option_and_then, IfSome, IfOk, IfErr};
+ghost use Rattle.std.specs.Prelude.{◌≡◌, ◌<◌, ◌≤◌, length, slice_get, option_and_then, None, IfSome, IfOk, IfErr};
 ghost use Rattle.std.specs.List.Sorted.{IsPartitionPoint};
 ghost use Rattle.std.specs.Ordering.{nat_cmp, is_lt};
 ghost use Rattle.std.specs.Cmp.Lexicographic.{slice_cmp};
+ghost use Rattle.song_db.specs.Last.{ends_before};
 ghost use Rattle.song_db.specs.Query.{number_at};
 ghost use Rattle.song_db.specs.Row.{row_uri, row_at};
 ghost use Rattle.song_db.specs.Replaced.{IsRising, IsBefore, IsNotBefore, IsPlaceOf, IsPlaceFor};
 
 use crate::row::SongRow;
+use std::alloc::{AllocError, Global};
 
 // The place of the first row whose URI isn't below the given one, by a binary search.
 pub(crate) fn split_point(rows: &[SongRow], uri: &str) -> usize
@@ -39,11 +41,34 @@ pub(crate) fn position(rows: &[SongRow], uri: &str) -> Option<usize>
 pub(crate) fn place(rows: &[SongRow], uri: &str) -> Result<usize, usize>
     requires { IsRising row_uri rows.now }
     ensures there { IfOk result (IsPlaceOf row_uri uri.now rows.now) }
+    ensures row { IfOk result (λ at. slice_get rows.now at ≡ row_at rows.now uri.now) }
     ensures absent { IfErr result (IsPlaceFor row_uri uri.now rows.now) }
+    ensures no_row { IfErr result (λ at. None ≡ row_at rows.now uri.now) }
 {
     let at = split_point(rows, uri);
     if at < rows.len() && rows[at].uri() == uri {
         return Ok(at);
     }
     Err(at)
+}
+
+// Whether the last row stands before a URI.
+pub(crate) fn ends_before(rows: &[SongRow], uri: &str) -> bool
+    ensures { result ≡ ends_before rows.now uri.now }
+{
+    match rows.last() {
+        None => true,
+        Some(last) => last.uri() < uri,
+    }
+}
+
+// The same rows once more.
+pub(crate) fn clone_rows(alloc: Global, rows: &[SongRow]) -> Result<Vec<SongRow>, AllocError>
+    ensures { IfOk result (λ copies. copies.items ≡ rows.now) }
+{
+    let mut copies = Vec::with_capacity(alloc, rows.len())?;
+    for row in rows {
+        copies.push(row.try_clone()?)?;
+    }
+    Ok(copies)
 }

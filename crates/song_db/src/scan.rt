@@ -20,7 +20,11 @@ use wave_pcm::Folder;
 
 /// The scan of a job: it reads the songs of a folder, or one song, and tells the changes of their rows in batches.
 ///
-/// A song is a file whose name ends in `.wav` (in any ASCII case) at most 32 folders deep, counted from the root of the music, whose path has the form of a URI and whose head `wave_pcm::read_head` reads. It is a `Put`, changed or not. Where its file can't be opened or read, nobody knows, and its row is kept; where a folder can't be listed, the rows below it are. The folders are walked by the bytes of names, files and folders mixed. After the walk each known URI that was neither read nor kept is a `Drop`, rising.
+/// A song is a file whose name ends in `.wav` (in any ASCII case) at most 32 folders deep, counted from the root of the
+/// music, whose path has the form of a URI and whose head `wave_pcm::read_head` reads. It is a `Put`, changed or not.
+/// Where its file can't be opened or read, nobody knows, and its row is kept; where a folder can't be listed, the rows
+/// below it are. The folders are walked by the bytes of names, files and folders mixed. After the walk each known URI
+/// that was neither read nor kept is a `Drop`, rising.
 ///
 /// A scan holds what is left of the listings on the present path, and a mark for each known URI.
 #[derive(Debug, Drop)]
@@ -44,7 +48,8 @@ impl Model for Scan {
 impl Scan {
     /// The scan of an order, which has read nothing yet. It takes memory for the marks; refused by `NoMemory`.
     pub fn begin(alloc: Global, order: ScanOrder) -> Result<Scan, SongDbError>
-        ensures scan { IfOk result (λ scan. scan ≡ record { job = order.job; place = order.uri; droppable = order.known; is_over = false }) }
+        ensures scan { IfOk result (λ scan. scan
+            ≡ record { job = order.job; place = order.uri; droppable = order.known; is_over = false }) }
         ensures only { IsOkUnless result NoMemory }
     {
         let (job, place, known) = order.into_parts();
@@ -84,7 +89,8 @@ impl Scan {
         ensures place { self.new.place ≡ self.old.place }
 
         // The rows are those of files that are there.
-        ensures songs { F.honest folder.old → IfOk result (λ answer. IfSome answer (λ changes. AreSongs (F.files folder.old) changes.items)) }
+        ensures songs { F.honest folder.old →
+            IfOk result (λ answer. IfSome answer (λ changes. AreSongs (F.files folder.old) changes.items)) }
         ensures honest { F.honest folder.old → F.honest folder.new }
         ensures files { F.honest folder.old → F.files folder.new ≡ F.files folder.old }
     {

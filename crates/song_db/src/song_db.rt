@@ -1,21 +1,30 @@
-ghost use Rattle.std.specs.Prelude.{◌≡◌, ◌↔◌, [], length, IsTrue, Some, is_some, IfOk, OnOk, OnErr, IsOkUnless};
-ghost use Rattle.song_db.specs.Change.{IsDatabase, after_batch, left_out};
-ghost use Rattle.song_db.specs.Query.{number_at, rows_under, is_folder, folders_in, values_of};
+ghost use Rattle.std.specs.Prelude.{◌≡◌, ◌↔◌, ◌+◌, ◌≤◌, [], ◌∷◌, ◌++◌, length, map, take, drop, IsTrue, Some, is_some};
+ghost use Rattle.std.specs.Prelude.{IfOk, OnOk, OnErr, IsOkUnless};
+ghost use Rattle.song_db.specs.Change.{IsDatabase, after_batch};
+ghost use Rattle.song_db.specs.Duration.{total_of};
+ghost use Rattle.song_db.specs.Effect.{effects_of};
+ghost use Rattle.song_db.specs.Known.{uris_in};
+ghost use Rattle.song_db.specs.Last.{push_refusal, AnswersPush};
+ghost use Rattle.song_db.specs.Query.{number_at, rows_under, is_folder, folders_in, songs_in, values_of};
 ghost use Rattle.song_db.specs.Refusal.{AnswersExactlyIfThere, AnswersIfThere};
-ghost use Rattle.song_db.specs.Row.{row_at};
+ghost use Rattle.song_db.specs.Replaced.{IsRising};
+ghost use Rattle.song_db.specs.Row.{row_uri, row_at};
 ghost use Rattle.song_db.specs.declared.refusal.SongDbError.TheVariants.{NoMemory};
 
-use crate::batch::apply_in_turn;
-use crate::change::{LeftOut, RowChange};
-use crate::folder_rows::rows_below;
+use crate::batch::make_changes;
+use crate::change::RowChange;
+use crate::effect::Effects;
+use crate::folder_rows::{rows_below, run_below};
+use crate::known_rows::known_in;
 use crate::limits::MAX_ROWS;
-use crate::merge::apply_at_once;
+use crate::order::ScanOrder;
 use crate::place::Place;
-use crate::refusal::SongDbError;
+use crate::refusal::{PushError, SongDbError};
 use crate::row::SongRow;
-use crate::rows::position;
+use crate::rows::{clone_rows, ends_before, position};
 use crate::texts::Texts;
-use crate::values::{folders_of, values_of};
+use crate::uri::Uri;
+use crate::values::{folders_of, songs_of, values_of};
 use std::alloc::Global;
 use std::marker::Model;
 use wave_pcm::Tag;
@@ -24,18 +33,21 @@ use wave_pcm::Tag;
 #[derive(Debug, Drop)]
 pub struct SongDb {
     rows: Vec<SongRow>,
+    // The milliseconds of all of them.
+    total: u128,
 }
 
 impl Model for SongDb {
     ghost use Rattle.std.specs.Prelude.{List};
     ghost use Rattle.song_db.specs.Row.{Row};
     ghost use Rattle.song_db.specs.Change.{IsDatabase};
+    ghost use Rattle.song_db.specs.Duration.{IsTimed};
 
     ghost Value = { List Row };
 
     ghost view = { λ d. d.rows.items };
 
-    ghost invariant = { λ d. IsDatabase d.rows.items };
+    ghost invariant = { λ d. IsDatabase d.rows.items × IsTimed d.rows.items d.total };
 }
 
 impl SongDb {
@@ -45,6 +57,7 @@ impl SongDb {
     {
         SongDb {
             rows: Vec::new(alloc),
+            total: 0,
         }
     }
 
@@ -68,28 +81,31 @@ impl SongDb {
         self.rows.as_slice()
     }
 
-    /// Makes the changes of a batch in their order. A new row that would pass the limit is left out; the answer has those changes.
+    /// How many milliseconds all the songs play, each rounded down. It is kept, not summed.
+    pub fn milliseconds(&self) -> u128
+        ensures { result ≡ total_of self.now }
+    {
+        self.total
+    }
+
+    /// Makes the changes of a batch in their order, and says what each did at its turn. A new row that would pass the limit is left out.
     ///
-    /// Where all have room, this is one pass over the rows; near the limit, where a row's place depends on the changes before it, one pass for each new row. Memory is taken first: refused by `NoMemory`, the songs stay as they were.
+    /// Each change is a binary search; a new row moves those behind it, and a row that is there already moves nothing.
+    /// Memory is taken first: refused by `NoMemory`, the songs stay as they were.
     pub fn apply_batch(
         &mut self,
         alloc: Global,
         changes: Vec<RowChange>,
-    ) -> Result<LeftOut, SongDbError>
+    ) -> Result<Effects, SongDbError>
         ensures rows { OnOk result (self.new ≡ after_batch self.old changes.items) }
-        ensures left { IfOk result (λ left. left ≡ left_out self.old changes.items) }
+        ensures effects { IfOk result (λ effects. effects ≡ effects_of self.old changes.items) }
         ensures err { OnErr result (self.new ≡ self.old) }
         ensures only { IsOkUnless result NoMemory }
     {
-        if changes.len() <= MAX_ROWS - self.rows.len() {
-            apply_at_once(alloc, &mut self.rows, changes)?;
-            let changes = Vec::new(alloc);
-            return Ok(LeftOut { changes });
-        }
-        let mut left = Vec::with_capacity(alloc, changes.len())?;
-        self.rows.reserve(MAX_ROWS + 1 - self.rows.len())?;
-        apply_in_turn(&mut self.rows, changes, &mut left);
-        Ok(LeftOut { changes: left })
+        let mut effects = Vec::with_capacity(alloc, changes.len())?;
+        self.rows.reserve(changes.len())?;
+        make_changes(&mut self.rows, &mut self.total, changes, &mut effects);
+        Ok(Effects { effects })
     }
 
     /// The song of a URI, by a binary search. Refused by `NoSuchUri`.
@@ -111,9 +127,11 @@ impl SongDb {
         position(&self.rows, uri).ok_or(SongDbError::NoSuchUri)
     }
 
-    /// The songs under a place, by URI: they stand together. Refused by `NoSuchUri` where the place is no folder: none of the songs stands below it, and it isn't the root.
+    /// The songs under a place, by URI: they stand together. Refused by `NoSuchUri` where the place is no folder: none
+    /// of the songs stands below it, and it isn't the root.
     pub fn rows_under(&self, place: Place<'_>) -> Result<&[SongRow], SongDbError>
         ensures rows { IfOk result (λ rows. rows.now ≡ rows_under self.now place.entry) }
+        ensures rising { IfOk result (λ rows. IsRising row_uri rows.now) }
         ensures answer { AnswersExactlyIfThere (is_folder self.now place.entry) result }
     {
         match place {
@@ -128,6 +146,72 @@ impl SongDb {
         }
     }
 
+    /// The number of the first song under a place; those under it have the numbers from there on. Refused by
+    /// `NoSuchUri` where the place is no folder.
+    pub fn first_number_under(&self, place: Place<'_>) -> Result<usize, SongDbError>
+        ensures run { IfOk result (λ at. take (length (rows_under self.now place.entry)) (drop at self.now)
+            ≡ rows_under self.now place.entry) }
+        ensures within { IfOk result (λ at. at + length (rows_under self.now place.entry) ≤ length self.now) }
+        ensures answer { AnswersExactlyIfThere (is_folder self.now place.entry) result }
+    {
+        match place {
+            Place::Root => Ok(0),
+            Place::At(folder) => {
+                let (start, end) = run_below(&self.rows, folder);
+                if start == end {
+                    return Err(SongDbError::NoSuchUri);
+                }
+                Ok(start)
+            }
+        }
+    }
+
+    /// The order of a job for a place: a folder or a song, or the root. It knows the URIs of the songs there, the song
+    /// of that very URI included. Refused by `NoMemory`.
+    pub fn scan_order(
+        &self,
+        alloc: Global,
+        job: u32,
+        place: Option<Uri>,
+    ) -> Result<ScanOrder, SongDbError>
+        ensures order { IfOk result (λ order. order ≡ record { job = job; uri = place; known = uris_in self.now place }) }
+        ensures only { IsOkUnless result NoMemory }
+    {
+        let known = known_in(alloc, &self.rows, place.as_ref())?;
+        Ok(ScanOrder::of_known(job, place, known))
+    }
+
+    /// Puts a row behind the last one, so that a database is built from rows that rise in linear time. Refused by
+    /// `NotRising`, `Full` and `NoMemory`.
+    pub fn push_last(&mut self, row: SongRow) -> Result<(), PushError>
+        ensures ok { OnOk result (self.new ≡ self.old ++ row ∷ []) }
+        ensures err { OnErr result (self.new ≡ self.old) }
+        ensures answer { AnswersPush (push_refusal self.old row) result }
+    {
+        if !ends_before(&self.rows, row.uri()) {
+            return Err(PushError::NotRising);
+        }
+        if self.rows.len() >= MAX_ROWS {
+            return Err(PushError::Full);
+        }
+        self.rows.reserve(1)?;
+        self.total += row.milliseconds();
+        self.rows.push_reserved(row);
+        Ok(())
+    }
+
+    /// The same songs once more. The copies of the rows share their memory. Refused by `NoMemory`.
+    pub fn try_clone(&self, alloc: Global) -> Result<SongDb, SongDbError>
+        ensures songs { IfOk result (λ copy. copy ≡ self.now) }
+        ensures only { IsOkUnless result NoMemory }
+    {
+        let rows = clone_rows(alloc, &self.rows)?;
+        Ok(SongDb {
+            rows,
+            total: self.total,
+        })
+    }
+
     /// The folders directly in a place, as paths by their bytes. Refused by `NoSuchUri` where the place is no folder, and by `NoMemory`.
     pub fn folders_in(&self, alloc: Global, place: Place<'_>) -> Result<Texts<'_>, SongDbError>
         ensures folders { IfOk result (λ folders. folders ≡ folders_in self.now place.entry) }
@@ -135,6 +219,15 @@ impl SongDb {
     {
         let rows = self.rows_under(place)?;
         Ok(folders_of(alloc, rows, place)?)
+    }
+
+    /// The songs right in a place, with no folder between, by URI. Refused by `NoSuchUri` where the place is no folder, and by `NoMemory`.
+    pub fn songs_in(&self, alloc: Global, place: Place<'_>) -> Result<Vec<&SongRow>, SongDbError>
+        ensures songs { IfOk result (λ songs. map (λ song. song.now) songs.items ≡ songs_in self.now place.entry) }
+        ensures answer { AnswersIfThere (is_folder self.now place.entry) result }
+    {
+        let rows = self.rows_under(place)?;
+        Ok(songs_of(alloc, rows, place)?)
     }
 
     /// The values of a tag by their bytes; rows without the tag give none. Refused by `NoMemory`.

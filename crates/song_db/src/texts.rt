@@ -20,7 +20,8 @@ impl<'a> Model for Texts<'a> {
 }
 
 impl<'a> Texts<'a> {
-    pub(crate) fn new(alloc: Global) -> Self
+    /// No text. It takes no memory yet.
+    pub fn new(alloc: Global) -> Self
         ensures { result ≡ [] }
     {
         Texts {
@@ -46,7 +47,8 @@ impl<'a> Texts<'a> {
         self.texts.iter()
     }
 
-    pub(crate) fn insert(&mut self, text: &'a str) -> Result<(), AllocError>
+    /// Takes a text, unless it is there: so the distinct values of any rows are found, without a copy of a text.
+    pub fn insert(&mut self, text: &'a str) -> Result<(), AllocError>
         ensures ok { OnOk result (self.new ≡ replaced (λ t. t) text.now (text.now ∷ []) self.old) }
         ensures err { OnErr result (self.new ≡ self.old) }
     {

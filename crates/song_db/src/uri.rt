@@ -14,7 +14,8 @@ use wave_pcm::has_control;
 
 /// The name of a song, or of a folder that songs stand in: a path from the root of the music, with slashes between its parts.
 ///
-/// It has 1 to 1,024 bytes of UTF-8, no control character (Unicode's category Cc), and no part that is empty, `.` or `..`. Contracts see its bytes.
+/// It has 1 to 1,024 bytes of UTF-8, no control character (Unicode's category Cc), and no part that is empty, `.` or
+/// `..`. Contracts see its bytes.
 #[derive(Debug, Drop)]
 pub struct Uri {
     text: String,

@@ -1,7 +1,11 @@
-ghost use Rattle.std.specs.Prelude.{◌≡◌, ◌==◌, IfOk, option_copied};
+ghost use Rattle.std.specs.Prelude.{◌≡◌, ◌==◌, true, map, filter, IfOk, IfSome, option_copied};
 ghost use Rattle.std.specs.List.{filter_map, position};
-ghost use Rattle.song_db.specs.Query.{skipped, folder_of, distinct_of, values_of};
+ghost use Rattle.song_db.specs.Place.{is_below};
+ghost use Rattle.song_db.specs.Replaced.{IsRising};
+ghost use Rattle.song_db.specs.Row.{row_uri};
+ghost use Rattle.song_db.specs.Query.{skipped, folder_of, is_right_in, distinct_of, values_of};
 
+use crate::folder_rows::end_below;
 use crate::place::Place;
 use crate::row::SongRow;
 use crate::texts::Texts;
@@ -21,26 +25,57 @@ pub(crate) fn values_of(alloc: Global, rows: &[SongRow], tag: Tag) -> Result<Tex
     Ok(values)
 }
 
-// The folders directly in a place that the rows stand below.
+// The folders directly in a place that the rows stand below. The rows below a folder are passed by with a search.
 pub(crate) fn folders_of<'a>(
     alloc: Global,
     rows: &'a [SongRow],
     place: Place<'_>,
 ) -> Result<Texts<'a>, AllocError>
+    requires { IsRising row_uri rows.now }
     ensures { IfOk result (λ folders. folders ≡ distinct_of (filter_map (λ row. folder_of place.entry row.uri) rows.now)) }
 {
     let mut folders = Texts::new(alloc);
-    for row in rows {
-        if let Some(folder) = folder_of(place, row.uri()) {
-            folders.insert(folder)?;
-        }
+    let mut at = 0;
+    'rows: while at < rows.len() {
+        at = match folder_of(place, rows[at].uri()) {
+            Some(folder) => {
+                folders.insert(folder)?;
+                end_below(rows, folder)
+            }
+            None => at + 1,
+        };
     }
     Ok(folders)
 }
 
+// The songs right in a place among the rows below it. The rows below its folders are passed by with a search.
+pub(crate) fn songs_of<'a>(
+    alloc: Global,
+    rows: &'a [SongRow],
+    place: Place<'_>,
+) -> Result<Vec<&'a SongRow>, AllocError>
+    requires { IsRising row_uri rows.now }
+    ensures { IfOk result (λ songs. map (λ song. song.now) songs.items ≡ filter (λ row. is_right_in place.entry row.uri) rows.now) }
+{
+    let mut songs = Vec::new(alloc);
+    let mut at = 0;
+    'rows: while at < rows.len() {
+        let row = &rows[at];
+        at = match folder_of(place, row.uri()) {
+            Some(folder) => end_below(rows, folder),
+            None => {
+                songs.push(row)?;
+                at + 1
+            }
+        };
+    }
+    Ok(songs)
+}
+
 // The folder directly in a place that a path stands below.
 fn folder_of<'a>(place: Place<'_>, path: &'a str) -> Option<&'a str>
-    ensures { option_copied result ≡ folder_of place.entry path.now }
+    ensures folder { option_copied result ≡ folder_of place.entry path.now }
+    ensures below { IfSome result (λ folder. is_below folder.now path.now ≡ true) }
 {
     let skip = skipped(place);
     if path.len() < skip {

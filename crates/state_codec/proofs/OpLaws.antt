@@ -7,7 +7,7 @@ use Rattle.std.specs.Int.{w64, to_le_bytes}
 use Rattle.std.proofs.lemmas.Bool.{eqb-true, ne_eqb}
 use Rattle.std.proofs.lemmas.List.{append-nil, length-append}
 use Rattle.std.proofs.lemmas.List.Concat.{flat_map-cons}
-use Rattle.state_codec.specs.declared.error.CodecError.{CodecError}
+use Rattle.state_codec.specs.declared.refusal.CodecError.{CodecError}
 use Rattle.state_codec.specs.declared.op.Op.{Op}
 use Rattle.state_codec.specs.declared.op.Op.TheVariants.{SetOption, SetVolume, SetOrder}
 use Rattle.state_codec.specs.declared.op.Setting.{Setting}

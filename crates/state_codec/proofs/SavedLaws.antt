@@ -5,8 +5,8 @@ use Rattle.std.specs.Int.{w32, w64, to_le_bytes}
 use Rattle.std.proofs.lemmas.Bool.{eqb-true}
 use Rattle.std.proofs.lemmas.List.{append-nil, nil_from_length}
 use Rattle.player_core.specs.declared.options.Options.{Options}
-use Rattle.state_codec.specs.declared.error.CodecError.{CodecError}
-use Rattle.state_codec.specs.declared.error.CodecError.TheVariants.{NoMemory, BadOp, BadSnapshot}
+use Rattle.state_codec.specs.declared.refusal.CodecError.{CodecError}
+use Rattle.state_codec.specs.declared.refusal.CodecError.TheVariants.{NoMemory, BadOp, BadSnapshot}
 use Rattle.state_codec.specs.SavedState.{SavedState, IsSavedState, IsBytes, largest, ids_spent}
 use Rattle.state_codec.specs.Spelling.{flag_bytes, single_bytes, options_bytes, no_parts, saved_bytes}
 use Rattle.state_codec.specs.Reading.{alone, in_bytes, number_at, number_within, volume_at, flag_at, single_at, key_at, options_at, no_parts_at, saved_at, saved_reading}

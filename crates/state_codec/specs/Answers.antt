@@ -1,8 +1,8 @@
 -- What the public calls answer.
 use Rattle.std.specs.Prelude.{◌≡◌, ℕ, ⊤, List, Result, Ok, Err}
 use Rattle.std.specs.Global.{Vec}
-use Rattle.state_codec.specs.declared.error.CodecError.{CodecError}
-use Rattle.state_codec.specs.declared.error.CodecError.TheVariants.{NoMemory, BadOp, BadSnapshot}
+use Rattle.state_codec.specs.declared.refusal.CodecError.{CodecError}
+use Rattle.state_codec.specs.declared.refusal.CodecError.TheVariants.{NoMemory, BadOp, BadSnapshot}
 use Rattle.state_codec.specs.declared.op.Op.{Op}
 use Rattle.state_codec.specs.SavedState.{SavedState}
 

@@ -6,7 +6,7 @@ ghost use Rattle.state_codec.specs.Reading.{byte_at, number_at, number_within, v
 use player_core::{Single, Volume};
 
 /// A field passes the end, or its value is out of range.
-#[derive(Clone, Copy, Debug)]
+#[derive(Clone, Copy)]
 pub struct Fault {
     /// How many bytes are left from that field on.
     pub left: usize,

@@ -6,9 +6,9 @@ ghost use Rattle.state_codec.specs.Fields.{Gives};
 ghost use Rattle.state_codec.specs.Reading.{setting_at, op_at, options_at, no_parts_at, saved_at, ops_reading, saved_reading};
 ghost use Rattle.state_codec.specs.Answers.{GivesOps, GivesSaved};
 
-use crate::error::CodecError;
 use crate::fields::{Fault, Reader};
 use crate::op::{Op, Setting};
+use crate::refusal::CodecError;
 use crate::saved::Saved;
 use player_core::Options;
 use std::alloc::Global;

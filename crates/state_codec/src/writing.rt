@@ -4,8 +4,8 @@ ghost use Rattle.state_codec.specs.Ops.{IsOp};
 ghost use Rattle.state_codec.specs.SavedState.{IsSavedState};
 ghost use Rattle.state_codec.specs.Spelling.{flag_bytes, single_bytes, setting_bytes, op_bytes, options_bytes, saved_bytes};
 
-use crate::error::NoMemory;
 use crate::op::{Op, Setting};
+use crate::refusal::NoMemory;
 use crate::saved::Saved;
 use player_core::{Options, Single};
 use std::alloc::Global;

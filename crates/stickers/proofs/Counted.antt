@@ -12,10 +12,9 @@ use Rattle.std.proofs.lemmas.Cmp.{on_total, then_total}
 use Rattle.std.proofs.lemmas.List.Filters.{length-filter_both}
 use Rattle.std.proofs.lemmas.Map.Text.{is_eq-slice_cmp}
 use Rattle.stickers.specs.Limits.{MAX_STICKERS}
-use Rattle.stickers.specs.Name.{is_good_name}
-use Rattle.stickers.specs.Sticker.{Sticker, compare, placed, is_of_song, is_at, value_at, stickers_of, with_sticker, without_sticker, without_song, IsRisingFrom, AreRising, IsCounted}
+use Rattle.stickers.specs.Sticker.{Sticker, IsSticker, compare, placed, is_of_song, is_at, value_at, stickers_of, with_sticker, without_sticker, without_song, IsRisingFrom, AreRising, IsCounted}
 
-stickers_total : IsTotalOrder compare
+pub stickers_total : IsTotalOrder compare
 stickers_total = then_total (on_total (λ (s : Sticker). s.uri) nat_list_cmp_total) (on_total (λ (s : Sticker). s.name) nat_list_cmp_total)
 
 all_filter : (P : Sticker → Type 0) (test : Sticker → Bool) (ts : List Sticker) → AllByRecursion P ts → AllByRecursion P (filter test ts)
@@ -44,7 +43,7 @@ all_placed P s (t ∷ ts) here all = by_cases (compare s t) (all_placed P s ts h
     by_cases Greater rest = (all.0, rest)
 
 -- what is before or at a sticker is before all that come after it
-below_later : (s t : Sticker) (ts : List Sticker) → compare s t ≡ Less → IsRisingFrom t ts → IsRisingFrom s ts
+pub below_later : (s t : Sticker) (ts : List Sticker) → compare s t ≡ Less → IsRisingFrom t ts → IsRisingFrom s ts
 below_later s t [] less rising = tt
 below_later s t (u ∷ ts) less rising = (stickers_total.trans s t u less rising.0, below_later s t ts less rising.1)
 
@@ -62,7 +61,7 @@ rising_placed s (t ∷ ts) rising = by_cases (compare s t) refl (rising_placed s
     by_cases Greater is rest = (all_placed (λ u. compare t u ≡ Less) s ts (stickers_total.antisymm t s ∙ ap ordering_reverse is) rising.0, rest)
 
 -- the test of a URI and a name is whether they compare equal
-is_at-compare : (s t : Sticker) → is_at s.uri s.name t ≡ is_eq (compare s t)
+pub is_at-compare : (s t : Sticker) → is_at s.uri s.name t ≡ is_eq (compare s t)
 is_at-compare s t = rw (← is_eq-slice_cmp s.uri t.uri, ← is_eq-slice_cmp s.name t.name) (by_cases (slice_cmp nat_cmp s.uri t.uri))
   where
     by_cases : (o : Ordering) → (is_eq o && is_eq (slice_cmp nat_cmp s.name t.name)) ≡ is_eq (ordering_then o (slice_cmp nat_cmp s.name t.name))
@@ -71,7 +70,7 @@ is_at-compare s t = rw (← is_eq-slice_cmp s.uri t.uri, ← is_eq-slice_cmp s.n
     by_cases Greater = refl
 
 -- none of the stickers that come after one has its URI and name
-none_after : (s : Sticker) (ts : List Sticker) → IsRisingFrom s ts → (filter (is_at s.uri s.name) ts ≡ []) × (find (is_at s.uri s.name) ts ≡ None)
+pub none_after : (s : Sticker) (ts : List Sticker) → IsRisingFrom s ts → (filter (is_at s.uri s.name) ts ≡ []) × (find (is_at s.uri s.name) ts ≡ None)
 none_after s [] rising = (refl, refl)
 none_after s (t ∷ ts) rising =
     let rest = none_after s ts rising.1 in
@@ -107,24 +106,24 @@ is_some-option_map : {X Y : Type 0} (f : X → Y) (o : Option X) → is_some (op
 is_some-option_map f None = refl
 is_some-option_map f (Some x) = refl
 
-pub counted_new : (all : List Sticker) (n : ℕ) (uri name value : List ℕ) → IsCounted all n → IsTrue (is_good_name name) → is_some (value_at all uri name) ≡ false → n < MAX_STICKERS → IsCounted (with_sticker all uri name value) (n + 1)
+pub counted_new : (all : List Sticker) (n : ℕ) (uri name value : List ℕ) → IsCounted all n → IsSticker (record { uri = uri; name = name; value = value }) → is_some (value_at all uri name) ≡ false → n < MAX_STICKERS → IsCounted (with_sticker all uri name value) (n + 1)
 counted_new all n uri name value counted good absent few =
     let s : Sticker = record { uri = uri; name = name; value = value } in
     let none : is_some (find (is_at uri name) all) ≡ false = sym (is_some-option_map (λ (t : Sticker). t.value) (find (is_at uri name) all)) ∙ absent in
     let long : length (placed s all) ≡ length all + 1 = length-placed s all counted.within.rising ∙ rw none refl in
     record {
       counted = omega (arith, long, counted.counted);
-      within = record { few = omega (arith, long, counted.counted); good_names = all_placed (λ t. IsTrue (is_good_name t.name)) s all good counted.within.good_names; rising = rising_placed s all counted.within.rising };
+      within = record { few = omega (arith, long, counted.counted); good = all_placed IsSticker s all good counted.within.good; rising = rising_placed s all counted.within.rising };
     }
 
-pub counted_other : (all : List Sticker) (n : ℕ) (uri name value : List ℕ) → IsCounted all n → IsTrue (is_good_name name) → is_some (value_at all uri name) ≡ true → IsCounted (with_sticker all uri name value) n
+pub counted_other : (all : List Sticker) (n : ℕ) (uri name value : List ℕ) → IsCounted all n → IsSticker (record { uri = uri; name = name; value = value }) → is_some (value_at all uri name) ≡ true → IsCounted (with_sticker all uri name value) n
 counted_other all n uri name value counted good present =
     let s : Sticker = record { uri = uri; name = name; value = value } in
     let found : is_some (find (is_at uri name) all) ≡ true = sym (is_some-option_map (λ (t : Sticker). t.value) (find (is_at uri name) all)) ∙ present in
     let long : length (placed s all) ≡ length all = length-placed s all counted.within.rising ∙ rw found refl in
     record {
       counted = omega (arith, long, counted.counted);
-      within = record { few = omega (arith, long, counted.within.few); good_names = all_placed (λ t. IsTrue (is_good_name t.name)) s all good counted.within.good_names; rising = rising_placed s all counted.within.rising };
+      within = record { few = omega (arith, long, counted.within.few); good = all_placed IsSticker s all good counted.within.good; rising = rising_placed s all counted.within.rising };
     }
 
 pub counted_without_sticker : (all : List Sticker) (n : ℕ) (uri name : List ℕ) → IsCounted all n → is_some (value_at all uri name) ≡ true → IsCounted (without_sticker all uri name) (n - 1)
@@ -135,7 +134,7 @@ counted_without_sticker all n uri name counted present =
     let both = length-filter_both (is_at uri name) (λ t. not (is_at uri name t)) (λ t. refl) all in
     record {
       counted = omega (arith, one, both, counted.counted);
-      within = record { few = omega (arith, both, counted.within.few); good_names = all_filter (λ t. IsTrue (is_good_name t.name)) (λ t. not (is_at uri name t)) all counted.within.good_names; rising = rising_filter (λ t. not (is_at uri name t)) all counted.within.rising };
+      within = record { few = omega (arith, both, counted.within.few); good = all_filter IsSticker (λ t. not (is_at uri name t)) all counted.within.good; rising = rising_filter (λ t. not (is_at uri name t)) all counted.within.rising };
     }
 
 pub fits_song : (all : List Sticker) (n : ℕ) (uri : List ℕ) → IsCounted all n → length (stickers_of all uri) ≤ n
@@ -146,7 +145,7 @@ counted_without_song all n m uri counted same =
     let both = length-filter_both (is_of_song uri) (λ t. not (is_of_song uri t)) (λ t. refl) all in
     record {
       counted = omega (arith, both, counted.counted);
-      within = record { few = omega (arith, both, counted.within.few); good_names = all_filter (λ t. IsTrue (is_good_name t.name)) (λ t. not (is_of_song uri t)) all counted.within.good_names; rising = rising_filter (λ t. not (is_of_song uri t)) all counted.within.rising };
+      within = record { few = omega (arith, both, counted.within.few); good = all_filter IsSticker (λ t. not (is_of_song uri t)) all counted.within.good; rising = rising_filter (λ t. not (is_of_song uri t)) all counted.within.rising };
     }
 
 -- a song without stickers leaves them as they were

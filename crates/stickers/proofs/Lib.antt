@@ -1,5 +1,8 @@
+mod Added
+mod Behind
 mod ByName
 mod Counted
 mod FoundSongs
 mod Flat
 mod Named
+mod Would

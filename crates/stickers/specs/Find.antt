@@ -1,8 +1,10 @@
--- What `find` gives: the songs under a base that have a sticker of the name whose value passes a test.
-use Rattle.std.specs.Prelude.{ℕ, Bool, true, ◌==◌, ◌&&◌, ◌||◌, nat_lt, List, length, take, slice_index, filter, map}
+-- What `find` gives: the songs below a place that have a sticker of the name whose value passes a test.
+use Rattle.std.specs.Prelude.{ℕ, Bool, true, ◌&&◌, List, filter, map, Option, Some, None, if◌then◌else◌}
 use Rattle.std.specs.Ordering.{nat_cmp, is_lt, is_gt}
 use Rattle.std.specs.Cmp.Lexicographic.{slice_cmp}
 use Rattle.std.specs.Str.{bytes_eq}
+use Rattle.song_db.specs.Place.{is_under}
+use Rattle.song_db.specs.declared.place.Place.{Place}
 use Rattle.stickers.specs.declared.find.ValueTest.{ValueTest}
 use Rattle.stickers.specs.declared.find.ValueTest.TheVariants.{Any, Equal, Less, Greater}
 use Rattle.stickers.specs.declared.find.FoundSticker.{FoundSticker}
@@ -15,22 +17,23 @@ passes (Equal bound) value = bytes_eq value bound.now
 passes (Less bound) value = is_lt (slice_cmp nat_cmp value bound.now)
 passes (Greater bound) value = is_gt (slice_cmp nat_cmp value bound.now)
 
--- the URI is the base, or has it and a slash in front; every URI is under the empty base
-abbrev pub is_under : List ℕ → List ℕ → Bool
-is_under base uri = (length base == 0) || (bytes_eq uri base || (nat_lt (length base) (length uri) && (bytes_eq (take (length base) uri) base && (slice_index uri (length base) == 47))))
-
 -- the sticker is one of those
-abbrev pub is_found : List ℕ → List ℕ → ValueTest → Sticker → Bool
-is_found base name test s = is_under base s.uri && (bytes_eq name s.name && passes test s.value)
+abbrev pub is_found : Place → List ℕ → ValueTest → Sticker → Bool
+is_found place name test s = is_under place s.uri && (bytes_eq name s.name && passes test s.value)
 
 -- the song of a sticker with the value
 abbrev pub uri_and_value : Sticker → List ℕ × List ℕ
 uri_and_value s = (s.uri, s.value)
 
 -- the songs with their values
-abbrev pub found_in : List Sticker → List ℕ → List ℕ → ValueTest → List (List ℕ × List ℕ)
-found_in all base name test = map uri_and_value (filter (is_found base name test) all)
+abbrev pub found_in : List Sticker → Place → List ℕ → ValueTest → List (List ℕ × List ℕ)
+found_in all place name test = map uri_and_value (filter (is_found place name test) all)
 
 -- a song that was found, as bytes
 abbrev pub pair_of : FoundSticker → List ℕ × List ℕ
 pair_of f = (f.uri.now, f.value.now)
+
+-- the value, where there is one and it passes the test
+abbrev pub passing : ValueTest → Option (List ℕ) → Option (List ℕ)
+passing test None = None
+passing test (Some value) = if passes test value then Some value else None

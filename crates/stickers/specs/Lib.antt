@@ -1,7 +1,10 @@
 pub mod ByName
 pub mod Find
+pub mod Fits
 pub mod Limits
 pub mod Name
 pub mod Named
+pub mod Part
 pub mod Refusal
 pub mod Sticker
+pub mod Value

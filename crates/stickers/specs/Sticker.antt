@@ -1,5 +1,6 @@
 -- The stickers as one list, rising by URI and name, with one value for each URI and name.
-use Rattle.std.specs.Prelude.{◌≡◌, ℕ, ◌≤◌, Bool, not, ◌&&◌, ◌==◌, nat_le, List, [], ◌∷◌, length, filter, map, find, Option, Some, None, is_some, IsTrue, if◌then◌else◌}
+use Rattle.std.specs.Prelude.{◌≡◌, ℕ, ◌≤◌, Bool, not, ◌&&◌, ◌==◌, nat_le, List, [], ◌∷◌, length, filter, map, find}
+use Rattle.std.specs.Prelude.{Option, Some, None, is_some, IsTrue, if◌then◌else◌}
 use Rattle.std.specs.declared.cmp.Ordering.{Ordering}
 use Rattle.std.specs.declared.cmp.Ordering.TheVariants.{Less}
 use Rattle.std.specs.Option.{option_map}
@@ -10,7 +11,9 @@ use Rattle.std.specs.Str.{bytes_eq}
 use Rattle.stickers.specs.Limits.{MAX_STICKERS}
 use Rattle.stickers.specs.declared.refusal.StickersError.{StickersError}
 use Rattle.stickers.specs.declared.refusal.StickersError.TheVariants.{NoSuchSticker, BadStickerName, StickersFull}
+use Rattle.song_db.specs.Uri.{is_uri}
 use Rattle.stickers.specs.Name.{is_good_name}
+use Rattle.stickers.specs.Value.{is_good_value}
 use Rattle.stickers.specs.Named.{Values, Songs}
 
 -- a value that a song has under a name
@@ -62,10 +65,16 @@ value_at all uri name = option_map (λ s. s.value) (find (is_at uri name) all)
 abbrev pub stickers_of : List Sticker → List ℕ → List Sticker
 stickers_of all uri = filter (is_of_song uri) all
 
--- the limits on stickers and their names
+-- the URI has the form of one, and name and value are such as stickers may have
+pub record IsSticker (s : Sticker) : Type 0 where
+  pub good_uri : IsTrue (is_uri s.uri)
+  pub good_name : IsTrue (is_good_name s.name)
+  pub good_value : IsTrue (is_good_value s.value)
+
+-- the limit on stickers, and their form and order
 pub record IsWithinLimits (all : List Sticker) : Type 0 where
   pub few : length all ≤ MAX_STICKERS
-  pub good_names : AllByRecursion (λ s. IsTrue (is_good_name s.name)) all
+  pub good : AllByRecursion IsSticker all
   pub rising : AreRising all
 
 -- the stickers with their count

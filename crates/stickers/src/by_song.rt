@@ -1,13 +1,16 @@
 ghost use Rattle.std.specs.Prelude.{◌≡◌, List, [], length, OnOk, OnErr, option_map, MatchOption, IfOk, map};
 ghost use Rattle.std.specs.Option.{option_to_list};
 ghost use Rattle.stickers.specs.Find.{found_in};
-ghost use Rattle.stickers.specs.ByName.{by_name};
 ghost use Rattle.stickers.specs.Sticker.{flat, in_song, value_at, stickers_of, with_sticker, without_sticker, without_song};
 
-use crate::find::{Found, FoundSticker, ValueTest, is_under};
-use crate::song::{SongStickers, StickerValue};
+use crate::copying::clone_songs;
+use crate::find::{Found, FoundSticker, ValueTest};
+use crate::song::SongStickers;
+use crate::stickers::Iter;
+use crate::value::StickerValue;
+use song_db::Place;
 use std::alloc::{AllocError, Global};
-use std::collections::{BTreeMap, btree_map};
+use std::collections::BTreeMap;
 use std::marker::Model;
 
 // The stickers of all songs under their URIs, without the limit. Contracts see them as one list.
@@ -38,14 +41,25 @@ impl StickersBySong {
         }
     }
 
-    pub(crate) fn iter(&self) -> btree_map::Iter<'_, String, SongStickers>
-        ensures { flat (by_name result) ≡ self.now }
+    pub(crate) fn iter(&self) -> Iter<'_>
+        ensures { flat result ≡ self.now }
     {
-        self.songs.iter()
+        Iter {
+            songs: self.songs.iter(),
+        }
+    }
+
+    // The same stickers once more.
+    pub(crate) fn try_clone(&self, alloc: Global) -> Result<StickersBySong, AllocError>
+        ensures { IfOk result (λ copy. copy ≡ self.now) }
+    {
+        let songs = clone_songs(alloc, &self.songs)?;
+        Ok(StickersBySong { songs })
     }
 
     pub(crate) fn song(&self, uri: &str) -> Option<&SongStickers>
-        ensures { MatchOption result (stickers_of self.now uri.now ≡ []) (λ song. stickers_of self.now uri.now ≡ in_song (uri.now, song.now)) }
+        ensures { MatchOption result (stickers_of self.now uri.now ≡ [])
+            (λ song. stickers_of self.now uri.now ≡ in_song (uri.now, song.now)) }
     {
         self.songs.get(uri)
     }
@@ -59,19 +73,19 @@ impl StickersBySong {
         }
     }
 
-    // The songs under a base with a sticker of the name whose value passes the test.
+    // The songs below a place with a sticker of the name whose value passes the test.
     pub(crate) fn find<'a>(
         &'a self,
         alloc: Global,
-        base: &str,
+        place: Place<'_>,
         name: &str,
         test: &ValueTest<'_>,
     ) -> Result<Found<'a>, AllocError>
-        ensures { IfOk result (λ found. found ≡ found_in self.now base.now name.now test.now) }
+        ensures { IfOk result (λ found. found ≡ found_in self.now place.entry name.now test.now) }
     {
         let mut found = Vec::new(alloc);
         for (uri, song) in self.songs.iter() {
-            if let Some(value) = found_in_song(uri.as_str(), song, base, name, test) {
+            if let Some(value) = found_in_song(uri.as_str(), song, place, name, test) {
                 found.push(FoundSticker {
                     uri: uri.as_str(),
                     value: value.as_str(),
@@ -87,13 +101,12 @@ impl StickersBySong {
         alloc: Global,
         uri: &str,
         name: &str,
-        value: &str,
+        value: StickerValue,
     ) -> Result<(), AllocError>
-        ensures ok { OnOk result (self.new ≡ with_sticker self.old uri.now name.now value.now) }
+        ensures ok { OnOk result (self.new ≡ with_sticker self.old uri.now name.now value) }
         ensures err { OnErr result (self.new ≡ self.old) }
     {
         let name = String::from_str(alloc, name)?;
-        let value = StickerValue::new(alloc, value)?;
         match self.songs.get_mut(uri) {
             Some(song) => {
                 song.insert(name, value)?;
@@ -144,13 +157,14 @@ impl StickersBySong {
 fn found_in_song<'a>(
     uri: &str,
     song: &'a SongStickers,
-    base: &str,
+    place: Place<'_>,
     name: &str,
     test: &ValueTest<'_>,
 ) -> Option<&'a StickerValue>
-    ensures { map (λ value. (uri.now, value)) (option_to_list (option_map (λ value. value.now) result)) ≡ found_in (in_song (uri.now, song.now)) base.now name.now test.now }
+    ensures { map (λ value. (uri.now, value)) (option_to_list (option_map (λ value. value.now) result))
+        ≡ found_in (in_song (uri.now, song.now)) place.entry name.now test.now }
 {
-    if !is_under(base, uri) {
+    if !place.is_over(uri) {
         return None;
     }
     match song.get(name) {

@@ -1,6 +1,6 @@
 ghost use Rattle.std.specs.Prelude.{◌≡◌, ℕ, ◌↔◌, List, [], length, map, IsTrue};
 ghost use Rattle.std.specs.Slice.Iter.{iter_rest};
-ghost use Rattle.stickers.specs.Find.{passes, is_under, pair_of};
+ghost use Rattle.stickers.specs.Find.{passes, pair_of};
 
 use std::marker::Model;
 use std::slice;
@@ -30,17 +30,6 @@ impl ValueTest<'_> {
             ValueTest::Greater(bound) => value > *bound,
         }
     }
-}
-
-/// Whether a URI is the base itself or stands below it as a folder, by whole parts: `a` is over `a/b` and not over `ab`. Every URI stands below the empty base.
-pub fn is_under(base: &str, uri: &str) -> bool
-    ensures { result ≡ is_under base.now uri.now }
-{
-    let base = base.as_bytes();
-    let uri = uri.as_bytes();
-    base.is_empty()
-        || uri == base
-        || (base.len() < uri.len() && &uri[..base.len()] == base && uri[base.len()] == b'/')
 }
 
 /// A song that `Stickers::find` found, with the value of its sticker.

@@ -2,39 +2,11 @@ ghost use Rattle.std.specs.Prelude.{◌≡◌, ℕ, ◌↔◌, List, [], ◌∷�
 ghost use Rattle.stickers.specs.ByName.{by_name};
 ghost use Rattle.stickers.specs.Named.{IsRising, under, with_name, without_name};
 
+use crate::copying::clone_values;
+use crate::value::StickerValue;
 use std::alloc::{AllocError, Global};
 use std::collections::{BTreeMap, btree_map};
 use std::marker::Model;
-
-/// The value of one sticker.
-#[derive(Debug, Drop)]
-pub struct StickerValue {
-    text: String,
-}
-
-impl Model for StickerValue {
-    ghost use Rattle.std.specs.Prelude.{ℕ, List, string_bytes};
-
-    ghost Value = { List ℕ };
-
-    ghost view = { λ v. string_bytes v.text };
-}
-
-impl StickerValue {
-    pub(crate) fn new(alloc: Global, text: &str) -> Result<Self, AllocError>
-        ensures { IfOk result (λ value. value ≡ text.now) }
-    {
-        Ok(StickerValue {
-            text: String::from_str(alloc, text)?,
-        })
-    }
-
-    pub fn as_str(&self) -> &str
-        ensures { result.now ≡ self.now }
-    {
-        self.text.as_str()
-    }
-}
 
 /// The stickers of one song by the bytes of their names.
 #[derive(Debug, Drop)]
@@ -95,6 +67,14 @@ impl SongStickers {
         ensures { by_name result ≡ self.now }
     {
         self.values.iter()
+    }
+
+    /// The same stickers once more, in memory of their own.
+    pub fn try_clone(&self, alloc: Global) -> Result<SongStickers, AllocError>
+        ensures { IfOk result (λ copy. copy ≡ self.now) }
+    {
+        let values = clone_values(alloc, &self.values)?;
+        Ok(SongStickers { values })
     }
 
     pub(crate) fn insert(&mut self, name: String, value: StickerValue) -> Result<(), AllocError>

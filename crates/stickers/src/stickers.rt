@@ -1,22 +1,34 @@
-ghost use Rattle.std.specs.Prelude.{◌≡◌, ◌↔◌, [], length, IsTrue, Some, IfOk, OnOk, OnErr, MatchOption};
-ghost use Rattle.stickers.specs.ByName.{by_name};
-ghost use Rattle.stickers.specs.Find.{found_in};
+ghost use Rattle.std.specs.Prelude.{◌≡◌, ◌↔◌, [], length, IsTrue, Some, IfOk, OnOk, OnErr, MatchOption, option_copied};
+ghost use Rattle.song_db.specs.Uri.{is_uri};
+ghost use Rattle.stickers.specs.Find.{passing, found_in};
+ghost use Rattle.stickers.specs.Fits.{HasRoom};
 ghost use Rattle.stickers.specs.Refusal.{Answers, AnswersIfMemory};
-ghost use Rattle.stickers.specs.Sticker.{IsWithinLimits, flat, in_song, value_at, stickers_of, with_sticker, without_sticker, without_song, find_refusal, get_refusal, set_refusal, delete_all_refusal};
+ghost use Rattle.stickers.specs.Sticker.{IsWithinLimits, flat, in_song, value_at, stickers_of};
+ghost use Rattle.stickers.specs.Sticker.{with_sticker, without_sticker, without_song};
+ghost use Rattle.stickers.specs.Sticker.{find_refusal, get_refusal, set_refusal, delete_all_refusal};
 
 use crate::by_song::StickersBySong;
 use crate::find::{Found, ValueTest};
-use crate::limits::MAX_STICKERS;
-use crate::name::is_good_name;
+use crate::name::check_name;
 use crate::refusal::StickersError;
-use crate::song::{SongStickers, StickerValue};
-use std::alloc::Global;
-use std::collections::btree_map;
+use crate::song::SongStickers;
+use crate::value::StickerValue;
+use song_db::{Place, Uri};
+use std::alloc::{AllocError, Global};
 use std::marker::Model;
 
-/// The stickers of all songs: at most 65,536. URIs, names and values are plain text; that a URI names a song is not known here.
+mod builder;
+mod checking;
+mod iter;
+
+pub use builder::StickersBuilder;
+pub use iter::Iter;
+
+/// The stickers of all songs: at most 65,536. Each belongs to a URI, has a name of 1 to 256 bytes and a value of at
+/// most 4,096. That a URI names a song is not known here.
 ///
-/// A call first tests the name, then whether the sticker is there, then the limit; it takes memory last. A refused call leaves everything as it was.
+/// A call first tests the name, then whether the sticker is there, then the limit; it takes memory last. A refused
+/// call leaves everything as it was.
 #[derive(Debug, Drop)]
 pub struct Stickers {
     songs: StickersBySong,
@@ -60,10 +72,20 @@ impl Stickers {
     }
 
     /// The songs that have stickers, by their URIs, each with its stickers.
-    pub fn iter(&self) -> btree_map::Iter<'_, String, SongStickers>
-        ensures { flat (by_name result) ≡ self.now }
+    pub fn iter(&self) -> Iter<'_>
+        ensures { flat result ≡ self.now }
     {
         self.songs.iter()
+    }
+
+    /// The same stickers once more, in memory of their own.
+    pub fn try_clone(&self, alloc: Global) -> Result<Stickers, AllocError>
+        ensures { IfOk result (λ copy. copy ≡ self.now) }
+    {
+        Ok(Stickers {
+            songs: self.songs.try_clone(alloc)?,
+            count: self.count,
+        })
     }
 
     /// The value of a sticker. Refused by `BadStickerName` and `NoSuchSticker`.
@@ -71,9 +93,7 @@ impl Stickers {
         ensures value { IfOk result (λ value. value_at self.now uri.now name.now ≡ Some value.now) }
         ensures answer { Answers (get_refusal self.now uri.now name.now) result }
     {
-        if !is_good_name(name) {
-            return Err(StickersError::BadStickerName);
-        }
+        check_name(name)?;
         match self.songs.value(uri, name) {
             Some(value) => Ok(value),
             None => Err(StickersError::NoSuchSticker),
@@ -82,47 +102,80 @@ impl Stickers {
 
     /// The stickers of a song; `None` where it has none.
     pub fn list(&self, uri: &str) -> Option<&SongStickers>
-        ensures { MatchOption result (stickers_of self.now uri.now ≡ []) (λ song. stickers_of self.now uri.now ≡ in_song (uri.now, song.now)) }
+        ensures { MatchOption result (stickers_of self.now uri.now ≡ [])
+            (λ song. stickers_of self.now uri.now ≡ in_song (uri.now, song.now)) }
     {
         self.songs.song(uri)
     }
 
-    /// The songs under a base, by their URIs, that have a sticker of the name whose value passes the test. Whole parts of a path count: `a` is over `a/b` and not over `ab`. Refused by `BadStickerName` and `NoMemory`.
+    /// The songs below a place, by their URIs, that have a sticker of the name whose value passes the test. Refused by
+    /// `BadStickerName` and `NoMemory`.
     pub fn find<'a>(
         &'a self,
         alloc: Global,
-        base: &str,
+        place: Place<'_>,
         name: &str,
         test: &ValueTest<'_>,
     ) -> Result<Found<'a>, StickersError>
-        ensures found { IfOk result (λ found. found ≡ found_in self.now base.now name.now test.now) }
+        ensures found { IfOk result (λ found. found ≡ found_in self.now place.entry name.now test.now) }
         ensures answer { AnswersIfMemory (find_refusal name.now) result }
     {
-        if !is_good_name(name) {
-            return Err(StickersError::BadStickerName);
-        }
-        Ok(self.songs.find(alloc, base, name, test)?)
+        check_name(name)?;
+        Ok(self.songs.find(alloc, place, name, test)?)
     }
 
-    /// Sets the value of a sticker, in place of the one that it may have. Refused by `BadStickerName`, `StickersFull` (a new sticker) and `NoMemory`.
+    /// The value of a song's sticker of the name, where it passes the test: what `find` is at a place that is a song.
+    /// Refused by `BadStickerName`.
+    pub fn find_song(
+        &self,
+        uri: &str,
+        name: &str,
+        test: &ValueTest<'_>,
+    ) -> Result<Option<&StickerValue>, StickersError>
+        ensures found { IfOk result (λ value. option_copied value ≡ passing test.now (value_at self.now uri.now name.now)) }
+        ensures answer { Answers (find_refusal name.now) result }
+    {
+        check_name(name)?;
+        match self.songs.value(uri, name) {
+            Some(value) if test.passes(value.as_str()) => Ok(Some(value)),
+            _ => Ok(None),
+        }
+    }
+
+    /// Sets the value of a sticker, in place of the one that it may have. Refused by `BadStickerName`, `StickersFull`
+    /// (a new sticker) and `NoMemory`.
     pub fn set(
+        &mut self,
+        alloc: Global,
+        uri: &Uri,
+        name: &str,
+        value: StickerValue,
+    ) -> Result<(), StickersError>
+        ensures ok { OnOk result (self.new ≡ with_sticker self.old uri.now name.now value) }
+        ensures err { OnErr result (self.new ≡ self.old) }
+        ensures answer { AnswersIfMemory (set_refusal self.old uri.now name.now) result }
+    {
+        let uri = uri.as_str();
+        self.check_set(uri, name)?;
+        self.put(alloc, uri, name, value)?;
+        Ok(())
+    }
+
+    // Sets the value of a sticker that has room.
+    fn put(
         &mut self,
         alloc: Global,
         uri: &str,
         name: &str,
-        value: &str,
-    ) -> Result<(), StickersError>
-        ensures ok { OnOk result (self.new ≡ with_sticker self.old uri.now name.now value.now) }
+        value: StickerValue,
+    ) -> Result<(), AllocError>
+        requires form { IsTrue (is_uri uri.now) }
+        requires room { HasRoom self.old uri.now name.now }
+        ensures ok { OnOk result (self.new ≡ with_sticker self.old uri.now name.now value) }
         ensures err { OnErr result (self.new ≡ self.old) }
-        ensures answer { AnswersIfMemory (set_refusal self.old uri.now name.now) result }
     {
-        if !is_good_name(name) {
-            return Err(StickersError::BadStickerName);
-        }
+        let _form = value.as_str();
         let is_new = self.songs.value(uri, name).is_none();
-        if is_new && MAX_STICKERS <= self.count {
-            return Err(StickersError::StickersFull);
-        }
         self.songs.set(alloc, uri, name, value)?;
         if is_new {
             self.count += 1;
@@ -136,12 +189,7 @@ impl Stickers {
         ensures err { OnErr result (self.new ≡ self.old) }
         ensures answer { Answers (get_refusal self.old uri.now name.now) result }
     {
-        if !is_good_name(name) {
-            return Err(StickersError::BadStickerName);
-        }
-        if self.songs.value(uri, name).is_none() {
-            return Err(StickersError::NoSuchSticker);
-        }
+        self.check_delete(uri, name)?;
         self.songs.remove_value(uri, name);
         self.songs.drop_empty_song(uri);
         self.count -= 1;

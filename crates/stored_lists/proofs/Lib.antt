@@ -1,5 +1,6 @@
 mod Absent
 mod ByName
 mod Counted
-mod Mapped
+mod Last
 mod Renamed
+mod Turned

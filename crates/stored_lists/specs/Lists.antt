@@ -1,5 +1,6 @@
 -- The stored playlists: a list of names with their songs, rising by the bytes of the name, and what each call makes of it.
-use Rattle.std.specs.Prelude.{◌≡◌, ℕ, ◌+◌, ◌≤◌, Bool, not, ◌||◌, nat_lt, nat_le, List, [], ◌++◌, length, Option, Some, None, is_some, IsTrue, unwrap_or, sum_by, if◌then◌else◌}
+use Rattle.std.specs.Prelude.{◌≡◌, ℕ, ◌+◌, ◌≤◌, Bool, not, ◌||◌, nat_lt, nat_le, List, [], ◌++◌, length, Option, Some}
+use Rattle.std.specs.Prelude.{None, is_some, IsTrue, unwrap_or, sum_by, if◌then◌else◌}
 use Rattle.std.specs.Cmp.Lexicographic.{slice_cmp}
 use Rattle.std.specs.Ordering.{nat_cmp}
 use Rattle.std.specs.List.{AllByRecursion}
@@ -11,7 +12,7 @@ use Rattle.stored_lists.specs.Limits.{MAX_LISTS, MAX_ENTRIES}
 use Rattle.stored_lists.specs.declared.refusal.ListsError.{ListsError}
 use Rattle.stored_lists.specs.declared.refusal.ListsError.TheVariants.{BadIndex, BadName, NoSuchList, ListExists, ListsFull}
 use Rattle.stored_lists.specs.Name.{is_good_name}
-use Rattle.stored_lists.specs.Songs.{Uris}
+use Rattle.stored_lists.specs.Songs.{Uris, AreUris}
 
 -- names with their songs
 abbrev pub Stored : Type 0
@@ -33,11 +34,11 @@ total lists = sum_by (λ list. length list.1) lists
 abbrev pub IsRising : Stored → Type 0
 IsRising lists = IsStrictlySortedBy (slice_cmp nat_cmp) (names_of lists)
 
--- the limits on playlists, entries and names
+-- the limits on playlists and entries, names that playlists may have, and songs that have the form of URIs
 pub record IsWithinLimits (lists : Stored) : Type 0 where
   pub few_lists : length lists ≤ MAX_LISTS
   pub few_entries : total lists ≤ MAX_ENTRIES
-  pub good_names : AllByRecursion (λ list. IsTrue (is_good_name list.0)) lists
+  pub good_lists : AllByRecursion (λ list. IsTrue (is_good_name list.0) × AreUris list.1) lists
 
 -- the playlists with a count of their entries
 pub record IsCounted (lists : Stored) (entries : ℕ) : Type 0 where

@@ -9,7 +9,7 @@ pub mod refusal;
 pub mod songs;
 
 pub use limits::{MAX_ENTRIES, MAX_LISTS, MAX_NAME_BYTES};
-pub use lists::Lists;
+pub use lists::{Iter, Lists, Names};
 pub use name::is_good_name;
-pub use refusal::ListsError;
+pub use refusal::{ListsError, PartError};
 pub use songs::Songs;

@@ -1,22 +1,29 @@
-ghost use Rattle.std.specs.Prelude.{◌≡◌, ◌↔◌, [], length, IsTrue, Some, None, IfOk, OnOk, OnErr, string_bytes, map};
-ghost use Rattle.stored_lists.specs.ByName.{by_name};
-ghost use Rattle.stored_lists.specs.Name.{is_good_name};
+ghost use Rattle.std.specs.Prelude.{◌≡◌, ◌↔◌, [], ◌∷◌, ◌++◌, length, IsTrue, Some, None, IfOk, OnOk, OnErr};
 ghost use Rattle.stored_lists.specs.Refusal.{Answers, AnswersIfMemory};
 ghost use Rattle.stored_lists.specs.Songs.{without_range, moved};
-ghost use Rattle.stored_lists.specs.Lists.{names_of, songs_of, songs_or_none, total, IsRising, IsWithinLimits, with_list, without_list, with_songs, added, renamed, name_refusal, new_list_refusal, save_refusal, add_refusal, remove_refusal, move_refusal, rename_refusal};
+ghost use Rattle.stored_lists.specs.Fits.{HasRoom};
+ghost use Rattle.stored_lists.specs.Lists.{names_of, songs_of, songs_or_none, total, IsRising, IsWithinLimits};
+ghost use Rattle.stored_lists.specs.Lists.{with_list, without_list, with_songs, added, renamed};
+ghost use Rattle.stored_lists.specs.Lists.{name_refusal, save_refusal, add_refusal, remove_refusal};
+ghost use Rattle.stored_lists.specs.Lists.{move_refusal, rename_refusal};
+ghost use Rattle.stored_lists.specs.Part.{part_refusal, AnswersPartIfMemory};
 
-use crate::limits::{MAX_ENTRIES, MAX_LISTS};
 use crate::name::is_good_name;
 use crate::named::NamedSongs;
-use crate::refusal::ListsError;
+use crate::refusal::{ListsError, PartError};
 use crate::songs::Songs;
-use std::alloc::Global;
-use std::collections::btree_map;
+use std::alloc::{AllocError, Global};
 use std::marker::Model;
+
+mod checking;
+mod iter;
+
+pub use iter::{Iter, Names};
 
 /// The stored playlists by the bytes of their names: at most 256, with at most 65,536 entries together.
 ///
-/// A call first tests the names, then whether the playlist is there, then positions, then whether a new name is free, then the limits; it takes memory last. A refused call leaves everything as it was.
+/// A call first tests the names, then whether the playlist is there, then positions, then whether a new name is free,
+/// then the limits; it takes memory last. A refused call leaves everything as it was.
 #[derive(Debug, Drop)]
 pub struct Lists {
     lists: NamedSongs,
@@ -69,15 +76,15 @@ impl Lists {
     }
 
     /// The names by their bytes.
-    pub fn names(&self) -> btree_map::Keys<'_, String, Songs>
-        ensures { map string_bytes result ≡ names_of self.now }
+    pub fn names(&self) -> Names<'_>
+        ensures { result ≡ names_of self.now }
     {
         self.lists.names()
     }
 
     /// The names, by their bytes, with their songs.
-    pub fn iter(&self) -> btree_map::Iter<'_, String, Songs>
-        ensures { by_name result ≡ self.now }
+    pub fn iter(&self) -> Iter<'_>
+        ensures { result ≡ self.now }
     {
         self.lists.iter()
     }
@@ -102,13 +109,9 @@ impl Lists {
         ensures err { OnErr result (self.new ≡ self.old) }
         ensures answer { AnswersIfMemory (save_refusal self.old name.now (length songs)) result }
     {
-        if !is_good_name(name) {
-            return Err(ListsError::BadName);
-        }
-        if self.lists.contains(name) {
-            return Err(ListsError::ListExists);
-        }
-        self.insert_new(alloc, name, songs)
+        self.check_save(name, songs.len())?;
+        self.insert_new(alloc, name, songs)?;
+        Ok(())
     }
 
     /// Adds songs at the end of a playlist, which is made if missing, with no songs too. Refused by `BadName`, `ListsFull` and `NoMemory`.
@@ -117,46 +120,38 @@ impl Lists {
         ensures err { OnErr result (self.new ≡ self.old) }
         ensures answer { AnswersIfMemory (add_refusal self.old name.now (length songs)) result }
     {
-        if !is_good_name(name) {
-            return Err(ListsError::BadName);
-        }
-        if !self.lists.contains(name) {
-            return self.insert_new(alloc, name, songs);
-        }
         let count = songs.len();
-        if count > MAX_ENTRIES - self.entries {
-            return Err(ListsError::ListsFull);
+        self.check_add(name, count)?;
+        if self.lists.contains(name) {
+            self.lists.append(name, songs)?;
+            self.entries += count;
+        } else {
+            self.insert_new(alloc, name, songs)?;
         }
-        self.lists.append(name, songs)?;
-        self.entries += count;
         Ok(())
     }
 
-    /// Takes out the songs from position `start` up to, but not including, `end`. Refused by `BadName`, `NoSuchList`, and by `BadIndex` where the range ends before it begins or past the end of the playlist.
+    /// Takes out the songs from position `start` up to, but not including, `end`. Refused by `BadName`, `NoSuchList`,
+    /// and by `BadIndex` where the range ends before it begins or past the end of the playlist.
     pub fn remove_at(&mut self, name: &str, start: usize, end: usize) -> Result<(), ListsError>
         ensures ok { OnOk result (self.new ≡ with_songs self.old name.now (without_range (songs_or_none self.old name.now) start end)) }
         ensures err { OnErr result (self.new ≡ self.old) }
         ensures answer { Answers (remove_refusal self.old name.now start end) result }
     {
-        let count = self.get(name)?.len();
-        if end < start || count < end {
-            return Err(ListsError::BadIndex);
-        }
+        self.check_remove_at(name, start, end)?;
         self.lists.remove_range(name, start, end);
         self.entries -= end - start;
         Ok(())
     }
 
-    /// Moves the song at position `from` so that it stands at `to`. Refused by `BadName`, `NoSuchList`, and by `BadIndex` where a position is past the end of the playlist.
+    /// Moves the song at position `from` so that it stands at `to`. Refused by `BadName`, `NoSuchList`, and by
+    /// `BadIndex` where a position is past the end of the playlist.
     pub fn move_at(&mut self, name: &str, from: usize, to: usize) -> Result<(), ListsError>
         ensures ok { OnOk result (self.new ≡ with_songs self.old name.now (moved (songs_or_none self.old name.now) from to)) }
         ensures err { OnErr result (self.new ≡ self.old) }
         ensures answer { Answers (move_refusal self.old name.now from to) result }
     {
-        let count = self.get(name)?.len();
-        if count <= from || count <= to {
-            return Err(ListsError::BadIndex);
-        }
+        self.check_move_at(name, from, to)?;
         self.lists.move_one(name, from, to);
         Ok(())
     }
@@ -173,23 +168,39 @@ impl Lists {
         Ok(())
     }
 
-    /// Gives a playlist another name. Refused by `BadName` for either name, `NoSuchList`, `ListExists` (where the new name is the old one too) and `NoMemory`.
+    /// Gives a playlist another name. Refused by `BadName` for either name, `NoSuchList`, `ListExists` (where the new
+    /// name is the old one too) and `NoMemory`.
     pub fn rename(&mut self, alloc: Global, from: &str, to: &str) -> Result<(), ListsError>
         ensures ok { OnOk result (self.new ≡ renamed self.old from.now to.now) }
         ensures err { OnErr result (self.new ≡ self.old) }
         ensures answer { AnswersIfMemory (rename_refusal self.old from.now to.now) result }
     {
-        if !is_good_name(from) || !is_good_name(to) {
-            return Err(ListsError::BadName);
-        }
-        if !self.lists.contains(from) {
-            return Err(ListsError::NoSuchList);
-        }
-        if self.lists.contains(to) {
-            return Err(ListsError::ListExists);
-        }
+        self.check_rename(from, to)?;
         self.lists.rename(alloc, from, to)?;
         Ok(())
+    }
+
+    /// Adds a playlist behind all others, as playlists were saved one after the other, by one look-up of the last
+    /// name. Refused by `BadName`, by `NotRising` where the name isn't above all others, by `TooManyLists`,
+    /// `TooManyEntries` and `NoMemory`.
+    pub fn push_last(&mut self, alloc: Global, name: &str, songs: Songs) -> Result<(), PartError>
+        ensures ok { OnOk result (self.new ≡ self.old ++ (name.now, songs) ∷ []) }
+        ensures err { OnErr result (self.new ≡ self.old) }
+        ensures answer { AnswersPartIfMemory (part_refusal self.old name.now (length songs)) result }
+    {
+        self.check_last(name, songs.len())?;
+        self.insert_new(alloc, name, songs)?;
+        Ok(())
+    }
+
+    /// The same playlists once more, in memory of their own.
+    pub fn try_clone(&self, alloc: Global) -> Result<Lists, AllocError>
+        ensures { IfOk result (λ copy. copy ≡ self.now) }
+    {
+        Ok(Lists {
+            lists: self.lists.try_clone(alloc)?,
+            entries: self.entries,
+        })
     }
 
     /// Takes a playlist out. Refused by `BadName` and `NoSuchList`.
@@ -204,18 +215,14 @@ impl Lists {
         Ok(())
     }
 
-    // Stores a playlist under a good name that is free.
-    fn insert_new(&mut self, alloc: Global, name: &str, songs: Songs) -> Result<(), ListsError>
-        requires good { IsTrue (is_good_name name.now) }
+    // Stores a playlist under a good name that is free, where it has room.
+    fn insert_new(&mut self, alloc: Global, name: &str, songs: Songs) -> Result<(), AllocError>
+        requires room { HasRoom self.old name.now (length songs) }
         requires free { songs_of self.old name.now ≡ None }
         ensures ok { OnOk result (self.new ≡ with_list self.old name.now songs) }
         ensures err { OnErr result (self.new ≡ self.old) }
-        ensures answer { AnswersIfMemory (new_list_refusal self.old (length songs)) result }
     {
         let count = songs.len();
-        if MAX_LISTS <= self.lists.len() || MAX_ENTRIES - self.entries < count {
-            return Err(ListsError::ListsFull);
-        }
         let name = String::from_str(alloc, name)?;
         self.lists.insert(name, songs)?;
         self.entries += count;

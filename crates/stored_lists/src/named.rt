@@ -1,11 +1,12 @@
-ghost use Rattle.std.specs.Prelude.{◌≡◌, ◌≤◌, ◌<◌, [], ◌++◌, length, OnOk, OnErr, None, IsSome, is_some, map, option_map, string_bytes};
-ghost use Rattle.stored_lists.specs.ByName.{by_name};
+ghost use Rattle.std.specs.Prelude.{◌≡◌, ◌≤◌, ◌<◌, [], ◌++◌, length, IfOk, OnOk, OnErr, None, IsSome, is_some, option_map, string_bytes};
+ghost use Rattle.stored_lists.specs.Part.{is_last};
 ghost use Rattle.stored_lists.specs.Songs.{without_range, moved};
 ghost use Rattle.stored_lists.specs.Lists.{names_of, songs_of, songs_or_none, IsRising, with_list, without_list, with_songs, renamed};
 
+use crate::lists::{Iter, Names};
 use crate::songs::Songs;
 use std::alloc::{AllocError, Global};
-use std::collections::{BTreeMap, btree_map};
+use std::collections::BTreeMap;
 use std::marker::Model;
 
 // The playlists under their names, without the limits.
@@ -52,16 +53,43 @@ impl NamedSongs {
         self.map.contains_key(name)
     }
 
-    pub(crate) fn names(&self) -> btree_map::Keys<'_, String, Songs>
-        ensures { map string_bytes result ≡ names_of self.now }
+    pub(crate) fn names(&self) -> Names<'_>
+        ensures { result ≡ names_of self.now }
     {
-        self.map.keys()
+        Names {
+            names: self.map.keys(),
+        }
     }
 
-    pub(crate) fn iter(&self) -> btree_map::Iter<'_, String, Songs>
-        ensures { by_name result ≡ self.now }
+    pub(crate) fn iter(&self) -> Iter<'_>
+        ensures { result ≡ self.now }
     {
-        self.map.iter()
+        Iter {
+            lists: self.map.iter(),
+        }
+    }
+
+    // Whether a name is above all others.
+    pub(crate) fn is_last(&self, name: &str) -> bool
+        ensures { result ≡ is_last self.now name.now }
+    {
+        match self.map.last_key_value() {
+            Some((last, _)) => last.as_str() < name,
+            None => true,
+        }
+    }
+
+    // The same playlists once more.
+    pub(crate) fn try_clone(&self, alloc: Global) -> Result<NamedSongs, AllocError>
+        ensures { IfOk result (λ copy. copy ≡ self.now) }
+    {
+        let mut copy = NamedSongs::new(alloc);
+        let _count = self.len();
+        for (name, songs) in self.iter() {
+            let songs = songs.try_clone(alloc)?;
+            copy.insert(String::from_str(alloc, name)?, songs)?;
+        }
+        Ok(copy)
     }
 
     pub(crate) fn insert(&mut self, name: String, songs: Songs) -> Result<(), AllocError>

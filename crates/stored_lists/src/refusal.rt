@@ -1,12 +1,13 @@
 ghost use Rattle.std.specs.Prelude.{◌≡◌};
 ghost use Rattle.stored_lists.specs.Refusal.{number_of};
 ghost use Rattle.stored_lists.specs.declared.refusal.ListsError.TheVariants.{NoMemory};
+ghost use Rattle.stored_lists.specs.declared.refusal.PartError.{PartError};
 
 use std::alloc::{AllocError, AllocFailed};
 use thiserror::Error;
 
 /// Why a call of `Lists` was refused. What it was called on stays as it was.
-#[derive(Clone, Copy, Debug, PartialEq, Eq, Hash, Error)]
+#[derive(Clone, Copy, Debug, PartialEq, Eq, Error)]
 pub enum ListsError {
     /// A position is past the end of the playlist, or a range ends before it begins.
     #[error("bad song index")]
@@ -54,5 +55,31 @@ impl<T: Drop> From<AllocFailed<T>> for ListsError {
 
     fn from(_error: AllocFailed<T>) -> Self {
         ListsError::NoMemory
+    }
+}
+
+/// Why `Lists::push_last` was refused. The playlists stay as they were.
+#[derive(Clone, Copy, Debug, PartialEq, Eq, Error)]
+pub enum PartError {
+    /// The name is empty, too long, or has a `/` or a control character.
+    #[error("bad playlist name")]
+    BadName,
+    /// The name isn't above the names of all other playlists.
+    #[error("playlists out of order")]
+    NotRising,
+    #[error("too many playlists")]
+    TooManyLists,
+    /// All playlists together would have too many entries.
+    #[error("too many entries")]
+    TooManyEntries,
+    #[error("out of memory")]
+    NoMemory,
+}
+
+impl From<AllocError> for PartError {
+    ghost from_gives = { λ _ e. e ≡ PartError.NoMemory };
+
+    fn from(_error: AllocError) -> Self {
+        PartError::NoMemory
     }
 }

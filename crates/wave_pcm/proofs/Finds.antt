@@ -16,39 +16,54 @@ use Rattle.wave_pcm.specs.declared.tags.Tag.{Tag}
 
 pub find-map : {X Y : Type 0} (f : X → Y) (q : Y → Bool) (xs : List X) → find q (map f xs) ≡ option_map f (find (λ x. q (f x)) xs)
 find-map f q [] = refl
-find-map f q (x ∷ xs) = elim (q (f x)) as (λ b. cond b (Some (f x)) (find q (map f xs)) ≡ option_map f (cond b (Some x) (find (λ y. q (f y)) xs))) [ true ↦ refl | false ↦ find-map f q xs ]
+find-map f q (x ∷ xs) = elim (q (f x)) as (λ b. cond b (Some (f x)) (find q (map f xs)) ≡ option_map f (cond b (Some x) (find (λ y.
+    q (f y)) xs))) [ true ↦ refl | false ↦ find-map f q xs ]
 
 pub find_passes : {X : Type 0} (P : X → Type 0) (q : X → Bool) (xs : List X) → All P xs → IfSome (find q xs) P
 find_passes P q [] each = tt
-find_passes P q (x ∷ xs) each = elim (q x) as (λ b. IfSome (cond b (Some x) (find q xs)) P) [ true ↦ All-head P x xs each | false ↦ find_passes P q xs (All-tail P x xs each) ]
+find_passes P q (x ∷ xs) each = elim (q x) as (λ b. IfSome (cond b (Some x) (find q xs)) P) [
+  | true ↦ All-head P x xs each
+  | false ↦
+      find_passes P q xs (All-tail P x xs each)
+]
 
 -- the text of a tag, by the head that was found
-pub text_found : (file : List ℕ) (heads : List PartHead) (tag : Tag) (found : Option PartHead) → found ≡ find (λ h. is_text tag h.kind) heads
+pub text_found : (file : List ℕ) (heads : List PartHead) (tag : Tag) (found : Option PartHead)
+    → found ≡ find (λ h. is_text tag h.kind) heads
     → text_in (parts_at file heads) tag ≡ option_and_then (λ h. tag_text (part_at file h).body) found
 text_found file heads tag found same =
-    ap (option_and_then (λ p. tag_text p.body)) (find-map (part_at file) (λ p. is_text tag p.kind) heads ∙ ap (option_map (part_at file)) (sym same)) ∙ mapped file found
+    ap (option_and_then (λ p. tag_text p.body)) (find-map (part_at file) (λ p. is_text tag p.kind) heads
+    ∙ ap (option_map (part_at file)) (sym same)) ∙ mapped file found
   where
-    mapped : (file : List ℕ) (o : Option PartHead) → option_and_then (λ p. tag_text p.body) (option_map (part_at file) o) ≡ option_and_then (λ h. tag_text (part_at file h).body) o
+    mapped : (file : List ℕ) (o : Option PartHead)
+        → option_and_then (λ p. tag_text p.body) (option_map (part_at file) o) ≡ option_and_then (λ h. tag_text (part_at file h).body) o
     mapped file None = refl
     mapped file (Some h) = refl
 
 -- the format, by the head that was found
-pub key_found : (file : List ℕ) (heads : List PartHead) (found : Option PartHead) → found ≡ find (λ h. is_format h.kind || is_data h.kind) (take MAX_CHUNKS heads)
+pub key_found : (file : List ℕ) (heads : List PartHead) (found : Option PartHead)
+    → found ≡ find (λ h. is_format h.kind || is_data h.kind) (take MAX_CHUNKS heads)
     → format_of (parts_at file heads) ≡ format_at (nat_lt MAX_CHUNKS (length heads)) (option_map (part_at file) found)
 key_found file heads found same =
     ap (λ n. format_at (nat_lt MAX_CHUNKS n) (find is_key (take MAX_CHUNKS (parts_at file heads)))) (length-map heads (part_at file))
     ∙ ap (format_at (nat_lt MAX_CHUNKS (length heads)))
-    (ap (find is_key) (take-map (part_at file) MAX_CHUNKS heads) ∙ find-map (part_at file) is_key (take MAX_CHUNKS heads) ∙ ap (option_map (part_at file)) (sym same))
+    (ap (find is_key) (take-map (part_at file) MAX_CHUNKS heads) ∙ find-map (part_at file) is_key (take MAX_CHUNKS heads)
+    ∙ ap (option_map (part_at file)) (sym same))
 
-pub format_found : (file : List ℕ) (heads : List PartHead) (head : PartHead) → Some head ≡ find (λ h. is_format h.kind || is_data h.kind) (take MAX_CHUNKS heads)
+pub format_found : (file : List ℕ) (heads : List PartHead) (head : PartHead)
+    → Some head ≡ find (λ h. is_format h.kind || is_data h.kind) (take MAX_CHUNKS heads)
     → is_format head.kind ≡ true → format_of (parts_at file heads) ≡ format_from (part_at file head).body
-format_found file heads head same yes' = key_found file heads (Some head) same ∙ ap (λ b. if b then format_from (part_at file head).body else Err NoFormat) yes'
+format_found file heads head same yes' = key_found file heads (Some head) same
+    ∙ ap (λ b. if b then format_from (part_at file head).body else Err NoFormat) yes'
 
-pub data_stands_first : (file : List ℕ) (heads : List PartHead) (head : PartHead) → Some head ≡ find (λ h. is_format h.kind || is_data h.kind) (take MAX_CHUNKS heads)
+pub data_stands_first : (file : List ℕ) (heads : List PartHead) (head : PartHead)
+    → Some head ≡ find (λ h. is_format h.kind || is_data h.kind) (take MAX_CHUNKS heads)
     → is_format head.kind ≡ false → format_of (parts_at file heads) ≡ Err NoFormat
-data_stands_first file heads head same no' = key_found file heads (Some head) same ∙ ap (λ b. if b then format_from (part_at file head).body else Err NoFormat) no'
+data_stands_first file heads head same no' = key_found file heads (Some head) same
+    ∙ ap (λ b. if b then format_from (part_at file head).body else Err NoFormat) no'
 
-pub no_key : (file : List ℕ) (heads : List PartHead) (long : Bool) → None ≡ find (λ h. is_format h.kind || is_data h.kind) (take MAX_CHUNKS heads)
+pub no_key : (file : List ℕ) (heads : List PartHead) (long : Bool)
+    → None ≡ find (λ h. is_format h.kind || is_data h.kind) (take MAX_CHUNKS heads)
     → nat_lt MAX_CHUNKS (length heads) ≡ long → format_of (parts_at file heads) ≡ (if long then Err TooManyTurns else Err NoFormat)
 no_key file heads long same l = key_found file heads None same ∙ ap (λ b. format_at b None) l
 

@@ -1,5 +1,6 @@
 -- The list of parts, one part at a time.
-use Rattle.std.proofs.Common.{◌≡◌, ℕ, ◌+◌, ◌≤◌, List, [], ◌∷◌, ◌++◌, length, take, map, ap, ◌∙◌, sym, refl, append_assoc, All, subst, zero, suc, drop, slice_range, Bool, true, false}
+use Rattle.std.proofs.Common.{◌≡◌, ℕ, ◌+◌, ◌≤◌, List, [], ◌∷◌, ◌++◌, length, take, map, ap, ◌∙◌, sym, refl}
+use Rattle.std.proofs.Common.{append_assoc, All, subst, zero, suc, drop, slice_range, Bool, true, false}
 use Rattle.std.specs.Prelude.{if◌then◌else◌}
 use Rattle.std.proofs.lemmas.List.Elements.{All-same, All-cons, All-nil, All-head, All-tail}
 use Rattle.std.proofs.lemmas.List.{map_push, append-nil, take_all, take_at, length-map}
@@ -16,20 +17,24 @@ use Rattle.wave_pcm.specs.declared.parts.PartHead.{PartHead}
 -- after a push
 pub listed_more : (n : ℕ) (file : List ℕ) (heads : List PartHead) (head : PartHead) (rest : List Part)
     → take n (parts_at file (heads ++ head ∷ []) ++ rest) ≡ take n (parts_at file heads ++ part_at file head ∷ rest)
-listed_more n file heads head rest = ap (λ ps. take n (ps ++ rest)) (map_push (part_at file) heads head) ∙ ap (take n) (append_assoc (parts_at file heads) (part_at file head ∷ []) rest)
+listed_more n file heads head rest = ap (λ ps. take n (ps ++ rest)) (map_push (part_at file) heads head)
+    ∙ ap (take n) (append_assoc (parts_at file heads) (part_at file head ∷ []) rest)
 
 -- at the end of the parts
-pub listed_end : (n : ℕ) (file : List ℕ) (heads : List PartHead) → length heads ≤ n → take n (parts_at file heads ++ []) ≡ parts_at file heads
+pub listed_end : (n : ℕ) (file : List ℕ) (heads : List PartHead) → length heads ≤ n
+    → take n (parts_at file heads ++ []) ≡ parts_at file heads
 listed_end n file heads few = ap (take n) (append-nil (parts_at file heads)) ∙ take_all n (parts_at file heads) (rw length-map few)
 
 -- where there is no room for more
-pub listed_full : (n : ℕ) (file : List ℕ) (heads : List PartHead) (rest : List Part) → length heads ≡ n → take n (parts_at file heads ++ rest) ≡ parts_at file heads
+pub listed_full : (n : ℕ) (file : List ℕ) (heads : List PartHead) (rest : List Part) → length heads ≡ n
+    → take n (parts_at file heads ++ rest) ≡ parts_at file heads
 listed_full n file heads rest full = take_at (parts_at file heads) rest n (rw length-map full)
 
 -- no more parts come
 pub whole : (n : ℕ) (file : List ℕ) (heads : List PartHead) (rest all : List Part)
     → take n (parts_at file heads ++ rest) ≡ all → rest ≡ [] → length heads ≤ n → parts_at file heads ≡ all
-whole n file heads rest all listed none few = sym (listed_end n file heads few) ∙ ap (λ ps. take n (parts_at file heads ++ ps)) (sym none) ∙ listed
+whole n file heads rest all listed none few = sym (listed_end n file heads few)
+    ∙ ap (λ ps. take n (parts_at file heads ++ ps)) (sym none) ∙ listed
 
 -- one more part
 pub pushed : (n : ℕ) (file : List ℕ) (heads now : List PartHead) (head : PartHead) (part : Part) (before rest all : List Part)
@@ -42,12 +47,14 @@ pushed n file heads now head part before rest all listed cut same push =
 -- each element of a list and one more
 pub All_push : {X : Type 0} (P : X → Type 0) (xs ys : List X) (x : X) → ys ≡ xs ++ x ∷ [] → All P xs → P x → All P ys
 All_push P [] ys x push each here = All-same P ys (x ∷ []) push (All-cons P x [] here (All-nil P))
-All_push P (y ∷ xs) ys x push each here = All-same P ys (y ∷ (xs ++ x ∷ [])) push (All-cons P y (xs ++ x ∷ []) (All-head P y xs each) (All_push P xs (xs ++ x ∷ []) x refl (All-tail P y xs each) here))
+All_push P (y ∷ xs) ys x push each here = All-same P ys (y ∷ (xs ++ x ∷ [])) push (All-cons P y (xs ++ x ∷ []) (All-head P y xs
+    each) (All_push P xs (xs ++ x ∷ []) x refl (All-tail P y xs each) here))
 
 -- after the push of a chunk that is no list of texts
 pub alone : (n : ℕ) (file : List ℕ) (heads now : List PartHead) (head : PartHead) (parts : List Part)
     → now ≡ heads ++ head ∷ [] → parts ≡ part_at file head ∷ [] → length now ≤ n → parts_at file now ≡ take n (parts_at file heads ++ parts)
-alone n file heads now head parts push one few = (whole n file now [] (take n (parts_at file heads ++ parts)) (pushed n file heads now head (part_at file head) parts [] (take n (parts_at file heads ++ parts)) refl one refl push) refl few)
+alone n file heads now head parts push one few = (whole n file now [] (take n (parts_at file heads ++ parts)) (pushed n file heads
+    now head (part_at file head) parts [] (take n (parts_at file heads ++ parts)) refl one refl push) refl few)
 
 -- the head of a chunk's part
 abbrev pub part_head : Kind → ChunkHead → PartHead
@@ -60,13 +67,15 @@ parts_by : (file : List ℕ) (head : ChunkHead) (kind : Kind) (b : Bool) → kin
     → is_text_list kind (slice_range file head.first (head.first + head.len)) ≡ b
     → parts_of (chunk_at file head) ≡ part_at file (part_head kind head) ∷ (if b then texts_in file head else [])
 parts_by file head kind b same test =
-    ap (λ k. part_at file (part_head k head) ∷ (if is_text_list k (slice_range file head.first (head.first + head.len)) then texts_in file head else [])) (sym same)
+    ap (λ k. part_at file (part_head k head) ∷ (if is_text_list k (slice_range file head.first (head.first + head.len)) then
+    texts_in file head else [])) (sym same)
     ∙ ap (λ t. part_at file (part_head kind head) ∷ (if t then texts_in file head else [])) test
 
 -- after a chunk that is no list of texts
 pub chunk_alone : (n : ℕ) (file : List ℕ) (heads now : List PartHead) (head : ChunkHead) (kind : Kind)
     → kind ≡ file_kind head.id → is_text_list kind (slice_range file head.first (head.first + head.len)) ≡ false
-    → now ≡ heads ++ part_head kind head ∷ [] → length now ≤ n → parts_at file now ≡ take n (parts_at file heads ++ parts_of (chunk_at file head))
+    → now ≡ heads ++ part_head kind head ∷ [] → length now ≤ n
+    → parts_at file now ≡ take n (parts_at file heads ++ parts_of (chunk_at file head))
 chunk_alone n file heads now head kind same test push few =
     alone n file heads now (part_head kind head) (parts_of (chunk_at file head)) push (parts_by file head kind false same test) few
 
@@ -77,8 +86,10 @@ pub chunk_and_texts : (n : ℕ) (file : List ℕ) (heads now last : List PartHea
     → parts_at file last ≡ take n (parts_at file now ++ map text_part (chunks_in file (head.first + 4) (head.first + head.len)))
     → parts_at file last ≡ take n (parts_at file heads ++ parts_of (chunk_at file head))
 chunk_and_texts n file heads now last head kind same test room push listed =
-    listed ∙ ap (λ bytes. take n (parts_at file now ++ map text_part (chunks_after 0 (head.first + 4) bytes))) (sym (drop-range file head.first 4 head.len room))
-    ∙ pushed n file heads now (part_head kind head) (part_at file (part_head kind head)) (parts_of (chunk_at file head)) (texts_in file head) (take n (parts_at file heads ++ parts_of (chunk_at file head)))
+    listed ∙ ap (λ bytes. take n (parts_at file now ++ map text_part (chunks_after 0 (head.first + 4) bytes))) (sym (drop-range
+    file head.first 4 head.len room))
+    ∙ pushed n file heads now (part_head kind head) (part_at file (part_head kind head)) (parts_of (chunk_at file head)) (texts_in
+    file head) (take n (parts_at file heads ++ parts_of (chunk_at file head)))
     refl (parts_by file head kind true same test) refl push
 
 -- the same list of parts of the same bytes

@@ -1,5 +1,6 @@
 -- The reading of a list of parts, by its format, its data and its texts.
-use Rattle.std.proofs.Common.{◌≡◌, ◌+◌, ◌*◌, ◌/◌, ◌≤◌, ℕ, List, length, take, drop, refl, ap, ◌∙◌, sym, Ok, Err, slice_range, arith, subst, true, false, nat_lt, inl, inr}
+use Rattle.std.proofs.Common.{◌≡◌, ◌+◌, ◌*◌, ◌/◌, ◌≤◌, ℕ, List, length, take, drop, refl, ap, ◌∙◌, sym, Ok, Err}
+use Rattle.std.proofs.Common.{slice_range, arith, subst, true, false, nat_lt, inl, inr}
 use Rattle.std.specs.Prelude.{Result, Option, Some, None, IfErr, ◌<◌, if◌then◌else◌}
 use Rattle.std.proofs.lemmas.List.{length-take, length-drop, take-take, take_all, length-take-le}
 use Rattle.std.proofs.lemmas.Bool.{lt-ltb, cases_lt}
@@ -8,7 +9,8 @@ use Rattle.wave_pcm.specs.declared.listing.TheConstants.{MAX_CHUNKS, FIRST_CHUNK
 use Rattle.wave_pcm.specs.Parts.{Part, is_data, file_parts, parts_in}
 use Rattle.std.specs.List.{find}
 use Rattle.wave_pcm.specs.PartHead.{part_at, parts_at}
-use Rattle.wave_pcm.specs.Reading.{◌>>=◌, format_of, data_of, texts_of, data_at, format_at, is_key, reading_of, is_wave, wave_reading, info_of, Refuses, IsVerdict}
+use Rattle.wave_pcm.specs.Reading.{◌>>=◌, format_of, data_of, texts_of, data_at, format_at, is_key, reading_of}
+use Rattle.wave_pcm.specs.Reading.{is_wave, wave_reading, info_of, Refuses, IsVerdict}
 use Rattle.wave_pcm.specs.WaveError.{Fails}
 use Rattle.wave_pcm.specs.Tag.{Texts}
 use Rattle.wave_pcm.specs.declared.parts.PartHead.{PartHead}
@@ -21,17 +23,21 @@ use Rattle.wave_pcm.proofs.Ranges.{range_is}
 pub reading_ok : (parts : List Part) (format : Format) (sound : Part) → format_of parts ≡ Ok format → data_of parts ≡ Ok sound
     → reading_of parts ≡ Ok (info_of format sound (texts_of parts))
 unfolding reading_of
-reading_ok parts format sound f d = ap (λ r. r >>= (λ x. data_of parts >>= (λ y. Ok (info_of x y (texts_of parts))))) f ∙ ap (λ r. r >>= (λ y. Ok (info_of format y (texts_of parts)))) d
+reading_ok parts format sound f d = ap (λ r. r >>= (λ x. data_of parts >>= (λ y. Ok (info_of x y (texts_of parts))))) f
+    ∙ ap (λ r. r >>= (λ y. Ok (info_of format y (texts_of parts)))) d
 
 no_format : (parts : List Part) (e : WaveError) → format_of parts ≡ Err e → reading_of parts ≡ Err e
 unfolding reading_of
 no_format parts e f = ap (λ r. r >>= (λ x. data_of parts >>= (λ y. Ok (info_of x y (texts_of parts))))) f
 
-no_data : (parts : List Part) (format : Format) (e : WaveError) → format_of parts ≡ Ok format → data_of parts ≡ Err e → reading_of parts ≡ Err e
+no_data : (parts : List Part) (format : Format) (e : WaveError) → format_of parts ≡ Ok format → data_of parts ≡ Err e
+    → reading_of parts ≡ Err e
 unfolding reading_of
-no_data parts format e f d = ap (λ r. r >>= (λ x. data_of parts >>= (λ y. Ok (info_of x y (texts_of parts))))) f ∙ ap (λ r. r >>= (λ y. Ok (info_of format y (texts_of parts)))) d
+no_data parts format e f d = ap (λ r. r >>= (λ x. data_of parts >>= (λ y. Ok (info_of x y (texts_of parts))))) f
+    ∙ ap (λ r. r >>= (λ y. Ok (info_of format y (texts_of parts)))) d
 
-pub refuses_format : (parts : List Part) (fault : Type 0) (e : WaveError) → Refuses (format_of parts) fault e → Refuses (reading_of parts) fault e
+pub refuses_format : (parts : List Part) (fault : Type 0) (e : WaveError) → Refuses (format_of parts) fault e
+    → Refuses (reading_of parts) fault e
 refuses_format parts fault NoMemory h = tt
 refuses_format parts fault NotWave h = no_format parts NotWave h
 refuses_format parts fault NoFormat h = no_format parts NoFormat h
@@ -40,7 +46,8 @@ refuses_format parts fault NoData h = no_format parts NoData h
 refuses_format parts fault ReadFault h = h
 refuses_format parts fault TooManyTurns h = no_format parts TooManyTurns h
 
-pub refuses_verdict : {A : Type 0} (reading : Result A WaveError) (fault : Type 0) (e : WaveError) → IsVerdict e → reading ≡ Err e → Refuses reading fault e
+pub refuses_verdict : {A : Type 0} (reading : Result A WaveError) (fault : Type 0) (e : WaveError) → IsVerdict e
+    → reading ≡ Err e → Refuses reading fault e
 refuses_verdict reading fault NoMemory v h = tt
 refuses_verdict reading fault NotWave v h = h
 refuses_verdict reading fault NoFormat v h = h
@@ -49,10 +56,12 @@ refuses_verdict reading fault NoData v h = h
 refuses_verdict reading fault ReadFault v h = absurd v
 refuses_verdict reading fault TooManyTurns v h = h
 
-pub refuses_data : (parts : List Part) (fault : Type 0) (format : Format) (e : WaveError) → IsVerdict e → format_of parts ≡ Ok format → data_of parts ≡ Err e → Refuses (reading_of parts) fault e
+pub refuses_data : (parts : List Part) (fault : Type 0) (format : Format) (e : WaveError) → IsVerdict e
+    → format_of parts ≡ Ok format → data_of parts ≡ Err e → Refuses (reading_of parts) fault e
 refuses_data parts fault format e v f d = refuses_verdict (reading_of parts) fault e v (no_data parts format e f d)
 
-pub refuses_failing : {A : Type 0} (reading : Result A WaveError) (fault more : Type 0) (e : WaveError) → (fault → more) → Fails fault e → Refuses reading more e
+pub refuses_failing : {A : Type 0} (reading : Result A WaveError) (fault more : Type 0) (e : WaveError) → (fault → more)
+    → Fails fault e → Refuses reading more e
 refuses_failing reading fault more NoMemory up h = tt
 refuses_failing reading fault more NotWave up h = absurd h
 refuses_failing reading fault more NoFormat up h = absurd h
@@ -62,13 +71,31 @@ refuses_failing reading fault more ReadFault up h = up h
 refuses_failing reading fault more TooManyTurns up h = absurd h
 
 abbrev made : Format → PartHead → Texts → ℕ → WaveInfo
-made format head texts frames = record { rate = format.rate; channels = format.channels; first_byte = head.first; frames = frames; tags = texts }
+made format head texts frames = record {
+  rate = format.rate;
+  channels = format.channels;
+  first_byte = head.first;
+  frames = frames;
+  tags = texts;
+}
 
 -- the answer of the code
-pub info_is : (file : List ℕ) (format : Format) (head : PartHead) (texts : Texts) (channels : ℕ) → head.first + head.len ≤ length file → channels ≡ format.channels
-    → info_of format (part_at file head) texts ≡ record { rate = format.rate; channels = format.channels; first_byte = head.first; frames = head.len / (2 * channels); tags = texts }
+pub info_is : (file : List ℕ) (format : Format) (head : PartHead) (texts : Texts) (channels : ℕ)
+    → head.first + head.len ≤ length file → channels ≡ format.channels
+    → info_of format (part_at file head) texts ≡ record {
+      rate = format.rate;
+      channels = format.channels;
+      first_byte = head.first;
+      frames = head.len / (2 * channels);
+      tags = texts;
+    }
 info_is file format head texts channels within same =
-    let long : length (slice_range file head.first (head.first + head.len)) ≡ head.len = rw range_is (omega (arith, length-take head.len (drop head.first file), length-drop head.first file)) in
+    let long : length (slice_range file head.first (head.first + head.len)) ≡ head.len = rw range_is (omega (
+      arith,
+      length-take
+          head.len (drop head.first file),
+      length-drop head.first file,
+    )) in
     ap (λ n. made format head texts (n / (2 * format.channels))) long ∙ ap (λ n. made format head texts (head.len / (2 * n))) (sym same)
 
 abbrev read_by : Result Format WaveError → Result Part WaveError → Texts → Result WaveInfo WaveError
@@ -118,7 +145,8 @@ capped n parts = elim (cases_lt (length parts) (n + 1)) as (λ _. reading_within
 pub reading_of-take : (parts : List Part) → reading_of (take (MAX_CHUNKS + 1) parts) ≡ reading_of parts
 reading_of-take parts = reading_is (take (MAX_CHUNKS + 1) parts) ∙ capped MAX_CHUNKS parts ∙ sym (reading_is parts)
 
-pub verdict_of : {A : Type 0} (reading : Result A WaveError) (fault : Type 0) (e : WaveError) → Refuses reading fault e → IsVerdict e → reading ≡ Err e
+pub verdict_of : {A : Type 0} (reading : Result A WaveError) (fault : Type 0) (e : WaveError) → Refuses reading fault e
+    → IsVerdict e → reading ≡ Err e
 verdict_of reading fault NoMemory h v = absurd v
 verdict_of reading fault NotWave h v = h
 verdict_of reading fault NoFormat h v = h
@@ -127,18 +155,21 @@ verdict_of reading fault NoData h v = h
 verdict_of reading fault ReadFault h v = absurd v
 verdict_of reading fault TooManyTurns h v = h
 
-pub verdicts_of : {A B : Type 0} (r : Result B WaveError) (reading : Result A WaveError) (fault : Type 0) → IfErr r (Refuses reading fault) → IfErr r (λ e. IsVerdict e → reading ≡ Err e)
+pub verdicts_of : {A B : Type 0} (r : Result B WaveError) (reading : Result A WaveError) (fault : Type 0)
+    → IfErr r (Refuses reading fault) → IfErr r (λ e. IsVerdict e → reading ≡ Err e)
 verdicts_of (Ok x) reading fault h = tt
 verdicts_of (Err e) reading fault h = verdict_of reading fault e h
 
-pub fault_of : {A B : Type 0} (r : Result B WaveError) (reading : Result A WaveError) (fault : Type 0) → IfErr r (Refuses reading fault) → r ≡ Err ReadFault → fault
+pub fault_of : {A B : Type 0} (r : Result B WaveError) (reading : Result A WaveError) (fault : Type 0)
+    → IfErr r (Refuses reading fault) → r ≡ Err ReadFault → fault
 fault_of r reading fault h same = IfErr-at_err (Refuses reading fault) same h
 
 pub not_wave : (file : List ℕ) → is_wave file ≡ false → wave_reading file ≡ Err NotWave
 unfolding wave_reading
 not_wave file no' = ap (λ b. if b then reading_of (file_parts file) else Err NotWave) no'
 
-pub whole_reading : (file was now : List ℕ) (heads : List PartHead) (end : ℕ) → is_wave file ≡ true → end ≡ length file → was ≡ file → now ≡ file
+pub whole_reading : (file was now : List ℕ) (heads : List PartHead) (end : ℕ) → is_wave file ≡ true → end ≡ length file
+    → was ≡ file → now ≡ file
     → parts_at was heads ≡ take (MAX_CHUNKS + 1) (parts_in was FIRST_CHUNK end) → wave_reading file ≡ reading_of (parts_at now heads)
 unfolding wave_reading
 whole_reading file was now heads end yes' all same still listed =
@@ -149,7 +180,8 @@ whole_reading file was now heads end yes' all same still listed =
     ∙ sym (reading_of-take (parts_in file FIRST_CHUNK end))
     ∙ ap reading_of (sym here) ∙ ap (λ bytes. reading_of (parts_at bytes heads)) (sym still)
 
-refuses_more : {A : Type 0} (reading : Result A WaveError) (fault more : Type 0) → (fault → more) → (e : WaveError) → Refuses reading fault e → Refuses reading more e
+refuses_more : {A : Type 0} (reading : Result A WaveError) (fault more : Type 0) → (fault → more) → (e : WaveError)
+    → Refuses reading fault e → Refuses reading more e
 refuses_more reading fault more up NoMemory h = tt
 refuses_more reading fault more up NotWave h = h
 refuses_more reading fault more up NoFormat h = h
@@ -158,5 +190,7 @@ refuses_more reading fault more up NoData h = h
 refuses_more reading fault more up ReadFault h = up h
 refuses_more reading fault more up TooManyTurns h = h
 
-pub refused_more : {A B : Type 0} (r : Result B WaveError) (reading : Result A WaveError) (fault more : Type 0) → (fault → more) → IfErr r (Refuses reading fault) → IfErr r (Refuses reading more)
-refused_more r reading fault more up h = IfErr-weaker r (Refuses reading fault) (Refuses reading more) (refuses_more reading fault more up) h
+pub refused_more : {A B : Type 0} (r : Result B WaveError) (reading : Result A WaveError) (fault more : Type 0) → (fault → more)
+    → IfErr r (Refuses reading fault) → IfErr r (Refuses reading more)
+refused_more r reading fault more up h = IfErr-weaker r (Refuses reading fault) (Refuses reading more) (refuses_more reading fault
+    more up) h

@@ -4,7 +4,12 @@ use Rattle.wave_pcm.specs.Source.{Keeps, Grows}
 
 pub keeps_then : {S : Type 0} {bytes : S → List ℕ} {honest : S → Type 0} {faults : S → ℕ} {a b c : S}
     → Keeps bytes honest faults a b → Keeps bytes honest faults b c → Keeps bytes honest faults a c
-keeps_then first next = record { is_honest = next.is_honest; same = next.same ∙ first.same; counted = omega (arith, first.counted, next.counted) }
+keeps_then first next = record {
+  is_honest = next.is_honest;
+  same = next.same
+      ∙ first.same;
+  counted = omega (arith, first.counted, next.counted);
+}
 
 pub keeps_same : {S : Type 0} {bytes : S → List ℕ} {honest : S → Type 0} {faults : S → ℕ} {a : S}
     → honest a → Keeps bytes honest faults a a

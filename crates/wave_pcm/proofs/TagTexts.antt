@@ -30,15 +30,18 @@ text_at parts Genre = refl
 text_at parts Comment = refl
 
 -- one more text
-pub text_set : (parts : List Part) (texts : Texts) (i : ℕ) (tag : Tag) (text : Option (List ℕ)) → length texts ≡ 6 → i < 6 → place_of tag ≡ i → text ≡ text_in parts tag
+pub text_set : (parts : List Part) (texts : Texts) (i : ℕ) (tag : Tag) (text : Option (List ℕ)) → length texts ≡ 6 → i < 6
+    → place_of tag ≡ i → text ≡ text_in parts tag
     → ((k : ℕ) → k < i → get_or texts k None ≡ get_or (texts_of parts) k None)
     → (k : ℕ) → k < i + 1 → get_or (with_text texts tag text) k None ≡ get_or (texts_of parts) k None
 text_set parts texts i tag text long within place gives below =
     below_more _ _
     (λ k under. get_or-set_other texts (place_of tag) k text None (λ same. absurd (omega (arith, same))) ∙ below k under)
     (ap (λ j. get_or (set texts (place_of tag) text) j None) (sym place)
-    ∙ get_or-set_same texts (place_of tag) text None (omega arith) ∙ gives ∙ sym (text_at parts tag) ∙ ap (λ j. get_or (texts_of parts) j None) place)
+    ∙ get_or-set_same texts (place_of tag) text None (omega arith) ∙ gives ∙ sym (text_at parts tag)
+    ∙ ap (λ j. get_or (texts_of parts) j None) place)
 
 -- all of them
-pub texts_all : (parts : List Part) (texts : Texts) → length texts ≡ 6 → ((k : ℕ) → k < 6 → get_or texts k None ≡ get_or (texts_of parts) k None) → texts ≡ texts_of parts
+pub texts_all : (parts : List Part) (texts : Texts) → length texts ≡ 6 → ((k : ℕ) → k < 6
+    → get_or texts k None ≡ get_or (texts_of parts) k None) → texts ≡ texts_of parts
 texts_all parts texts long each = ext_get_or None texts (texts_of parts) long (λ k within. each k (omega arith))

@@ -1,5 +1,6 @@
 -- What the text of a tag is.
-use Rattle.std.proofs.Common.{◌≡◌, ◌<◌, ◌≤◌, ℕ, List, length, Bool, true, false, ◌+◌, ap, ◌∙◌, refl, arith, Some, None, nat_lt, take, cond, sym, zero, suc, [], ◌∷◌, min, inl, inr, drop, slice_range}
+use Rattle.std.proofs.Common.{◌≡◌, ◌<◌, ◌≤◌, ℕ, List, length, Bool, true, false, ◌+◌, ap, ◌∙◌, refl, arith, Some, None}
+use Rattle.std.proofs.Common.{nat_lt, take, cond, sym, zero, suc, [], ◌∷◌, min, inl, inr, drop, slice_range}
 use Rattle.std.specs.Prelude.{nat_le, ◌==◌, ◌&&◌, not, if◌then◌else◌}
 use Rattle.std.specs.List.{position_or_len, prefix_len}
 use Rattle.std.proofs.lemmas.List.{take-take, take_all, length-take-le}
@@ -11,7 +12,8 @@ use Rattle.std.proofs.lemmas.Str.{IsUtf8-from_is_utf8}
 use Rattle.std.proofs.lemmas.Bool.Decides.{nat_tests}
 use Rattle.wave_pcm.specs.Text.{before_zero, has_control, is_tag_text, tag_text}
 
-pub text_passes : (text : List ℕ) → 0 < length text → length text ≤ 512 → is_utf8 text ≡ true → has_control text ≡ false → is_tag_text text ≡ true
+pub text_passes : (text : List ℕ) → 0 < length text → length text ≤ 512 → is_utf8 text ≡ true → has_control text ≡ false
+    → is_tag_text text ≡ true
 text_passes text some few utf8 plain =
     let a : nat_lt 0 (length text) ≡ true = grind (arith, nat_tests) in
     let b : nat_le (length text) 512 ≡ true = grind (arith, nat_tests) in
@@ -52,15 +54,17 @@ second true u n = refl
 second false u n = refl
 
 pub too_long : (text : List ℕ) → 512 < length text → is_tag_text text ≡ false
-too_long text long = let b : nat_le (length text) 512 ≡ false = grind (arith, nat_tests) in rw b (second (nat_lt 0 (length text)) (is_utf8 text) (not (has_control text)))
+too_long text long = let b : nat_le (length text) 512 ≡ false = grind (arith, nat_tests) in rw b (second (nat_lt 0 (length text))
+    (is_utf8 text) (not (has_control text)))
 
 prefix_len-take : (q : ℕ → Bool) (n : ℕ) (xs : List ℕ) → prefix_len q (take n xs) ≡ min n (prefix_len q xs)
 prefix_len-take q zero xs = omega arith
 prefix_len-take q (suc n) [] = omega arith
-prefix_len-take q (suc n) (x ∷ xs) = elim (q x) as (λ b. cond b (1 + prefix_len q (take n xs)) 0 ≡ min (suc n) (cond b (1 + prefix_len q xs) 0)) [
-  | true ↦ (let e : prefix_len q (take n xs) ≡ min n (prefix_len q xs) = prefix_len-take q n xs in omega arith)
-  | false ↦ omega arith
-]
+prefix_len-take q (suc n) (x ∷ xs) = elim (q x) as (λ b. cond b (1 + prefix_len q (take n xs)) 0 ≡ min (suc n) (cond b (1 +
+    prefix_len q xs) 0)) [
+      | true ↦ (let e : prefix_len q (take n xs) ≡ min n (prefix_len q xs) = prefix_len-take q n xs in omega arith)
+      | false ↦ omega arith
+    ]
 
 -- what stands before the first zero byte of a front
 before_zero-take : (n : ℕ) (body : List ℕ) → before_zero (take n body) ≡ take n (before_zero body)
@@ -72,9 +76,11 @@ before_zero-take n body =
 -- 513 bytes decide the text of a tag
 pub tag_text-take : (body : List ℕ) → tag_text (take 513 body) ≡ tag_text body
 tag_text-take body = elim (cases_lt (length (before_zero body)) 513) as (λ _. tag_text (take 513 body) ≡ tag_text body) [
-  | inl few ↦ (let e : before_zero (take 513 body) ≡ before_zero body = before_zero-take 513 body ∙ take_all 513 (before_zero body) (omega arith) in
+  | inl few ↦ (let e : before_zero (take 513 body) ≡ before_zero body = before_zero-take 513 body
+      ∙ take_all 513 (before_zero body) (omega arith) in
       ap (λ text. if is_tag_text text then Some text else None) e)
-  | inr many ↦ (let cut : length (before_zero (take 513 body)) ≡ 513 = ap length (before_zero-take 513 body) ∙ length-take-le 513 (before_zero body) many in
+  | inr many ↦ (let cut : length (before_zero (take 513 body)) ≡ 513 = ap length (before_zero-take 513 body)
+      ∙ length-take-le 513 (before_zero body) many in
       sym (text_dropped (take 513 body) (before_zero (take 513 body)) refl (too_long (before_zero (take 513 body)) (omega arith)))
       ∙ text_dropped body (before_zero body) refl (too_long (before_zero body) (omega arith)))
 ]
@@ -84,5 +90,6 @@ pub text_decided : (file : List ℕ) (first len count : ℕ) → count ≡ min l
     → tag_text (slice_range file first (first + count)) ≡ tag_text (slice_range file first (first + len))
 text_decided file first len count few =
     let e : min 513 len ≡ count = omega arith in
-    ap tag_text (range_is file first count ∙ ap (λ n. take n (drop first file)) (sym e) ∙ sym (take_front 513 len (drop first file)) ∙ ap (take 513) (sym (range_is file first len)))
+    ap tag_text (range_is file first count ∙ ap (λ n. take n (drop first file)) (sym e)
+    ∙ sym (take_front 513 len (drop first file)) ∙ ap (take 513) (sym (range_is file first len)))
     ∙ tag_text-take (slice_range file first (first + len))

@@ -4,6 +4,7 @@ use Rattle.std.specs.Int.{w16, w32, from_le_bytes}
 use Rattle.wave_pcm.specs.declared.format.Format.{Format}
 use Rattle.wave_pcm.specs.declared.error.WaveError.{WaveError}
 use Rattle.wave_pcm.specs.declared.error.WaveError.TheVariants.{NoFormat, Unsupported}
+use Rattle.wave_pcm.specs.Limits.{MAX_RATE}
 
 abbrev pub u16_at : ℕ → List ℕ → ℕ
 u16_at at body = from_le_bytes w16 (drop at body)
@@ -14,11 +15,12 @@ u32_at at body = from_le_bytes w32 (drop at body)
 -- PCM of 16 bits in one or two channels, at 1 to 192,000 frames a second
 abbrev pub is_supported : ℕ → ℕ → ℕ → ℕ → ℕ → Bool
 is_supported tag channels rate align bits =
-    tag == 1 && bits == 16 && (channels == 1 || channels == 2) && nat_le 1 rate && nat_le rate 192000 && align == 2 * channels
+    tag == 1 && bits == 16 && (channels == 1 || channels == 2) && nat_le 1 rate && nat_le rate MAX_RATE && align == 2 * channels
 
 abbrev pub judged : ℕ → ℕ → ℕ → ℕ → ℕ → Result Format WaveError
 judged tag channels rate align bits =
-    if is_supported tag channels rate align bits then Ok (record { rate = rate; channels = channels }) else Err (Unsupported tag bits channels)
+    if is_supported tag channels rate align bits then Ok (record { rate = rate; channels = channels }) else Err (Unsupported tag
+    bits channels)
 
 -- by the tag, the channels, the rate, the block align and the bits
 abbrev pub format_by : List ℕ → Result Format WaveError

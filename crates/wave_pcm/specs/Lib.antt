@@ -2,11 +2,13 @@ pub mod ChunkHead
 pub mod Chunks
 pub mod Folder
 pub mod Format
+pub mod Limits
 pub mod PartHead
 pub mod Parts
 pub mod Pcm
 pub mod Reading
 pub mod Source
 pub mod Tag
+pub mod TagName
 pub mod Text
 pub mod WaveError

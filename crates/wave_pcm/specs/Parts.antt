@@ -57,7 +57,8 @@ is_text_list kind body = is_nested kind && is_info body
 
 -- a chunk, and the chunks inside it if it is a list of texts
 abbrev pub parts_of : Chunk → List Part
-parts_of c = file_part c ∷ (if is_text_list (file_kind c.id) c.body then map text_part (chunks_after 0 (c.first + 4) (drop 4 c.body)) else [])
+parts_of c = file_part c ∷ (if is_text_list (file_kind c.id) c.body then map text_part (chunks_after 0 (c.first + 4) (drop 4
+    c.body)) else [])
 
 -- The parts from `at` up to `end`. The chunks of a WAVE file begin behind its 12 bytes `RIFF`, size, `WAVE`.
 abbrev pub parts_in : List ℕ → ℕ → ℕ → List Part

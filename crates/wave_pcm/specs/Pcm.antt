@@ -19,7 +19,8 @@ HasFrames info file = info.first_byte + frame_len info * info.frames ≤ length 
 
 -- the samples of at most `most` frames, from one frame on
 abbrev pub frames_from : List ℕ → WaveInfo → ℕ → ℕ → List ℤ
-frames_from file info from most = take (info.channels * most) (drop (info.channels * from) (samples_in (slice_range file info.first_byte (info.first_byte + frame_len info * info.frames))))
+frames_from file info from most = take (info.channels * most) (drop (info.channels * from) (samples_in (slice_range file
+    info.first_byte (info.first_byte + frame_len info * info.frames))))
 
 -- a sample at a volume of so many hundredths, rounded toward zero
 abbrev pub at_volume : ℕ → ℤ → ℤ

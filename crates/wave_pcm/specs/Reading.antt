@@ -1,5 +1,6 @@
 -- The one reading of a WAVE file, or the refusal that stands first in file order.
-use Rattle.std.specs.Prelude.{◌≡◌, ℕ, ◌*◌, ◌/◌, List, [], ◌∷◌, length, take, drop, nat_lt, ◌&&◌, ◌||◌, Bool, codes, Option, Some, None, Result, Ok, Err, if◌then◌else◌, option_and_then}
+use Rattle.std.specs.Prelude.{◌≡◌, ℕ, ◌*◌, ◌/◌, List, [], ◌∷◌, length, take, drop, nat_lt, ◌&&◌, ◌||◌, Bool, codes}
+use Rattle.std.specs.Prelude.{Option, Some, None, Result, Ok, Err, if◌then◌else◌, option_and_then}
 use Rattle.std.specs.List.{find}
 use Rattle.std.specs.Str.{bytes_eq}
 use Rattle.wave_pcm.specs.Parts.{Part, file_parts, is_format, is_data, is_text}
@@ -51,14 +52,22 @@ abbrev pub text_in : List Part → Tag → Option (List ℕ)
 text_in parts tag = option_and_then (λ p. tag_text p.body) (find (λ p. is_text tag p.kind) parts)
 
 abbrev pub texts_of : List Part → Texts
-texts_of parts = text_in parts Title ∷ text_in parts Artist ∷ text_in parts Album ∷ text_in parts Date ∷ text_in parts Genre ∷ text_in parts Comment ∷ []
+texts_of parts = text_in parts Title ∷ text_in parts Artist ∷ text_in parts Album ∷ text_in parts Date ∷ text_in parts Genre ∷
+    text_in parts Comment ∷ []
 
 -- whole frames of 16 bits a channel
 abbrev pub frames_in : ℕ → List ℕ → ℕ
 frames_in channels body = length body / (2 * channels)
 
 abbrev pub info_of : Format → Part → Texts → WaveInfo
-info_of format sound texts = record { rate = format.rate; channels = format.channels; first_byte = sound.first; frames = frames_in format.channels sound.body; tags = texts }
+info_of format sound texts = record {
+  rate = format.rate;
+  channels = format.channels;
+  first_byte = sound.first;
+  frames = frames_in
+      format.channels sound.body;
+  tags = texts;
+}
 
 unfoldable pub reading_of : List Part → Result WaveInfo WaveError
 reading_of parts = do

@@ -50,10 +50,12 @@ pub fn next_chunk<S: Source>(
     end: u64,
 ) -> Result<Option<ChunkHead>, WaveError>
     requires { at ≤ end }
-    ensures found { S.honest source.old → end ≤ length (S.bytes source.old) → IfOk result (λ found. chunks_in (S.bytes source.old) at end ≡ chunks_from (S.bytes source.old) end found) }
+    ensures found { S.honest source.old → end ≤ length (S.bytes source.old) →
+        IfOk result (λ found. chunks_in (S.bytes source.old) at end ≡ chunks_from (S.bytes source.old) end found) }
     ensures within { IfOk result (λ found. IfSome found (IsWithin at end)) }
     ensures only { IsOkUnless result WaveError.ReadFault }
-    ensures fault { S.honest source.old → end ≤ length (S.bytes source.old) → OnErr result (Grows (S.faults source.old) (S.faults source.new)) }
+    ensures fault { S.honest source.old → end ≤ length (S.bytes source.old) →
+        OnErr result (Grows (S.faults source.old) (S.faults source.new)) }
     ensures kept { S.honest source.old → Keeps S.bytes S.honest S.faults source.old source.new }
 {
     if end - at < HEAD_LEN {

@@ -68,7 +68,9 @@ pub trait Folder {
 
     /// Opens a file; `None` where there is no such file.
     fn open(&mut self, alloc: Global, path: &str) -> Result<Option<Self::File>, FolderFault>
-        ensures opened { honest self.old → IfOk result (λ file. MatchOption file (bytes_at (files self.old) path.now ≡ None) (λ source. (bytes_at (files self.old) path.now ≡ Some (Self.File.bytes source)) × Self.File.honest source)) }
+        ensures opened { honest self.old →
+            IfOk result (λ file. MatchOption file (bytes_at (files self.old) path.now ≡ None)
+            (λ source. (bytes_at (files self.old) path.now ≡ Some (Self.File.bytes source)) × Self.File.honest source)) }
         ensures honest { honest self.old → honest self.new }
         ensures files { honest self.old → files self.new ≡ files self.old };
 }

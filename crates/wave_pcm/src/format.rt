@@ -63,8 +63,11 @@ impl Format {
 /// The format in the data of a chunk `fmt `.
 pub fn read_format<S: Source>(source: &mut S, head: PartHead) -> Result<Format, WaveError>
     requires { head.first + head.len < 2 ^ 64 }
-    ensures format { S.honest source.old → head.first + head.len ≤ length (S.bytes source.old) → IfOk result (λ format. format_from (slice_range (S.bytes source.old) head.first (head.first + head.len)) ≡ Ok format) }
-    ensures refused { S.honest source.old → head.first + head.len ≤ length (S.bytes source.old) → IfErr result (Refuses (format_from (slice_range (S.bytes source.old) head.first (head.first + head.len))) (Grows (S.faults source.old) (S.faults source.new))) }
+    ensures format { S.honest source.old → head.first + head.len ≤ length (S.bytes source.old) →
+        IfOk result (λ format. format_from (slice_range (S.bytes source.old) head.first (head.first + head.len)) ≡ Ok format) }
+    ensures refused { S.honest source.old → head.first + head.len ≤ length (S.bytes source.old) →
+        IfErr result (Refuses (format_from (slice_range (S.bytes source.old) head.first (head.first + head.len))) (Grows (S.faults
+        source.old) (S.faults source.new))) }
     ensures channels { IfOk result (λ format. (1 ≤ format.channels) × (format.channels ≤ 2)) }
     ensures kept { S.honest source.old → Keeps S.bytes S.honest S.faults source.old source.new }
 {

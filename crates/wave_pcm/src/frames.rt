@@ -1,4 +1,5 @@
-ghost use Rattle.std.specs.Prelude.{◌≡◌, ◌+◌, ◌*◌, ◌-◌, ◌%◌, ◌<◌, ◌≤◌, ◌^◌, ◌++◌, length, min, slice_range, IfOk, OnOk, OnErr, IfErr, IsErrOf, IfSome, Some, None, Err};
+ghost use Rattle.std.specs.Prelude.{◌≡◌, ◌+◌, ◌*◌, ◌-◌, ◌%◌, ◌<◌, ◌≤◌, ◌^◌, ◌++◌, length, min, slice_range, IfOk, OnOk};
+ghost use Rattle.std.specs.Prelude.{OnErr, IfErr, IsErrOf, IfSome, Some, None, Err};
 ghost use Rattle.wave_pcm.specs.Source.{Grows, Keeps};
 ghost use Rattle.wave_pcm.specs.WaveError.{Fails};
 ghost use Rattle.wave_pcm.specs.Pcm.{samples_in, frames_from, HasFrames, frame_len, range_from};
@@ -55,9 +56,11 @@ fn read_samples<S: Source>(
 ) -> Result<Vec<i16>, WaveError>
     requires fits { first + len < 2 ^ 64 }
     requires whole { len % 2 ≡ 0 }
-    ensures samples { S.honest source.old → IfOk result (λ samples. samples.items ≡ samples_in (slice_range (S.bytes source.old) first (first + len))) }
+    ensures samples { S.honest source.old →
+        IfOk result (λ samples. samples.items ≡ samples_in (slice_range (S.bytes source.old) first (first + len))) }
     ensures only { IfErr result (Fails (Unit {0})) }
-    ensures fault { S.honest source.old → first + len ≤ length (S.bytes source.old) → IfErr result (Fails (Grows (S.faults source.old) (S.faults source.new))) }
+    ensures fault { S.honest source.old → first + len ≤ length (S.bytes source.old) →
+        IfErr result (Fails (Grows (S.faults source.old) (S.faults source.new))) }
     ensures kept { S.honest source.old → Keeps S.bytes S.honest S.faults source.old source.new }
 {
     let mut bytes = vec![in alloc; 0u8; len as usize]?;
@@ -77,9 +80,12 @@ pub fn read_frames<S: Source>(
     from: u64,
     most: usize,
 ) -> Result<Vec<i16>, WaveError>
-    ensures frames { S.honest source.old → HasFrames info.now (S.bytes source.old) → IfOk result (λ samples. samples.items ≡ frames_from (S.bytes source.old) info.now from most) }
-    ensures fault { S.honest source.old → HasFrames info.now (S.bytes source.old) → IfErr result (Fails (Grows (S.faults source.old) (S.faults source.new))) }
-    ensures short { S.honest source.old → length (S.bytes source.old) < info.now.first_byte + frame_len info.now * info.now.frames → result ≡ Err WaveError.ReadFault }
+    ensures frames { S.honest source.old → HasFrames info.now (S.bytes source.old) →
+        IfOk result (λ samples. samples.items ≡ frames_from (S.bytes source.old) info.now from most) }
+    ensures fault { S.honest source.old → HasFrames info.now (S.bytes source.old) →
+        IfErr result (Fails (Grows (S.faults source.old) (S.faults source.new))) }
+    ensures short { S.honest source.old →
+        length (S.bytes source.old) < info.now.first_byte + frame_len info.now * info.now.frames → result ≡ Err WaveError.ReadFault }
     ensures only { IfErr result (Fails (Unit {0})) }
     ensures kept { S.honest source.old → Keeps S.bytes S.honest S.faults source.old source.new }
 {

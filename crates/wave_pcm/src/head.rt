@@ -1,4 +1,5 @@
-ghost use Rattle.std.specs.Prelude.{◌≡◌, ◌+◌, ◌<◌, ◌≤◌, ◌^◌, ◌&&◌, length, List, ℕ, Err, ◌*◌, slice_range, option_map, string_bytes, Ok, IfOk, OnOk, IfErr, OnErr, IsErrOf, IsTrue, IsOkUnless};
+ghost use Rattle.std.specs.Prelude.{◌≡◌, ◌+◌, ◌<◌, ◌≤◌, ◌^◌, ◌&&◌, length, List, ℕ, Err, ◌*◌, slice_range, option_map};
+ghost use Rattle.std.specs.Prelude.{string_bytes, Ok, IfOk, OnOk, IfErr, OnErr, IsErrOf, IsTrue, IsOkUnless};
 ghost use Rattle.wave_pcm.specs.Source.{Grows, Keeps};
 ghost use Rattle.wave_pcm.specs.WaveError.{Fails};
 ghost use Rattle.wave_pcm.specs.Tag.{with_text};
@@ -21,8 +22,10 @@ fn first_text<S: Source>(
     listing: &Listing,
     tag: Tag,
 ) -> Result<Option<String>, WaveError>
-    ensures text { S.honest source.old → listing.now.end ≤ length (S.bytes source.old) → IfOk result (λ text. option_map string_bytes text ≡ text_in (parts_at (S.bytes source.old) listing.now.parts.items) tag) }
-    ensures fault { S.honest source.old → listing.now.end ≤ length (S.bytes source.old) → IfErr result (Fails (Grows (S.faults source.old) (S.faults source.new))) }
+    ensures text { S.honest source.old → listing.now.end ≤ length (S.bytes source.old) →
+        IfOk result (λ text. option_map string_bytes text ≡ text_in (parts_at (S.bytes source.old) listing.now.parts.items) tag) }
+    ensures fault { S.honest source.old → listing.now.end ≤ length (S.bytes source.old) →
+        IfErr result (Fails (Grows (S.faults source.old) (S.faults source.new))) }
     ensures kept { S.honest source.old → Keeps S.bytes S.honest S.faults source.old source.new }
 {
     match listing.first_text(tag) {
@@ -33,8 +36,10 @@ fn first_text<S: Source>(
 
 /// The texts of the six tags.
 fn read_tags<S: Source>(alloc: Global, source: &mut S, listing: &Listing) -> Result<Tags, WaveError>
-    ensures texts { S.honest source.old → listing.now.end ≤ length (S.bytes source.old) → IfOk result (λ tags. tags ≡ texts_of (parts_at (S.bytes source.old) listing.now.parts.items)) }
-    ensures fault { S.honest source.old → listing.now.end ≤ length (S.bytes source.old) → IfErr result (Fails (Grows (S.faults source.old) (S.faults source.new))) }
+    ensures texts { S.honest source.old → listing.now.end ≤ length (S.bytes source.old) →
+        IfOk result (λ tags. tags ≡ texts_of (parts_at (S.bytes source.old) listing.now.parts.items)) }
+    ensures fault { S.honest source.old → listing.now.end ≤ length (S.bytes source.old) →
+        IfErr result (Fails (Grows (S.faults source.old) (S.faults source.new))) }
     ensures kept { S.honest source.old → Keeps S.bytes S.honest S.faults source.old source.new }
 {
     let mut tags = Tags::new();
@@ -47,8 +52,11 @@ fn read_tags<S: Source>(alloc: Global, source: &mut S, listing: &Listing) -> Res
 
 /// The format that the first format or data of the file gives.
 fn first_format<S: Source>(source: &mut S, listing: &Listing) -> Result<Format, WaveError>
-    ensures format { S.honest source.old → listing.now.end ≤ length (S.bytes source.old) → IfOk result (λ format. format_of (parts_at (S.bytes source.old) listing.now.parts.items) ≡ Ok format) }
-    ensures refused { S.honest source.old → listing.now.end ≤ length (S.bytes source.old) → IfErr result (Refuses (format_of (parts_at (S.bytes source.old) listing.now.parts.items)) (Grows (S.faults source.old) (S.faults source.new))) }
+    ensures format { S.honest source.old → listing.now.end ≤ length (S.bytes source.old) →
+        IfOk result (λ format. format_of (parts_at (S.bytes source.old) listing.now.parts.items) ≡ Ok format) }
+    ensures refused { S.honest source.old → listing.now.end ≤ length (S.bytes source.old) →
+        IfErr result (Refuses (format_of (parts_at (S.bytes source.old) listing.now.parts.items)) (Grows (S.faults source.old)
+        (S.faults source.new))) }
     ensures channels { IfOk result (λ format. (1 ≤ format.channels) × (format.channels ≤ 2)) }
     ensures kept { S.honest source.old → Keeps S.bytes S.honest S.faults source.old source.new }
 {
@@ -75,7 +83,8 @@ fn begins_as_wave<S: Source>(source: &mut S, end: u64) -> Result<bool, WaveError
     ensures told { S.honest source.old → end ≡ length (S.bytes source.old) → IfOk result (λ yes. yes ≡ is_wave (S.bytes source.old)) }
     ensures room { IfOk result (λ yes. IsTrue yes → 12 ≤ end) }
     ensures only { IsOkUnless result WaveError.ReadFault }
-    ensures fault { S.honest source.old → end ≡ length (S.bytes source.old) → OnErr result (Grows (S.faults source.old) (S.faults source.new)) }
+    ensures fault { S.honest source.old → end ≡ length (S.bytes source.old) →
+        OnErr result (Grows (S.faults source.old) (S.faults source.new)) }
     ensures kept { S.honest source.old → Keeps S.bytes S.honest S.faults source.old source.new }
 {
     if end < 12 {
@@ -109,8 +118,11 @@ fn read_listing<S: Source>(
     source: &mut S,
     listing: &Listing,
 ) -> Result<WaveInfo, WaveError>
-    ensures head { S.honest source.old → listing.now.end ≤ length (S.bytes source.old) → IfOk result (λ info. reading_of (parts_at (S.bytes source.old) listing.now.parts.items) ≡ Ok info) }
-    ensures refused { S.honest source.old → listing.now.end ≤ length (S.bytes source.old) → IfErr result (Refuses (reading_of (parts_at (S.bytes source.old) listing.now.parts.items)) (Grows (S.faults source.old) (S.faults source.new))) }
+    ensures head { S.honest source.old → listing.now.end ≤ length (S.bytes source.old) →
+        IfOk result (λ info. reading_of (parts_at (S.bytes source.old) listing.now.parts.items) ≡ Ok info) }
+    ensures refused { S.honest source.old → listing.now.end ≤ length (S.bytes source.old) →
+        IfErr result (Refuses (reading_of (parts_at (S.bytes source.old) listing.now.parts.items)) (Grows (S.faults source.old)
+        (S.faults source.new))) }
     ensures frames { IfOk result (λ info. info.first_byte + frame_len info * info.frames ≤ listing.now.end) }
     ensures kept { S.honest source.old → Keeps S.bytes S.honest S.faults source.old source.new }
 {
@@ -129,7 +141,8 @@ fn read_listing<S: Source>(
 /// The reading of the file, or why there is none.
 fn read_wave<S: Source>(alloc: Global, source: &mut S) -> Result<WaveInfo, WaveError>
     ensures head { S.honest source.old → IfOk result (λ info. wave_reading (S.bytes source.old) ≡ Ok info) }
-    ensures refused { S.honest source.old → IfErr result (Refuses (wave_reading (S.bytes source.old)) (Grows (S.faults source.old) (S.faults source.new))) }
+    ensures refused { S.honest source.old →
+        IfErr result (Refuses (wave_reading (S.bytes source.old)) (Grows (S.faults source.old) (S.faults source.new))) }
     ensures frames { S.honest source.old → IfOk result (λ info. HasFrames info (S.bytes source.old)) }
     ensures kept { S.honest source.old → Keeps S.bytes S.honest S.faults source.old source.new }
 {

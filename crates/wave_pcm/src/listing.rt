@@ -1,4 +1,5 @@
-ghost use Rattle.std.specs.Prelude.{◌≡◌, ◌^◌, slice_range, IsTrue, ℕ, ◌+◌, ◌<◌, ◌≤◌, ◌++◌, ◌||◌, nat_lt, IfSome, length, take, map, vec_len, All, IfOk, OnOk, IfErr, OnErr, IsOkUnless};
+ghost use Rattle.std.specs.Prelude.{◌≡◌, ◌^◌, slice_range, IsTrue, ℕ, ◌+◌, ◌<◌, ◌≤◌, ◌++◌, ◌||◌, nat_lt, IfSome};
+ghost use Rattle.std.specs.Prelude.{length, take, map, vec_len, All, IfOk, OnOk, IfErr, OnErr, IsOkUnless};
 ghost use Rattle.wave_pcm.specs.Source.{Grows, Keeps};
 ghost use Rattle.wave_pcm.specs.WaveError.{Fails};
 ghost use Rattle.wave_pcm.specs.Chunks.{chunks_in};
@@ -85,10 +86,12 @@ fn list_texts<S: Source>(
     requires order { start ≤ end }
     requires room { vec_len parts.old ≤ MAX_CHUNKS + 1 }
     ensures listed { S.honest source.old → end ≤ length (S.bytes source.old) → OnOk result (parts_at (S.bytes source.old) parts.new.items
-        ≡ take (MAX_CHUNKS + 1) (parts_at (S.bytes source.old) parts.old.items ++ map text_part (chunks_in (S.bytes source.old) start end))) }
+        ≡ take (MAX_CHUNKS + 1) (parts_at (S.bytes source.old) parts.old.items ++ map text_part (chunks_in (S.bytes source.old)
+        start end))) }
     ensures few { OnOk result (vec_len parts.new ≤ MAX_CHUNKS + 1) }
     ensures bounded { (limit : ℕ) → end ≤ limit → All (EndsBy limit) parts.old.items → OnOk result (All (EndsBy limit) parts.new.items) }
-    ensures fault { S.honest source.old → end ≤ length (S.bytes source.old) → IfErr result (Fails (Grows (S.faults source.old) (S.faults source.new))) }
+    ensures fault { S.honest source.old → end ≤ length (S.bytes source.old) →
+        IfErr result (Fails (Grows (S.faults source.old) (S.faults source.new))) }
     ensures kept { S.honest source.old → Keeps S.bytes S.honest S.faults source.old source.new }
 {
     let mut at = start;
@@ -114,11 +117,14 @@ fn list_chunk<S: Source>(
 ) -> Result<(), WaveError>
     requires room { vec_len parts.old ≤ MAX_CHUNKS }
     requires fits { head.first + head.len < 2 ^ 64 }
-    ensures listed { S.honest source.old → head.first + head.len ≤ length (S.bytes source.old) → OnOk result (parts_at (S.bytes source.old) parts.new.items
+    ensures listed { S.honest source.old → head.first + head.len ≤ length (S.bytes source.old) →
+        OnOk result (parts_at (S.bytes source.old) parts.new.items
         ≡ take (MAX_CHUNKS + 1) (parts_at (S.bytes source.old) parts.old.items ++ parts_of (chunk_at (S.bytes source.old) head))) }
     ensures few { OnOk result (vec_len parts.new ≤ MAX_CHUNKS + 1) }
-    ensures bounded { (limit : ℕ) → head.first + head.len ≤ limit → All (EndsBy limit) parts.old.items → OnOk result (All (EndsBy limit) parts.new.items) }
-    ensures fault { S.honest source.old → head.first + head.len ≤ length (S.bytes source.old) → IfErr result (Fails (Grows (S.faults source.old) (S.faults source.new))) }
+    ensures bounded { (limit : ℕ) → head.first + head.len ≤ limit → All (EndsBy limit) parts.old.items →
+        OnOk result (All (EndsBy limit) parts.new.items) }
+    ensures fault { S.honest source.old → head.first + head.len ≤ length (S.bytes source.old) →
+        IfErr result (Fails (Grows (S.faults source.old) (S.faults source.new))) }
     ensures kept { S.honest source.old → Keeps S.bytes S.honest S.faults source.old source.new }
 {
     let kind = Kind::in_file(head.id);
@@ -136,10 +142,12 @@ fn list_chunk<S: Source>(
 /// Whether the chunk is a list and its data begins with `INFO`.
 fn is_text_list<S: Source>(source: &mut S, kind: Kind, head: ChunkHead) -> Result<bool, WaveError>
     requires { head.first + head.len < 2 ^ 64 }
-    ensures told { S.honest source.old → head.first + head.len ≤ length (S.bytes source.old) → IfOk result (λ yes. yes ≡ is_text_list kind (slice_range (S.bytes source.old) head.first (head.first + head.len))) }
+    ensures told { S.honest source.old → head.first + head.len ≤ length (S.bytes source.old) →
+        IfOk result (λ yes. yes ≡ is_text_list kind (slice_range (S.bytes source.old) head.first (head.first + head.len))) }
     ensures room { IfOk result (λ yes. IsTrue yes → 4 ≤ head.len) }
     ensures only { IsOkUnless result WaveError.ReadFault }
-    ensures fault { S.honest source.old → head.first + head.len ≤ length (S.bytes source.old) → OnErr result (Grows (S.faults source.old) (S.faults source.new)) }
+    ensures fault { S.honest source.old → head.first + head.len ≤ length (S.bytes source.old) →
+        OnErr result (Grows (S.faults source.old) (S.faults source.new)) }
     ensures kept { S.honest source.old → Keeps S.bytes S.honest S.faults source.old source.new }
 {
     if !kind.is_nested() || head.len < INFO_LEN {
@@ -158,10 +166,12 @@ pub fn list_parts<S: Source>(
     end: u64,
 ) -> Result<Vec<PartHead>, WaveError>
     requires { FIRST_CHUNK ≤ end }
-    ensures listed { S.honest source.old → end ≤ length (S.bytes source.old) → IfOk result (λ parts. parts_at (S.bytes source.old) parts.items
+    ensures listed { S.honest source.old → end ≤ length (S.bytes source.old) →
+        IfOk result (λ parts. parts_at (S.bytes source.old) parts.items
         ≡ take (MAX_CHUNKS + 1) (parts_in (S.bytes source.old) FIRST_CHUNK end)) }
     ensures bounded { IfOk result (λ parts. All (EndsBy end) parts.items) }
-    ensures fault { S.honest source.old → end ≤ length (S.bytes source.old) → IfErr result (Fails (Grows (S.faults source.old) (S.faults source.new))) }
+    ensures fault { S.honest source.old → end ≤ length (S.bytes source.old) →
+        IfErr result (Fails (Grows (S.faults source.old) (S.faults source.new))) }
     ensures kept { S.honest source.old → Keeps S.bytes S.honest S.faults source.old source.new }
 {
     let mut parts = Vec::new(alloc);

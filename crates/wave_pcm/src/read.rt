@@ -10,7 +10,8 @@ pub fn read_exact<S: Source>(source: &mut S, at: u64, buffer: &mut [u8]) -> Resu
     ensures read { S.honest source.old → OnOk result (buffer.new ≡ slice_range (S.bytes source.old) at (at + length buffer.old)) }
     ensures within { S.honest source.old → OnOk result (0 < length buffer.old → at + length buffer.old ≤ length (S.bytes source.old)) }
     ensures only { IsOkUnless result WaveError.ReadFault }
-    ensures fault { S.honest source.old → at + length buffer.old ≤ length (S.bytes source.old) → OnErr result (Grows (S.faults source.old) (S.faults source.new)) }
+    ensures fault { S.honest source.old → at + length buffer.old ≤ length (S.bytes source.old) →
+        OnErr result (Grows (S.faults source.old) (S.faults source.new)) }
     ensures kept { S.honest source.old → Keeps S.bytes S.honest S.faults source.old source.new }
 {
     let mut filled = 0;

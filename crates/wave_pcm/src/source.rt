@@ -38,7 +38,8 @@ pub trait Source {
         ensures count { IfOk result (λ n. n ≤ length buffer.old) }
         ensures read { honest self.old → IfOk result (λ n. take n buffer.new ≡ slice_range (bytes self.old) at (at + n)) }
         ensures failed { honest self.old → OnErr result (Grows (faults self.old) (faults self.new)) }
-        ensures no_byte { honest self.old → result ≡ Ok 0 → 0 < length buffer.old → at < length (bytes self.old) → Grows (faults self.old) (faults self.new) }
+        ensures no_byte { honest self.old → result ≡ Ok 0 → 0 < length buffer.old → at < length (bytes self.old) →
+            Grows (faults self.old) (faults self.new) }
         ensures kept { honest self.old → Keeps bytes honest faults self.old self.new };
 }
 

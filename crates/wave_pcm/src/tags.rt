@@ -1,4 +1,5 @@
 ghost use Rattle.std.specs.Prelude.{◌≡◌, ◌<◌, List, ℕ, Option, map, option_map, option_copied, string_bytes, IfOk};
+ghost use Rattle.wave_pcm.specs.TagName.{name_of};
 ghost use Rattle.wave_pcm.specs.Tag.{place_of, text_of, with_text, no_texts, is_tag};
 
 use std::alloc::AllocError;
@@ -38,6 +39,20 @@ impl Tag {
             Tag::Date => 3,
             Tag::Genre => 4,
             Tag::Comment => 5,
+        }
+    }
+
+    /// The name of the tag, as it is printed.
+    pub fn name(self) -> &'static str
+        ensures { result.now ≡ name_of self }
+    {
+        match self {
+            Tag::Title => "Title",
+            Tag::Artist => "Artist",
+            Tag::Album => "Album",
+            Tag::Date => "Date",
+            Tag::Genre => "Genre",
+            Tag::Comment => "Comment",
         }
     }
 }

@@ -1,7 +1,8 @@
-ghost use Rattle.std.specs.Prelude.{◌≡◌, ◌+◌, ◌<◌, ◌≤◌, ◌^◌, length, option_map, string_bytes, slice_range, IfOk, IfErr, min, option_copied, position, ◌==◌};
+ghost use Rattle.std.specs.Prelude.{◌≡◌, ◌+◌, ◌<◌, ◌≤◌, ◌^◌, length, option_map, string_bytes, slice_range, IfOk};
+ghost use Rattle.std.specs.Prelude.{IfErr, min, option_copied, position, ◌==◌};
 ghost use Rattle.wave_pcm.specs.Source.{Grows, Keeps};
 ghost use Rattle.wave_pcm.specs.WaveError.{Fails};
-ghost use Rattle.wave_pcm.specs.Text.{before_zero, has_control, tag_text};
+ghost use Rattle.wave_pcm.specs.Text.{before_zero, has_control, is_tag_text, tag_text};
 
 use crate::parts::PartHead;
 use crate::read::read_exact;
@@ -30,6 +31,13 @@ fn tag_text(bytes: &[u8]) -> Option<&str>
         return None;
     }
     Some(text)
+}
+
+/// Whether a text has the form of a tag's: 1 to 512 bytes without a control character.
+pub fn is_tag_text(text: &str) -> bool
+    ensures { result ≡ is_tag_text text.now }
+{
+    !text.is_empty() && text.len() <= MAX_TAG_BYTES && !has_control(text)
 }
 
 fn before_zero(bytes: &[u8]) -> &[u8]
@@ -61,8 +69,11 @@ pub fn read_text<S: Source>(
     head: PartHead,
 ) -> Result<Option<String>, WaveError>
     requires { head.first + head.len < 2 ^ 64 }
-    ensures text { S.honest source.old → head.first + head.len ≤ length (S.bytes source.old) → IfOk result (λ text. option_map string_bytes text ≡ tag_text (slice_range (S.bytes source.old) head.first (head.first + head.len))) }
-    ensures fault { S.honest source.old → head.first + head.len ≤ length (S.bytes source.old) → IfErr result (Fails (Grows (S.faults source.old) (S.faults source.new))) }
+    ensures text { S.honest source.old → head.first + head.len ≤ length (S.bytes source.old) →
+        IfOk result (λ text. option_map string_bytes text
+        ≡ tag_text (slice_range (S.bytes source.old) head.first (head.first + head.len))) }
+    ensures fault { S.honest source.old → head.first + head.len ≤ length (S.bytes source.old) →
+        IfErr result (Fails (Grows (S.faults source.old) (S.faults source.new))) }
     ensures kept { S.honest source.old → Keeps S.bytes S.honest S.faults source.old source.new }
 {
     let mut front = [0; FRONT_LEN];
@@ -79,8 +90,11 @@ fn text_by_front<S: Source>(
 ) -> Result<Option<String>, WaveError>
     requires fits { head.first + head.len < 2 ^ 64 }
     requires front { length front.old ≡ min head.len FRONT_LEN }
-    ensures text { S.honest source.old → head.first + head.len ≤ length (S.bytes source.old) → IfOk result (λ text. option_map string_bytes text ≡ tag_text (slice_range (S.bytes source.old) head.first (head.first + head.len))) }
-    ensures fault { S.honest source.old → head.first + head.len ≤ length (S.bytes source.old) → IfErr result (Fails (Grows (S.faults source.old) (S.faults source.new))) }
+    ensures text { S.honest source.old → head.first + head.len ≤ length (S.bytes source.old) →
+        IfOk result (λ text. option_map string_bytes text
+        ≡ tag_text (slice_range (S.bytes source.old) head.first (head.first + head.len))) }
+    ensures fault { S.honest source.old → head.first + head.len ≤ length (S.bytes source.old) →
+        IfErr result (Fails (Grows (S.faults source.old) (S.faults source.new))) }
     ensures kept { S.honest source.old → Keeps S.bytes S.honest S.faults source.old source.new }
 {
     read_exact(source, head.first, front)?;

@@ -1,7 +1,7 @@
 // What a queue shows.
 ghost use Rattle.std.specs.Prelude.{◌≡◌, ◌↔◌, [], length, IsTrue, slice_get};
 ghost use Rattle.std.specs.Option.{option_copied};
-ghost use Rattle.play_queue.specs.Queue.{IsQueue};
+ghost use Rattle.play_queue.specs.Queue.{IsQueue, VersionTellsChanges};
 
 use super::Queue;
 use crate::entry::Entry;
@@ -35,9 +35,10 @@ impl Queue {
         self.entries.as_slice()
     }
 
-    /// From 1 to 2147483647; it grows by one with each change.
+    /// From 1 to 2147483647; it grows by one with each change, and stays where nothing has changed.
     pub fn version(&self) -> u32
-        ensures { result ≡ self.now.version }
+        ensures version { result ≡ self.now.version }
+        ensures stays { VersionTellsChanges self.now }
     {
         self.version
     }

@@ -1,4 +1,5 @@
-ghost use Rattle.std.specs.Prelude.{◌≡◌, ℕ, ◌≤◌, ◌<◌, Bool, true, false, List, [], ◌∷◌, ◌++◌, length, drop, slice_index_or, IfOk, OnOk, MatchOption, vec_len, vec_capacity};
+ghost use Rattle.std.specs.Prelude.{◌≡◌, ℕ, ◌≤◌, ◌<◌, Bool, true, false, List, [], ◌∷◌, ◌++◌, length, drop};
+ghost use Rattle.std.specs.Prelude.{slice_index_or, IfOk, OnOk, MatchOption, vec_len, vec_capacity};
 ghost use Rattle.std.specs.List.Sorted.{IsPartitionPoint};
 ghost use Rattle.std.specs.Ordering.{nat_cmp, is_lt};
 ghost use Rattle.std.specs.Cmp.Lexicographic.{slice_cmp};
@@ -130,7 +131,8 @@ fn uri_point(uris: &[Uri], uri: &str) -> usize
 fn folder_point(uris: &[Uri], folder: &str, next: u8) -> usize
     requires { AreKnown uris.now }
     ensures bound { result ≤ length uris.now }
-    ensures split { IsPartitionPoint (IsBefore (λ u. u) (folder.now ++ next ∷ [])) (IsNotBefore (λ u. u) (folder.now ++ next ∷ [])) uris.now result }
+    ensures split { IsPartitionPoint (IsBefore (λ u. u) (folder.now ++ next ∷ [])) (IsNotBefore (λ u. u) (folder.now ++ next
+        ∷ [])) uris.now result }
 {
     uris.partition_point(
         |known: &Uri| -> bool
@@ -159,7 +161,8 @@ fn next_mark(marks: &[bool], from: usize) -> usize
     ensures from { from ≤ result }
     ensures bound { result ≤ length marks.now }
     ensures set { result < length marks.now → slice_index_or marks.now result true ≡ true }
-    ensures none { (uris : List (List ℕ)) → length uris ≡ length marks.now → picked (drop from uris) (drop from marks.now) ≡ picked (drop result uris) (drop result marks.now) }
+    ensures none { (uris : List (List ℕ)) → length uris ≡ length marks.now →
+        picked (drop from uris) (drop from marks.now) ≡ picked (drop result uris) (drop result marks.now) }
 {
     for at in from..marks.len() {
         if marks[at] {

@@ -20,11 +20,16 @@ pub(crate) enum Found {
 }
 
 // What the reading of a head tells: only a failing source says nothing of the file.
-fn found_of(uri: Uri, head: Result<WaveInfo, WaveError>) -> Result<Found, SongDbError>
-    ensures { result ≡ found_of uri head }
+fn found_of(
+    alloc: Global,
+    uri: Uri,
+    head: Result<WaveInfo, WaveError>,
+) -> Result<Found, SongDbError>
+    ensures found { IfOk result (λ found. found_of uri head ≡ Ok found) }
+    ensures only { IsOkUnless result SongDbError.NoMemory }
 {
     match head {
-        Ok(info) => match SongRow::new(uri, info) {
+        Ok(info) => match SongRow::new(alloc, uri, info)? {
             Some(row) => Ok(Found::Song(row)),
             None => Ok(Found::NoSong),
         },
@@ -50,7 +55,7 @@ pub(crate) fn found_in<S: Source + Drop>(
     match opened {
         Ok(Some(mut source)) => {
             let head = read_head(alloc, &mut source);
-            found_of(uri, head)
+            found_of(alloc, uri, head)
         }
         Ok(None) => Ok(Found::NoSong),
         Err(FolderFault::Source) => Ok(Found::Kept(uri)),

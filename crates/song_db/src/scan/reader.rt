@@ -1,4 +1,5 @@
-ghost use Rattle.std.specs.Prelude.{◌≡◌, ℕ, ◌+◌, ◌<◌, ◌≤◌, true, List, [], length, vec_len, vec_capacity, Ok, Err, None, IfOk, OnOk, IsOkUnless, IsTrue};
+ghost use Rattle.std.specs.Prelude.{◌≡◌, ℕ, ◌+◌, ◌<◌, ◌≤◌, true, List, [], length, vec_len, vec_capacity, Ok, Err};
+ghost use Rattle.std.specs.Prelude.{None, IfOk, OnOk, IsOkUnless, IsTrue};
 ghost use Rattle.song_db.specs.Batch.{IsBatch, IsRead, after_listing, after_own, own_visit};
 ghost use Rattle.song_db.specs.Found.{IsVisitIn};
 ghost use Rattle.song_db.specs.Scan.{is_in, AreSongs};
@@ -62,8 +63,10 @@ impl Reader {
         ensures walk { self.new.walk ≡ self.old.walk }
         ensures capacity { vec_capacity changes.new ≡ vec_capacity changes.old }
         ensures few { vec_len changes.new ≤ vec_len changes.old + 1 }
-        ensures batch { (start : List (List ℕ)) → IsBatch self.old.walk start self.old.droppable changes.old.items → OnOk result (IsBatch self.old.walk start self.new.droppable changes.new.items) }
-        ensures songs { F.honest folder.old → AreSongs (F.files folder.old) changes.old.items → OnOk result (AreSongs (F.files folder.old) changes.new.items) }
+        ensures batch { (start : List (List ℕ)) → IsBatch self.old.walk start self.old.droppable changes.old.items →
+            OnOk result (IsBatch self.old.walk start self.new.droppable changes.new.items) }
+        ensures songs { F.honest folder.old → AreSongs (F.files folder.old) changes.old.items →
+            OnOk result (AreSongs (F.files folder.old) changes.new.items) }
         ensures honest { F.honest folder.old → F.honest folder.new }
         ensures files { F.honest folder.old → F.files folder.new ≡ F.files folder.old }
         ensures only { IsOkUnless result SongDbError.NoMemory }
@@ -86,8 +89,10 @@ impl Reader {
         ensures capacity { vec_capacity changes.new ≡ vec_capacity changes.old }
         ensures few { vec_len changes.new ≤ MAX_CHANGES }
         ensures full { IfOk result (λ is_full. IsTrue is_full → vec_len changes.new ≡ MAX_CHANGES) }
-        ensures batch { (start : List (List ℕ)) → IsBatch self.old.walk start self.old.droppable changes.old.items → OnOk result (IsBatch self.old.walk start self.new.droppable changes.new.items) }
-        ensures songs { F.honest folder.old → AreSongs (F.files folder.old) changes.old.items → OnOk result (AreSongs (F.files folder.old) changes.new.items) }
+        ensures batch { (start : List (List ℕ)) → IsBatch self.old.walk start self.old.droppable changes.old.items →
+            OnOk result (IsBatch self.old.walk start self.new.droppable changes.new.items) }
+        ensures songs { F.honest folder.old → AreSongs (F.files folder.old) changes.old.items →
+            OnOk result (AreSongs (F.files folder.old) changes.new.items) }
         ensures honest { F.honest folder.old → F.honest folder.new }
         ensures files { F.honest folder.old → F.files folder.new ≡ F.files folder.old }
         ensures only { IsOkUnless result SongDbError.NoMemory }
@@ -121,8 +126,10 @@ impl Reader {
         ensures walk { self.new.walk ≡ self.old.walk }
         ensures capacity { vec_capacity changes.new ≡ vec_capacity changes.old }
         ensures few { vec_len changes.new ≤ vec_len changes.old + 1 }
-        ensures batch { (start : List (List ℕ)) → IsBatch self.old.walk start self.old.droppable changes.old.items → OnOk result (IsBatch self.old.walk start self.new.droppable changes.new.items) }
-        ensures songs { F.honest folder.old → AreSongs (F.files folder.old) changes.old.items → OnOk result (AreSongs (F.files folder.old) changes.new.items) }
+        ensures batch { (start : List (List ℕ)) → IsBatch self.old.walk start self.old.droppable changes.old.items →
+            OnOk result (IsBatch self.old.walk start self.new.droppable changes.new.items) }
+        ensures songs { F.honest folder.old → AreSongs (F.files folder.old) changes.old.items →
+            OnOk result (AreSongs (F.files folder.old) changes.new.items) }
         ensures honest { F.honest folder.old → F.honest folder.new }
         ensures files { F.honest folder.old → F.files folder.new ≡ F.files folder.old }
         ensures only { IsOkUnless result SongDbError.NoMemory }
@@ -166,7 +173,8 @@ impl Reader {
         }
     }
 
-    // Takes what the listing of the job's own folder gave, and says what is done next: where there is no such folder, its URI may be a song's.
+    // Takes what the listing of the job's own folder gave, and says what is done next: where there is no such folder,
+    // its URI may be a song's.
     fn take_own(
         &mut self,
         alloc: Global,

@@ -1,5 +1,6 @@
 ghost use Rattle.std.specs.Prelude.{◌≡◌};
-ghost use Rattle.song_db.specs.Found.{ends_as_wave, folders_over, is_song, visit_of};
+ghost use Rattle.song_db.specs.Found.{visit_of};
+ghost use Rattle.song_db.specs.Name.{ends_as_wave, folders_over, is_song};
 
 use crate::limits::MAX_FOLDERS;
 use crate::uri::Uri;

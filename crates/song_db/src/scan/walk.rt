@@ -17,7 +17,8 @@ struct Level {
     entries: Vec<FolderEntry>,
 }
 
-// The walk of a scan through the folders of its place. It holds what is left of the listings on the present path: 33 at most, since no folder is entered below the 32nd.
+// The walk of a scan through the folders of its place. It holds what is left of the listings on the present path: 33 at
+// most, since no folder is entered below the 32nd.
 #[derive(Debug, Drop)]
 pub(crate) struct Walk {
     place: Option<Uri>,
@@ -117,7 +118,9 @@ fn falling(entry: &FolderEntry, other: &FolderEntry) -> Ordering {
 fn visit_at(alloc: Global, prefix: &str, entry: &FolderEntry) -> Result<Visit, AllocError>
     ensures { IfOk result (λ visit. visit ≡ visit_at (prefix.now ++ string_bytes entry.now.name) entry.now.is_folder) }
 {
-    let mut path = String::from_str(alloc, prefix)?;
+    let len = prefix.len().saturating_add(entry.name.len());
+    let mut path = String::with_capacity(alloc, len)?;
+    path.push_str(prefix)?;
     path.push_str(entry.name.as_str())?;
     match Uri::from_string(path) {
         Some(uri) => Ok(visit_of(uri, entry.is_folder)),

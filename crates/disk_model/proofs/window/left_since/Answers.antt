@@ -11,5 +11,6 @@ loop-i-preserved c =
     let more : take (i + 1) calls ≡ take i calls ++ call ∷ [] =
     take_more calls i call (omega arith) ∙ ap (λ x. take i calls ++ x ∷ []) (sym c.index-calls-i.is) in
     let count : i + 1 ≡ length (take i calls) + 1 = omega (arith, length-take-le i calls (omega arith)) in
-    replayed-more _ _ _ call _ _ _ _ _ _ _ _ _ _ more count c.loop-i.invariant c.in_ok-redo.ensures.ok (rw c.deref.ensures.value at c.in_ok-note-2.ensures)
+    replayed-more _ _ _ call _ _ _ _ _ _ _ _ _ _ more count c.loop-i.invariant c.in_ok-redo.ensures.ok
+    (rw c.deref.ensures.value at c.in_ok-note-2.ensures)
     c.allows-in-loop-i.ensures c.goes_on-left-in-loop-i.ensures

@@ -7,6 +7,8 @@ invariant-loop-body g l = record {
   honest_a : (g.D.Disk.honest l.fn.a → g.D.Disk.honest l.journal.a);
   honest_b : (g.D.Disk.honest l.fn.b → g.D.Disk.honest l.journal.b);
   snapshot : (g.D.Disk.honest l.fn.a → g.D.Disk.honest l.fn.b → l.journal.content.snapshot ≡ l.snapshot);
-  records : (g.D.Disk.honest l.fn.a → g.D.Disk.honest l.fn.b → l.journal.content.records ≡ map (λ body. body.items) (take l.body-index l.bodies));
-  kept : (g.D.Disk.honest l.fn.a → g.D.Disk.honest l.fn.b → AllPairsNow (λ f. f ≡ Some l.journal.content) (g.D.Disk.history l.journal.a) (g.D.Disk.history l.journal.b));
+  records : (g.D.Disk.honest l.fn.a → g.D.Disk.honest l.fn.b → l.journal.content.records ≡ map (λ body. body.items)
+      (take l.body-index l.bodies));
+  kept : (g.D.Disk.honest l.fn.a → g.D.Disk.honest l.fn.b → AllPairsNow (λ f. f ≡ Some l.journal.content) (g.D.Disk.history l.journal.a)
+      (g.D.Disk.history l.journal.b));
 }

@@ -14,4 +14,5 @@ pub returns-clause-told : goal.returns-clause-told
 returns-clause-told g c = λ honest.
     let bytes = g.D.Disk.content c.args.disk.now in
     let long : 32 ≤ length bytes = let len = c.len.ensures honest in omega arith in
-    inr (c.generation_of.ensures ∙ ap (λ l. told_front (front l)) (c.in_ok-read_at.ensures.read honest) ∙ ap told_front (front-take bytes long))
+    inr (c.generation_of.ensures ∙ ap (λ l. told_front (front l)) (c.in_ok-read_at.ensures.read honest)
+    ∙ ap told_front (front-take bytes long))

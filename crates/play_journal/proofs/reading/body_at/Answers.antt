@@ -10,18 +10,26 @@ pub returns-then-bytes-at-clause-closed : goal.returns-then-bytes-at-clause-clos
 returns-then-bytes-at-clause-closed c = closed_gate c.args.bytes.now c.args.at c.args.before (omega arith) c.if-bytes-at.true
 
 pub returns-then-bytes-at-lt5-clause-fault : goal.returns-then-bytes-at-lt5-clause-fault
-returns-then-bytes-at-lt5-clause-fault c = (refl, short_field c.args.bytes.now c.args.at c.args.before (omega arith) c.if-bytes-at.false (omega arith))
+returns-then-bytes-at-lt5-clause-fault c = (
+  refl,
+  short_field c.args.bytes.now c.args.at c.args.before (omega arith) c.if-bytes-at.false
+      (omega arith),
+)
 
 pub returns-then-len-gt-LONGEST_BODY-clause-fault : goal.returns-then-len-gt-LONGEST_BODY-clause-fault
 returns-then-len-gt-LONGEST_BODY-clause-fault c = (
   refl,
   elim c.then-len-gt-LONGEST_BODY.branch [
-    | then-len-gt-LONGEST_BODY-via-then-len-gt-LONGEST_BODY w ↦ long_body c.args.bytes.now c.args.at c.args.before (omega arith) c.if-bytes-at.false (omega (arith, c.u32_at-len.ensures))
-    | then-len-gt-LONGEST_BODY-via-else-len-gt-LONGEST_BODY+then-bytes-at-2 w ↦ passed_end c.args.bytes.now c.args.at c.args.before (omega arith) c.if-bytes-at.false (omega (arith, c.u32_at-len.ensures))
-    | then-len-gt-LONGEST_BODY-via-else-len-gt-LONGEST_BODY+else-bytes-at-2+then-before-eq18446744073709551615 w ↦ last_number c.args.bytes.now c.args.at c.args.before (omega arith) c.if-bytes-at.false (omega arith)
+    | then-len-gt-LONGEST_BODY-via-then-len-gt-LONGEST_BODY w ↦ long_body c.args.bytes.now c.args.at c.args.before
+        (omega arith) c.if-bytes-at.false (omega (arith, c.u32_at-len.ensures))
+    | then-len-gt-LONGEST_BODY-via-else-len-gt-LONGEST_BODY+then-bytes-at-2 w ↦ passed_end c.args.bytes.now c.args.at c.args.before
+        (omega arith) c.if-bytes-at.false (omega (arith, c.u32_at-len.ensures))
+    | then-len-gt-LONGEST_BODY-via-else-len-gt-LONGEST_BODY+else-bytes-at-2+then-before-eq18446744073709551615 w ↦ last_number
+        c.args.bytes.now c.args.at c.args.before (omega arith) c.if-bytes-at.false (omega arith)
   ],
 )
 
 pub returns-clause-closed : goal.returns-clause-closed
 returns-clause-closed c =
-    open_record c.args.bytes.now c.args.at c.args.before c.u32_at-len.result (omega arith) c.if-bytes-at.false c.u32_at-len.ensures (omega arith) (omega arith) (omega arith)
+    open_record c.args.bytes.now c.args.at c.args.before c.u32_at-len.result (omega arith) c.if-bytes-at.false c.u32_at-len.ensures
+    (omega arith) (omega arith) (omega arith)

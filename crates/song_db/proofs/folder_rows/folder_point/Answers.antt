@@ -7,4 +7,6 @@ use Rattle.song_db.proofs.Rising.{partitioned}
 use Rattle.song_db.proofs.folder_rows.folder_point.Goals as goal
 
 pub returns-clause-split : goal.returns-clause-split
-returns-clause-split c = IsPartitionPoint-from_clause (λ row. is_lt (slice_cmp nat_cmp row.uri (c.args.folder.now ++ c.args.next ∷ []))) _ _ c.partition_point.ensures.partitioned (partitioned row_uri c.args.rows.now (c.args.folder.now ++ c.args.next ∷ []) c.requires) (λ a r q k. search rules)
+returns-clause-split c = IsPartitionPoint-from_clause (λ row. is_lt (slice_cmp nat_cmp row.uri (c.args.folder.now ++ c.args.next ∷
+    []))) _ _ c.partition_point.ensures.partitioned (partitioned row_uri c.args.rows.now (c.args.folder.now ++ c.args.next ∷ [])
+    c.requires) (λ a r q k. search rules)

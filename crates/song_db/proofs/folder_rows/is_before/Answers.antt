@@ -19,4 +19,5 @@ returns-in-Greater c =
     rw (decided, ← c.in-Greater.ensures) refl
 
 pub returns-then-path-folder : goal.returns-then-path-folder
-returns-then-path-folder c = c.is_le.ensures ∙ ap is_le c.cmp.ensures ∙ sym (before_short c.args.path.now c.args.folder.now c.args.next (omega arith))
+returns-then-path-folder c = c.is_le.ensures ∙ ap is_le c.cmp.ensures
+    ∙ sym (before_short c.args.path.now c.args.folder.now c.args.next (omega arith))

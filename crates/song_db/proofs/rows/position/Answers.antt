@@ -7,17 +7,22 @@ use Rattle.song_db.proofs.rows.position.Goals as goal
 use Rattle.song_db.proofs.rows.position.Goals.{else-at-rows-via-then-at-rows+else-eq, else-at-rows-via-else-at-rows}
 
 pub returns-then-eq-clause-number : goal.returns-then-eq-clause-number
-returns-then-eq-clause-number c = found_number c.args.rows.now c.args.uri.now c.uri.result.now c.split_point-at.result c.index-rows-at.result c.split_point-at.ensures.split (omega arith) c.index-rows-at.is c.uri.ensures.text c.if-eq.ensures
+returns-then-eq-clause-number c = found_number c.args.rows.now c.args.uri.now c.uri.result.now c.split_point-at.result
+    c.index-rows-at.result c.split_point-at.ensures.split (omega arith) c.index-rows-at.is c.uri.ensures.text c.if-eq.ensures
 
 pub returns-then-eq-clause-row : goal.returns-then-eq-clause-row
 returns-then-eq-clause-row c =
-    ap (option_and_then (slice_get c.args.rows.now)) (found_number c.args.rows.now c.args.uri.now c.uri.result.now c.split_point-at.result c.index-rows-at.result c.split_point-at.ensures.split (omega arith) c.index-rows-at.is c.uri.ensures.text c.if-eq.ensures)
+    ap (option_and_then (slice_get c.args.rows.now)) (found_number c.args.rows.now c.args.uri.now c.uri.result.now
+    c.split_point-at.result c.index-rows-at.result c.split_point-at.ensures.split (omega arith) c.index-rows-at.is
+    c.uri.ensures.text c.if-eq.ensures)
     ∙ number-row c.args.rows.now c.args.uri.now
 
 pub returns-clause-number : goal.returns-clause-number
 returns-clause-number c = elim c.else-at-rows.branch [
-  | else-at-rows-via-then-at-rows+else-eq w ↦ absent_other c.args.rows.now c.args.uri.now w.uri.result.now c.split_point-at.result w.index-rows-at.result c.requires c.split_point-at.ensures.split (omega arith) w.index-rows-at.is w.uri.ensures.text w.if-eq.ensures
-  | else-at-rows-via-else-at-rows w ↦ absent_end c.args.rows.now c.args.uri.now c.split_point-at.result c.requires c.split_point-at.ensures.split (omega arith)
+  | else-at-rows-via-then-at-rows+else-eq w ↦ absent_other c.args.rows.now c.args.uri.now w.uri.result.now c.split_point-at.result
+      w.index-rows-at.result c.requires c.split_point-at.ensures.split (omega arith) w.index-rows-at.is w.uri.ensures.text w.if-eq.ensures
+  | else-at-rows-via-else-at-rows w ↦ absent_end c.args.rows.now c.args.uri.now c.split_point-at.result c.requires
+      c.split_point-at.ensures.split (omega arith)
 ]
 
 pub returns-clause-row : goal.returns-clause-row

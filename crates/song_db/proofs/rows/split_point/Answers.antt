@@ -7,4 +7,5 @@ use Rattle.song_db.proofs.Rising.{partitioned}
 use Rattle.song_db.proofs.rows.split_point.Goals as goal
 
 pub returns-clause-split : goal.returns-clause-split
-returns-clause-split c = IsPartitionPoint-from_clause (λ row. is_lt (slice_cmp nat_cmp row.uri c.args.uri.now)) _ _ c.partition_point.ensures.partitioned (partitioned row_uri c.args.rows.now c.args.uri.now c.requires) (λ a r q k. search rules)
+returns-clause-split c = IsPartitionPoint-from_clause (λ row. is_lt (slice_cmp nat_cmp row.uri c.args.uri.now)) _ _
+    c.partition_point.ensures.partitioned (partitioned row_uri c.args.rows.now c.args.uri.now c.requires) (λ a r q k. search rules)

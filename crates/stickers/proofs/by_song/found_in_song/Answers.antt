@@ -3,18 +3,18 @@ use Rattle.stickers.specs.Find.{passes}
 use Rattle.stickers.proofs.FoundSongs.{not_under, not_named, named}
 use Rattle.stickers.proofs.by_song.found_in_song.Goals as goal
 
-pub returns-then-not-is_under : goal.returns-then-not-is_under
-returns-then-not-is_under c = sym (not_under c.args.uri.now c.args.song.now c.args.base.now c.args.name.now c.args.test.now (sym c.if-not-is_under.ensures))
+pub returns-then-not-is_over : goal.returns-then-not-is_over
+returns-then-not-is_over c = sym (not_under c.args.uri.now c.args.song.now c.args.place c.args.name.now c.args.test.now (sym c.if-not-is_over.ensures))
 
 pub returns-then-passes : goal.returns-then-passes
 returns-then-passes c =
-    let test : passes c.args.test.now c.in-Some.value.now ≡ true = sym (rw c.as_str.ensures at c.if-passes.ensures) in
-    sym (named c.args.uri.now c.args.song.now c.args.base.now c.args.name.now c.in-Some.value.now c.args.test.now (sym c.if-not-is_under.ensures) c.in-Some.ensures.rising (sym c.in-Some.ensures.value) ∙ rw test refl)
+    let test : passes c.args.test.now c.in-Some.value.now ≡ true = sym (rw c.as_str.ensures.text at c.if-passes.ensures) in
+    sym (named c.args.uri.now c.args.song.now c.args.place c.args.name.now c.in-Some.value.now c.args.test.now (sym c.if-not-is_over.ensures) c.in-Some.ensures.rising (sym c.in-Some.ensures.value) ∙ rw test refl)
 
 pub returns-else-passes : goal.returns-else-passes
 returns-else-passes c =
-    let test : passes c.args.test.now c.in-Some.value.now ≡ false = sym (rw c.as_str.ensures at c.if-passes.ensures) in
-    sym (named c.args.uri.now c.args.song.now c.args.base.now c.args.name.now c.in-Some.value.now c.args.test.now (sym c.if-not-is_under.ensures) c.in-Some.ensures.rising (sym c.in-Some.ensures.value) ∙ rw test refl)
+    let test : passes c.args.test.now c.in-Some.value.now ≡ false = sym (rw c.as_str.ensures.text at c.if-passes.ensures) in
+    sym (named c.args.uri.now c.args.song.now c.args.place c.args.name.now c.in-Some.value.now c.args.test.now (sym c.if-not-is_over.ensures) c.in-Some.ensures.rising (sym c.in-Some.ensures.value) ∙ rw test refl)
 
 pub returns-in-None : goal.returns-in-None
-returns-in-None c = sym (not_named c.args.uri.now c.args.song.now c.args.base.now c.args.name.now c.args.test.now (sym c.if-not-is_under.ensures) (sym c.in-None.ensures.value))
+returns-in-None c = sym (not_named c.args.uri.now c.args.song.now c.args.place c.args.name.now c.args.test.now (sym c.if-not-is_over.ensures) (sym c.in-None.ensures.value))

@@ -8,4 +8,5 @@ returns-then-end-at-lt-HEAD_LEN-clause-found g c = λ told within. no_chunk _ _ 
 
 pub returns-clause-found : goal.returns-clause-found
 returns-clause-found g c = λ told within.
-    next_head _ c.read_exact.new.buffer _ _ c.new.result (omega arith) within (c.in_ok-read_exact.ensures.read told) c.new.ensures.id c.new.ensures.first c.new.ensures.len c.new.ensures.next
+    next_head _ c.read_exact.new.buffer _ _ c.new.result (omega arith) within (c.in_ok-read_exact.ensures.read told)
+    c.new.ensures.id c.new.ensures.first c.new.ensures.len c.new.ensures.next

@@ -3,7 +3,9 @@ use Rattle.wave_pcm.proofs.Readings.{verdicts_of, fault_of}
 use Rattle.wave_pcm.proofs.head.read_head.Goals as goal
 
 pub returns-clause-refused : goal.returns-clause-refused
-returns-clause-refused g c = λ told. verdicts_of c.read_wave.result (wave_reading (g.S.Source.bytes c.args.source.now)) _ (c.read_wave.ensures.refused told)
+returns-clause-refused g c = λ told. verdicts_of c.read_wave.result (wave_reading (g.S.Source.bytes c.args.source.now)) _
+    (c.read_wave.ensures.refused told)
 
 pub returns-clause-fault : goal.returns-clause-fault
-returns-clause-fault g c = λ told. fault_of c.read_wave.result (wave_reading (g.S.Source.bytes c.args.source.now)) _ (c.read_wave.ensures.refused told)
+returns-clause-fault g c = λ told. fault_of c.read_wave.result (wave_reading (g.S.Source.bytes c.args.source.now)) _
+    (c.read_wave.ensures.refused told)

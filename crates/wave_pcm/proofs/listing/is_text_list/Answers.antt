@@ -10,5 +10,7 @@ returns-clause-told g c = λ told within.
     let nested : is_nested c.args.kind ≡ true = search rules in
     let room : 4 ≤ c.args.head.len = omega arith in
     c.eq.ensures
-    ∙ ap (λ front. bytes_eq front (codes "INFO")) (c.in_ok-read_exact.ensures.read told ∙ sym (take-range (g.S.Source.bytes c.args.source.now) c.args.head.first 4 c.args.head.len room))
-    ∙ ap (λ yes. yes && is_info (slice_range (g.S.Source.bytes c.args.source.now) c.args.head.first (c.args.head.first + c.args.head.len))) (sym nested)
+    ∙ ap (λ front. bytes_eq front (codes "INFO")) (c.in_ok-read_exact.ensures.read told
+    ∙ sym (take-range (g.S.Source.bytes c.args.source.now) c.args.head.first 4 c.args.head.len room))
+    ∙ ap (λ yes. yes && is_info (slice_range (g.S.Source.bytes c.args.source.now) c.args.head.first (c.args.head.first +
+    c.args.head.len))) (sym nested)

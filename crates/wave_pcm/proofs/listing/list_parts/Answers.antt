@@ -11,7 +11,8 @@ pub returns-in_default-clause-listed : goal.returns-in_default-clause-listed
 returns-in_default-clause-listed g c = λ told within.
     let kept = c.chunks.invariant.2 told in
     let inside : c.args.end ≤ length (g.S.Source.bytes c.chunks.source) = rw kept.same within in
-    let none : chunks_in (g.S.Source.bytes c.chunks.source) c.chunks.at c.args.end ≡ [] = rw c.in_default.is at (c.in_ok-head.ensures.found kept.is_honest inside) in
+    let none : chunks_in (g.S.Source.bytes c.chunks.source) c.chunks.at c.args.end ≡ [] = rw c.in_default.is at
+    (c.in_ok-head.ensures.found kept.is_honest inside) in
     let few : length c.chunks.parts.items ≤ 65537 = omega arith in
     whole 65537 _ _ _ _ (c.chunks.invariant.3 told within) (ap (flat_map parts_of) (rw kept.same at none)) few
 
@@ -26,12 +27,18 @@ chunks-preserved g c =
       λ told within.
           let kept = c.chunks.invariant.2 told in
           let inside : c.args.end ≤ length (g.S.Source.bytes c.chunks.source) = rw kept.same within in
-          let found : chunks_in (g.S.Source.bytes c.chunks.source) c.chunks.at c.args.end ≡ chunk_at (g.S.Source.bytes c.chunks.source) c.in-Some.head ∷ chunks_in (g.S.Source.bytes c.chunks.source) c.in-Some.head.next c.args.end
+          let found : chunks_in (g.S.Source.bytes c.chunks.source) c.chunks.at c.args.end ≡ chunk_at (g.S.Source.bytes
+          c.chunks.source) c.in-Some.head ∷ chunks_in (g.S.Source.bytes c.chunks.source) c.in-Some.head.next c.args.end
           = rw c.in-Some.is at (c.in_ok-head.ensures.found kept.is_honest inside) in
           let next = keeps_then kept (c.in_ok-head.ensures.kept kept.is_honest) in
           let room : c.args.end ≤ length (g.S.Source.bytes c.next_chunk.new.source) = rw next.same within in
-          let body : c.in-Some.head.first + c.in-Some.head.len ≤ length (g.S.Source.bytes c.next_chunk.new.source) = omega (arith, ahead.data_end, room) in
-          chunk_listed 65537 _ _ _ _ _ _ _ _ next.same (c.in_ok-list_chunk.ensures.listed next.is_honest body) (rw kept.same at found) (c.chunks.invariant.3 told within),
+          let body : c.in-Some.head.first + c.in-Some.head.len ≤ length (g.S.Source.bytes c.next_chunk.new.source) = omega (
+            arith,
+            ahead.data_end,
+            room,
+          ) in
+          chunk_listed 65537 _ _ _ _ _ _ _ _ next.same (c.in_ok-list_chunk.ensures.listed next.is_honest body) (rw kept.same at
+          found) (c.chunks.invariant.3 told within),
       c.in_ok-list_chunk.ensures.bounded c.args.end ahead.data_end c.chunks.invariant.4,
     )
 

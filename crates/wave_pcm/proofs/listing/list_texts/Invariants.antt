@@ -13,8 +13,10 @@ invariant-texts g l =
     × (vec_len l.parts ≤ MAX_CHUNKS + 1)
     × (g.S.Source.honest l.initial.source → Keeps g.S.Source.bytes g.S.Source.honest g.S.Source.faults l.initial.source l.source)
     × (g.S.Source.honest l.initial.source → l.end ≤ length (g.S.Source.bytes l.initial.source)
-    → take (MAX_CHUNKS + 1) (parts_at (g.S.Source.bytes l.initial.source) l.parts.items ++ map text_part (chunks_in (g.S.Source.bytes l.initial.source) l.at l.end))
-    ≡ take (MAX_CHUNKS + 1) (parts_at (g.S.Source.bytes l.initial.source) l.initial.parts.items ++ map text_part (chunks_in (g.S.Source.bytes l.initial.source) l.start l.end)))
+    → take (MAX_CHUNKS + 1) (parts_at (g.S.Source.bytes l.initial.source) l.parts.items ++ map text_part (chunks_in
+    (g.S.Source.bytes l.initial.source) l.at l.end))
+    ≡ take (MAX_CHUNKS + 1) (parts_at (g.S.Source.bytes l.initial.source) l.initial.parts.items ++ map text_part (chunks_in
+    (g.S.Source.bytes l.initial.source) l.start l.end)))
     × ((limit : ℕ) → l.end ≤ limit → All (EndsBy limit) l.initial.parts.items → All (EndsBy limit) l.parts.items)
 
 abbrev pub decreases-texts : goal.decreases-texts

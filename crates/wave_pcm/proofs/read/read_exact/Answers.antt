@@ -12,5 +12,7 @@ loop-filled-preserved g c =
       λ told. let kept = c.loop-filled.invariant.1 told in keeps_then kept (c.in-Ok.ensures.kept kept.is_honest),
       λ told. let kept = c.loop-filled.invariant.1 told in
           filled_more _ _ _ _ _ _ _ (omega arith) few' (c.loop-filled.invariant.2 told)
-          (c.in-Ok.ensures.read kept.is_honest ∙ ap (λ file. slice_range file (c.args.at + c.loop-filled.filled) (c.args.at + c.loop-filled.filled + c.in-Ok.count)) kept.same),
+          (c.in-Ok.ensures.read kept.is_honest
+          ∙ ap (λ file. slice_range file (c.args.at + c.loop-filled.filled) (c.args.at + c.loop-filled.filled + c.in-Ok.count))
+          kept.same),
     )

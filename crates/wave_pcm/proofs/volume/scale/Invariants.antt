@@ -4,4 +4,5 @@ use Rattle.wave_pcm.proofs.volume.scale.Given as goal
 
 -- The samples so far are scaled, and the others are as they were.
 abbrev pub invariant-loop-sample : goal.invariant-loop-sample
-invariant-loop-sample l = l.samples ≡ map (at_volume l.volume) (take l.sample-index l.initial.samples) ++ drop l.sample-index l.initial.samples
+invariant-loop-sample l = l.samples ≡ map (at_volume l.volume) (take l.sample-index l.initial.samples) ++ drop l.sample-index
+    l.initial.samples

@@ -12,4 +12,5 @@ returns-clause-honest c =
     (λ _. honest-kept _ _ _ _ (invariant_of-self-2 c), λ _. subst IsHonest c.self.view_is (honest-kept _ _ _ _ c.self.invariant))
 
 pub returns-clause-made : goal.returns-clause-made
-returns-clause-made c honest = rw (c.push_reserved.ensures.items, c.reserve.ensures.items, ← c.self.view_is) (history_of-push _ _ _ _ c.self.invariant)
+returns-clause-made c honest = rw (c.push_reserved.ensures.items, c.reserve.ensures.items, ← c.self.view_is)
+    (history_of-push _ _ _ _ c.self.invariant)

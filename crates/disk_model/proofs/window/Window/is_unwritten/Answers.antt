@@ -18,6 +18,8 @@ returns-then-not-is_outside c =
 
 pub returns : goal.returns
 returns c =
-    let each : (k : ℕ) → k < length c.self.inside.written.items → (d : Extent) → IsOutside (get_or c.self.inside.written.items k d) c.args.offset =
-    λ k below d. rw (← c.deref-extent-items.ensures.value) (c.loop-extent.invariant k (omega (arith, c.deref-extent-items.ensures.len)) d) in
+    let each : (k : ℕ) → k < length c.self.inside.written.items → (d : Extent)
+    → IsOutside (get_or c.self.inside.written.items k d) c.args.offset =
+    λ k below d. rw (← c.deref-extent-items.ensures.value) (c.loop-extent.invariant k (omega
+    (arith, c.deref-extent-items.ensures.len)) d) in
     rw (← c.self.view_is) (λ _. unwritten-reverse _ _ each, λ _. search rules)

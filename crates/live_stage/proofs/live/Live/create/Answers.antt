@@ -10,17 +10,19 @@ pub invariant_of-result : goal.invariant_of-result
 invariant_of-result g c = (
   c.in-Ok.ensures.room,
   λ usable ha' hb'.
-      let ha = c.in-Ok-create.ensures.honest_a.1 ha' in
-      let hb = c.in-Ok-create.ensures.honest_b.1 hb' in
-      fresh_stands _ c.deref.result.now c.fresh-saved.result (c.in-Ok-create.ensures.content ha hb) (c.deref.ensures.value ∙ c.in-Ok.ensures.snapshot) c.in-Ok.ensures.in_range
+      let ha = c.in-Ok-create.ensures.later.a.honesty.1 ha' in
+      let hb = c.in-Ok-create.ensures.later.b.honesty.1 hb' in
+      let held = c.in-Ok-create.ensures.kept ha hb in
+      fresh_stands _ c.deref.result.now c.fresh-saved.result held.says (c.deref.ensures.value ∙ c.in-Ok.ensures.snapshot) c.in-Ok.ensures.in_range
       ∙ ap (λ (s : State). Some s.saved) (sym c.new.ensures),
 )
 
 pub returns-in-Ok-create-clause-kept : goal.returns-in-Ok-create-clause-kept
 returns-in-Ok-create-clause-kept g c = λ ha hb.
+    let held = c.in-Ok-create.ensures.kept ha hb in
     find_now (g.D.Disk.history c.in-Ok-create.journal.a) (g.D.Disk.history c.in-Ok-create.journal.b) c.in-Ok-create.journal.content _
-    (λ x y at_x at_y. c.in-Ok-create.ensures.kept ha hb x y at_x at_y ∙ ap Some (sym (c.in-Ok-create.ensures.content ha hb)))
-    (fresh_stands _ c.deref.result.now c.fresh-saved.result (c.in-Ok-create.ensures.content ha hb) (c.deref.ensures.value ∙ c.in-Ok.ensures.snapshot) c.in-Ok.ensures.in_range
+    held.kept
+    (fresh_stands _ c.deref.result.now c.fresh-saved.result held.says (c.deref.ensures.value ∙ c.in-Ok.ensures.snapshot) c.in-Ok.ensures.in_range
     ∙ ap Some c.fresh-saved.ensures)
 
 pub returns-in-Err-create-clause-fault : goal.returns-in-Err-create-clause-fault

@@ -12,7 +12,7 @@ returns-in-Err-clause-any_moment g c = λ ha hb x y lx ly. (x, y, now_only (g.D.
 pub returns-in-Ok-take_state-clause-found : goal.returns-in-Ok-take_state-clause-found
 returns-in-Ok-take_state-clause-found g c = λ ha hb.
     found_so _ _ c.in-Ok-open.opened.0.content _ (c.in-Ok-open.ensures.read ha hb)
-    (stands c.in-Ok-open.opened.0.content _ _ c.in-Ok-take_state.saved (c.deref.ensures.value ∙ c.in-Ok-open.ensures.snapshot ha hb) (c.deref-2.ensures.value ∙ c.in-Ok-open.ensures.records ha hb) c.in-Ok-take_state.ensures
+    (stands c.in-Ok-open.opened.0.content _ _ c.in-Ok-take_state.saved (c.deref.ensures.value ∙ c.in-Ok-open.ensures.opened.same_snapshot (ha, hb)) (c.deref-2.ensures.value ∙ c.in-Ok-open.ensures.opened.same_records (ha, hb)) c.in-Ok-take_state.ensures
     ∙ ap (λ (s : State). Some s.saved) (sym c.new.ensures))
 
 pub returns-in-Ok-take_state-clause-last_record : goal.returns-in-Ok-take_state-clause-last_record
@@ -23,8 +23,8 @@ returns-in-Ok-take_state-clause-last_record g c = λ ha hb content is.
     let image_a = g.met.D.Disk.content_is_image c.args.a ha in
     let image_b = g.met.D.Disk.content_is_image c.args.b hb in
     let small = found_small _ _ own (bytes_fit _ image_a.bytes) (bytes_fit _ image_b.bytes) (g.met.D.Disk.length_fits c.args.a ha) (g.met.D.Disk.length_fits c.args.b hb) (c.in-Ok-open.ensures.read ha hb) in
-    let counted = ap length (c.in-Ok-open.ensures.records ha hb) in
-    rw (← same) (omega (arith, small.numbers, counted, c.in-Ok-open.ensures.base ha hb, c.in-Ok-open.ensures.count))
+    let counted = ap length (c.in-Ok-open.ensures.opened.same_records (ha, hb)) in
+    rw (← same) (omega (arith, small.numbers, counted, c.in-Ok-open.ensures.opened.base (ha, hb), c.in-Ok-open.ensures.opened.count))
 
 pub returns-in-Err-take_state-clause-cause : goal.returns-in-Err-take_state-clause-cause
 returns-in-Err-take_state-clause-cause g c = λ ha hb.
@@ -33,7 +33,7 @@ returns-in-Err-take_state-clause-cause g c = λ ha hb.
     let image_b = g.met.D.Disk.content_is_image c.args.b hb in
     let small = found_small _ _ own (bytes_fit _ image_a.bytes) (bytes_fit _ image_b.bytes) (g.met.D.Disk.length_fits c.args.a ha) (g.met.D.Disk.length_fits c.args.b hb) (c.in-Ok-open.ensures.read ha hb) in
     refused_content _ _ own _ _ c.in-Err-take_state.error
-    (record { read = c.in-Ok-open.ensures.read ha hb; same_snapshot = c.deref.ensures.value ∙ c.in-Ok-open.ensures.snapshot ha hb; same_records = c.deref-2.ensures.value ∙ c.in-Ok-open.ensures.records ha hb; small = small })
+    (record { read = c.in-Ok-open.ensures.read ha hb; same_snapshot = c.deref.ensures.value ∙ c.in-Ok-open.ensures.opened.same_snapshot (ha, hb); same_records = c.deref-2.ensures.value ∙ c.in-Ok-open.ensures.opened.same_records (ha, hb); small = small })
     c.in-Err-take_state.ensures
 
 pub returns-in-Err-take_state-clause-opens : goal.returns-in-Err-take_state-clause-opens
@@ -43,6 +43,6 @@ returns-in-Err-take_state-clause-opens g c = λ ha hb all.
     let image_b = g.met.D.Disk.content_is_image c.args.b hb in
     let small = found_small _ _ own (bytes_fit _ image_a.bytes) (bytes_fit _ image_b.bytes) (g.met.D.Disk.length_fits c.args.a ha) (g.met.D.Disk.length_fits c.args.b hb) (c.in-Ok-open.ensures.read ha hb) in
     refused_good _ _ own _ _ c.in-Err-take_state.error
-    (record { read = c.in-Ok-open.ensures.read ha hb; same_snapshot = c.deref.ensures.value ∙ c.in-Ok-open.ensures.snapshot ha hb; same_records = c.deref-2.ensures.value ∙ c.in-Ok-open.ensures.records ha hb; small = small })
+    (record { read = c.in-Ok-open.ensures.read ha hb; same_snapshot = c.deref.ensures.value ∙ c.in-Ok-open.ensures.opened.same_snapshot (ha, hb); same_records = c.deref-2.ensures.value ∙ c.in-Ok-open.ensures.opened.same_records (ha, hb); small = small })
     (all _ _ image_a image_b)
     c.in-Err-take_state.ensures

@@ -42,18 +42,18 @@ loop-event-preserved g c =
       made = turn.step;
       any_moment = turn.any_moment;
       kept = turn.kept;
-      usable = turn.usable;
-      other_file = turn.other_file;
-      same_file = turn.same_file;
-      broken = turn.broken;
-      breaks = turn.breaks;
-      stays = turn.stays;
-      not_counted = turn.not_counted;
-      numbers_spent = turn.numbers_spent;
-      continues_a = turn.continues_a;
-      continues_b = turn.continues_b;
-      honest_a = turn.honest_a;
-      honest_b = turn.honest_b;
+      usable = turn.refuses.usable;
+      other_file = turn.file.other_file;
+      same_file = turn.file.same_file;
+      broken = turn.refuses.broken;
+      breaks = turn.refuses.breaks;
+      stays = turn.refuses.stays;
+      not_counted = turn.refuses.not_counted;
+      numbers_spent = turn.refuses.numbers_spent;
+      continues_a = turn.later.a.done;
+      continues_b = turn.later.b.done;
+      honest_a = turn.later.a.honesty;
+      honest_b = turn.later.b.honesty;
     } in
     let so_far = at.invariant.so_far in
     record {
@@ -61,9 +61,9 @@ loop-event-preserved g c =
       left = append_assoc at.yielded (c.in-Some.event ∷ []) _ ∙ rw (← steps) at.invariant.left;
       room = omega (arith, room, short, c.push_reserved.ensures.len, c.push_reserved.ensures.capacity);
       counted = omega (arith, was, gone, short);
-      stays = λ was. let same = at.invariant.stays was in let broken : at.self.is_broken ≡ true = rw same was in (turn.broken broken).1 ∙ same;
-      later_a = omega (arith, at.invariant.later_a, turn.later_a);
-      later_b = omega (arith, at.invariant.later_b, turn.later_b);
+      stays = λ was. let same = at.invariant.stays was in let broken : at.self.is_broken ≡ true = rw same was in (turn.refuses.broken broken).1 ∙ same;
+      later_a = omega (arith, at.invariant.later_a, turn.later.a.counted);
+      later_b = omega (arith, at.invariant.later_b, turn.later.b.counted);
       fault = λ ha hb usable. fails_on g.D.Disk.honest g.D.Disk.history g.D.Disk.faults c.args.self.now at.self c.turn-answer.new.self c.in-Some.event c.turn-answer.result made at.invariant.later_a at.invariant.later_b
           (at.invariant.fault ha hb usable) (turn.fault (so_far.honest_a.0 ha) (so_far.honest_b.0 hb));
     }
@@ -76,57 +76,41 @@ run_done g c =
     let all = sym (append-nil at.yielded) ∙ rw empty at at.invariant.left ∙ c.into_iter-event-iterator.ensures.into_iter_gives.0 in
     subst (λ (l : List Event). IsRunSoFar g.D.Disk.honest g.D.Disk.history c.args.self.now at.self l at.answers.items) all at.invariant.so_far
 
-pub returns-clause-transcript : goal.returns-clause-transcript
-returns-clause-transcript g c = (run_done g c).transcript
+pub returns-clause-run : goal.returns-clause-run
+returns-clause-run g c =
+    let r = run_done g c in
+    record { transcript = r.transcript; state = r.state; event = r.event; last_record = r.last_record }
 
-pub returns-clause-broken : goal.returns-clause-broken
-returns-clause-broken g c = (run_done g c).orderly
+pub returns-clause-refuses : goal.returns-clause-refuses
+returns-clause-refuses g c =
+    let r = run_done g c in
+    record { broken = r.orderly; is_broken = r.broken; numbers_spent = r.spends }
 
-pub returns-clause-numbers_spent : goal.returns-clause-numbers_spent
-returns-clause-numbers_spent g c = (run_done g c).spends
-
-pub returns-clause-is_broken : goal.returns-clause-is_broken
-returns-clause-is_broken g c = (run_done g c).broken
-
-pub returns-clause-event : goal.returns-clause-event
-returns-clause-event g c = (run_done g c).event
-
-pub returns-clause-last_record : goal.returns-clause-last_record
-returns-clause-last_record g c = (run_done g c).last_record
-
-pub returns-clause-state : goal.returns-clause-state
-returns-clause-state g c = (run_done g c).state
-
-pub returns-clause-replies : goal.returns-clause-replies
-returns-clause-replies g c = λ kept begun. run_replies c.args.self.now kept [] c.args.events.items c.loop-event.answers.items begun (run_done g c).transcript
-
-pub returns-clause-replay : goal.returns-clause-replay
-returns-clause-replay g c = λ kept begun fine.
+pub returns-clause-one_life : goal.returns-clause-one_life
+returns-clause-one_life g c = λ kept begun.
     let whole = history_of [] c.args.events.items c.loop-event.answers.items in
-    (run_done g c).state fine ∙ rw begun (replayed_from_start kept whole)
+    record {
+      replies = run_replies c.args.self.now kept [] c.args.events.items c.loop-event.answers.items begun (run_done g c).transcript;
+      state = λ fine. (run_done g c).state fine ∙ rw begun (replayed_from_start kept whole);
+    }
 
 pub returns-clause-any_moment : goal.returns-clause-any_moment
 returns-clause-any_moment g c = λ ha hb usable.
     let r = run_done g c in
     r.any_moment ha hb usable (one_file g.D.Disk.history c.args.self.now.is_in_b c.args.self.now c.loop-event.self r.other_file)
 
-pub returns-clause-other_file : goal.returns-clause-other_file
-returns-clause-other_file g c = (run_done g c).other_file
-
-pub returns-clause-same_file : goal.returns-clause-same_file
-returns-clause-same_file g c = (run_done g c).same_file
+pub returns-clause-file : goal.returns-clause-file
+returns-clause-file g c =
+    let r = run_done g c in
+    record { same_file = r.same_file; other_file = r.other_file }
 
 pub returns-clause-given_out : goal.returns-clause-given_out
 returns-clause-given_out g c = λ ha hb usable. run_finds g.D.Disk.honest g.D.Disk.history c.args.self.now c.loop-event.self c.args.events.items c.loop-event.answers.items (run_done g c) ha hb usable
 
-pub returns-clause-continues_a : goal.returns-clause-continues_a
-returns-clause-continues_a g c = (run_done g c).continues_a
-
-pub returns-clause-continues_b : goal.returns-clause-continues_b
-returns-clause-continues_b g c = (run_done g c).continues_b
-
-pub returns-clause-honest_a : goal.returns-clause-honest_a
-returns-clause-honest_a g c = (run_done g c).honest_a
-
-pub returns-clause-honest_b : goal.returns-clause-honest_b
-returns-clause-honest_b g c = (run_done g c).honest_b
+pub returns-clause-later : goal.returns-clause-later
+returns-clause-later g c =
+    let r = run_done g c in
+    record {
+      a = record { honesty = r.honest_a; done = r.continues_a; counted = c.loop-event.invariant.later_a };
+      b = record { honesty = r.honest_b; done = r.continues_b; counted = c.loop-event.invariant.later_b };
+    }

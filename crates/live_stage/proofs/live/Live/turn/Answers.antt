@@ -37,12 +37,12 @@ invariant_of-self-2 g c =
     let room = c.self.invariant.0 in (
       omega (arith, c.record_ops.ensures.capacity, room),
       λ spent ha' hb'.
-          let ha = c.record_ops.ensures.honest_a.1 ha' in
-          let hb = c.record_ops.ensures.honest_b.1 hb' in
+          let ha = c.record_ops.ensures.later.a.honesty.1 ha' in
+          let hb = c.record_ops.ensures.later.b.honesty.1 hb' in
           content_after c.self.inside.journal.content c.record_ops.new.journal.content c.deref.result.now c.self.inside.core.saved c.step.new.self.saved
           (c.self.invariant.1 usable ha hb) valid applies
           (λ e. ap (λ j. j.content) (c.record_ops.ensures.none e).1)
-          (λ some. c.in_ok-number.ensures.added some ha hb),
+          (λ some. let held = c.in_ok-number.ensures.kept some ha hb in held.says),
     )
 
 pub returns-clause-any_moment : goal.returns-clause-any_moment
@@ -68,8 +68,8 @@ returns-clause-kept g c =
     find_after _ _ _ _ c.self.inside.journal.content c.record_ops.new.journal.content c.deref.result.now c.self.inside.core.saved c.step.new.self.saved
     (c.is_spent.ensures.kept ha hb usable) (c.self.invariant.1 usable ha hb) valid applies
     (λ e. (ap (λ j. g.D.Disk.history j.a) (c.record_ops.ensures.none e).1, ap (λ j. g.D.Disk.history j.b) (c.record_ops.ensures.none e).1))
-    (λ some. c.in_ok-number.ensures.added some ha hb)
-    (λ some. c.in_ok-number.ensures.kept some ha hb))
+    (λ some. let held = c.in_ok-number.ensures.kept some ha hb in held.says)
+    (λ some. let held = c.in_ok-number.ensures.kept some ha hb in held.kept))
 
 pub returns-then-self-clause-kept : goal.returns-then-self-clause-kept
 returns-then-self-clause-kept g c = rw (← c.self.view_is) (λ ha hb usable.

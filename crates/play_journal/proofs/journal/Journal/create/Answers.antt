@@ -1,9 +1,10 @@
 use Rattle.std.proofs.Common.{◌≡◌, ◌∙◌, ◌<◌, ◌^◌, [], Some, length, arith, rules, ap, inl, inr, lit<}
 use Rattle.std.specs.Prelude.{IsTrue, false}
 use Rattle.std.proofs.lemmas.Bool.{cases_lt}
+use Rattle.disk_model.proofs.LaterLaws.{pair_begin}
 use Rattle.play_journal.specs.Content.{fresh}
 use Rattle.play_journal.specs.JournalState.{content_in, IsKept}
-use Rattle.play_journal.proofs.InUseLaws.{fresh_in_use, fresh_kept}
+use Rattle.play_journal.proofs.InUseLaws.{laid_content, fresh_kept}
 use Rattle.play_journal.proofs.PlaceLaws.{kept_now}
 use Rattle.play_journal.proofs.journal.Journal.create.Goals as goal
 
@@ -13,26 +14,36 @@ short g c = elim (cases_lt 4294967295 (length c.args.snapshot.now)) [
   | inr fits ↦ omega arith
 ]
 
+empty : (g : _) (c : goal.In-Ok g) → g.D.Disk.honest c.args.b → g.D.Disk.content c.fresh_journal.new.b ≡ []
+empty g c b =
+    let empty_b : IsTrue c.is_empty-else-not-is_empty.result = search rules in
+    c.in-Ok.ensures.content_b b ∙ (c.is_empty-else-not-is_empty.ensures b).0 empty_b
+
 written : (g : _) (c : goal.In-Ok g) → g.D.Disk.honest c.args.a → g.D.Disk.honest c.args.b
-    → IsKept (g.D.Disk.content c.fresh_journal.new.a) (g.D.Disk.content c.fresh_journal.new.b) (g.D.Disk.history c.fresh_journal.new.a) (g.D.Disk.history c.fresh_journal.new.b) c.in-Ok.end 0 0
+    → IsKept (g.D.Disk.content c.fresh_journal.new.a) (g.D.Disk.content c.fresh_journal.new.b) (g.D.Disk.history c.fresh_journal.new.a)
+    (g.D.Disk.history c.fresh_journal.new.b) c.in-Ok.end 1 0 0
     × (content_in (g.D.Disk.content c.fresh_journal.new.a) ≡ fresh c.args.snapshot.now)
 written g c a b =
-    let empty_a : IsTrue c.is_empty.result = search rules in
-    let empty_b : IsTrue c.is_empty-else-not-is_empty.result = search rules in
-    let none_a : g.D.Disk.content c.args.a ≡ [] = (c.is_empty.ensures a).0 empty_a in
-    let none_b : g.D.Disk.content c.args.b ≡ [] = (c.is_empty-else-not-is_empty.ensures b).0 empty_b in
-    let here = c.in-Ok.ensures.written a none_a in (
-      fresh_kept (g.D.Disk.content c.fresh_journal.new.a) (g.D.Disk.content c.fresh_journal.new.b) (g.D.Disk.content c.args.b) c.args.snapshot.now (g.D.Disk.history c.fresh_journal.new.a) (g.D.Disk.history c.fresh_journal.new.b) c.in-Ok.end
-          here none_b (c.in-Ok.ensures.content_b b) c.in-Ok.ensures.end (short g c) (c.in-Ok.ensures.settled_a a) (c.in-Ok.ensures.settled_b b),
-      (fresh_in_use (g.D.Disk.content c.fresh_journal.new.a) c.args.snapshot.now c.in-Ok.end here c.in-Ok.ensures.end (short g c)).1,
+    let here = c.in-Ok.ensures.written a in (
+      fresh_kept (g.D.Disk.content c.fresh_journal.new.a) (g.D.Disk.content c.fresh_journal.new.b) c.args.snapshot.now
+          (g.D.Disk.history c.fresh_journal.new.a) (g.D.Disk.history c.fresh_journal.new.b) c.in-Ok.end
+          here (empty g c b) c.in-Ok.ensures.end (short g c) (c.in-Ok.ensures.settled_a a) (c.in-Ok.ensures.settled_b b),
+      laid_content (g.D.Disk.content c.fresh_journal.new.a) c.args.snapshot.now 1 0 here (lit< tt) (lit< tt) (short g c),
     )
 
 pub invariant_of-result : goal.invariant_of-result
-invariant_of-result g c = (c.in-Ok.ensures.room, lit< tt, λ usable a b. (written g c (c.fresh_journal.ensures.honest_a.1 a) (c.fresh_journal.ensures.honest_b.1 b)).0)
+invariant_of-result g c = (
+  c.in-Ok.ensures.room,
+  lit< tt,
+  λ usable a b. (written g c (c.fresh_journal.ensures.later.a.honesty.1 a)
+      (c.fresh_journal.ensures.later.b.honesty.1 b)).0,
+)
 
 pub returns-in-Ok-clause-kept : goal.returns-in-Ok-clause-kept
-returns-in-Ok-clause-kept g c = λ a b x y left right.
-    kept_now g.D.Disk.content g.D.Disk.history false c.fresh_journal.new.a c.fresh_journal.new.b c.in-Ok.end 0 0 (written g c a b).0 x y left right ∙ ap Some (written g c a b).1
+returns-in-Ok-clause-kept g c = λ a b. record {
+  says = (written g c a b).1;
+  kept = kept_now g.D.Disk.content g.D.Disk.history false c.fresh_journal.new.a c.fresh_journal.new.b c.in-Ok.end 1 0 0 (written g c a b).0;
+}
 
-pub returns-in-Ok-clause-content : goal.returns-in-Ok-clause-content
-returns-in-Ok-clause-content g c = λ a b. (written g c a b).1
+pub returns-in-Ok-clause-empty : goal.returns-in-Ok-clause-empty
+returns-in-Ok-clause-empty g c = λ a b. empty g c b

@@ -13,9 +13,9 @@ returns-then-count-gt0-clause-ok c =
     let count : length uris ≡ c.len-count.result = omega arith in
     let made = c.insert_all.ensures ∙ ap (λ entries. added entries c.args.at (new_entries first uris)) c.reserve.ensures.items in
     let left : c.len-left.result ≡ length (added old c.args.at (new_entries first uris)) = omega (arith, ap length made, c.len-left.ensures) in
-    let next : c.in-Some.next_id ≡ first + length uris = omega (arith, c.in-Some.ensures.1) in
+    let fits = rw (← c.self.view_is) at c.in_ok-check_add.ensures.fits in
     rw (← c.self.view_is, c.restamp-self-inside.ensures.entries, c.restamp-self-inside.ensures.version, made, left)
-    (ruled-added_next (record { entries = old; version = c.self.inside.version; next_id = first }) c.args.at uris c.in-Some.next_id c.self.invariant (omega arith) (omega arith) next)
+    (ruled-added_next (record { entries = old; version = c.self.inside.version; next_id = first }) c.args.at uris (first + c.len-count.result) c.self.invariant (omega (arith, fits.place)) (omega arith) (omega arith))
 
 pub returns-else-count-gt0-clause-ok : goal.returns-else-count-gt0-clause-ok
 returns-else-count-gt0-clause-ok c =
@@ -35,6 +35,7 @@ invariant_of-self-then-count-gt0 c =
     let count : length uris ≡ c.len-count.result = omega arith in
     let made = c.insert_all.ensures ∙ ap (λ entries. added entries c.args.at (new_entries first uris)) c.reserve.ensures.items in
     let left : c.len-left.result ≡ length (added old c.args.at (new_entries first uris)) = omega (arith, ap length made, c.len-left.ensures) in
-    let next : c.in-Some.next_id ≡ first + length uris = omega (arith, c.in-Some.ensures.1) in
+    let fits = rw (← c.self.view_is) at c.in_ok-check_add.ensures.fits in
+    let next : first + c.len-count.result ≡ first + length uris = omega arith in
     rw (c.restamp-self-inside.ensures.entries, c.restamp-self-inside.ensures.version, made, left, next)
-    (sound-added (record { entries = old; version = c.self.inside.version; next_id = first }) c.args.at uris c.self.invariant (omega arith) (omega arith) (omega (arith, c.in-Some.ensures.0)))
+    (sound-added (record { entries = old; version = c.self.inside.version; next_id = first }) c.args.at uris c.self.invariant (omega (arith, fits.place)) (omega (arith, fits.few)) (omega (arith, fits.ids)))

@@ -1,10 +1,11 @@
-use Rattle.std.proofs.Common.{◌≡◌, ◌⊎◌, inl, inr, ◌<◌, true, false, not, take, length, sym, ◌∙◌, subst, arith}
+use Rattle.std.proofs.Common.{◌≡◌, ◌⊎◌, inl, inr, ◌<◌, true, false, not, [], take, length, sym, ◌∙◌, subst, arith}
 use Rattle.std.specs.List.{list_any, prefix_len}
 use Rattle.std.proofs.lemmas.List.{take_all}
 use Rattle.play_queue.specs.declared.entry.Entry.{Entry}
 use Rattle.play_queue.specs.Entries.{is_among, kept}
 use Rattle.play_queue.specs.Queue.{IsQueue, QueueState}
-use Rattle.play_queue.proofs.Kept.{kept_front, prefix_len-is, ruled-batch, ruled-batch_same, sound-ruled, fit-kept, kept-first, front_fits}
+use Rattle.play_queue.proofs.Kept.{kept_front, prefix_len-is, ruled-batch, ruled-batch_same, sound-ruled, fit-kept, kept-first, front_fits, kept-none}
+use Rattle.play_queue.proofs.Ruling.{ruled-itself}
 use Rattle.play_queue.proofs.queue.Queue.follow_batch.Goals as goal
 use Rattle.play_queue.proofs.queue.Queue.follow_batch.Goals.{then-first-len-via-then-first-len, then-first-len-via-else-first-len+then-has_any}
 
@@ -47,3 +48,10 @@ returns-else-has_any c =
     let row : list_any (λ entry. is_among c.args.changed.now entry.uri) (take c.before_first-first.result q.entries) ≡ false = rw (c.deref-else-first-len.ensures.value) at (sym c.has_any.ensures ∙ c.if-has_any.false) in
     let none : list_any (λ entry. is_among c.args.changed.now entry.uri) q.entries ≡ false = rw (first, all, take_all (length q.entries) q.entries (omega arith)) at row in
     rw (← c.self.view_is) (sym (ruled-batch_same q c.args.dropped.now c.args.changed.now all none))
+
+-- where the batch has no URI
+pub returns-then-is_empty-2 : goal.returns-then-is_empty-2
+returns-then-is_empty-2 c =
+    let none : c.args.dropped.now ≡ [] = c.is_empty.ensures.0 c.if-is_empty.true in
+    let same : c.args.changed.now ≡ [] = c.is_empty-then-is_empty.ensures.0 c.if-is_empty-2.true in
+    rw (none, same) (sym (ruled-itself c.args.self.now _ (kept-none c.args.self.now.entries)))

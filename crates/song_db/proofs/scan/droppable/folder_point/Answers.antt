@@ -6,4 +6,6 @@ use Rattle.song_db.proofs.Rising.{partitioned}
 use Rattle.song_db.proofs.scan.droppable.folder_point.Goals as goal
 
 pub returns-clause-split : goal.returns-clause-split
-returns-clause-split c = IsPartitionPoint-from_clause (λ uri. is_lt (slice_cmp nat_cmp uri (c.args.folder.now ++ c.args.next ∷ []))) _ _ c.partition_point.ensures.partitioned (partitioned (λ u. u) c.args.uris.now (c.args.folder.now ++ c.args.next ∷ []) c.requires) (λ a r q k. search rules)
+returns-clause-split c = IsPartitionPoint-from_clause (λ uri. is_lt (slice_cmp nat_cmp uri (c.args.folder.now ++ c.args.next ∷
+    []))) _ _ c.partition_point.ensures.partitioned (partitioned (λ u. u) c.args.uris.now (c.args.folder.now ++ c.args.next ∷ [])
+    c.requires) (λ a r q k. search rules)

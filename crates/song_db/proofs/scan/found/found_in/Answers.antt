@@ -5,6 +5,9 @@ use Rattle.wave_pcm.specs.Reading.{wave_reading, IsVerdict}
 use Rattle.wave_pcm.specs.declared.info.WaveInfo.{WaveInfo}
 use Rattle.wave_pcm.specs.declared.error.WaveError.{WaveError}
 use Rattle.wave_pcm.specs.declared.error.WaveError.TheVariants.{NoMemory, NotWave, NoFormat, Unsupported, NoData, ReadFault, TooManyTurns}
+use Rattle.std.proofs.lemmas.Result.{IfOk-at_ok}
+use Rattle.song_db.specs.declared.refusal.SongDbError.{SongDbError}
+use Rattle.song_db.specs.declared.scan.found.Found.{Found}
 use Rattle.song_db.specs.declared.scan.found.Found.TheVariants.{Song, NoSong}
 use Rattle.song_db.specs.Found.{found_of, has_row, IsOf, IsSongIn}
 use Rattle.song_db.specs.Scan.{song_in}
@@ -28,7 +31,8 @@ of_uri uri (Err TooManyTurns) = tt
 refused : (uri bytes : List ℕ) (e : WaveError) → wave_reading bytes ≡ Err e → has_row (song_in uri bytes) ≡ false
 refused uri bytes e read = ap (λ reading. has_row (option_map (row_of uri) (result_ok reading))) read
 
-song_of : (uri bytes : List ℕ) (head : Result WaveInfo WaveError) → IfOk head (λ info. wave_reading bytes ≡ Ok info) → IfErr head (λ e. IsVerdict e → wave_reading bytes ≡ Err e) → IfOk (found_of uri head) (IsSongIn uri bytes)
+song_of : (uri bytes : List ℕ) (head : Result WaveInfo WaveError) → IfOk head (λ info. wave_reading bytes ≡ Ok info)
+    → IfErr head (λ e. IsVerdict e → wave_reading bytes ≡ Err e) → IfOk (found_of uri head) (IsSongIn uri bytes)
 song_of uri bytes (Ok info) read verdict = by_cases (is_within_limits (row_of uri info)) refl
   where
     by_cases : (b : Bool) → is_within_limits (row_of uri info) ≡ b → IsSongIn uri bytes (if b then Song (row_of uri info) else NoSong)
@@ -42,10 +46,19 @@ song_of uri bytes (Err (Unsupported tag bits channels)) read verdict = refused u
 song_of uri bytes (Err NoData) read verdict = refused uri bytes NoData (verdict tt)
 song_of uri bytes (Err TooManyTurns) read verdict = refused uri bytes TooManyTurns (verdict tt)
 
+-- what holds of an answer holds of what is the answer, if any is
+same_answer : (r answer : Result Found SongDbError) (P : Found → Type 0) → IfOk r (λ found. answer ≡ Ok found) → IfOk answer P → IfOk r P
+same_answer (Ok found) answer P is holds = IfOk-at_ok P is holds
+same_answer (Err e) answer P is holds = tt
+
 pub returns-in-Ok-Some-clause-of : goal.returns-in-Ok-Some-clause-of
-returns-in-Ok-Some-clause-of g c = rw c.found_of.ensures (of_uri c.args.uri c.read_head-head.result)
+returns-in-Ok-Some-clause-of g c = same_answer c.found_of.result (found_of c.args.uri c.read_head-head.result) (IsOf c.args.uri)
+    c.found_of.ensures.found (of_uri c.args.uri c.read_head-head.result)
 
 pub returns-in-Ok-Some-clause-song : goal.returns-in-Ok-Some-clause-song
 returns-in-Ok-Some-clause-song g c = λ source is told.
     let same : source ≡ c.in-Ok-Some.source = cc in
-    rw (c.found_of.ensures, same) (song_of c.args.uri (g.S.Source.bytes c.in-Ok-Some.source) c.read_head-head.result (c.read_head-head.ensures.head (rw same at told)) (c.read_head-head.ensures.refused (rw same at told)))
+    rw same (same_answer c.found_of.result (found_of c.args.uri c.read_head-head.result) (IsSongIn c.args.uri (g.S.Source.bytes
+    c.in-Ok-Some.source)) c.found_of.ensures.found
+    (song_of c.args.uri (g.S.Source.bytes c.in-Ok-Some.source) c.read_head-head.result (c.read_head-head.ensures.head (rw same at
+    told)) (c.read_head-head.ensures.refused (rw same at told))))

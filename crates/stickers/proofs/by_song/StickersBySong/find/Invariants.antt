@@ -6,4 +6,4 @@ use Rattle.stickers.proofs.by_song.StickersBySong.find.Given as goal
 
 -- what is found so far, and what is to be found in the songs that are left
 abbrev pub invariant-loop-uri : goal.invariant-loop-uri
-invariant-loop-uri l = map pair_of l.found.items ++ found_in (flat (by_name l.uri-iterator)) l.base l.name l.test ≡ found_in l.fn.self l.base l.name l.test
+invariant-loop-uri l = map pair_of l.found.items ++ found_in (flat (by_name l.uri-iterator)) l.place l.name l.test ≡ found_in l.fn.self l.place l.name l.test

@@ -11,6 +11,10 @@ drops-preserved c =
     record {
       room = omega arith;
       few = omega arith;
-      dropped = ap (λ l. drops_of l ++ c.next_drop.new.self) c.push_reserved.ensures.items ∙ ap (λ l. l ++ c.next_drop.new.self) more ∙ append_assoc (drops_of c.drops.changes.items) (c.in-Some.uri ∷ []) c.next_drop.new.self ∙ ap (λ l. drops_of c.drops.changes.items ++ l) (sym first) ∙ c.drops.invariant.dropped;
-      put = ap puts_of c.push_reserved.ensures.items ∙ puts-append c.drops.changes.items (Drop c.in-Some.uri ∷ []) ∙ append-nil (puts_of c.drops.changes.items) ∙ c.drops.invariant.put;
+      dropped = ap (λ l. drops_of l ++ c.next_drop.new.self) c.push_reserved.ensures.items
+          ∙ ap (λ l. l ++ c.next_drop.new.self) more
+          ∙ append_assoc (drops_of c.drops.changes.items) (c.in-Some.uri ∷ []) c.next_drop.new.self
+          ∙ ap (λ l. drops_of c.drops.changes.items ++ l) (sym first) ∙ c.drops.invariant.dropped;
+      put = ap puts_of c.push_reserved.ensures.items ∙ puts-append c.drops.changes.items (Drop c.in-Some.uri ∷ [])
+          ∙ append-nil (puts_of c.drops.changes.items) ∙ c.drops.invariant.put;
     }

@@ -9,10 +9,15 @@ use Rattle.song_db.proofs.scan.droppable.Droppable.keep.Goals.{else-at-len-via-t
 pub returns-then-eq : goal.returns-then-eq
 returns-then-eq c =
     let at = c.uri_point-at.result in
-    let run = uri_run c.self.inside.uris.items c.args.uri.now c.index.result.now at c.self.invariant.rising (rw c.deref.ensures.value at c.uri_point-at.ensures.split) (omega arith) c.index.ensures (rw c.as_str.ensures.text at c.if-eq.ensures) in
+    let run = uri_run c.self.inside.uris.items c.args.uri.now c.index.result.now at c.self.invariant.rising (rw
+    c.deref.ensures.value at c.uri_point-at.ensures.split) (omega arith) c.index.ensures (rw c.as_str.ensures.text at
+    c.if-eq.ensures) in
     let marks = with_items_is c.self.inside.marks c.unmark.new.marks (omega arith) in
     rw (← c.self.view_is)
-    (ap (λ l. picked (drop c.self.inside.at c.self.inside.uris.items) (drop c.self.inside.at l)) marks ∙ run_unmarked (bytes_eq c.args.uri.now) c.self.inside.uris.items c.self.inside.marks.items c.unmark.new.marks c.self.inside.at at (at + 1) c.self.invariant.each (c.unmark.ensures.len ∙ (rw c.deref_mut.ensures.value c.self.invariant.each)) run (record {
+    (ap (λ l. picked (drop c.self.inside.at c.self.inside.uris.items) (drop c.self.inside.at l)) marks
+    ∙ run_unmarked (bytes_eq c.args.uri.now) c.self.inside.uris.items c.self.inside.marks.items c.unmark.new.marks
+    c.self.inside.at at (at + 1) c.self.invariant.each (c.unmark.ensures.len
+    ∙ (rw c.deref_mut.ensures.value c.self.invariant.each)) run (record {
       before = rw c.deref_mut.ensures.value at c.unmark.ensures.before;
       run = c.unmark.ensures.run;
       behind = rw c.deref_mut.ensures.value at c.unmark.ensures.behind;
@@ -20,6 +25,13 @@ returns-then-eq c =
 
 pub returns-else-at-len : goal.returns-else-at-len
 returns-else-at-len c = elim c.else-at-len.branch [
-  | else-at-len-via-then-at-len+else-eq w ↦ rw (← c.self.view_is) (run_unmarked (bytes_eq c.args.uri.now) c.self.inside.uris.items c.self.inside.marks.items c.self.inside.marks.items c.self.inside.at c.uri_point-at.result c.uri_point-at.result c.self.invariant.each c.self.invariant.each (no_run_other c.self.inside.uris.items c.args.uri.now w.index.result.now c.uri_point-at.result c.self.invariant.rising (rw c.deref.ensures.value at c.uri_point-at.ensures.split) (omega arith) w.index.ensures (rw w.as_str.ensures.text at w.if-eq.ensures)) (none_unmarked c.self.inside.marks.items c.uri_point-at.result))
-  | else-at-len-via-else-at-len w ↦ rw (← c.self.view_is) (run_unmarked (bytes_eq c.args.uri.now) c.self.inside.uris.items c.self.inside.marks.items c.self.inside.marks.items c.self.inside.at c.uri_point-at.result c.uri_point-at.result c.self.invariant.each c.self.invariant.each (no_run_end c.self.inside.uris.items c.args.uri.now c.uri_point-at.result (rw c.deref.ensures.value at c.uri_point-at.ensures.split) (omega arith)) (none_unmarked c.self.inside.marks.items c.uri_point-at.result))
+  | else-at-len-via-then-at-len+else-eq w ↦ rw (← c.self.view_is) (run_unmarked (bytes_eq c.args.uri.now) c.self.inside.uris.items
+      c.self.inside.marks.items c.self.inside.marks.items c.self.inside.at c.uri_point-at.result c.uri_point-at.result
+      c.self.invariant.each c.self.invariant.each (no_run_other c.self.inside.uris.items c.args.uri.now w.index.result.now
+      c.uri_point-at.result c.self.invariant.rising (rw c.deref.ensures.value at c.uri_point-at.ensures.split) (omega arith)
+      w.index.ensures (rw w.as_str.ensures.text at w.if-eq.ensures)) (none_unmarked c.self.inside.marks.items c.uri_point-at.result))
+  | else-at-len-via-else-at-len w ↦ rw (← c.self.view_is) (run_unmarked (bytes_eq c.args.uri.now) c.self.inside.uris.items
+      c.self.inside.marks.items c.self.inside.marks.items c.self.inside.at c.uri_point-at.result c.uri_point-at.result
+      c.self.invariant.each c.self.invariant.each (no_run_end c.self.inside.uris.items c.args.uri.now c.uri_point-at.result (rw
+      c.deref.ensures.value at c.uri_point-at.ensures.split) (omega arith)) (none_unmarked c.self.inside.marks.items c.uri_point-at.result))
 ]

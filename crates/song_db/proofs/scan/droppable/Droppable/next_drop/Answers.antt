@@ -9,4 +9,6 @@ returns c =
     let at = c.next_mark-at.result in
     let within : at < length uris = omega arith in
     rw (← c.self.view_is, c.in_ok-uri.ensures, add-one)
-    ((rw c.deref.ensures.value at (c.next_mark-at.ensures.none uris (omega arith))) ∙ picked_first uris marks at c.index.result.now within c.self.invariant.each (rw c.deref.ensures.value at (c.next_mark-at.ensures.set (omega arith))) c.index.ensures)
+    ((rw c.deref.ensures.value at (c.next_mark-at.ensures.none uris (omega arith)))
+    ∙ picked_first uris marks at c.index.result.now within c.self.invariant.each (rw c.deref.ensures.value at
+    (c.next_mark-at.ensures.set (omega arith))) c.index.ensures)

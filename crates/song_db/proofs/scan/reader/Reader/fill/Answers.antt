@@ -10,7 +10,8 @@ loop-preserved g c =
       capacity = c.make.ensures.capacity ∙ c.loop.invariant.capacity;
       few = omega arith;
       batch = λ start batch. rw place at (c.in_ok-make.ensures.batch start (rw place (c.loop.invariant.batch start batch)));
-      songs = λ honest songs. rw (c.loop.invariant.files honest) at (c.in_ok-make.ensures.songs (c.loop.invariant.honest honest) (rw (c.loop.invariant.files honest) (c.loop.invariant.songs honest songs)));
+      songs = λ honest songs. rw (c.loop.invariant.files honest) at (c.in_ok-make.ensures.songs (c.loop.invariant.honest honest)
+          (rw (c.loop.invariant.files honest) (c.loop.invariant.songs honest songs)));
       honest = λ honest. c.make.ensures.honest (c.loop.invariant.honest honest);
       files = λ honest. c.make.ensures.files (c.loop.invariant.honest honest) ∙ c.loop.invariant.files honest;
     }

@@ -7,5 +7,7 @@ use Rattle.song_db.proofs.scan.walk.Walk.next.Goals as goal
 
 pub invariant_of-self-2 : goal.invariant_of-self-2
 invariant_of-self-2 c =
-    let popped = All-pop (λ (level : Level). IsPrefixIn c.self.inside.place (string_bytes level.prefix)) c.self.inside.levels.items c.pop.new.self.items (Some c.in-Some.level) c.in-Some.ensures.items c.self.invariant in
-    All-same (λ (level : Level). IsPrefixIn c.self.inside.place (string_bytes level.prefix)) _ _ c.push_reserved.ensures.items (All-push (λ (level : Level). IsPrefixIn c.self.inside.place (string_bytes level.prefix)) c.pop.new.self.items _ popped.0 popped.1)
+    let popped = All-pop (λ (level : Level). IsPrefixIn c.self.inside.place (string_bytes level.prefix)) c.self.inside.levels.items
+    c.pop.new.self.items (Some c.in-Some.level) c.in-Some.ensures.items c.self.invariant in
+    All-same (λ (level : Level). IsPrefixIn c.self.inside.place (string_bytes level.prefix)) _ _ c.push_reserved.ensures.items
+    (All-push (λ (level : Level). IsPrefixIn c.self.inside.place (string_bytes level.prefix)) c.pop.new.self.items _ popped.0 popped.1)

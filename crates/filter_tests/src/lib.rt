@@ -1,0 +1,7 @@
+//! The tests of filters.
+#![tactic(auto)]
+
+#[cfg(test)]
+mod assertions;
+#[cfg(test)]
+mod filters;

@@ -1,0 +1,119 @@
+-- What a console of one life or two answers.
+use Rattle.std.proofs.Common.{◌≡◌, ◌≢◌, ◌⊎◌, inl, inr, ◌≤◌, ℕ, Option, Some, None, Result, Ok, Err, refl, sym, subst, ◌∙◌, ap}
+use Rattle.std.specs.Prelude.{IsSome}
+use Rattle.disk_model.proofs.MomentLaws.{counts_now}
+use Rattle.state_codec.specs.SavedState.{SavedState}
+use Rattle.live_stage.specs.declared.error.StartError.{StartError}
+use Rattle.live_stage.specs.declared.error.StartError.TheVariants.{NotEmpty, NoJournal, Damaged, NoMemory, Broken}
+use Rattle.live_stage.specs.Errors.{IsRefusalOfOpen, start_number_of}
+use Rattle.mpd_program.specs.Lives.{Moment, HasFailed, AllFind, IsFaulted, IsRefused, IsLife, status_of, ending_of, IsConsole}
+use Rattle.mpd_program.specs.declared.console.Ending.{Ending}
+use Rattle.mpd_program.specs.declared.console.Ending.TheVariants.{Whole, Cut, Faulted}
+use Rattle.mpd_program.specs.declared.console.Status.{Status}
+use Rattle.mpd_program.specs.declared.console.Status.TheVariants.{Done, JournalRefused}
+use Rattle.mpd_program.proofs.ServingLaws.{failed_still}
+use Rattle.mpd_program.proofs.LifeLaws.{life_under}
+
+-- ---- served
+
+one_served : (came_to : Result Ending ℕ) → came_to ≢ Ok Faulted → ending_of came_to ≢ Faulted → status_of came_to ≡ Done
+one_served (Ok Whole) other served = refl
+one_served (Ok Cut) other served = refl
+one_served (Ok Faulted) other served = absurd (other refl)
+one_served (Err number) other served = absurd (served refl)
+
+pub served_is_done : (Honest : Type 0) (status : Status) (ending : Ending) (first last : Moment) → IsConsole Honest status ending first last → ending ≢ Faulted → status ≡ Done
+served_is_done Honest status ending first last (inl one) served = one.same_status ∙ one_served one.came_to one.no_fault (λ is. served (one.same_ending ∙ is))
+served_is_done Honest status ending first last (inr two) served = absurd (served two.same_ending)
+
+-- ---- refused
+
+refused_as : (n : ℕ) (error : StartError) → IsRefusalOfOpen error → error ≢ Broken → n ≡ start_number_of error → (n ≡ 4) ⊎ (n ≡ 5) ⊎ (n ≡ 7)
+refused_as n NotEmpty refusal other is = elim refusal [ ]
+refused_as n NoJournal refusal other is = inl is
+refused_as n (Damaged offset) refusal other is = inr (inl is)
+refused_as n NoMemory refusal other is = inr (inr is)
+refused_as n Broken refusal other is = absurd (other refl)
+
+-- the number of a life whose status is that of a refused journal
+number_of_life : (came_to : Result Ending ℕ) (n : ℕ) → status_of came_to ≡ JournalRefused n → came_to ≡ Err n
+number_of_life (Ok Whole) n is = absurd (cc)
+number_of_life (Ok Cut) n is = absurd (cc)
+number_of_life (Ok Faulted) n is = absurd (cc)
+number_of_life (Err number) n is = let same : number ≡ n = (cc) in ap Err same
+
+refusal_of_life : (Honest : Type 0) (c : ℕ) (came_to : Result Ending ℕ) (status : Status) (n : ℕ) (first last : Moment)
+    → IsLife Honest c came_to first last → status ≡ status_of came_to → status ≡ JournalRefused n → IsRefused Honest n first last
+refusal_of_life Honest c came_to status n first last life same is =
+    subst (λ (r : Result Ending ℕ). IsLife Honest c r first last) (number_of_life came_to n (sym same ∙ is)) life
+
+pub refused_numbers : (Honest : Type 0) (status : Status) (ending : Ending) (first last : Moment) → IsConsole Honest status ending first last
+    → (n : ℕ) → status ≡ JournalRefused n → (n ≡ 4) ⊎ (n ≡ 5) ⊎ (n ≡ 7)
+refused_numbers Honest status ending first last (inl one) n is =
+    let r = refusal_of_life Honest 1 one.came_to status n first last one.life one.same_status is in
+    refused_as n r.error r.refusal r.not_a_fault r.number
+refused_numbers Honest status ending first last (inr two) n is =
+    let r = refusal_of_life Honest 2 two.came_to status n two.between last two.life two.same_status is in
+    refused_as n r.error r.refusal r.not_a_fault r.number
+
+-- ---- each pair gives a state
+
+some_is : (o : Option SavedState) (s : SavedState) → o ≡ Some s → IsSome o
+some_is None s is = absurd (cc)
+some_is (Some t) s is = refl
+
+-- a fault leaves pairs that give a state
+still_opens : (Honest : Type 0) (c : ℕ) (first between : Moment) → Honest → IsFaulted Honest c first between → AllFind (λ f. IsSome f) first → AllFind (λ f. IsSome f) between
+still_opens Honest c first between honest fault all = λ x y at_x at_y. elim fault.place [
+  | inl opening ↦ (
+      let from = opening.holds honest x y (counts_now between.history_a _ x at_x) (counts_now between.history_b _ y at_y) in
+      subst IsSome (sym from.4) (all from.0 from.1 from.2 from.3))
+  | inr event ↦ (
+      let either = event.holds honest in
+      elim (either.1 x y at_x at_y) [ inl before ↦ some_is _ _ before | inr after ↦ some_is _ _ after ])
+]
+
+memory_number : (n : ℕ) (error : StartError) → n ≡ start_number_of error → error ≡ NoMemory → n ≡ 7
+memory_number n error is same = is ∙ ap start_number_of same
+
+pub only_memory : (Honest : Type 0) (status : Status) (ending : Ending) (first last : Moment) → IsConsole Honest status ending first last → Honest
+    → AllFind (λ f. IsSome f) first → (n : ℕ) → status ≡ JournalRefused n → n ≡ 7
+only_memory Honest status ending first last (inl one) honest all n is =
+    let r = refusal_of_life Honest 1 one.came_to status n first last one.life one.same_status is in
+    memory_number n r.error r.number (r.only_memory honest all)
+only_memory Honest status ending first last (inr two) honest all n is =
+    let r = refusal_of_life Honest 2 two.came_to status n two.between last two.life two.same_status is in
+    memory_number n r.error r.number (r.only_memory honest (still_opens Honest 1 first two.between honest two.fault all))
+
+-- ---- faulted
+
+one_faulted : (came_to : Result Ending ℕ) → came_to ≢ Ok Faulted → ending_of came_to ≡ Faulted → (n : ℕ) × (status_of came_to ≡ JournalRefused n)
+one_faulted (Ok Whole) other is = absurd (cc)
+one_faulted (Ok Cut) other is = absurd (cc)
+one_faulted (Ok Faulted) other is = absurd (other refl)
+one_faulted (Err number) other is = (number, refl)
+
+pub faulted_or_refused : (Honest : Type 0) (status : Status) (ending : Ending) (first last : Moment) → IsConsole Honest status ending first last → Honest → ending ≡ Faulted
+    → HasFailed first last ⊎ ((n : ℕ) × (status ≡ JournalRefused n))
+faulted_or_refused Honest status ending first last (inl one) honest is =
+    let refused = one_faulted one.came_to one.no_fault (sym one.same_ending ∙ is) in
+    inr (refused.0, one.same_status ∙ refused.1)
+faulted_or_refused Honest status ending first last (inr two) honest is =
+    inl (failed_still first.faults_a first.faults_b two.between.faults_a two.between.faults_b last.faults_a last.faults_b (two.fault.failed honest) two.later_a two.later_b)
+
+-- ---- two lives
+
+pub two_lives : (Honest Later : Type 0) (first between last : Moment) (before came_to : Result Ending ℕ) (status : Status) (ending : Ending)
+    → before ≡ Ok Faulted → IsLife Honest 1 before first between → (Honest → Later) → IsLife Later 2 came_to between last
+    → between.faults_a ≤ last.faults_a → between.faults_b ≤ last.faults_b
+    → status ≡ status_of came_to → ending ≡ Faulted → IsConsole Honest status ending first last
+two_lives Honest Later first between last before came_to status ending is life given second later_a later_b same_status same_ending = inr (record {
+  between = between;
+  came_to = came_to;
+  fault = subst (λ (r : Result Ending ℕ). IsLife Honest 1 r first between) is life;
+  life = life_under Honest Later 2 came_to between last given second;
+  later_a = later_a;
+  later_b = later_b;
+  same_status = same_status;
+  same_ending = same_ending;
+})

@@ -1,0 +1,258 @@
+-- The lives of a console.
+use Rattle.std.proofs.Common.{◌≡◌, ◌≢◌, ◌⊎◌, inl, inr, ℕ, List, [], ◌∷◌, ◌++◌, Option, Some, Result, Ok, Err, refl, subst, ◌∙◌, ap}
+use Rattle.std.specs.Prelude.{IsSome}
+use Rattle.std.specs.Io.KnownBytes.{Appends, Consumes, Keeps}
+use Rattle.disk_model.specs.History.{Change}
+use Rattle.state_codec.specs.SavedState.{SavedState}
+use Rattle.daemon_core.specs.declared.event.Event.{Event}
+use Rattle.daemon_core.specs.State.{State, start}
+use Rattle.daemon_core.specs.Step.{Stepped}
+use Rattle.daemon_core.specs.Replay.{Entry, stepped, replay}
+use Rattle.daemon_core.proofs.HistoryLaws.{outputs_are_replies}
+use Rattle.live_stage.specs.declared.error.StartError.{StartError}
+use Rattle.live_stage.specs.declared.error.StartError.TheVariants.{NotEmpty, NoJournal, Damaged, NoMemory, Broken}
+use Rattle.live_stage.specs.Errors.{IsRefusalOfOpen, IsCause, start_number_of}
+use Rattle.live_stage.specs.Found.{found_state, AllFindNow, KeepsFoundState}
+use Rattle.live_stage.specs.Transcript.{replayed}
+use Rattle.live_stage.proofs.RunLaws.{replayed_from_start}
+use Rattle.client_session.specs.Requests.{requests_of}
+use Rattle.mpd_program.specs.Console.{bytes_to, given, events_of, ClosesNone, ClosesAtLast, ClosesNoneBefore}
+use Rattle.mpd_program.specs.Lives.{Moment, HasFailed, IsWhole, IsCut, FailsInEvent, IsFaulted, IsRefused, IsLife, refusal_of}
+use Rattle.mpd_program.specs.Serving.{given_from, KeepsOpen, KeepsOpenBefore, ClosesLast, ServesAll, ServesToClose, ServesFront, ServesToFault, ServesClient, IsAllRead}
+use Rattle.mpd_program.specs.declared.console.Ending.{Ending}
+use Rattle.mpd_program.specs.declared.console.Ending.TheVariants.{Whole, Cut, Faulted}
+
+-- ---- histories that begin with what was kept
+
+given_at_start : (c : ℕ) (kept : SavedState) (history : List Entry) → given_from c (start kept) history ≡ given c kept history
+given_at_start c kept [] = refl
+given_at_start c kept (entry ∷ earlier) =
+    ap (λ (v : List ℕ). v ++ (let now : Stepped = stepped (replayed (start kept) earlier) entry in bytes_to c now.outputs)) (given_at_start c kept earlier)
+    ∙ ap (λ (t : State). given c kept earlier ++ (let now : Stepped = stepped t entry in bytes_to c now.outputs)) (replayed_from_start kept earlier)
+    ∙ ap (λ v. given c kept earlier ++ bytes_to c v) (outputs_are_replies kept earlier entry)
+
+open_at_start : (kept : SavedState) (history : List Entry) → KeepsOpen (start kept) history → ClosesNone kept history
+open_at_start kept [] h = tt
+open_at_start kept (entry ∷ earlier) h = (
+  subst (λ (t : State). let now : Stepped = stepped t entry in now.closes ≡ []) (replayed_from_start kept earlier) h.0,
+  open_at_start kept earlier h.1,
+)
+
+closed_at_start : (kept : SavedState) (history : List Entry) → ClosesLast (start kept) history → ClosesAtLast kept history
+closed_at_start kept [] h = h
+closed_at_start kept (entry ∷ earlier) h = (
+  subst (λ (t : State). let now : Stepped = stepped t entry in now.closes ≢ []) (replayed_from_start kept earlier) h.0,
+  open_at_start kept earlier h.1,
+)
+
+before_at_start : (kept : SavedState) (history : List Entry) → KeepsOpenBefore (start kept) history → ClosesNoneBefore kept history
+before_at_start kept [] h = tt
+before_at_start kept (entry ∷ earlier) h = open_at_start kept earlier h
+
+-- a restart finds this state
+Holds : State → List Change → List Change → Type 0
+Holds t a b = AllFindNow (λ f. f ≡ Some t.saved) a b
+
+-- or the one after this event
+HoldsEither : State → Event → List Change → List Change → Type 0
+HoldsEither x event a b =
+    (refused : Option ℕ) × AllFindNow (λ f. (f ≡ Some x.saved) ⊎ (let now = stepped x (record { event = event; refused = refused }) in f ≡ Some now.after.saved)) a b
+
+-- ---- a life whose journal was opened
+
+whole_by_end : (Honest : Type 0) (c : ℕ) (first last : Moment) (kept : SavedState) (t : State) (read : List ℕ)
+    → (Honest → found_state first.content_a first.content_b ≡ Some kept) → Consumes first.input last.input read
+    → ServesAll c (events_of c (requests_of read)) (start kept) t first.output last.output → IsAllRead read last.input
+    → (Honest → AllFindNow (λ f. f ≡ Some t.saved) last.history_a last.history_b) → IsWhole Honest c first last
+unfolding Holds
+whole_by_end Honest c first last kept t read found consumed p at_end holds = record {
+  kept = kept;
+  read = read;
+  history = p.history;
+  consumed = consumed;
+  served = inl (record { all = p.all; stays_open = open_at_start kept p.history p.stays_open; at_end = at_end });
+  written = subst (Appends first.output last.output) (given_at_start c kept p.history) p.written;
+  found = found;
+  holds = λ honest. subst (λ (v : State). Holds v last.history_a last.history_b) (p.state ∙ replayed_from_start kept p.history) (holds honest);
+}
+
+whole_by_close : (Honest : Type 0) (c : ℕ) (first last : Moment) (kept : SavedState) (t : State) (read : List ℕ)
+    → (Honest → found_state first.content_a first.content_b ≡ Some kept) → Consumes first.input last.input read
+    → ServesToClose c (events_of c (requests_of read)) (start kept) t first.output last.output
+    → (Honest → AllFindNow (λ f. f ≡ Some t.saved) last.history_a last.history_b) → IsWhole Honest c first last
+unfolding Holds
+whole_by_close Honest c first last kept t read found consumed p holds = record {
+  kept = kept;
+  read = read;
+  history = p.history;
+  consumed = consumed;
+  served = inr (record { behind = p.behind; front = p.front; closed = closed_at_start kept p.history p.closed });
+  written = subst (Appends first.output last.output) (given_at_start c kept p.history) p.written;
+  found = found;
+  holds = λ honest. subst (λ (v : State). Holds v last.history_a last.history_b) (p.state ∙ replayed_from_start kept p.history) (holds honest);
+}
+
+cut_life : (Honest : Type 0) (c : ℕ) (first last : Moment) (kept : SavedState) (t : State) (read : List ℕ)
+    → (Honest → found_state first.content_a first.content_b ≡ Some kept) → Consumes first.input last.input read
+    → ServesFront c (events_of c (requests_of read)) (start kept) t first.output last.output
+    → (Honest → AllFindNow (λ f. f ≡ Some t.saved) last.history_a last.history_b) → IsCut Honest c first last
+unfolding Holds
+cut_life Honest c first last kept t read found consumed p holds = record {
+  kept = kept;
+  read = read;
+  history = p.history;
+  behind = p.behind;
+  written = p.written.written;
+  unwritten = p.written.unwritten;
+  consumed = consumed;
+  front = p.front;
+  stays_open = before_at_start kept p.history p.stays_open;
+  parts = p.written.parts ∙ given_at_start c kept p.history;
+  appended = p.written.appended;
+  found = found;
+  holds = λ honest. subst (λ (v : State). Holds v last.history_a last.history_b) (p.state ∙ replayed_from_start kept p.history) (holds honest);
+}
+
+fault_in_event : (Honest : Type 0) (c : ℕ) (first last : Moment) (kept : SavedState) (read : List ℕ)
+    → (Honest → found_state first.content_a first.content_b ≡ Some kept) → Consumes first.input last.input read
+    → ServesToFault Honest c (events_of c (requests_of read)) (start kept) last.history_a last.history_b first.output last.output
+    → FailsInEvent Honest c first last
+unfolding HoldsEither replay
+fault_in_event Honest c first last kept read found consumed p = record {
+  kept = kept;
+  read = read;
+  history = p.history;
+  event = p.event;
+  behind = p.behind;
+  consumed = consumed;
+  front = p.front;
+  stays_open = open_at_start kept p.history p.stays_open;
+  written = subst (Appends first.output last.output) (given_at_start c kept p.history) p.written;
+  found = found;
+  holds = λ honest. subst (λ (v : State). HoldsEither v p.event last.history_a last.history_b) (replayed_from_start kept p.history) (p.holds honest);
+}
+
+served_life : (Honest : Type 0) (c : ℕ) (first last : Moment) (kept : SavedState) (t : State) (ending : Ending)
+    → (Honest → found_state first.content_a first.content_b ≡ Some kept)
+    → ServesClient Honest c first.input last.input (start kept) t last.history_a last.history_b first.output last.output ending
+    → (ending ≢ Faulted → Honest → AllFindNow (λ f. f ≡ Some t.saved) last.history_a last.history_b)
+    → (ending ≡ Faulted → Honest → HasFailed first last)
+    → IsLife Honest c (Ok ending) first last
+served_life Honest c first last kept t Whole found p holds failed =
+    elim p.stops [
+      | inl all ↦ whole_by_end Honest c first last kept t p.read found p.consumed all.0 all.1 (holds (λ is. cc))
+      | inr closed ↦ whole_by_close Honest c first last kept t p.read found p.consumed closed (holds (λ is. cc))
+    ]
+served_life Honest c first last kept t Cut found p holds failed = cut_life Honest c first last kept t p.read found p.consumed p.stops (holds (λ is. cc))
+served_life Honest c first last kept t Faulted found p holds failed = record {
+  place = inr (fault_in_event Honest c first last kept p.read found p.consumed p.stops);
+  failed = failed refl;
+}
+
+pub opened_life : (Honest : Type 0) (c : ℕ) (first last : Moment) (s t : State) (ending : Ending)
+    → s ≡ start s.saved → (Honest → found_state first.content_a first.content_b ≡ Some s.saved)
+    → ServesClient Honest c first.input last.input s t last.history_a last.history_b first.output last.output ending
+    → (ending ≢ Faulted → Honest → AllFindNow (λ f. f ≡ Some t.saved) last.history_a last.history_b)
+    → (ending ≡ Faulted → Honest → HasFailed first last)
+    → IsLife Honest c (Ok ending) first last
+opened_life Honest c first last s t ending begun found p holds failed =
+    served_life Honest c first last s.saved t ending found
+    (subst (λ (v : State). ServesClient Honest c first.input last.input v t last.history_a last.history_b first.output last.output ending) begun p) holds failed
+
+-- ---- a life whose journal was not opened
+
+not_a_fault : (Honest : Type 0) (c n : ℕ) (first last : Moment) (error : StartError) → IsRefusalOfOpen error → error ≢ Broken
+    → (Honest → IsCause first.content_a first.content_b error)
+    → (Honest → AllFindNow (λ f. IsSome f) first.history_a first.history_b → (error ≡ NoMemory) ⊎ (error ≡ Broken))
+    → Keeps first.input last.input → Keeps first.output last.output
+    → (Honest → KeepsFoundState first.history_a first.history_b last.history_a last.history_b)
+    → n ≡ (let number : ℕ = start_number_of error in number) → IsRefused Honest n first last
+not_a_fault Honest c n first last error refusal other cause opens input output holds same = record {
+  error = error;
+  refusal = refusal;
+  not_a_fault = other;
+  number = same;
+  cause = cause;
+  only_memory = λ honest all. (elim (opens honest all) [ inl memory ↦ memory | inr fault ↦ absurd (other fault) ]);
+  input = input;
+  output = output;
+  holds = holds;
+}
+
+pub refused_life : (Honest : Type 0) (c : ℕ) (first last : Moment) (error : StartError) → IsRefusalOfOpen error
+    → (Honest → IsCause first.content_a first.content_b error)
+    → (Honest → AllFindNow (λ f. IsSome f) first.history_a first.history_b → (error ≡ NoMemory) ⊎ (error ≡ Broken))
+    → Keeps first.input last.input → Keeps first.output last.output
+    → (Honest → KeepsFoundState first.history_a first.history_b last.history_a last.history_b)
+    → (Honest → error ≡ Broken → HasFailed first last)
+    → IsLife Honest c (refusal_of error) first last
+refused_life Honest c first last NotEmpty refusal cause opens input output holds failed = elim refusal [ ]
+refused_life Honest c first last NoJournal refusal cause opens input output holds failed = not_a_fault Honest c 4 first last NoJournal refusal (λ is. cc) cause opens input output holds refl
+refused_life Honest c first last (Damaged offset) refusal cause opens input output holds failed = not_a_fault Honest c 5 first last (Damaged offset) refusal (λ is. cc) cause opens input output holds refl
+refused_life Honest c first last NoMemory refusal cause opens input output holds failed = not_a_fault Honest c 7 first last NoMemory refusal (λ is. cc) cause opens input output holds refl
+refused_life Honest c first last Broken refusal cause opens input output holds failed = record {
+  place = inl (record { input = input; output = output; holds = holds });
+  failed = λ honest. failed honest refl;
+}
+
+-- ---- a weaker premise does
+
+faulted_under : (Strong Weak : Type 0) (c : ℕ) (first last : Moment) → (Strong → Weak) → IsFaulted Weak c first last → IsFaulted Strong c first last
+faulted_under Strong Weak c first last given h = record {
+  place = elim h.place [
+    | inl opening ↦ inl (record { input = opening.input; output = opening.output; holds = λ strong. opening.holds (given strong) })
+    | inr event ↦ inr (record {
+      kept = event.kept;
+      read = event.read;
+      history = event.history;
+      event = event.event;
+      behind = event.behind;
+      consumed = event.consumed;
+      front = event.front;
+      stays_open = event.stays_open;
+      written = event.written;
+      found = λ strong. event.found (given strong);
+      holds = λ strong. event.holds (given strong);
+    })
+  ];
+  failed = λ strong. h.failed (given strong);
+}
+
+pub life_under : (Strong Weak : Type 0) (c : ℕ) (came_to : Result Ending ℕ) (first last : Moment) → (Strong → Weak) → IsLife Weak c came_to first last → IsLife Strong c came_to first last
+life_under Strong Weak c (Ok Whole) first last given h = record {
+  kept = h.kept;
+  read = h.read;
+  history = h.history;
+  consumed = h.consumed;
+  served = h.served;
+  written = h.written;
+  found = λ strong. h.found (given strong);
+  holds = λ strong. h.holds (given strong);
+}
+life_under Strong Weak c (Ok Cut) first last given h = record {
+  kept = h.kept;
+  read = h.read;
+  history = h.history;
+  behind = h.behind;
+  written = h.written;
+  unwritten = h.unwritten;
+  consumed = h.consumed;
+  front = h.front;
+  stays_open = h.stays_open;
+  parts = h.parts;
+  appended = h.appended;
+  found = λ strong. h.found (given strong);
+  holds = λ strong. h.holds (given strong);
+}
+life_under Strong Weak c (Ok Faulted) first last given h = faulted_under Strong Weak c first last given h
+life_under Strong Weak c (Err number) first last given h = record {
+  error = h.error;
+  refusal = h.refusal;
+  not_a_fault = h.not_a_fault;
+  number = h.number;
+  cause = λ strong. h.cause (given strong);
+  only_memory = λ strong. h.only_memory (given strong);
+  input = h.input;
+  output = h.output;
+  holds = λ strong. h.holds (given strong);
+}

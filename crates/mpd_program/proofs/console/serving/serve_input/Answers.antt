@@ -1,0 +1,83 @@
+use Rattle.disk_model.proofs.LaterLaws.{pair_on}
+use Rattle.std.proofs.Common.{◌≡◌, ◌<◌, ◌≤◌, ◌-◌, ◌^◌, ℕ, List, length, take, sym, subst, ap, ◌∙◌, arith}
+use Rattle.std.specs.Io.KnownBytes.{Consumes}
+use Rattle.std.proofs.lemmas.List.{length-take}
+use Rattle.std.proofs.lemmas.Result.{err_from_is_err_and}
+use Rattle.mpd_program.proofs.ByteLaws.{keeps_itself, refilled}
+use Rattle.mpd_program.proofs.ServingLaws.{failed_since}
+use Rattle.mpd_program.proofs.InputLaws.{reads_begin, reads_on, reads_stop, reads_cut, reads_all, reads_out}
+use Rattle.mpd_program.proofs.console.serving.serve_input.Goals as goal
+
+pub returns-in-Err-clause-served : goal.returns-in-Err-clause-served
+returns-in-Err-clause-served g c =
+    let input = g.R.Read.remaining c.args.reader.now in
+    let output = g.W.Write.contents c.args.writer.now in
+    reads_cut g.D.Disk.honest g.D.Disk.history g.D.Disk.faults c.args.client c.args.live.now c.args.live.now c.args.session.now _ _ input input input output output (keeps_itself input)
+    (reads_begin g.D.Disk.honest g.D.Disk.history g.D.Disk.faults c.args.client c.args.live.now c.args.session.now input output c.requires.fresh c.requires.sent c.requires.usable)
+
+pub loop-reads-init : goal.loop-reads-init
+loop-reads-init g c = record {
+  reads = reads_begin g.D.Disk.honest g.D.Disk.history g.D.Disk.faults c.args.client c.args.live.now c.args.session.now (g.R.Read.remaining c.args.reader.now) (g.W.Write.contents c.args.writer.now) c.requires.fresh c.requires.sent c.requires.usable;
+  room = c.in-Ok.ensures.len;
+}
+
+pub returns-in-Ok-eq0-clause-served : goal.returns-in-Ok-eq0-clause-served
+returns-in-Ok-eq0-clause-served g c =
+    let bytes = c.in-Ok-eq0.ensures.bytes in
+    let room : 0 < length c.read.new.buf = omega (arith, c.read.auto.buf, c.deref_mut.ensures.len, c.loop-reads.invariant.room) in
+    reads_all g.D.Disk.honest g.D.Disk.history g.D.Disk.faults c.args.client c.args.live.now c.loop-reads.live c.loop-reads.session _ _ (g.R.Read.remaining c.args.reader.now) (g.R.Read.remaining c.loop-reads.reader) (g.R.Read.remaining c.read.new.self)
+    (g.W.Write.contents c.args.writer.now) (g.W.Write.contents c.loop-reads.writer) (take c.in-Ok-eq0.field-0 c.read.new.buf)
+    bytes.0 (ap (λ (k : ℕ). take k c.read.new.buf) c.in-Ok-eq0.field-0-test) (bytes.1 c.in-Ok-eq0.field-0-test room) c.loop-reads.invariant.reads
+
+pub returns-in-Err-read-clause-served : goal.returns-in-Err-read-clause-served
+returns-in-Err-read-clause-served g c =
+    reads_cut g.D.Disk.honest g.D.Disk.history g.D.Disk.faults c.args.client c.args.live.now c.loop-reads.live c.loop-reads.session _ _ (g.R.Read.remaining c.args.reader.now) (g.R.Read.remaining c.loop-reads.reader) (g.R.Read.remaining c.read.new.self)
+    (g.W.Write.contents c.args.writer.now) (g.W.Write.contents c.loop-reads.writer) c.in-Err-read.ensures.bytes c.loop-reads.invariant.reads
+
+pub returns-clause-served : goal.returns-clause-served
+returns-clause-served g c =
+    reads_out g.D.Disk.honest g.D.Disk.history g.D.Disk.faults c.args.client c.args.live.now c.loop-reads.live c.loop-reads.session _ _ (g.R.Read.remaining c.args.reader.now) (g.R.Read.remaining c.loop-reads.reader)
+    (g.W.Write.contents c.args.writer.now) (g.W.Write.contents c.loop-reads.writer) c.loop-reads.invariant.reads (omega arith)
+
+pub loop-reads-preserved : goal.loop-reads-preserved
+loop-reads-preserved g c =
+    let done = c.in_ok-serve_piece.ensures in
+    let whole : length c.read.new.buf ≡ c.loop-reads.buffer.len = omega (arith, c.read.auto.buf, c.deref_mut.ensures.len) in
+    let same : c.deref.result.now ≡ c.read.new.buf = c.deref.ensures.value ∙ refilled c.read.new.buf c.loop-reads.buffer.items c.loop-reads.buffer.len whole in
+    let taken = subst (λ (v : List ℕ). Consumes (g.R.Read.remaining c.loop-reads.reader) (g.R.Read.remaining c.read.new.self) (take c.in-Ok-read.count v)) (sym same) c.in-Ok-read.ensures.bytes.0 in
+    let some : 1 ≤ length (take c.in-Ok-read.count c.deref.result.now) = omega (arith, length-take c.in-Ok-read.count c.deref.result.now, ap length same, c.read.auto) in
+    record {
+      reads = reads_on g.D.Disk.honest g.D.Disk.history g.D.Disk.faults c.args.client (take c.in-Ok-read.count c.deref.result.now) c.args.live.now c.loop-reads.live c.serve_piece.new.live c.loop-reads.session c.serve_piece.new.session
+          (g.R.Read.remaining c.args.reader.now) (g.R.Read.remaining c.loop-reads.reader) (g.R.Read.remaining c.read.new.self)
+          (g.W.Write.contents c.args.writer.now) (g.W.Write.contents c.loop-reads.writer) (g.W.Write.contents c.serve_piece.new.writer)
+          taken some c.loop-reads.invariant.reads done.session done.served (done.usable (λ is. cc))
+          done.later;
+      room = c.loop-reads.invariant.room;
+    }
+
+pub returns-in_err-serve_piece-clause-served : goal.returns-in_err-serve_piece-clause-served
+returns-in_err-serve_piece-clause-served g c =
+    let p = err_from_is_err_and c.from_residual.result c.from_residual.ensures.1 in
+    let whole : length c.read.new.buf ≡ c.loop-reads.buffer.len = omega (arith, c.read.auto.buf, c.deref_mut.ensures.len) in
+    let same : c.deref.result.now ≡ c.read.new.buf = c.deref.ensures.value ∙ refilled c.read.new.buf c.loop-reads.buffer.items c.loop-reads.buffer.len whole in
+    let taken = subst (λ (v : List ℕ). Consumes (g.R.Read.remaining c.loop-reads.reader) (g.R.Read.remaining c.read.new.self) (take c.in-Ok-read.count v)) (sym same) c.in-Ok-read.ensures.bytes.0 in
+    rw (p.1, p.2) (reads_stop g.D.Disk.honest g.D.Disk.history g.D.Disk.faults c.args.client (take c.in-Ok-read.count c.deref.result.now) c.args.live.now c.loop-reads.live c.serve_piece.new.live c.loop-reads.session
+    (g.D.Disk.history c.serve_piece.new.live.a) (g.D.Disk.history c.serve_piece.new.live.b)
+    (g.R.Read.remaining c.args.reader.now) (g.R.Read.remaining c.loop-reads.reader) (g.R.Read.remaining c.read.new.self)
+    (g.W.Write.contents c.args.writer.now) (g.W.Write.contents c.loop-reads.writer) (g.W.Write.contents c.serve_piece.new.writer) c.in_err-serve_piece.field-0.0
+    taken c.loop-reads.invariant.reads c.in_err-serve_piece.ensures.stopped)
+
+pub returns-in_err-serve_piece-clause-usable : goal.returns-in_err-serve_piece-clause-usable
+returns-in_err-serve_piece-clause-usable g c =
+    let p = err_from_is_err_and c.from_residual.result c.from_residual.ensures.1 in
+    rw (p.1, p.2) c.in_err-serve_piece.ensures.usable
+
+pub returns-in_err-serve_piece-clause-failed : goal.returns-in_err-serve_piece-clause-failed
+returns-in_err-serve_piece-clause-failed g c =
+    let p = err_from_is_err_and c.from_residual.result c.from_residual.ensures.1 in
+    let disks = c.loop-reads.invariant.reads.so_far.disks in
+    rw (p.1, p.2) (λ ha hb is. failed_since _ _ (g.D.Disk.faults c.loop-reads.live.a) (g.D.Disk.faults c.loop-reads.live.b) _ _ disks.a.counted disks.b.counted
+    (c.in_err-serve_piece.ensures.failed (disks.a.honesty.0 ha) (disks.b.honesty.0 hb) is))
+
+pub returns-in_err-serve_piece-clause-later : goal.returns-in_err-serve_piece-clause-later
+returns-in_err-serve_piece-clause-later g c = pair_on c.loop-reads.invariant.reads.so_far.disks c.serve_piece.ensures.later

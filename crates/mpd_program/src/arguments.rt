@@ -1,0 +1,45 @@
+//! What the words of the command line ask for.
+ghost use Rattle.std.specs.Prelude.{◌≡◌, option_map, string_bytes};
+ghost use Rattle.mpd_program.specs.Arguments.{task_of, task_seen};
+
+use std::env::{self, Env};
+use std::io;
+
+/// What the program is asked to do. A path leads to a configuration.
+#[derive(Debug, Drop)]
+pub enum Task {
+    /// `console`: over two files in memory that nothing keeps.
+    ConsoleInMemory,
+    /// `console CONFIG`: over the journal of the configuration.
+    Console(String),
+    /// `create CONFIG`: make the journal of the configuration.
+    Create(String),
+}
+
+impl Task {
+    /// The task of the program's words behind its name: a first one, and at most one more.
+    fn from_words(first: &str, path: Option<String>) -> Option<Task>
+        ensures { option_map task_seen result ≡ task_of first.now (option_map string_bytes path) }
+    {
+        match path {
+            None if first == "console" => Some(Task::ConsoleInMemory),
+            Some(path) if first == "console" => Some(Task::Console(path)),
+            Some(path) if first == "create" => Some(Task::Create(path)),
+            _ => None,
+        }
+    }
+
+    /// The task of the command line; none where its words are not those of a task.
+    pub fn from_args<R: Env + AllocGlobal>(rt: &R) -> io::Result<Option<Task>> {
+        let mut args = env::args(rt)?;
+        let _program = args.next();
+        let Some(first) = args.next() else {
+            return Ok(None);
+        };
+        let path = args.next();
+        if args.next().is_some() {
+            return Ok(None);
+        }
+        Ok(Task::from_words(first.as_str(), path))
+    }
+}

@@ -1,0 +1,184 @@
+//! The configuration: a TOML document (TOML 1.0) of texts.
+ghost use Rattle.std.specs.Prelude.{◌≡◌, ℕ, None, Some, IfOk, IsErrOf, IsTrue, ◌↔◌, true, option_map, string_bytes};
+ghost use Rattle.std.specs.Option.{option_and_then};
+ghost use Rattle.toml.specs.Data.{get_member};
+ghost use Rattle.toml.specs.View.{table_view};
+ghost use Rattle.mpd_program.specs.Configuration.{is_known, all_known, settings_of, text_at, optional_text_at, key_at, configuration};
+ghost use Rattle.mpd_program.specs.declared.config.ConfigError.TheVariants as errors;
+
+use hex::FromHex;
+use std::alloc::{AllocError, Global};
+use std::marker::Model;
+use toml::Table;
+
+/// Why there is no configuration.
+#[derive(Clone, Copy, Debug, PartialEq, Eq)]
+pub enum ConfigError {
+    /// There was no memory.
+    NoMemory,
+    /// The text is no configuration: no TOML, a key that isn't known or is missing, or a value of another form.
+    Bad,
+}
+
+impl From<AllocError> for ConfigError {
+    ghost use Rattle.std.specs.Prelude.{◌≡◌};
+    ghost use Rattle.mpd_program.specs.declared.config.ConfigError.TheVariants.{NoMemory};
+
+    ghost from_gives = { λ _ e. e ≡ NoMemory };
+
+    fn from(_error: AllocError) -> Self {
+        ConfigError::NoMemory
+    }
+}
+
+/// Where the daemon keeps its journal, and what it listens on and plays.
+#[derive(Debug, Drop)]
+pub struct Config {
+    /// The folder of the songs.
+    pub music: String,
+    /// The journal's first file.
+    pub journal_a: String,
+    /// The journal's second file, which is not the first.
+    pub journal_b: String,
+    /// The key of the random order, 64 hexadecimal digits in the text.
+    pub key: [u8; 32],
+    /// An address and port to listen on.
+    pub tcp: Option<String>,
+    /// The path of a socket to listen on.
+    pub unix: Option<String>,
+    /// Where the sound goes: a path, or `-` for standard output.
+    pub output: Option<String>,
+}
+
+impl Model for Config {
+    ghost use Rattle.std.specs.Prelude.{option_map, string_bytes};
+    ghost use Rattle.mpd_program.specs.Configuration.{Settings};
+
+    ghost Value = { Settings };
+
+    ghost view = { λ c. record {
+      music = string_bytes c.music;
+      journal_a = string_bytes c.journal_a;
+      journal_b = string_bytes c.journal_b;
+      key = c.key;
+      tcp = option_map string_bytes c.tcp;
+      unix = option_map string_bytes c.unix;
+      output = option_map string_bytes c.output;
+    } };
+}
+
+impl Config {
+    /// Reads a configuration. The key stands in it for 32 bytes, in hexadecimal digits of either case.
+    pub fn read(alloc: Global, text: &str) -> Result<Config, ConfigError>
+        ensures ok { IfOk result (λ c. configuration text.now ≡ Some c) }
+        ensures bad { IsErrOf result ConfigError.Bad → configuration text.now ≡ None }
+    {
+        let table = match toml::table_from_str(alloc, text) {
+            Ok(table) => table,
+            Err(error) if error.is_memory() => return Err(ConfigError::NoMemory),
+            Err(_) => return Err(ConfigError::Bad),
+        };
+        Config::of_table(alloc, &table)
+    }
+
+    fn of_table(alloc: Global, table: &Table) -> Result<Config, ConfigError>
+        ensures ok { IfOk result (λ c. settings_of (table_view table.now) ≡ Some c) }
+        ensures bad { IsErrOf result ConfigError.Bad → settings_of (table_view table.now) ≡ None }
+    {
+        if !has_known_keys(table) {
+            return Err(ConfigError::Bad);
+        }
+        let music = text(alloc, table, "music")?;
+        let journal_a = text(alloc, table, "journal_a")?;
+        let journal_b = text(alloc, table, "journal_b")?;
+        let key = key(table, "key")?;
+        let tcp = optional_text(alloc, table, "tcp")?;
+        let unix = optional_text(alloc, table, "unix")?;
+        let output = optional_text(alloc, table, "output")?;
+        if journal_a.as_str() == journal_b.as_str() {
+            return Err(ConfigError::Bad);
+        }
+        Ok(Config {
+            music,
+            journal_a,
+            journal_b,
+            key,
+            tcp,
+            unix,
+            output,
+        })
+    }
+}
+
+// Whether a configuration may have this key.
+fn is_known_key(key: &str) -> bool
+    ensures { result ≡ is_known key.now }
+{
+    key == "music"
+        || key == "journal_a"
+        || key == "journal_b"
+        || key == "key"
+        || key == "tcp"
+        || key == "unix"
+        || key == "output"
+}
+
+// Whether a configuration may have each key of the table.
+#[tactic(auto, using(crate::proofs::ConfigurationLaws::known_by_keys))]
+fn has_known_keys(table: &Table) -> bool
+    ensures { result ≡ all_known (table_view table.now) }
+{
+    for name in table.keys() {
+        if !is_known_key(name.as_str()) {
+            return false;
+        }
+    }
+    true
+}
+
+// The value at a key, if it is a text.
+fn str_at<'a>(table: &'a Table, key: &str) -> Option<&'a str>
+    ensures { option_map (λ s. s.now) result ≡ text_at key.now (table_view table.now) }
+{
+    match table.get(key) {
+        Some(value) => value.as_str(),
+        None => None,
+    }
+}
+
+fn text(alloc: Global, table: &Table, key: &str) -> Result<String, ConfigError>
+    ensures ok { IfOk result (λ s. text_at key.now (table_view table.now) ≡ Some (string_bytes s)) }
+    ensures bad { IsErrOf result ConfigError.Bad → text_at key.now (table_view table.now) ≡ None }
+{
+    match str_at(table, key) {
+        Some(text) => Ok(String::from_str(alloc, text)?),
+        None => Err(ConfigError::Bad),
+    }
+}
+
+fn optional_text(alloc: Global, table: &Table, key: &str) -> Result<Option<String>, ConfigError>
+    ensures ok { IfOk result (λ s. optional_text_at key.now (table_view table.now) ≡ Some (option_map string_bytes s)) }
+    ensures bad { IsErrOf result ConfigError.Bad → optional_text_at key.now (table_view table.now) ≡ None }
+{
+    let value = match table.get(key) {
+        Some(value) => value,
+        None => return Ok(None),
+    };
+    match value.as_str() {
+        Some(text) => Ok(Some(String::from_str(alloc, text)?)),
+        None => Err(ConfigError::Bad),
+    }
+}
+
+fn key(table: &Table, key: &str) -> Result<[u8; 32], ConfigError>
+    ensures ok { IfOk result (λ k. key_at key.now (table_view table.now) ≡ Some k) }
+    ensures bad { IsErrOf result ConfigError.Bad → key_at key.now (table_view table.now) ≡ None }
+{
+    match str_at(table, key) {
+        Some(digits) => match <[u8; 32] as FromHex>::from_hex(digits) {
+            Ok(bytes) => Ok(bytes),
+            Err(_) => Err(ConfigError::Bad),
+        },
+        None => Err(ConfigError::Bad),
+    }
+}

@@ -1,0 +1,204 @@
+//! One client on a reader and a writer, over the journal on two disks.
+ghost use Rattle.std.specs.Prelude.{◌≡◌, ◌≢◌, ◌⊎◌, ◌↔◌, ◌≤◌, ℕ, Ok, IsTrue, IsSome};
+ghost use Rattle.disk_model.specs.Later.{AreLater, HasFailed};
+ghost use Rattle.live_stage.specs.Found.{AllFindNow};
+ghost use Rattle.mpd_program.specs.Lives.{moment_of, IsLife, IsConsole, refusal_of, status_of, ending_of};
+ghost use Rattle.mpd_program.specs.Status.{code_of};
+
+mod sending;
+mod serving;
+
+use disk_model::Disk;
+use live_stage::{Live, Refused, StartError};
+use serving::serve_client;
+use std::alloc::Global;
+use std::fmt;
+use std::io::{Read, Write};
+
+/// The number of the first client.
+const FIRST_CLIENT: u64 = 1;
+
+/// The number of the client that is served after a disk fault.
+const SECOND_CLIENT: u64 = 2;
+
+/// With which status a console ends.
+#[derive(Clone, Copy, Debug, PartialEq, Eq)]
+pub enum Status {
+    /// The client was served.
+    Done,
+    /// The journal was refused, with the number of the refusal: 4, 5 or 7.
+    JournalRefused(u32),
+    /// A second disk fault.
+    DiskFault,
+}
+
+impl Status {
+    /// The exit status of the program.
+    pub fn code(self) -> u8
+        ensures { result ≡ code_of self }
+    {
+        match self {
+            Status::Done => 0,
+            Status::JournalRefused(_) => 2,
+            Status::DiskFault => 3,
+        }
+    }
+}
+
+/// The line that the program writes to standard error. For `Done` it writes none.
+impl fmt::Display for Status {
+    fn fmt<W: fmt::Write>(&self, f: &mut fmt::Formatter<W>) -> fmt::Result {
+        match self {
+            Status::Done => f.write_str("done"),
+            Status::JournalRefused(number) => write!(f, "journal refused: {number}"),
+            Status::DiskFault => f.write_str("disk fault"),
+        }
+    }
+}
+
+/// How much a console's client was given.
+#[derive(Clone, Copy, Debug, PartialEq, Eq)]
+pub enum Ending {
+    /// All requests of its input were answered, or those up to the first that closed it.
+    Whole,
+    /// Memory, a read, a write or a request was refused, or a line or an answer was too long: it was given a front of that.
+    Cut,
+    /// A disk failed, or the journal was refused.
+    Faulted,
+}
+
+/// What a console came to, and both disks.
+#[derive(Debug, Drop)]
+pub struct ConsoleEnd<D> {
+    pub status: Status,
+    pub ending: Ending,
+    /// The disk of file a.
+    pub a: D,
+    /// The disk of file b.
+    pub b: D,
+}
+
+// What came of the time from one opening of the journal on: how the client's serving ended, or the number with which the
+// journal was refused; and both disks.
+struct Life<D> {
+    came_to: Result<Ending, u32>,
+    a: D,
+    b: D,
+}
+
+impl<D> Life<D> {
+    // Whether a disk fault ended it.
+    fn is_faulted(&self) -> bool
+        ensures { IsTrue result ↔ (self.now.came_to ≡ Ok Ending.Faulted) }
+    {
+        matches!(self.came_to, Ok(Ending::Faulted))
+    }
+
+    // The ending of a console that had no other.
+    fn ending(&self) -> Ending
+        ensures { result ≡ ending_of self.now.came_to }
+    {
+        self.came_to.unwrap_or(Ending::Faulted)
+    }
+}
+
+// Opens the journal, and serves one client.
+fn serve_life<D: Disk, R: Read, W: Write>(
+    alloc: Global,
+    a: D,
+    b: D,
+    client: u64,
+    reader: &mut R,
+    writer: &mut W,
+) -> Life<D>
+    ensures life { IsLife (D.honest a × D.honest b) client result.came_to
+        (moment_of D.content D.history D.faults a b (R.remaining reader.old) (W.contents writer.old))
+        (moment_of D.content D.history D.faults result.a result.b (R.remaining reader.new) (W.contents writer.new)) }
+    ensures later { AreLater D.honest D.history D.faults a b result.a result.b }
+{
+    let mut live = match Live::open(alloc, a, b) {
+        Ok(live) => live,
+        Err(refused) => return refused_life(refused),
+    };
+    let ending = serve_client(alloc, &mut live, client, reader, writer);
+    // As long as no disk failed, the files give its state.
+    let _broken = live.is_broken();
+    let (a, b) = live.into_disks();
+    Life {
+        came_to: Ok(ending),
+        a,
+        b,
+    }
+}
+
+// A journal that was not opened.
+fn refused_life<D>(refused: Refused<D>) -> Life<D>
+    ensures came_to { result.came_to ≡ refusal_of refused.error }
+    ensures a { result.a ≡ refused.a }
+    ensures b { result.b ≡ refused.b }
+{
+    let Refused { error, a, b } = refused;
+    let came_to = match error {
+        StartError::Broken => Ok(Ending::Faulted),
+        other => Err(other.number()),
+    };
+    Life { came_to, a, b }
+}
+
+// The end of a console whose last life was this one.
+fn ended<D>(ending: Ending, last: Life<D>) -> ConsoleEnd<D>
+    ensures { result ≡ record { status = status_of last.came_to; ending = ending; a = last.a; b = last.b } }
+{
+    let Life { came_to, a, b } = last;
+    let status = match came_to {
+        Ok(Ending::Whole | Ending::Cut) => Status::Done,
+        Ok(Ending::Faulted) => Status::DiskFault,
+        Err(number) => Status::JournalRefused(number),
+    };
+    ConsoleEnd {
+        status,
+        ending,
+        a,
+        b,
+    }
+}
+
+/// Opens the journal on the disks of files a and b, and serves one client from its connect to the end of its input, or
+/// until a request closes it.
+///
+/// After a disk fault that client is closed, the journal is opened again, and a new client is served with what is left of the
+/// input. After a second one it gives up.
+pub fn run_console<D: Disk, R: Read, W: Write>(
+    alloc: Global,
+    a: D,
+    b: D,
+    reader: &mut R,
+    writer: &mut W,
+) -> ConsoleEnd<D>
+    // What was read, written and kept: in one life, or in one that a disk fault ended and one after it.
+    ensures transcript { IsConsole (D.honest a × D.honest b) result.status result.ending
+        (moment_of D.content D.history D.faults a b (R.remaining reader.old) (W.contents writer.old))
+        (moment_of D.content D.history D.faults result.a result.b (R.remaining reader.new) (W.contents writer.new)) }
+
+    // Only a disk fault or a refused journal is answered as such.
+    ensures served { result.ending ≢ Ending.Faulted → result.status ≡ Status.Done }
+    ensures faulted { D.honest a → D.honest b → result.ending ≡ Ending.Faulted
+        → HasFailed D.faults a b result.a result.b
+        ⊎ ((number : ℕ) × (result.status ≡ Status.JournalRefused number)) }
+    ensures refused { (number : ℕ) → result.status ≡ Status.JournalRefused number → (number ≡ 4) ⊎ (number ≡ 5) ⊎ (number ≡ 7) }
+
+    // Where each pair of images that a crash may have left gives a state, the journal is refused for want of memory alone.
+    ensures opens { D.honest a → D.honest b → AllFindNow (λ f. IsSome f) (D.history a) (D.history b)
+        → (number : ℕ) → result.status ≡ Status.JournalRefused number → number ≡ 7 }
+
+    ensures later { AreLater D.honest D.history D.faults a b result.a result.b }
+{
+    let first = serve_life(alloc, a, b, FIRST_CLIENT, reader, writer);
+    if !first.is_faulted() {
+        let ending = first.ending();
+        return ended(ending, first);
+    }
+    let Life { came_to: _, a, b } = first;
+    let second = serve_life(alloc, a, b, SECOND_CLIENT, reader, writer);
+    ended(Ending::Faulted, second)
+}

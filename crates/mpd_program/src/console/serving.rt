@@ -1,0 +1,194 @@
+// One client, from its connect on.
+ghost use Rattle.std.specs.Prelude.{◌≡◌, ◌≢◌, ◌⊎◌, ◌↔◌, ◌≤◌, ◌++◌, [], ◌∷◌, false, Err, OnOk, IfErr};
+ghost use Rattle.std.specs.Io.KnownBytes.{Appends};
+ghost use Rattle.disk_model.specs.Later.{AreLater, HasFailed};
+ghost use Rattle.client_session.specs.Requests.{requests_of, rest_of};
+ghost use Rattle.mpd_program.specs.Console.{asked_by};
+ghost use Rattle.mpd_program.specs.Serving.{ending_of, ServesAll, Stops, ServesInput, ServesClient};
+
+use super::Ending;
+use super::sending::{Unsent, send_outputs};
+use client_session::{Requests, Session};
+use daemon_core::Event;
+use disk_model::Disk;
+use live_stage::{Live, LiveError};
+use std::alloc::Global;
+use std::io::{Read, Write};
+
+// How many bytes are read at once, at most.
+const PIECE: usize = 8_192;
+
+// How a client's serving ends whose event was refused.
+fn ending_of(error: LiveError) -> Ending
+    ensures { result ≡ ending_of error }
+{
+    match error {
+        LiveError::Broken => Ending::Faulted,
+        LiveError::NoMemory | LiveError::NumbersSpent => Ending::Cut,
+    }
+}
+
+// Handles one event, and sends what it gives to the client.
+fn serve_event<D: Disk, W: Write>(
+    alloc: Global,
+    live: &mut Live<D>,
+    session: &mut Session,
+    client: u64,
+    event: Event,
+    writer: &mut W,
+) -> Result<(), Ending>
+    requires usable { live.old.is_broken ≡ false }
+    requires sent { session.old.queued ≡ [] }
+    ensures session { OnOk result (session.new ≡ session.old) }
+    ensures served { OnOk result (ServesAll client (event ∷ []) live.old.state live.new.state
+        (W.contents writer.old) (W.contents writer.new)) }
+    ensures stopped { IfErr result (λ e. Stops (D.honest live.old.a × D.honest live.old.b) client (event ∷ []) live.old.state live.new.state
+        (D.history live.new.a) (D.history live.new.b) (W.contents writer.old) (W.contents writer.new) e) }
+    ensures usable { result ≢ Err Ending.Faulted → live.new.is_broken ≡ false }
+    ensures failed { D.honest live.old.a → D.honest live.old.b → result ≡ Err Ending.Faulted
+        → HasFailed D.faults live.old.a live.old.b live.new.a live.new.b }
+    ensures later { AreLater D.honest D.history D.faults live.old.a live.old.b live.new.a live.new.b }
+{
+    let turn = match live.turn(alloc, event) {
+        Ok(turn) => turn,
+        Err(error) => return Err(ending_of(error)),
+    };
+    let is_open = turn.closes().is_empty();
+    let outputs = turn.into_outputs();
+    match send_outputs(session, client, &outputs, writer) {
+        Ok(()) => {}
+        Err(Unsent) => return Err(Ending::Cut),
+    }
+    if is_open { Ok(()) } else { Err(Ending::Whole) }
+}
+
+// Handles requests one after the other. What is behind one that closes the client isn't served.
+fn serve_requests<D: Disk, W: Write>(
+    alloc: Global,
+    live: &mut Live<D>,
+    session: &mut Session,
+    client: u64,
+    requests: Requests,
+    writer: &mut W,
+) -> Result<(), Ending>
+    requires usable { live.old.is_broken ≡ false }
+    requires sent { session.old.queued ≡ [] }
+    ensures session { OnOk result (session.new ≡ session.old) }
+    ensures served { OnOk result (ServesAll client (asked_by client requests) live.old.state live.new.state
+        (W.contents writer.old) (W.contents writer.new)) }
+    ensures stopped { IfErr result (λ e. Stops (D.honest live.old.a × D.honest live.old.b) client (asked_by client requests) live.old.state live.new.state
+        (D.history live.new.a) (D.history live.new.b) (W.contents writer.old) (W.contents writer.new) e) }
+    ensures usable { result ≢ Err Ending.Faulted → live.new.is_broken ≡ false }
+    ensures failed { D.honest live.old.a → D.honest live.old.b → result ≡ Err Ending.Faulted
+        → HasFailed D.faults live.old.a live.old.b live.new.a live.new.b }
+    ensures later { AreLater D.honest D.history D.faults live.old.a live.old.b live.new.a live.new.b }
+{
+    for request in requests {
+        serve_event(
+            alloc,
+            live,
+            session,
+            client,
+            Event::Request(client, request),
+            writer,
+        )?;
+    }
+    Ok(())
+}
+
+// Serves what a piece of the input brings.
+fn serve_piece<D: Disk, W: Write>(
+    alloc: Global,
+    live: &mut Live<D>,
+    session: &mut Session,
+    client: u64,
+    piece: &[u8],
+    writer: &mut W,
+) -> Result<(), Ending>
+    requires usable { live.old.is_broken ≡ false }
+    requires sent { session.old.queued ≡ [] }
+    ensures session { OnOk result (session.new ≡ record session.old { pending = rest_of (session.old.pending ++ piece.now) }) }
+    ensures served { OnOk result (ServesAll client (asked_by client (requests_of (session.old.pending ++ piece.now))) live.old.state live.new.state
+        (W.contents writer.old) (W.contents writer.new)) }
+    ensures stopped { IfErr result (λ e. Stops (D.honest live.old.a × D.honest live.old.b) client (asked_by client (requests_of (session.old.pending ++ piece.now))) live.old.state live.new.state
+        (D.history live.new.a) (D.history live.new.b) (W.contents writer.old) (W.contents writer.new) e) }
+    ensures usable { result ≢ Err Ending.Faulted → live.new.is_broken ≡ false }
+    ensures failed { D.honest live.old.a → D.honest live.old.b → result ≡ Err Ending.Faulted
+        → HasFailed D.faults live.old.a live.old.b live.new.a live.new.b }
+    ensures later { AreLater D.honest D.history D.faults live.old.a live.old.b live.new.a live.new.b }
+{
+    let requests = match session.feed(alloc, piece) {
+        Ok(requests) => requests,
+        Err(_) => return Err(Ending::Cut),
+    };
+    serve_requests(alloc, live, session, client, requests, writer)
+}
+
+// Serves pieces of the input until it ends. The read 2^64 - 1 is taken for its end.
+fn serve_input<D: Disk, R: Read, W: Write>(
+    alloc: Global,
+    live: &mut Live<D>,
+    session: &mut Session,
+    client: u64,
+    reader: &mut R,
+    writer: &mut W,
+) -> Result<(), Ending>
+    requires usable { live.old.is_broken ≡ false }
+    requires sent { session.old.queued ≡ [] }
+    requires fresh { session.old.pending ≡ [] }
+    ensures served { ServesInput (D.honest live.old.a × D.honest live.old.b) client (R.remaining reader.old) (R.remaining reader.new)
+        live.old.state live.new.state (D.history live.new.a) (D.history live.new.b) (W.contents writer.old) (W.contents writer.new) result }
+    ensures usable { result ≢ Err Ending.Faulted → live.new.is_broken ≡ false }
+    ensures failed { D.honest live.old.a → D.honest live.old.b → result ≡ Err Ending.Faulted
+        → HasFailed D.faults live.old.a live.old.b live.new.a live.new.b }
+    ensures later { AreLater D.honest D.history D.faults live.old.a live.old.b live.new.a live.new.b }
+{
+    let mut buffer = match vec![in alloc; 0u8; PIECE] {
+        Ok(buffer) => buffer,
+        Err(_) => return Err(Ending::Cut),
+    };
+    let mut reads = 0u64;
+    while reads < u64::MAX {
+        let count = match reader.read(&mut buffer) {
+            Ok(0) => return Ok(()),
+            Ok(count) => count,
+            Err(_) => return Err(Ending::Cut),
+        };
+        serve_piece(alloc, live, session, client, &buffer[..count], writer)?;
+        reads += 1;
+    }
+    Ok(())
+}
+
+// Serves a client from its connect to the end of its input, or until it is closed.
+pub(super) fn serve_client<D: Disk, R: Read, W: Write>(
+    alloc: Global,
+    live: &mut Live<D>,
+    client: u64,
+    reader: &mut R,
+    writer: &mut W,
+) -> Ending
+    requires { live.old.is_broken ≡ false }
+    ensures served { ServesClient (D.honest live.old.a × D.honest live.old.b) client (R.remaining reader.old) (R.remaining reader.new)
+        live.old.state live.new.state (D.history live.new.a) (D.history live.new.b) (W.contents writer.old) (W.contents writer.new) result }
+    ensures usable { result ≢ Ending.Faulted → live.new.is_broken ≡ false }
+    ensures failed { D.honest live.old.a → D.honest live.old.b → result ≡ Ending.Faulted
+        → HasFailed D.faults live.old.a live.old.b live.new.a live.new.b }
+    ensures later { AreLater D.honest D.history D.faults live.old.a live.old.b live.new.a live.new.b }
+{
+    let mut session = Session::new(alloc);
+    if let Err(ending) = serve_event(
+        alloc,
+        live,
+        &mut session,
+        client,
+        Event::Connect(client),
+        writer,
+    ) {
+        return ending;
+    }
+    match serve_input(alloc, live, &mut session, client, reader, writer) {
+        Ok(()) => Ending::Whole,
+        Err(ending) => ending,
+    }
+}

@@ -1,0 +1,60 @@
+//! How the program ends.
+ghost use Rattle.std.specs.Prelude.{◌≡◌, ◌↔◌, IsTrue};
+ghost use Rattle.mpd_program.specs.Exit.{exit_code, IsSilent};
+
+use crate::console::Status;
+use std::fmt;
+use std::io::{Error, ErrorKind};
+
+/// How the program ends.
+#[derive(Clone, Copy, Debug, PartialEq, Eq)]
+pub enum Exit {
+    /// The words of the command line are not those of a task.
+    BadArguments,
+    /// The configuration can't be read, or is none.
+    BadConfiguration,
+    /// The task was begun, and ended so.
+    Ended(Status),
+}
+
+impl Exit {
+    /// Memory was refused before the task was begun: the journal is refused with the number 7.
+    pub const NO_MEMORY: Exit = Exit::Ended(Status::JournalRefused(7));
+
+    /// The exit status.
+    pub fn code(self) -> u8
+        ensures { result ≡ exit_code self }
+    {
+        match self {
+            Exit::BadArguments | Exit::BadConfiguration => 1,
+            Exit::Ended(status) => status.code(),
+        }
+    }
+
+    /// Whether the program ends without a line on standard error.
+    pub fn is_silent(self) -> bool
+        ensures { IsTrue result ↔ IsSilent self }
+    {
+        self == Exit::Ended(Status::Done)
+    }
+
+    /// How the program ends where the system refused a call: by want of memory, or else so.
+    pub fn unless_memory(self, error: &Error) -> Exit {
+        if error.kind() == ErrorKind::OutOfMemory {
+            Exit::NO_MEMORY
+        } else {
+            self
+        }
+    }
+}
+
+/// The line on standard error.
+impl fmt::Display for Exit {
+    fn fmt<W: fmt::Write>(&self, f: &mut fmt::Formatter<W>) -> fmt::Result {
+        match self {
+            Exit::BadArguments => f.write_str("bad arguments"),
+            Exit::BadConfiguration => f.write_str("bad configuration"),
+            Exit::Ended(status) => status.fmt(f),
+        }
+    }
+}

@@ -1,0 +1,127 @@
+//! The tasks of the program. Faults are found in the order configuration, journal files, journal.
+ghost use Rattle.std.specs.Prelude.{◌≡◌};
+ghost use Rattle.mpd_program.specs.Lives.{refusal_of, status_of};
+
+use crate::arguments::Task;
+use crate::config::{Config, ConfigError};
+use crate::console::{ConsoleEnd, Status, run_console};
+use crate::exit::Exit;
+use disk_model::{Disk, FileDisk, MemDisk};
+use live_stage::{Live, Refused, StartError};
+use std::fs::{self, File};
+use std::io;
+
+/// Does what the command line asks for, and says how the program ends.
+pub fn run_command_line(rt: &HostRuntime) -> Exit {
+    let done = match Task::from_args(rt) {
+        Ok(Some(task)) => run(rt, task),
+        Ok(None) => Err(Exit::BadArguments),
+        Err(error) => Err(Exit::BadArguments.unless_memory(&error)),
+    };
+    match done {
+        Ok(()) => Exit::Ended(Status::Done),
+        Err(exit) => exit,
+    }
+}
+
+/// Does what was asked.
+fn run(rt: &HostRuntime, task: Task) -> Result<(), Exit> {
+    match task {
+        Task::ConsoleInMemory => console_in_memory(rt),
+        Task::Console(path) => console(rt, &read_config(rt, path.as_str())?),
+        Task::Create(path) => create(rt, &read_config(rt, path.as_str())?),
+    }
+}
+
+/// Reads the configuration at this path.
+fn read_config(rt: &HostRuntime, path: &str) -> Result<Config, Exit> {
+    let text = match fs::read_to_string(rt, path) {
+        Ok(text) => text,
+        Err(error) => return Err(Exit::BadConfiguration.unless_memory(&error)),
+    };
+    match Config::read(rt.alloc(), text.as_str()) {
+        Ok(config) => Ok(config),
+        Err(ConfigError::NoMemory) => Err(Exit::NO_MEMORY),
+        Err(ConfigError::Bad) => Err(Exit::BadConfiguration),
+    }
+}
+
+/// Opens a journal file, and makes it, empty, where it is missing.
+fn open_file(rt: &HostRuntime, path: &str) -> Result<FileDisk<File>, Exit> {
+    match FileDisk::open(rt, path) {
+        Ok(disk) => Ok(disk),
+        Err(error) => Err(Exit::Ended(Status::DiskFault).unless_memory(&error)),
+    }
+}
+
+/// Why no journal was made.
+fn refused<D: Disk + Drop>(refused: Refused<D>) -> Exit
+    ensures { result ≡ Exit.Ended (status_of (refusal_of refused.error)) }
+{
+    match refused.error {
+        StartError::Broken => Exit::Ended(Status::DiskFault),
+        error => Exit::Ended(Status::JournalRefused(error.number())),
+    }
+}
+
+/// Serves one client on standard input and output over these disks.
+fn serve<D: Disk + Drop>(rt: &HostRuntime, a: D, b: D) -> ConsoleEnd<D> {
+    run_console(rt.alloc(), a, b, &mut rt.reader(), &mut io::writer(rt))
+}
+
+/// How the program ends after a console.
+fn exit_of(status: Status) -> Result<(), Exit> {
+    match status {
+        Status::Done => Ok(()),
+        status => Err(Exit::Ended(status)),
+    }
+}
+
+/// Says on standard error which journal file the system failed, how, and what can be done.
+fn tell_fault(rt: &HostRuntime, path: &str, disk: &FileDisk<File>) {
+    if let Some(error) = disk.error() {
+        let _printed = eprintln!(rt;
+            "{path}: {error}: what was answered is kept; free space or check the device, then start again"
+        );
+    }
+}
+
+/// Serves one client over a fresh journal in memory, with a key of zeros. Nothing keeps it.
+fn console_in_memory(rt: &HostRuntime) -> Result<(), Exit> {
+    let alloc = rt.alloc();
+    match Live::create(alloc, MemDisk::new(alloc), MemDisk::new(alloc), [0; 32]) {
+        Ok(live) => {
+            let (a, b) = live.into_disks();
+            exit_of(serve(rt, a, b).status)
+        }
+        Err(error) => Err(refused(error)),
+    }
+}
+
+/// Serves one client over the journal of the configuration.
+fn console(rt: &HostRuntime, config: &Config) -> Result<(), Exit> {
+    let a = open_file(rt, config.journal_a.as_str())?;
+    let b = open_file(rt, config.journal_b.as_str())?;
+    let end = serve(rt, a, b);
+    tell_fault(rt, config.journal_a.as_str(), &end.a);
+    tell_fault(rt, config.journal_b.as_str(), &end.b);
+    exit_of(end.status)
+}
+
+/// Makes the journal of the configuration, and says so.
+fn create(rt: &HostRuntime, config: &Config) -> Result<(), Exit> {
+    let a = open_file(rt, config.journal_a.as_str())?;
+    let b = open_file(rt, config.journal_b.as_str())?;
+    match Live::create(rt.alloc(), a, b, config.key) {
+        Ok(_) => {
+            // The journal is made, whether or not somebody reads this.
+            let _printed = println!(rt; "created");
+            Ok(())
+        }
+        Err(error) => {
+            tell_fault(rt, config.journal_a.as_str(), &error.a);
+            tell_fault(rt, config.journal_b.as_str(), &error.b);
+            Err(refused(error))
+        }
+    }
+}

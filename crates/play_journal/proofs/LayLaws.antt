@@ -1,0 +1,124 @@
+-- What a crash leaves in the three steps in which a file is laid down.
+use Rattle.std.proofs.Common.{◌≡◌, ◌⊎◌, inl, inr, ℕ, ◌+◌, ◌<◌, ◌≤◌, List, [], ◌∷◌, ◌++◌, length, length-append, take, drop, get_or, append_assoc, arith, refl, sym, ap, subst, ◌∙◌}
+use Rattle.std.specs.Prelude.{◌≢◌, slice_index}
+use Rattle.std.proofs.lemmas.Bool.{cases_eq}
+use Rattle.std.proofs.lemmas.List.{take_at, length-take-le, get_or-take, drop_more, drop_at}
+use Rattle.disk_model.specs.Calls.{overwritten}
+use Rattle.disk_model.specs.Torn.{Torn}
+use Rattle.disk_model.proofs.BehindLaws.{KeepsBefore}
+use Rattle.play_journal.specs.File.{open_gate, IsClosed, IsShut}
+use Rattle.play_journal.specs.Laying.{IsSameOrShut, IsLaidDown}
+use Rattle.play_journal.proofs.AppendLaws.{torn_byte}
+
+-- a byte and what follows it
+first_part : (bytes : List ℕ) → 0 < length bytes → bytes ≡ get_or bytes 0 0 ∷ drop 1 bytes
+first_part bytes some = drop_more bytes 0 0 some
+
+-- ---- the gate is closed
+
+closing : (bytes image : List ℕ) → 0 < length bytes → slice_index bytes 0 ≡ open_gate → Torn 0 1 bytes image → IsSameOrShut bytes image
+closing bytes image some opened torn = elim (cases_eq (get_or image 0 0) open_gate) [
+  | inl still ↦ inl (torn_byte 0 bytes image some torn ∙ ap (λ (n : ℕ). n ∷ drop 1 bytes) (still ∙ sym opened)
+      ∙ sym (first_part bytes some))
+  | inr closed ↦ inr (inr closed)
+]
+
+pub closes : (bytes image : List ℕ) → (bytes ≡ []) ⊎ (slice_index bytes 0 ≡ open_gate) → Torn 0 1 bytes image → IsSameOrShut bytes image
+closes [] image needed torn = inr (inl (omega (arith, torn.no_longer)))
+closes (byte ∷ bytes) image (inl none) torn = absurd cc
+closes (byte ∷ bytes) image (inr opened) torn = closing (byte ∷ bytes) image (omega arith) opened torn
+
+pub is_closed : (bytes closed : List ℕ) → closed ≡ overwritten bytes 0 (0 ∷ []) → IsClosed closed
+is_closed bytes closed is =
+    subst (λ (l : List ℕ). IsClosed l) (sym is) (record { stands = omega arith; closed = λ same. omega arith })
+
+-- ---- the file is written behind the closed gate
+
+pub still_shut : (bytes image : List ℕ) → IsClosed bytes → KeepsBefore 1 bytes image → IsShut image
+still_shut bytes image closed front =
+    let first : get_or image 0 0 ≡ get_or bytes 0 0 =
+    sym (get_or-take 1 image 0 0 (omega arith)) ∙ ap (λ (l : List ℕ). get_or l 0 0) front.same ∙ get_or-take 1 bytes 0 0 (omega arith) in
+    inr (λ opened. closed.closed (sym first ∙ opened))
+
+-- bytes that are written right behind a front
+front_grows : (bytes front added : List ℕ) (at : ℕ) → take at bytes ≡ front → length front ≡ at
+    → take (at + length added) (overwritten bytes at added) ≡ front ++ added
+front_grows bytes front added at is long =
+    ap (λ (l : List ℕ). take (at + length added) (l ++ added ++ drop (at + length added) bytes)) is
+    ∙ take_at (front ++ added) (drop (at + length added) bytes) (at + length added) (omega (arith, length-append front added))
+
+pub behind_written : (c0 head snapshot c1 c2 c3 c4 : List ℕ) (end cut : ℕ) → 0 < length c0 → length head ≡ 31
+    → end ≡ 32 + length snapshot → cut ≡ end + 1
+    → c1 ≡ overwritten c0 1 head → c2 ≡ overwritten c1 32 snapshot → c3 ≡ overwritten c2 end (0 ∷ []) → c4 ≡ take cut c3
+    → c4 ≡ take 1 c0 ++ (head ++ snapshot ++ 0 ∷ [])
+behind_written c0 head snapshot c1 c2 c3 c4 end cut some long is_end is_cut w1 w2 w3 w4 =
+    let front : List ℕ = take 1 c0 in
+    let one : length front ≡ 1 = length-take-le 1 c0 (omega arith) in
+    let f1 : take 32 c1 ≡ front ++ head =
+    ap (λ (l : List ℕ). take 32 l) w1 ∙ ap (λ (n : ℕ). take n (overwritten c0 1 head)) {x = 32} {y = 1 + length head} (omega arith)
+    ∙ front_grows c0 front head 1 refl one in
+    let l1 : length (front ++ head) ≡ 32 = omega (arith, length-append front head) in
+    let f2 : take end c2 ≡ (front ++ head) ++ snapshot =
+    ap (λ (l : List ℕ). take end l) w2 ∙ ap (λ (n : ℕ). take n (overwritten c1 32 snapshot)) {x = end} {y =
+    32 + length snapshot} is_end ∙ front_grows c1 (front ++ head) snapshot 32 f1 l1 in
+    let l2 : length ((front ++ head) ++ snapshot) ≡ end = omega (arith, length-append (front ++ head) snapshot) in
+    let f3 : take cut c3 ≡ ((front ++ head) ++ snapshot) ++ 0 ∷ [] =
+    ap (λ (l : List ℕ). take cut l) w3 ∙ ap (λ (n : ℕ). take n (overwritten c2 end (0 ∷ []))) {x = cut} {y = end + 1} is_cut
+    ∙ front_grows c2 ((front ++ head) ++ snapshot) (0 ∷ []) end f2 l2 in
+    w4 ∙ f3 ∙ ap (λ (l : List ℕ). l ++ 0 ∷ []) (append_assoc front head snapshot) ∙ append_assoc front (head ++ snapshot) (0 ∷ [])
+
+-- the lengths that the writes behind a gate meet
+pub first_long : (c0 head : List ℕ) (c1 : List ℕ) → 0 < length c0 → length head ≡ 31 → c1 ≡ overwritten c0 1 head → 32 ≤ length c1
+first_long c0 head c1 some long is =
+    let front : length (take 1 c0) ≡ 1 = length-take-le 1 c0 (omega arith) in
+    omega (
+      arith,
+      ap (λ (l : List ℕ). length l) is,
+      length-append (take 1 c0
+          ++ head) (drop (1 + length head) c0),
+      length-append (take 1 c0) head,
+      front,
+    )
+
+pub next_long : (c added c' : List ℕ) (at : ℕ) → at ≤ length c → c' ≡ overwritten c at added → at + length added ≤ length c'
+next_long c added c' at within is =
+    let front : length (take at c) ≡ at = length-take-le at c within in
+    omega (
+      arith,
+      ap (λ (l : List ℕ). length l) is,
+      length-append (take at c
+          ++ added) (drop (at + length added) c),
+      length-append (take at c) added,
+      front,
+    )
+
+-- ---- the gate is opened
+
+rest_of : (closed front bytes : List ℕ) → length front ≡ 1 → closed ≡ front ++ bytes → drop 1 closed ≡ bytes
+rest_of closed front bytes one is = ap (λ (l : List ℕ). drop 1 l) is ∙ drop_at front bytes 1 one
+
+pub opens : (closed front bytes image : List ℕ) → length front ≡ 1 → closed ≡ front ++ bytes → Torn 0 1 closed image
+    → IsShut image ⊎ (image ≡ open_gate ∷ bytes)
+opens closed front bytes image one is torn =
+    let some : 0 < length closed = omega (arith, ap (λ (l : List ℕ). length l) is, length-append front bytes) in
+    elim (cases_eq (get_or image 0 0) open_gate) [
+      | inl opened ↦ inr (torn_byte 0 closed image some torn ∙ ap (λ (n : ℕ). n ∷ drop 1 closed) opened
+          ∙ ap (λ (l : List ℕ). open_gate ∷ l) (rest_of closed front bytes one is))
+      | inr still ↦ inl (inr still)
+    ]
+
+pub is_open : (closed front bytes new : List ℕ) → length front ≡ 1 → closed ≡ front ++ bytes
+    → new ≡ overwritten closed 0 (open_gate ∷ []) → new ≡ open_gate ∷ bytes
+is_open closed front bytes new one is made = made ∙ ap (λ (l : List ℕ). open_gate ∷ l) (rest_of closed front bytes one is)
+
+-- ---- the three steps are one
+
+pub same_laid : (old new image : List ℕ) → IsSameOrShut old image → IsLaidDown old new image
+same_laid old new image same = inl same
+
+pub shut_laid : (old new image : List ℕ) → IsShut image → IsLaidDown old new image
+shut_laid old new image shut = inl (inr shut)
+
+pub opened_laid : (old new image : List ℕ) → IsShut image ⊎ (image ≡ new) → IsLaidDown old new image
+opened_laid old new image (inl shut) = inl (inr shut)
+opened_laid old new image (inr is) = inr is

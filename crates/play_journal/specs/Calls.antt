@@ -1,0 +1,60 @@
+-- What the calls of a journal do to it.
+use Rattle.std.specs.Prelude.{◌≡◌, ◌≢◌, ◌↔◌, ℕ, ◌+◌, ◌-◌, ◌^◌, ◌<◌, ◌≤◌, Bool, true, false, not, List, length, Some, Result, Err, MatchBool, OnErr}
+use Rattle.disk_model.specs.History.{Change}
+use Rattle.play_journal.specs.declared.error.JournalError.{JournalError}
+use Rattle.play_journal.specs.declared.error.JournalError.TheVariants.{DiskFault, TooLong, NumbersSpent}
+use Rattle.play_journal.specs.Content.{Content}
+use Rattle.play_journal.specs.JournalState.{JournalState}
+use Rattle.play_journal.specs.Pair.{AllPairsNow}
+
+-- the journal has this content, and whatever a crash now leaves of its files gives it
+pub record Holds {D : Type 0} (history : D → List Change) (journal : JournalState D) (content : Content) : Type 0 where
+  pub says : journal.content ≡ content
+  pub kept : AllPairsNow (λ f. f ≡ Some journal.content) (history journal.a) (history journal.b)
+
+-- a journal that was just made: its first file is in use
+pub record IsNew {D : Type 0} (journal : JournalState D) : Type 0 where
+  pub generation : journal.generation ≡ 1
+  pub base : journal.base ≡ 0
+  pub count : journal.count ≡ 0
+  pub in_a : journal.is_in_b ≡ false
+  pub usable : journal.is_spent ≡ false
+
+-- a journal that was opened, with the snapshot and the records that were found
+pub record IsOpened {D : Type 0} (Honest : Type 0) (journal : JournalState D) (snapshot : List ℕ) (records : List (List ℕ)) : Type 0 where
+  pub same_snapshot : Honest → snapshot ≡ journal.content.snapshot
+  pub same_records : Honest → records ≡ journal.content.records
+  pub generation : Honest → journal.content.generation ≡ journal.generation
+  pub base : Honest → journal.content.base ≡ journal.base
+  pub count : length records ≡ journal.count
+  pub usable : journal.is_spent ≡ false
+
+-- a record has this number, which is the next one
+pub record IsNextRecord {D : Type 0} (old new : JournalState D) (number : ℕ) : Type 0 where
+  pub next : number ≡ old.base + old.count + 1
+  pub count : new.count ≡ old.count + 1
+  pub usable : new.is_spent ≡ false
+
+-- the file in use stays in use, and the other isn't touched
+pub record StaysInFile {D : Type 0} (old new : JournalState D) : Type 0 where
+  pub generation : new.generation ≡ old.generation
+  pub base : new.base ≡ old.base
+  pub same_file : new.is_in_b ≡ old.is_in_b
+  pub other_file : MatchBool old.is_in_b (new.a ≡ old.a) (new.b ≡ old.b)
+
+-- the next generation: its base counts all records from before, and records go to the other file
+pub record IsNextGeneration {D : Type 0} (old new : JournalState D) : Type 0 where
+  pub generation : new.generation ≡ old.generation + 1
+  pub base : new.base ≡ old.base + old.count
+  pub count : new.count ≡ 0
+  pub other_file : new.is_in_b ≡ not old.is_in_b
+  pub usable : new.is_spent ≡ false
+
+-- Bytes of this size are refused in this order: the journal is spent, they are longer than the longest, or the last number is
+-- spent.
+-- A refusal that is no disk fault changes nothing.
+pub record RefusesInOrder {D T : Type 0} (old new : JournalState D) (longest size last : ℕ) (result : Result T JournalError) : Type 0 where
+  pub spent : old.is_spent ≡ true → (result ≡ Err DiskFault) × (new ≡ old)
+  pub too_long : old.is_spent ≡ false → ((result ≡ Err TooLong) ↔ (longest < size))
+  pub numbers_spent : old.is_spent ≡ false → size ≤ longest → ((result ≡ Err NumbersSpent) ↔ (last ≡ 2 ^ 64 - 1))
+  pub stays : OnErr result (result ≢ Err DiskFault → new ≡ old)

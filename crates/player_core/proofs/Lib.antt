@@ -1,0 +1,5 @@
+pub mod LastIds
+pub mod Least
+pub mod Leaving
+pub mod LeftBlock
+pub mod DrawnOrder

@@ -1,0 +1,10 @@
+use Rattle.std.proofs.Common.{◌≡◌, ◌≤◌, [], drop}
+use Rattle.indexmap.specs.IndexSet.{spare}
+use Rattle.player_core.specs.Player.{left_by}
+use Rattle.player_core.proofs.played.leave_block.Given as goal
+
+abbrev pub invariant-loop-at : goal.invariant-loop-at
+invariant-loop-at l = record {
+  ids : left_by l.fn.block [] l.at (drop l.at l.entries) l.played.keys ≡ left_by l.fn.block [] 0 l.entries l.initial.played.keys;
+  room : spare l.initial.played ≤ spare l.played;
+}

@@ -1,0 +1,73 @@
+-- What follows a song that has ended, or that a listener leaves.
+use Rattle.std.specs.Prelude.{ℕ, ◌+◌, Bool, true, false, ◌==◌, List, [], ◌∷◌, Option, Some, None, option_map, if◌then◌else◌}
+use Rattle.play_queue.specs.declared.entry.Entry.{Entry}
+use Rattle.player_core.specs.declared.block.Block.{Block}
+use Rattle.player_core.specs.declared.choice.Choice.{Choice}
+use Rattle.player_core.specs.declared.options.Single.{Single}
+use Rattle.player_core.specs.declared.options.Single.TheVariants.{Off, On, Oneshot}
+use Rattle.player_core.specs.declared.playing.PlayState.{PlayState}
+use Rattle.player_core.specs.declared.playing.PlayState.TheVariants.{Stop, Play, Pause}
+use Rattle.player_core.specs.declared.settings.PlaySettings.{PlaySettings}
+use Rattle.player_core.specs.Choice.{chosen, nothing, this_round, placed}
+use Rattle.player_core.specs.Player.{PlayerState, Step, unchanged, stopped, gone_on, left_out}
+
+-- under consume the ended entry leaves the queue
+abbrev pub consumed : Bool → ℕ → Block
+consumed true at = record { start = at; end = at + 1 }
+consumed false at = record { start = 0; end = 0 }
+
+-- single, on or once: under consume nothing is started; else, with repeat, the same song again; else the song
+-- stays current
+abbrev pub after_single : Bool → Bool → ℕ → Option Choice
+after_single true repeat current = Some nothing
+after_single false true current = Some (this_round (Some current))
+after_single false false current = None
+
+-- what is started after the current entry, whose position and id these are; none where the player stops and
+-- the song stays current
+abbrev pub followed_by : PlaySettings → Single → List Entry → List ℕ → ℕ → ℕ → Option Choice
+followed_by settings Off entries played at current = Some (chosen settings entries
+    (consumed settings.options.consume at) [] played at current)
+followed_by settings On entries played at current = after_single settings.options.consume settings.options.repeat current
+followed_by settings Oneshot entries played at current = after_single settings.options.consume settings.options.repeat current
+
+abbrev pub gone_on_or_stopped : Bool → PlayerState → Option Choice → PlayerState
+gone_on_or_stopped random player None = stopped player
+gone_on_or_stopped random player (Some choice) = gone_on random player choice
+
+abbrev pub order_of : Option Choice → Option ℕ
+order_of None = None
+order_of (Some choice) = choice.order
+
+abbrev pub is_oneshot : Single → Bool
+is_oneshot Off = false
+is_oneshot On = false
+is_oneshot Oneshot = true
+
+-- The song at a position is over: what follows is found before the entry leaves the queue under consume;
+-- `oneshot` is then off.
+abbrev pub over_at : List Entry → PlaySettings → Single → PlayerState → Option (ℕ × ℕ) → Step
+over_at entries settings single player None = unchanged player
+over_at entries settings single player (Some place) =
+    let next = followed_by settings single entries player.played place.0 place.1 in
+    record {
+      player = gone_on_or_stopped settings.options.random (left_out (consumed settings.options.consume place.0) [] entries player) next;
+      changes = record {
+        order = order_of next;
+        removed = if settings.options.consume then Some place.0 else None;
+        single_off = is_oneshot single;
+      };
+    }
+
+abbrev pub over : List Entry → PlaySettings → Single → PlayerState → Step
+over entries settings single player = over_at entries settings single player (placed entries player.current)
+
+-- Ended counts in play, with the present ticket
+abbrev pub ended_in : PlayState → List Entry → PlaySettings → PlayerState → ℕ → Step
+ended_in Stop entries settings player ticket = unchanged player
+ended_in Pause entries settings player ticket = unchanged player
+ended_in Play entries settings player ticket =
+    if player.ticket == ticket then over entries settings settings.options.single player else unchanged player
+
+abbrev pub ended : List Entry → PlaySettings → PlayerState → ℕ → Step
+ended entries settings player ticket = ended_in player.state entries settings player ticket

@@ -1,0 +1,8 @@
+-- The text of an error.
+use Rattle.std.specs.Prelude.{ℕ, List, ◌++◌, codes}
+use Rattle.player_core.specs.declared.failure.PlayFailure.{PlayFailure}
+use Rattle.player_core.specs.declared.failure.PlayFailure.TheVariants.{CannotPlay, OutputFailed}
+
+abbrev pub text_of : PlayFailure → List ℕ
+text_of (CannotPlay uri) = codes "cannot play " ++ uri
+text_of OutputFailed = codes "output failed"

@@ -1,0 +1,15 @@
+pub mod Words
+pub mod Refusal
+pub mod Staying
+pub mod RandomOrder
+pub mod Choice
+pub mod Candidates
+pub mod Player
+pub mod Ending
+pub mod Commands
+pub mod Seek
+pub mod Reports
+pub mod Shown
+pub mod Order
+pub mod Answered
+pub mod FailureText

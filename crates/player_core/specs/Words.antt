@@ -1,0 +1,12 @@
+-- The words by which entries are put in random order.
+use Rattle.std.specs.Prelude.{ℕ, ◌+◌, ◌==◌, List, if◌then◌else◌}
+use Rattle.rand_chacha.specs.ChaCha.{word_at, key_of}
+
+-- the word of an id is the one at place id of stream g of ChaCha8, of four double rounds, under the stored
+-- key; g is the order number
+unfoldable pub word : List ℕ → ℕ → ℕ → ℕ
+word key order id = word_at 4 (key_of key) order id
+
+-- the order number after one; 0 follows the greatest
+abbrev pub next_order : ℕ → ℕ
+next_order order = if order == 18446744073709551615 then 0 else order + 1

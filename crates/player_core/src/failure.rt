@@ -1,0 +1,48 @@
+ghost use Rattle.std.specs.Prelude.{◌≡◌, IfOk, string_bytes};
+ghost use Rattle.player_core.specs.FailureText.{text_of};
+
+use song_db::Uri;
+use std::alloc::{AllocError, Global};
+
+/// Why a song could not be played on.
+#[derive(Clone, Copy, Debug)]
+pub enum BrokenCause {
+    /// Its file could not be read.
+    Source,
+    /// The output took nothing more.
+    Output,
+}
+
+/// The error that the player shows until a song is started or `clearerror` clears it.
+#[derive(Debug, Drop)]
+pub enum PlayFailure {
+    /// The song at this URI could not be read. It stays when its entry leaves the queue.
+    CannotPlay(Uri),
+    OutputFailed,
+}
+
+impl PlayFailure {
+    /// The text that `status` shows.
+    pub fn text(&self, alloc: Global) -> Result<String, AllocError>
+        ensures { IfOk result (λ text. string_bytes text ≡ text_of self.now) }
+    {
+        match self {
+            PlayFailure::CannotPlay(uri) => {
+                let mut text = String::from_str(alloc, "cannot play ")?;
+                text.push_str(uri.as_str())?;
+                Ok(text)
+            }
+            PlayFailure::OutputFailed => String::from_str(alloc, "output failed"),
+        }
+    }
+
+    /// The same failure once more, in memory of its own.
+    pub fn try_clone(&self, alloc: Global) -> Result<PlayFailure, AllocError>
+        ensures { IfOk result (λ failure. failure ≡ self.now) }
+    {
+        match self {
+            PlayFailure::CannotPlay(uri) => Ok(PlayFailure::CannotPlay(uri.try_clone(alloc)?)),
+            PlayFailure::OutputFailed => Ok(PlayFailure::OutputFailed),
+        }
+    }
+}

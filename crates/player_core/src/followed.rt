@@ -1,0 +1,103 @@
+// What follows a song that is over.
+ghost use Rattle.std.specs.Prelude.{◌≡◌, ◌<◌, length, IsTrue};
+ghost use Rattle.indexmap.specs.IndexSet.{spare};
+ghost use Rattle.player_core.specs.Ending.{consumed, after_single, followed_by, gone_on_or_stopped, order_of, is_oneshot};
+ghost use Rattle.player_core.specs.Player.{player_of};
+
+use crate::block::Block;
+use crate::choice::Choice;
+use crate::choosing::{NOTHING, choose};
+use crate::options::Single;
+use crate::played::go_on;
+use crate::playing::{PlayState, Playing};
+use crate::settings::PlaySettings;
+use indexmap::IndexSet;
+use play_queue::Entry;
+
+// The block of the entry that leaves under consume.
+pub(crate) fn consumed(consume: bool, at: usize) -> Block
+    requires { at < usize.MAX }
+    ensures { result ≡ consumed consume at }
+{
+    if consume {
+        Block {
+            start: at,
+            end: at + 1,
+        }
+    } else {
+        Block::NONE
+    }
+}
+
+fn after_single(consume: bool, repeat: bool, current: u32) -> Option<Choice>
+    ensures { result ≡ after_single consume repeat current }
+{
+    if consume {
+        Some(NOTHING)
+    } else if repeat {
+        Some(Choice {
+            id: Some(current),
+            order: None,
+        })
+    } else {
+        None
+    }
+}
+
+// What is started after the current entry; none where the player stops and the song stays current.
+pub(crate) fn followed_by(
+    entries: &[Entry],
+    settings: &PlaySettings,
+    single: Single,
+    played: &IndexSet<u32>,
+    at: usize,
+    current: u32,
+) -> Option<Choice>
+    requires { at < length entries.now }
+    ensures { result ≡ followed_by settings.now single entries.now played.now.keys at current }
+{
+    let options = settings.options;
+    match single {
+        Single::Off => {
+            let block = consumed(options.consume, at);
+            Some(choose(entries, settings, block, &[], played, at, current))
+        }
+        Single::On | Single::Oneshot => after_single(options.consume, options.repeat, current),
+    }
+}
+
+pub(crate) fn go_on_or_stop(
+    playing: &mut Playing,
+    played: &mut IndexSet<u32>,
+    random: bool,
+    next: Option<Choice>,
+)
+    requires { IsTrue random → 0 < spare played.old }
+    ensures { player_of playing.new played.new.keys ≡ gone_on_or_stopped random (player_of playing.old played.old.keys) next }
+{
+    match next {
+        Some(choice) => go_on(playing, played, random, choice),
+        None => {
+            playing.state = PlayState::Stop;
+            playing.frame = 0;
+        }
+    }
+}
+
+pub(crate) fn order_of(next: Option<Choice>) -> Option<u64>
+    ensures { result ≡ order_of next }
+{
+    match next {
+        Some(choice) => choice.order,
+        None => None,
+    }
+}
+
+pub(crate) fn is_oneshot(single: Single) -> bool
+    ensures { result ≡ is_oneshot single }
+{
+    match single {
+        Single::Oneshot => true,
+        Single::Off | Single::On => false,
+    }
+}

@@ -1,0 +1,40 @@
+ghost use Rattle.std.specs.Prelude.{◌≡◌, map, IfOk};
+ghost use Rattle.player_core.specs.Words.{word, next_order};
+
+use play_queue::Entry;
+use rand_chacha::ChaCha8Rng;
+use rand_core::SeedableRng;
+use rand_core::utils::NextWord;
+use std::alloc::{AllocError, Global};
+
+/// The random word of an id: the word at place `id` of stream `order` of ChaCha with 8 rounds under the key.
+pub fn word(key: [u8; 32], order: u64, id: u32) -> u32
+    ensures { result ≡ word key order id }
+{
+    let mut words = ChaCha8Rng::from_seed(key);
+    words.set_stream(order);
+    words.set_word_pos(u128::from(id));
+    words.next_word()
+}
+
+/// The words of entries, in their order, as a shuffle of them takes.
+pub fn words_of(
+    alloc: Global,
+    key: [u8; 32],
+    order: u64,
+    entries: &[Entry],
+) -> Result<Vec<u32>, AllocError>
+    ensures { IfOk result (λ words. words.items ≡ map (λ entry. word key order entry.id) entries.now) }
+{
+    entries
+        .iter()
+        .map(|entry| word(key, order, entry.id))
+        .collect(alloc)
+}
+
+/// The order number after one; 0 follows 2^64-1.
+pub fn next_order(order: u64) -> u64
+    ensures { result ≡ next_order order }
+{
+    if order == u64::MAX { 0 } else { order + 1 }
+}

@@ -1,0 +1,19 @@
+use Rattle.std.proofs.Common.{◌≡◌, ◌+◌, ◌<◌, ◌^◌, true, sym, ◌∙◌, arith, rules}
+use Rattle.song_db.specs.Last.{ends_before}
+use Rattle.song_db.proofs.LastRow.{last_database, last_timed}
+use Rattle.song_db.proofs.Timing.{total_fits}
+use Rattle.song_db.proofs.song_db.SongDb.push_last.Goals as goal
+
+pub overflow_add-self : goal.overflow_add-self
+overflow_add-self c = let fits : c.self.inside.total + c.milliseconds.result < 2 ^ 128 = total_fits c.self.inside.rows.items
+    c.self.inside.total c.milliseconds.result c.self.invariant.0 c.self.invariant.1 c.milliseconds.ensures.bound in search rules
+
+pub invariant_of-self-2 : goal.invariant_of-self-2
+invariant_of-self-2 c =
+    let before : ends_before c.self.inside.rows.items c.args.row.uri ≡ true = rw (c.uri.ensures.text, c.deref.ensures.value) at
+    (sym c.ends_before.ensures ∙ c.if-not-ends_before.false) in
+    rw (c.push_reserved.ensures.items, c.in_ok-reserve.ensures.items) (
+      last_database c.self.inside.rows.items c.args.row c.self.invariant.0 before (omega arith),
+      last_timed c.self.inside.rows.items c.args.row c.self.inside.total c.milliseconds.result c.self.invariant.1
+          c.milliseconds.ensures.value c.milliseconds.ensures.bound,
+    )

@@ -1,0 +1,106 @@
+// Stickers as they were saved, made one by one.
+ghost use Rattle.std.specs.Prelude.{◌≡◌, [], ◌∷◌, ◌++◌, IsTrue, OnOk, OnErr};
+ghost use Rattle.stickers.specs.Fits.{HasRoom};
+ghost use Rattle.stickers.specs.Part.{is_last, is_behind, part_refusal, AnswersPart, AnswersPartIfMemory};
+ghost use Rattle.stickers.specs.Sticker.{sticker};
+
+use super::Stickers;
+use crate::limits::MAX_STICKERS;
+use crate::name::is_good_name;
+use crate::refusal::PartError;
+use crate::value::StickerValue;
+use song_db::Uri;
+use std::alloc::Global;
+use std::cmp::Ordering;
+use std::marker::Model;
+
+/// Makes stickers as they were saved, rising by URI and then by name. A sticker that can't stand behind those before
+/// it is refused, and the builder stays as it was.
+#[derive(Drop)]
+pub struct StickersBuilder {
+    stickers: Stickers,
+    last: Option<(Uri, String)>,
+}
+
+impl Model for StickersBuilder {
+    ghost use Rattle.std.specs.Prelude.{List};
+    ghost use Rattle.stickers.specs.Part.{TellsLast};
+    ghost use Rattle.stickers.specs.Sticker.{Sticker};
+
+    ghost Value = { List Sticker };
+
+    ghost view = { λ b. b.stickers };
+
+    ghost invariant = { λ b. TellsLast b.stickers b.last };
+}
+
+impl StickersBuilder {
+    /// No sticker yet. It takes no memory yet.
+    pub fn new(alloc: Global) -> Self
+        ensures { result ≡ [] }
+    {
+        StickersBuilder {
+            stickers: Stickers::new(alloc),
+            last: None,
+        }
+    }
+
+    /// What `push` would be refused for, but for want of memory: `BadName`, then `NotRising` where the sticker doesn't
+    /// stand behind all others, then `TooMany`. It takes no memory.
+    pub fn check(&self, uri: &Uri, name: &str) -> Result<(), PartError>
+        ensures answer { AnswersPart (part_refusal self.now uri.now name.now) result }
+        ensures fits { OnOk result (HasRoom self.now uri.now name.now) }
+        ensures last { OnOk result (IsTrue (is_last self.now uri.now name.now)) }
+    {
+        if !is_good_name(name) {
+            return Err(PartError::BadName);
+        }
+        if !is_behind(&self.last, uri, name) {
+            return Err(PartError::NotRising);
+        }
+        if MAX_STICKERS <= self.stickers.len() {
+            return Err(PartError::TooMany);
+        }
+        Ok(())
+    }
+
+    /// The next sticker. Refused as `check` says, and by `NoMemory`.
+    pub fn push(
+        &mut self,
+        alloc: Global,
+        uri: Uri,
+        name: &str,
+        value: StickerValue,
+    ) -> Result<(), PartError>
+        ensures ok { OnOk result (self.new ≡ self.old ++ sticker uri (name.now, value) ∷ []) }
+        ensures err { OnErr result (self.new ≡ self.old) }
+        ensures answer { AnswersPartIfMemory (part_refusal self.old uri name.now) result }
+    {
+        self.check(&uri, name)?;
+        let last = String::from_str(alloc, name)?;
+        self.stickers.put(alloc, uri.as_str(), name, value)?;
+        self.last = Some((uri, last));
+        Ok(())
+    }
+
+    /// All these stickers.
+    pub fn finish(self) -> Stickers
+        ensures { result ≡ self }
+    {
+        self.stickers
+    }
+}
+
+// Whether a sticker of this URI and name stands behind the last one, if there is one.
+fn is_behind(last: &Option<(Uri, String)>, uri: &Uri, name: &str) -> bool
+    ensures { result ≡ is_behind last.now uri.now name.now }
+{
+    match last {
+        None => true,
+        Some((last_uri, last_name)) => match last_uri.compare(uri.as_str()) {
+            Ordering::Less => true,
+            Ordering::Equal => last_name.as_str() < name,
+            Ordering::Greater => false,
+        },
+    }
+}

@@ -1,2 +1,0 @@
-pub mod FileSource
-pub mod Pace

@@ -1,0 +1,163 @@
+// A folder over real files.
+ghost use Rattle.std.specs.Prelude.{[]};
+
+use crate::file_source::FileSource;
+use crate::{Folder, FolderEntry, FolderFault};
+use std::alloc::Global;
+use std::fs::{self, Metadata};
+use std::io::{self, ErrorKind};
+use std::os::unix::fs::MetadataExt;
+
+/// The files below a folder of the operating system. Links are followed, but a link to a folder that it stands in can't
+/// be listed, since it would go on for ever. What is neither a folder nor a plain file isn't listed, can't be opened,
+/// and counts as no file. Where the folder itself isn't there, as on a disk that was taken out, that is a fault of its
+/// listing.
+///
+/// No contract can say what a folder holds, so its honesty is a premise that no code supplies.
+#[derive(Drop)]
+pub struct FileFolder<'a> {
+    rt: &'a HostRuntime,
+    root: String,
+    // The folder that was listed last: what it has as files needn't be looked at again.
+    listed: Option<String>,
+}
+
+impl<'a> FileFolder<'a> {
+    /// The files below `root`, whose own path is empty.
+    pub fn new(rt: &'a HostRuntime, root: String) -> Self {
+        FileFolder {
+            rt,
+            root,
+            listed: None,
+        }
+    }
+
+    // Where the operating system has what stands under a path.
+    fn place(&self, alloc: Global, path: &str) -> Result<String, FolderFault> {
+        let len = self.root.len().saturating_add(path.len()).saturating_add(1);
+        let mut place = String::with_capacity(alloc, len)?;
+        place.push_str(self.root.as_str())?;
+        if !path.is_empty() {
+            place.push_str("/")?;
+            place.push_str(path)?;
+        }
+        Ok(place)
+    }
+
+    // Whether a folder is one of those that it stands in.
+    fn stands_in(&self, alloc: Global, path: &str, folder: &Metadata) -> io::Result<bool> {
+        let mut over = String::from_str(alloc, self.root.as_str())?;
+        for part in path.split('/') {
+            if is_same(&fs::metadata(self.rt, over.as_str())?, folder) {
+                return Ok(true);
+            }
+            over.push_str("/")?;
+            over.push_str(part)?;
+        }
+        Ok(false)
+    }
+
+    // Whether a path stands right in the folder that was listed last.
+    fn has_listed(&self, path: &str) -> bool {
+        let parent = match path.rsplit_once('/') {
+            Some((parent, _)) => parent,
+            None => "",
+        };
+        match &self.listed {
+            Some(listed) => listed.as_str() == parent,
+            None => false,
+        }
+    }
+
+    // A file, if one stands there. What isn't known to be a file is looked at first: the opening of a pipe would wait for its other end.
+    fn open_file(&self, alloc: Global, path: &str, place: &str) -> io::Result<Option<FileSource>> {
+        if !self.has_listed(path) && !fs::metadata(self.rt, place)?.is_file() {
+            return Ok(None);
+        }
+        FileSource::open(self.rt, alloc, place)
+    }
+
+    // What stands in a folder, unless it is a link upwards.
+    fn entries(&self, alloc: Global, path: &str, place: &str) -> io::Result<Vec<FolderEntry>> {
+        if path.is_empty() {
+            return entries_of(self.rt, alloc, place);
+        }
+        if fs::symlink_metadata(self.rt, place)?.is_symlink() {
+            let folder = fs::metadata(self.rt, place)?;
+            if self.stands_in(alloc, path, &folder)? {
+                return Err(io::Error::other("a link to a folder that it stands in"));
+            }
+        }
+        entries_of(self.rt, alloc, place)
+    }
+}
+
+impl Folder for FileFolder<'_> {
+    type File = FileSource;
+
+    ghost files = { λ _. [] };
+
+    ghost honest = { λ _. ⊥ };
+
+    fn list(&mut self, alloc: Global, path: &str) -> Result<Option<Vec<FolderEntry>>, FolderFault> {
+        let place = self.place(alloc, path)?;
+        let name = String::from_str(alloc, path)?;
+        self.listed = None;
+        match self.entries(alloc, path, place.as_str()) {
+            Ok(entries) => {
+                self.listed = Some(name);
+                Ok(Some(entries))
+            }
+            Err(error) if is_absent(&error) && !path.is_empty() => Ok(None),
+            Err(error) => Err(fault_of(&error)),
+        }
+    }
+
+    fn open(&mut self, alloc: Global, path: &str) -> Result<Option<FileSource>, FolderFault> {
+        let place = self.place(alloc, path)?;
+        match self.open_file(alloc, path, place.as_str()) {
+            Ok(file) => Ok(file),
+            Err(error) if is_absent(&error) => Ok(None),
+            Err(error) => Err(fault_of(&error)),
+        }
+    }
+}
+
+// What stands in a folder. A name that isn't UTF-8 is an error.
+fn entries_of(rt: &HostRuntime, alloc: Global, place: &str) -> io::Result<Vec<FolderEntry>> {
+    let mut entries = Vec::new(alloc);
+    for found in fs::read_dir(rt, place)? {
+        let found = found?;
+        if let Some(is_folder) = kind_of(fs::metadata(rt, found.path()))? {
+            let name = String::from_str(alloc, found.file_name())?;
+            entries.push(FolderEntry { name, is_folder })?;
+        }
+    }
+    Ok(entries)
+}
+
+// Whether a folder stands there or a file; `None` for anything else, for a link to nothing, and for what vanished since it was listed.
+fn kind_of(metadata: io::Result<Metadata>) -> io::Result<Option<bool>> {
+    match metadata {
+        Ok(metadata) if metadata.is_dir() => Ok(Some(true)),
+        Ok(metadata) if metadata.is_file() => Ok(Some(false)),
+        Ok(_) => Ok(None),
+        Err(error) if is_absent(&error) => Ok(None),
+        Err(error) => Err(error),
+    }
+}
+
+fn is_same(folder: &Metadata, other: &Metadata) -> bool {
+    folder.dev() == other.dev() && folder.ino() == other.ino()
+}
+
+fn is_absent(error: &io::Error) -> bool {
+    error.kind() == ErrorKind::NotFound || error.kind() == ErrorKind::NotADirectory
+}
+
+fn fault_of(error: &io::Error) -> FolderFault {
+    if error.kind() == ErrorKind::OutOfMemory {
+        return FolderFault::NoMemory;
+    }
+    FolderFault::Source
+}

@@ -1,0 +1,18 @@
+// What the tests compare by. The prover takes an assertion of two values apart for ten seconds and more: here alone, once for all.
+use std::fmt::Debug;
+use std::process::Abort;
+
+/// These are equal.
+pub fn equal<T: Copy + PartialEq + Debug>(rt: &impl Abort, left: T, right: T) {
+    assert_eq!(rt; left, right);
+}
+
+/// The same of texts.
+pub fn same_text(rt: &impl Abort, left: &str, right: &str) {
+    equal(rt, left, right);
+}
+
+/// The same of samples.
+pub fn same_samples(rt: &impl Abort, left: &[i16], right: &[i16]) {
+    equal(rt, left, right);
+}

@@ -1,0 +1,74 @@
+// Folders of real files, below the folder in which the tests run.
+use super::folders::{frames_at, has_file, holds};
+use super::*;
+use std::os::unix::fs::symlink;
+use std::{fs, io};
+
+/// Makes a folder with a song, and another song in a folder below it.
+fn make_songs(rt: &HostRuntime, root: &str, inner: &str) -> io::Result<()> {
+    let _ = fs::remove_dir_all(rt, root);
+    fs::create_dir_all(rt, inner)?;
+    let song = format!(in rt.alloc(); "{root}/a.wav")?;
+    fs::write(rt, song.as_str(), &WAVE_A)?;
+    let song = format!(in rt.alloc(); "{inner}/b.wav")?;
+    fs::write(rt, song.as_str(), &WAVE_B)
+}
+
+fn folder<'a>(rt: &'a HostRuntime, root: &str) -> Result<FileFolder<'a>, Fail> {
+    Ok(FileFolder::new(rt, String::from_str(rt.alloc(), root)?))
+}
+
+/// A listing is refused.
+fn is_refused<F: Folder>(rt: &impl Abort, alloc: Global, folder: &mut F, path: &str) {
+    equal(
+        rt,
+        folder.list(alloc, path).err(),
+        Some(FolderFault::Source),
+    );
+}
+
+#[test]
+fn real_files(rt: HostRuntime) -> Result<(), Fail> {
+    let alloc = rt.alloc();
+    make_songs(&rt, "real_files", "real_files/d")?;
+    let mut folder = folder(&rt, "real_files")?;
+    equal(&rt, frames_at(alloc, &mut folder, "a.wav")?, 2);
+    holds(&rt, alloc, &mut folder, "d", "b.wav ")?;
+    equal(&rt, frames_at(alloc, &mut folder, "d/b.wav")?, 2);
+    holds(&rt, alloc, &mut folder, "a.wav", "no folder")?;
+    holds(&rt, alloc, &mut folder, "e", "no folder")?;
+    equal(&rt, has_file(alloc, &mut folder, "d")?, false);
+    equal(&rt, has_file(alloc, &mut folder, "c.wav")?, false);
+    fs::remove_dir_all(&rt, "real_files")?;
+    is_refused(&rt, alloc, &mut folder, "");
+    Ok(())
+}
+
+/// A link to a folder beside it is listed; links to folders that they stand in are refused, however they lead there;
+/// and a link to nothing isn't there.
+#[test]
+fn real_links(rt: HostRuntime) -> Result<(), Fail> {
+    let alloc = rt.alloc();
+    make_songs(&rt, "real_links", "real_links/d/e")?;
+    symlink(&rt, "d/e", "real_links/beside")?;
+    symlink(&rt, ".", "real_links/d/itself")?;
+    symlink(&rt, "../..", "real_links/d/e/root")?;
+    symlink(&rt, "nowhere", "real_links/d/e/c.wav")?;
+    let mut folder = folder(&rt, "real_links")?;
+    equal(&rt, frames_at(alloc, &mut folder, "beside/b.wav")?, 2);
+    is_refused(&rt, alloc, &mut folder, "d/itself");
+    is_refused(&rt, alloc, &mut folder, "d/e/root");
+    is_refused(&rt, alloc, &mut folder, "beside/root");
+    equal(&rt, has_file(alloc, &mut folder, "d/e/c.wav")?, false);
+    fs::remove_dir_all(&rt, "real_links")?;
+    Ok(())
+}
+
+/// The printed names of the tags.
+#[test]
+fn names_of_tags(rt: HostRuntime) {
+    let names = ["Title", "Artist", "Album", "Date", "Genre", "Comment"];
+    for (tag, name) in Tag::ALL.into_iter().zip(names) {
+        same_text(&rt, tag.name(), name);
+    }
+}

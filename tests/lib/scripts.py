@@ -1,0 +1,177 @@
+"""Tests as data: what the built program does over real files, as scripts with the exact bytes that are expected.
+
+Each file `tests/scripts/TOPIC/NAME.txt` is a script, run in a folder of its own. Its lines:
+
+    # TEXT                      a remark
+    config NAME [KEY=TEXT ..]   writes a configuration: music = "music", journal_a = "a", journal_b = "b", a key of 5a's, and what
+                                is given; KEY= alone leaves a key out, KEY:=TEXT gives it as it stands, without quotes
+    file NAME [HEX ..]          writes a file of these bytes
+    patch NAME OFFSET HEX       overwrites bytes of a file
+    folder NAME                 makes a folder
+    holds NAME LENGTH HEX ..    a file has this length and ends with these bytes
+    run [WORD ..]               begins a run of the program; what follows, up to the next line of another kind, belongs to it:
+    > LINE                      a line of its input; `>-` one without its newline at the end
+    < LINE                      a line of what it must write
+    ! LINE                      a line of what it must write on standard error
+    kill                        it is killed once it has written that, in place of the end of its input
+    status N                    the exit status, 0 if not said
+    to NAME                     what it writes goes to this file, such as /dev/full
+
+In lines of input and output `%{TEXT*N}` stands for a text N times.
+"""
+
+import concurrent.futures
+import os
+import re
+import signal
+import subprocess
+import tempfile
+import threading
+
+DEFAULTS = {"music": '"music"', "journal_a": '"a"', "journal_b": '"b"', "key": '"' + "5a" * 32 + '"'}
+SECONDS = 60
+
+
+class Failure(Exception):
+    """What a script found wrong."""
+
+
+class Run:
+    """A run of the program, as its lines have it."""
+
+    def __init__(self, words, line):
+        self.words, self.line = words, line
+        self.given, self.wanted, self.told = b"", b"", b""
+        self.status, self.is_killed, self.to = 0, False, None
+
+    def take(self, line):
+        """Whether the line belongs to the run."""
+        word, _, rest = line.partition(" ")
+        if word in (">", ">-"):
+            self.given += whole(rest) + b"\n" * (word == ">")
+        elif word == "<":
+            self.wanted += whole(rest) + b"\n"
+        elif word == "!":
+            self.told += whole(rest) + b"\n"
+        elif word == "status":
+            self.status = int(rest)
+        elif word == "to":
+            self.to = rest
+        elif line == "kill":
+            self.is_killed = True
+        else:
+            return False
+        return True
+
+    def do(self, program, folder):
+        out = open(self.to, "wb") if self.to else subprocess.PIPE
+        how = {"cwd": folder, "stdin": subprocess.PIPE, "stdout": out, "stderr": subprocess.PIPE, "start_new_session": True}
+        with subprocess.Popen([program, *self.words], **how) as process:
+            ender = threading.Timer(SECONDS, os.killpg, (process.pid, signal.SIGKILL))
+            ender.start()
+            try:
+                written, told = self.killed(process) if self.is_killed else process.communicate(self.given)
+            finally:
+                ender.cancel()
+        self.compare("standard output", written or b"", self.wanted)
+        self.compare("standard error", told, self.told)
+        status = -signal.SIGKILL if self.is_killed else self.status
+        if process.returncode != status:
+            raise Failure(f"line {self.line}: it ended with status {process.returncode}, and not {status}")
+
+    def killed(self, process):
+        process.stdin.write(self.given)
+        process.stdin.flush()
+        written = b""
+        while len(written) < len(self.wanted):
+            piece = os.read(process.stdout.fileno(), 65536)
+            if not piece:
+                break
+            written += piece
+        os.killpg(process.pid, signal.SIGKILL)
+        rest, told = process.stdout.read(), process.stderr.read()
+        process.wait()
+        return written + rest, told
+
+    def compare(self, what, found, wanted):
+        if found != wanted:
+            at = next((it for it, (one, other) in enumerate(zip(found, wanted)) if one != other), min(len(found), len(wanted)))
+            raise Failure(f"line {self.line}: {what} differs at byte {at}: found {found[at : at + 80]!r}, wanted {wanted[at : at + 80]!r}")
+
+
+def whole(text):
+    return re.sub(r"%\{(.+?)\*(\d+)\}", lambda it: it[1] * int(it[2]), text).encode()
+
+
+def configuration(settings):
+    keys = dict(DEFAULTS)
+    for setting in settings:
+        key, _, value = setting.partition("=")
+        if key.endswith(":"):
+            keys[key[:-1]] = value
+        elif value:
+            keys[key] = f'"{value}"'
+        else:
+            keys.pop(key)
+    return "".join(f"{key} = {value}\n" for key, value in keys.items())
+
+
+def prepare(line, folder):
+    """Does what a line says of files."""
+    word, *words = line.split()
+    path = os.path.join(folder, words[0]) if words else folder
+    if word == "config":
+        os.makedirs(folder, exist_ok=True)
+        with open(path, "w", encoding="utf-8") as file:
+            file.write(configuration(words[1:]))
+    elif word == "folder":
+        os.makedirs(path)
+    elif word == "file":
+        os.makedirs(os.path.dirname(path), exist_ok=True)
+        with open(path, "wb") as file:
+            file.write(bytes.fromhex("".join(words[1:])))
+    elif word == "patch":
+        with open(path, "r+b") as file:
+            file.seek(int(words[1]))
+            file.write(bytes.fromhex("".join(words[2:])))
+    elif word == "holds":
+        with open(path, "rb") as file:
+            content = file.read()
+        if len(content) != int(words[1]) or not content.endswith(bytes.fromhex("".join(words[2:]))):
+            raise Failure(f"{words[0]} has {len(content)} bytes: {content.hex()}")
+    else:
+        raise Failure(f"no such line: {line}")
+
+
+def run_script(program, path):
+    """What a script found wrong, or None."""
+    with open(path, encoding="utf-8") as file:
+        lines = file.read().split("\n")
+    run = None
+    with tempfile.TemporaryDirectory(prefix="script-") as folder:
+        try:
+            for number, line in enumerate([*lines, "end"], 1):
+                if not line or line.startswith("#") or run and run.take(line):
+                    continue
+                if run:
+                    run.do(program, folder)
+                    run = None
+                if line.split()[0] == "run":
+                    run = Run(line.split()[1:], number)
+                elif line != "end":
+                    prepare(line, folder)
+        except (Failure, OSError, ValueError) as fault:
+            return str(fault)
+    return None
+
+
+def scripts_in(folder):
+    return sorted(f"{at}/{name}" for at, _, files in os.walk(folder) for name in files if name.endswith(".txt"))
+
+
+def run_all(program, folder):
+    """The name of each script with what it found wrong, or None."""
+    paths = scripts_in(folder)
+    with concurrent.futures.ThreadPoolExecutor(4) as pool:
+        faults = pool.map(lambda path: run_script(program, path), paths)
+        return [(os.path.relpath(path, folder).removesuffix(".txt"), fault) for path, fault in zip(paths, faults)]
