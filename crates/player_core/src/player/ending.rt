@@ -1,0 +1,84 @@
+// The end of a song, and `next`.
+ghost use Rattle.std.specs.Prelude.{◌≡◌, IfOk, IsOkUnless, OnErr};
+ghost use Rattle.player_core.specs.Answered.{OnStep};
+ghost use Rattle.player_core.specs.Commands.{next_one};
+ghost use Rattle.player_core.specs.Ending.{over, ended};
+ghost use Rattle.player_core.specs.Refusal.{AnswersIfMemory, refusal_of};
+
+use super::Player;
+use crate::changes::Changes;
+use crate::followed::{consumed, followed_by, go_on_or_stop, is_oneshot, order_of};
+use crate::options::Single;
+use crate::placing::placed;
+use crate::played::{leave, make_room};
+use crate::playing::PlayState;
+use crate::refusal::PlayerError;
+use crate::settings::PlaySettings;
+use play_queue::Entry;
+
+impl Player {
+    /// The output has played the last frame. It counts in play, with the present ticket alone.
+    pub fn ended(
+        &mut self,
+        entries: &[Entry],
+        settings: &PlaySettings,
+        ticket: u64,
+    ) -> Result<Changes, PlayerError>
+        ensures ok { OnStep (ended entries.now settings.now self.old ticket) self.new result }
+        ensures err { OnErr result (self.new ≡ self.old) }
+        ensures answer { IsOkUnless result PlayerError.NoMemory }
+    {
+        if self.playing.state != PlayState::Play || self.playing.ticket != ticket {
+            return Ok(Changes::NONE);
+        }
+        self.finish(entries, settings, settings.options.single)
+    }
+
+    /// `next`: what the end of the song does in play, with `single` taken as off, and left alone. In pause it
+    /// does the same, and what it starts plays. Refused by `NotPlaying` in stop.
+    pub fn next(
+        &mut self,
+        entries: &[Entry],
+        settings: &PlaySettings,
+    ) -> Result<Changes, PlayerError>
+        ensures ok { IfOk (next_one entries.now settings.now self.old) (λ step. OnStep step self.new result) }
+        ensures err { OnErr result (self.new ≡ self.old) }
+        ensures answer { AnswersIfMemory (refusal_of (next_one entries.now settings.now self.old)) result }
+    {
+        if self.playing.state == PlayState::Stop {
+            return Err(PlayerError::NotPlaying);
+        }
+        self.finish(entries, settings, Single::Off)
+    }
+
+    // The current song is over.
+    fn finish(
+        &mut self,
+        entries: &[Entry],
+        settings: &PlaySettings,
+        single: Single,
+    ) -> Result<Changes, PlayerError>
+        ensures ok { OnStep (over entries.now settings.now single self.old) self.new result }
+        ensures err { OnErr result (self.new ≡ self.old) }
+        ensures answer { IsOkUnless result PlayerError.NoMemory }
+    {
+        let Some((at, current)) = placed(entries, self.playing.current) else {
+            return Ok(Changes::NONE);
+        };
+        let options = settings.options;
+        let next = followed_by(entries, settings, single, &self.played, at, current);
+        make_room(&mut self.played, options.random)?;
+        leave(
+            &mut self.played,
+            entries,
+            consumed(options.consume, at),
+            &[],
+        );
+        go_on_or_stop(&mut self.playing, &mut self.played, options.random, next);
+        Ok(Changes {
+            order: order_of(next),
+            removed: if options.consume { Some(at) } else { None },
+            single_off: is_oneshot(single),
+        })
+    }
+}

@@ -1,0 +1,78 @@
+// What the player does when entries leave the queue.
+ghost use Rattle.std.specs.Prelude.{◌≡◌, IfOk, IsOkUnless, OnErr};
+ghost use Rattle.player_core.specs.Answered.{OnStep};
+ghost use Rattle.player_core.specs.Reports.{takes_at, followed, emptied};
+
+use super::Player;
+use crate::block::Block;
+use crate::changes::Changes;
+use crate::choosing::choose;
+use crate::placing::placed;
+use crate::played::{go_on, leave, make_room, stop_without_song};
+use crate::playing::PlayState;
+use crate::refusal::PlayerError;
+use crate::settings::PlaySettings;
+use crate::staying::takes;
+use play_queue::Entry;
+use song_db::Uri;
+
+// Whether the entry at a position leaves.
+fn takes_at(block: Block, dropped: &[Uri], entries: &[Entry], at: usize) -> bool
+    ensures { result ≡ takes_at block dropped.now entries.now at }
+{
+    match entries.get(at) {
+        Some(entry) => takes(block, dropped, at, entry),
+        None => false,
+    }
+}
+
+impl Player {
+    /// Entries leave the queue: those of a block, and those of dropped URIs; `entries` is the queue before.
+    /// Their ids leave the played list. Where the current entry is among them, in play the next song that
+    /// stays is started, with `single` taken as off, and else the player stops without a current song.
+    ///
+    /// The caller then takes the entries out of the queue, which can't be refused.
+    pub fn follow_removal(
+        &mut self,
+        entries: &[Entry],
+        settings: &PlaySettings,
+        block: Block,
+        dropped: &[Uri],
+    ) -> Result<Changes, PlayerError>
+        ensures ok { OnStep (followed entries.now settings.now block dropped.now self.old) self.new result }
+        ensures err { OnErr result (self.new ≡ self.old) }
+        ensures answer { IsOkUnless result PlayerError.NoMemory }
+    {
+        let random = settings.options.random;
+        let place = placed(entries, self.playing.current);
+        let Some((at, current)) = place else {
+            leave(&mut self.played, entries, block, dropped);
+            return Ok(Changes::NONE);
+        };
+        if !takes_at(block, dropped, entries, at) {
+            leave(&mut self.played, entries, block, dropped);
+            return Ok(Changes::NONE);
+        }
+        if self.playing.state != PlayState::Play {
+            leave(&mut self.played, entries, block, dropped);
+            stop_without_song(&mut self.playing);
+            return Ok(Changes::NONE);
+        }
+        let choice = choose(entries, settings, block, dropped, &self.played, at, current);
+        make_room(&mut self.played, random)?;
+        leave(&mut self.played, entries, block, dropped);
+        go_on(&mut self.playing, &mut self.played, random, choice);
+        Ok(Changes {
+            order: choice.order,
+            ..Changes::NONE
+        })
+    }
+
+    /// All entries leave the queue: the player stops without a current song, and nothing is played.
+    pub fn follow_clear(&mut self)
+        ensures { self.new ≡ emptied self.old }
+    {
+        stop_without_song(&mut self.playing);
+        self.played.clear();
+    }
+}
