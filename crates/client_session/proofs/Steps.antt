@@ -6,8 +6,8 @@ use Rattle.std.specs.Result.{IsErrAnd}
 use Rattle.client_session.specs.declared.refusal.SessionError.{SessionError}
 use Rattle.client_session.specs.declared.refusal.SessionError.TheVariants.{NoMemory, LineTooLong}
 use Rattle.std.proofs.lemmas.List.{take_all, take-append-drop, drop_more, length-take-le, append-nil}
-use Rattle.command_text.specs.declared.request.Request.{Request}
-use Rattle.command_text.specs.declared.request.Request.TheVariants.{Single}
+use Rattle.console_text.specs.declared.request.Request.{Request}
+use Rattle.console_text.specs.declared.request.Request.TheVariants.{Single}
 use Rattle.client_session.specs.Lines.{newline, line_limit, ended, HasNoNewline, IsLine, IsUnended, BeginsTooLong, IsLineEnd}
 use Rattle.client_session.specs.Requests.{requests_of, rest_of}
 use Rattle.client_session.proofs.Newlines.{HasNoNewline-append, IsUnended-append}

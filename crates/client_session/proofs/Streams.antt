@@ -6,7 +6,7 @@ use Rattle.std.proofs.lemmas.List.{map-append}
 use Rattle.std.proofs.lemmas.List.Sums.{take_while-cons}
 use Rattle.std.proofs.lemmas.List.Concat.{flat_map-append}
 use Rattle.std.proofs.Math.Seq.{drop-append_seam, drop-append-add}
-use Rattle.command_text.specs.declared.request.Request.TheVariants.{Single}
+use Rattle.console_text.specs.declared.request.Request.TheVariants.{Single}
 use Rattle.client_session.specs.Lines.{newline, line_limit, ended, onto_first, lines_of, is_short, taken_lines, HasNoNewline, IsLine, IsUnended}
 use Rattle.client_session.specs.Requests.{requests_of, rest_of}
 

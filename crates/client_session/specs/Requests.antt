@@ -1,8 +1,8 @@
 -- The requests of a stream of bytes, and the rest that is no whole request.
 use Rattle.std.specs.Prelude.{◌≡◌, ◌≢◌, ℕ, List, [], ◌∷◌, ◌++◌, map, length, drop}
 use Rattle.std.specs.List.{flat_map, AllByRecursion}
-use Rattle.command_text.specs.declared.request.Request.{Request}
-use Rattle.command_text.specs.declared.request.Request.TheVariants.{Single}
+use Rattle.console_text.specs.declared.request.Request.{Request}
+use Rattle.console_text.specs.declared.request.Request.TheVariants.{Single}
 use Rattle.client_session.specs.Lines.{ended, taken_lines, IsLine}
 
 -- a request for each line that is taken

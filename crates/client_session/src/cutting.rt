@@ -1,4 +1,5 @@
-ghost use Rattle.std.specs.Prelude.{◌≡◌, ℕ, ◌+◌, ◌-◌, ◌<◌, ◌≤◌, ◌↔◌, [], ◌++◌, length, take, drop, slice_index, MatchOption, IfOk, OnOk, IfErr, IsErrOf, ◌⊎◌};
+ghost use Rattle.std.specs.Prelude.{◌≡◌, ℕ, ◌+◌, ◌-◌, ◌<◌, ◌≤◌, ◌↔◌, [], ◌++◌, length, take, drop, slice_index, MatchOption, IfOk, OnOk};
+ghost use Rattle.std.specs.Prelude.{IfErr, IsErrOf, ◌⊎◌};
 ghost use Rattle.client_session.specs.Lines.{line_limit, HasNoNewline, IsUnended, IsLineEnd, BeginsTooLong};
 ghost use Rattle.client_session.specs.Requests.{requests_of, rest_of};
 
@@ -6,7 +7,7 @@ use crate::LINE_LIMIT;
 use crate::refusal::SessionError;
 use crate::requests::Requests;
 use bytes::BytesMut;
-use command_text::{Line, Request};
+use console_text::{Line, Request};
 use memchr::memchr;
 use std::alloc::{AllocError, Global};
 

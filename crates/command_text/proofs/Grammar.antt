@@ -1,5 +1,5 @@
 -- The words that a line has are those of the grammar, and no others.
-use Rattle.std.proofs.Common.{◌≡◌, ◌⊎◌, inl, inr, ℕ, ◌<◌, List, [], ◌∷◌, ◌++◌, length, get_or, Bool, true, false, ◌&&◌, not, ◌==◌, if◌then◌else◌, Option, Some, None, Result, Ok, Err, refl, sym, ◌∙◌, ap, subst, append_assoc, arith}
+use Rattle.std.proofs.Common.{◌≡◌, ◌↔◌, ◌⊎◌, inl, inr, ℕ, ◌<◌, List, [], ◌∷◌, ◌++◌, length, get_or, Bool, true, false, ◌&&◌, not, ◌==◌, if◌then◌else◌, Option, Some, None, Result, Ok, Err, refl, sym, ◌∙◌, ap, subst, append_assoc, arith}
 use Rattle.std.proofs.lemmas.List.{append-nil}
 use Rattle.std.proofs.lemmas.Option.{same_Some, none-some}
 use Rattle.std.proofs.lemmas.Bool.Decides.{Decides-eqb}
@@ -7,7 +7,7 @@ use Rattle.std.specs.Result.{IfOk}
 use Rattle.std.specs.List.{list_all}
 use Rattle.command_text.specs.declared.words.WordsError.{WordsError}
 use Rattle.command_text.specs.declared.words.WordsError.TheVariants.{BadQuoting, NoMemory}
-use Rattle.command_text.specs.Words.{quote, backslash, is_blank, is_plain, Escapes, EndsWord, BeginsWith, AreWords, Standing, words_from, then_words, GivesWords}
+use Rattle.command_text.specs.Words.{quote, backslash, is_blank, is_plain, Escapes, EndsWord, BeginsWith, AreWords, Standing, words_from, then_words, GivesWords, AreWordsOfLine, without_return, words_of}
 use Rattle.command_text.specs.NextWord.{unescaped}
 use Rattle.command_text.specs.Words.Standing.{Between, Plain, Quoted, Escaped, Closed}
 use Rattle.command_text.proofs.Parting.{blank_step, plain_run, quote_begins, quote_closes, IsPiece, piece_nil, piece_append, piece_byte, piece_escape, is_special}
@@ -319,3 +319,7 @@ bad_words view (Err NoMemory) read h e = cc
 
 pub no_words_given : {A : Type 0} (view : A → List (List ℕ)) (r : Result A WordsError) (bytes : List ℕ) → GivesWords view r (words_from Between bytes) → r ≡ Err BadQuoting → (words : List (List ℕ)) → AreWords bytes words → ⊥
 no_words_given view r bytes h e words are = none-some words (sym (bad_words view r (words_from Between bytes) h e) ∙ read_from_grammar bytes words are)
+
+pub one_reading : (line : List ℕ) (words : List (List ℕ)) → (words_of line ≡ Some words) ↔ AreWordsOfLine line words
+unfolding words_of
+one_reading line words = (grammar_from_read (without_return line) words, read_from_grammar (without_return line) words)

@@ -5,7 +5,10 @@ pub mod Following
 pub mod Spelling
 pub mod Grammar
 pub mod Numerals
-pub mod Digits
-pub mod Writing
 pub mod Readings
-pub mod Consistency
+pub mod Around
+pub mod Repeated
+pub mod Naming
+pub mod LineNames
+pub mod Adding
+pub mod AckLength

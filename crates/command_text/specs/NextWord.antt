@@ -1,5 +1,6 @@
 -- What stands next in a line, and what the inside of quotes stands for.
-use Rattle.std.specs.Prelude.{◌≡◌, ℕ, ◌+◌, ◌<◌, List, [], ◌∷◌, length, take, drop, Bool, true, false, ◌==◌, Option, Some, None, if◌then◌else◌}
+use Rattle.std.specs.Prelude.{◌≡◌, ℕ, ◌+◌, ◌<◌, List, [], ◌∷◌, length, take, drop, Bool, true, false, ◌==◌, Option, Some, None}
+use Rattle.std.specs.Prelude.{if◌then◌else◌}
 use Rattle.command_text.specs.declared.words.WordText.{WordText}
 use Rattle.command_text.specs.declared.words.WordText.TheVariants.{Bare, Inside}
 use Rattle.command_text.specs.declared.words.Next.{Next}

@@ -1,117 +1,101 @@
--- The command that words or a line ask for, or the first refusal in the one order of refusals.
-use Rattle.std.specs.Prelude.{◌≡◌, ℕ, List, [], ◌∷◌, Bool, true, Option, Some, None, Result, Ok, Err, if◌then◌else◌}
+-- The command that words or a line ask for, or the first refusal in the one order of refusals: bytes that are no text, bad quoting, no
+-- word, an unknown command, not allowed where it stands, the count of arguments, and the arguments from left to right.
+use Rattle.std.specs.Prelude.{◌≡◌, ℕ, List, [], ◌∷◌, Bool, true, false, not, Option, Some, None, Result, Ok, Err, if◌then◌else◌}
+use Rattle.std.specs.Global.{Vec}
 use Rattle.std.specs.Str.{is_utf8}
 use Rattle.command_text.specs.declared.name.CommandName.{CommandName}
 use Rattle.command_text.specs.declared.name.CommandName.TheVariants as names
 use Rattle.command_text.specs.declared.command.Command.{Command}
 use Rattle.command_text.specs.declared.command.Command.TheVariants as commands
+use Rattle.command_text.specs.declared.command.NamedCommand.{NamedCommand}
 use Rattle.command_text.specs.declared.place.Place.{Place}
 use Rattle.command_text.specs.declared.place.Place.TheVariants.{Alone, InList}
 use Rattle.command_text.specs.declared.refusal.CommandRefusal.{CommandRefusal}
-use Rattle.command_text.specs.declared.refusal.CommandRefusal.TheVariants.{NotAllowedInList, WrongCount, BadArgument}
-use Rattle.command_text.specs.declared.refusal.Refusal.{Refusal}
-use Rattle.command_text.specs.declared.refusal.Refusal.TheVariants.{InvalidUtf8, BadQuoting, NoCommand, UnknownCommand, OutOfMemory, OfCommand}
 use Rattle.command_text.specs.declared.refusal.CommandRefusal.TheVariants as refusals
+use Rattle.command_text.specs.declared.refusal.Refusal.{Refusal}
+use Rattle.command_text.specs.declared.refusal.Refusal.TheVariants.{InvalidUtf8, BadQuoting, NoCommand, UnknownCommand, OutOfMemory}
+use Rattle.command_text.specs.declared.refusal.Refusal.TheVariants.{OfCommand}
 use Rattle.command_text.specs.declared.refusal.ReadError.{ReadError}
 use Rattle.command_text.specs.declared.refusal.ReadError.TheVariants as errors
+use Rattle.command_text.specs.declared.stop.Stop.{Stop}
+use Rattle.command_text.specs.declared.stop.Stop.TheVariants as stops
+use Rattle.command_text.specs.declared.topic.Topic.{Topic}
+use Rattle.command_text.specs.declared.topic.Topic.TheVariants as topics
 use Rattle.command_text.specs.Words.{words_of}
 use Rattle.command_text.specs.Names.{named, stands_in_lists}
-use Rattle.command_text.specs.Arguments.{switch_of, single_of, volume_of}
+use Rattle.command_text.specs.Topics.{topic_of}
+use Rattle.command_text.specs.Counts.{◌>>=◌, Word}
+use Rattle.command_text.specs.Settings.{settings_of}
+use Rattle.command_text.specs.Database.{database_of}
+use Rattle.command_text.specs.Queue.{queue_of}
+use Rattle.command_text.specs.Finding.{finding_of}
+use Rattle.command_text.specs.Lists.{lists_of}
+use Rattle.command_text.specs.Stickers.{stickers_of}
+use Rattle.command_text.specs.Playing.{playing_of}
+use Rattle.command_text.specs.Session.{session_of}
 
-infixl 10 ◌>>=◌
-abbrev pub ◌>>=◌ : {A B : Type 0} → Result A CommandRefusal → (A → Result B CommandRefusal) → Result B CommandRefusal
-(Ok x) >>= f = f x
-(Err e) >>= f = Err e
+-- the command of a topic with these arguments: their count, and then each from left to right
+unfoldable pub command_with : Topic → List Word → Result Command CommandRefusal
+command_with (topics.Settings name) words = settings_of name words >>= λ x. Ok (commands.Settings x)
+command_with (topics.Database name) words = database_of name words >>= λ x. Ok (commands.Database x)
+command_with (topics.Queue name) words = queue_of name words >>= λ x. Ok (commands.Queue x)
+command_with (topics.Finding name) words = finding_of name words >>= λ x. Ok (commands.Finding x)
+command_with (topics.Lists name) words = lists_of name words >>= λ x. Ok (commands.Lists x)
+command_with topics.Stickers words = stickers_of words >>= λ x. Ok (commands.Stickers x)
+command_with (topics.Playing name) words = playing_of name words >>= λ x. Ok (commands.Playing x)
+command_with (topics.Session name) words = session_of name words >>= λ x. Ok (commands.Session x)
 
--- no argument
-abbrev pub no_argument : {A : Type 0} → A → List (List ℕ) → Result A CommandRefusal
-no_argument command [] = Ok command
-no_argument command (word ∷ words) = Err WrongCount
-
--- the one argument
-abbrev pub one_argument : List (List ℕ) → Result (List ℕ) CommandRefusal
-one_argument [] = Err WrongCount
-one_argument (word ∷ []) = Ok word
-one_argument (word ∷ another ∷ words) = Err WrongCount
-
--- what the argument in this place, counted from 1, stands for
-abbrev pub argument : {A : Type 0} → ℕ → Option A → Result A CommandRefusal
-argument place (Some value) = Ok value
-argument place None = Err (BadArgument place)
-
--- the command of a name with these arguments: their count, and then each from left to right
-unfoldable pub command_with : CommandName → List (List ℕ) → Result Command CommandRefusal
-command_with names.Close arguments = no_argument commands.Close arguments
-command_with names.Consume arguments = do
-  word ← one_argument arguments
-  on ← argument 1 (switch_of word)
-  Ok (commands.Consume on)
-command_with names.Kill arguments = no_argument commands.Kill arguments
-command_with names.Ping arguments = no_argument commands.Ping arguments
-command_with names.Random arguments = do
-  word ← one_argument arguments
-  on ← argument 1 (switch_of word)
-  Ok (commands.Random on)
-command_with names.Repeat arguments = do
-  word ← one_argument arguments
-  on ← argument 1 (switch_of word)
-  Ok (commands.Repeat on)
-command_with names.SetVolume arguments = do
-  word ← one_argument arguments
-  volume ← argument 1 (volume_of word)
-  Ok (commands.SetVolume volume)
-command_with names.Single arguments = do
-  word ← one_argument arguments
-  single ← argument 1 (single_of word)
-  Ok (commands.Single single)
-command_with names.Status arguments = no_argument commands.Status arguments
-
-abbrev pub is_allowed : Place → CommandName → Bool
-is_allowed Alone name = true
-is_allowed InList name = stands_in_lists name
+-- the end of a list stands behind a list's commands alone, and some commands stand in no list
+abbrev pub is_allowed : Place → CommandName → Result (Unit {0}) CommandRefusal
+is_allowed Alone names.CommandListEnd = Err refusals.NotInList
+is_allowed Alone name = Ok tt
+is_allowed InList name = if stands_in_lists name then Ok tt else Err refusals.NotAllowedInList
 
 -- the command of a name in a place, with these arguments
-unfoldable pub in_place : Place → CommandName → List (List ℕ) → Result Command CommandRefusal
-in_place place name arguments =
-    if is_allowed place name then command_with name arguments else Err NotAllowedInList
+unfoldable pub in_place : Place → CommandName → List Word → Result Command CommandRefusal
+in_place place name words = do
+  here ← is_allowed place name
+  command_with (topic_of name) words
 
--- the refusal of a command, with its name
-abbrev pub of_command : {A : Type 0} → CommandName → Result A CommandRefusal → Result A Refusal
-of_command name (Ok value) = Ok value
+-- the command or its refusal, with the name
+abbrev pub of_command : CommandName → Result Command CommandRefusal → Result NamedCommand Refusal
+of_command name (Ok command) = Ok (record { name = name; command = command })
 of_command name (Err refusal) = Err (OfCommand name refusal)
 
 -- the command of a first word, of which it is known whether it is a name
-abbrev pub known_command : Place → List ℕ → List (List ℕ) → Option CommandName → Result Command Refusal
+abbrev pub known_command : Place → Word → List Word → Option CommandName → Result NamedCommand Refusal
 known_command place word arguments None = Err (UnknownCommand word)
-known_command place word arguments (Some name) =
-    of_command name (in_place place name arguments)
+known_command place word arguments (Some name) = of_command name (in_place place name arguments)
 
 -- the command of the words of a line
-unfoldable pub command_of : Place → List (List ℕ) → Result Command Refusal
+unfoldable pub command_of : Place → List Word → Result NamedCommand Refusal
 command_of place [] = Err NoCommand
 command_of place (word ∷ arguments) = known_command place word arguments (named word)
 
--- the first word is no name: it alone is copied, so that only here memory can be wanting
-abbrev pub IsUnknown : List (List ℕ) → Type 0
-IsUnknown [] = ⊥
-IsUnknown (word ∷ arguments) = named word ≡ None
+abbrev pub quoted : Option (List Word) → Result (List Word) Refusal
+quoted None = Err BadQuoting
+quoted (Some words) = Ok words
 
-abbrev pub command_of_words : Place → Option (List (List ℕ)) → Result Command Refusal
-command_of_words place None = Err BadQuoting
-command_of_words place (Some words) = command_of place words
+-- the words of a line that is text
+unfoldable pub line_words : List ℕ → Result (List Word) Refusal
+line_words line = if is_utf8 line then quoted (words_of line) else Err InvalidUtf8
+
+abbrev pub command_in : Place → Result (List Word) Refusal → Result NamedCommand Refusal
+command_in place (Err refusal) = Err refusal
+command_in place (Ok words) = command_of place words
 
 -- the command of a line
-unfoldable pub line_reading : Place → List ℕ → Result Command Refusal
-line_reading place line = if is_utf8 line then command_of_words place (words_of line) else Err InvalidUtf8
+unfoldable pub line_reading : Place → List ℕ → Result NamedCommand Refusal
+line_reading place line = command_in place (line_words line)
 
 -- the name of the command that a line begins with; none where the line is refused for its bytes, its quoting or its first word
-abbrev pub first_name : Option (List (List ℕ)) → Option CommandName
-first_name None = None
-first_name (Some []) = None
-first_name (Some (word ∷ words)) = named word
+abbrev pub first_name : Result (List Word) Refusal → Option CommandName
+first_name (Err refusal) = None
+first_name (Ok []) = None
+first_name (Ok (word ∷ words)) = named word
 
 unfoldable pub name_of_line : List ℕ → Option CommandName
-name_of_line line = if is_utf8 line then first_name (words_of line) else None
+name_of_line line = first_name (line_words line)
 
 -- how want of memory is answered at a command, by its name, and at a line that is no command
 abbrev pub want_of_memory : Option CommandName → Refusal
@@ -124,14 +108,38 @@ Gives (Ok value) read = read ≡ Ok value
 Gives (Err (errors.Refused refusal)) read = read ≡ Err refusal
 Gives (Err errors.NoMemory) read = Unit {0}
 
--- the name of a command
-abbrev pub name_of : Command → CommandName
-name_of commands.Close = names.Close
-name_of (commands.Consume on) = names.Consume
-name_of commands.Kill = names.Kill
-name_of commands.Ping = names.Ping
-name_of (commands.Random on) = names.Random
-name_of (commands.Repeat on) = names.Repeat
-name_of (commands.SetVolume volume) = names.SetVolume
-name_of (commands.Single single) = names.Single
-name_of commands.Status = names.Status
+-- the commands that may want memory: those with a filter, a tag, a scanned place, or as many ranges or ids as are given
+abbrev pub takes_memory : Topic → Bool
+takes_memory (topics.Settings name) = false
+takes_memory (topics.Database name) = true
+takes_memory (topics.Queue name) = true
+takes_memory (topics.Finding name) = true
+takes_memory (topics.Lists name) = false
+takes_memory topics.Stickers = false
+takes_memory (topics.Playing name) = false
+takes_memory (topics.Session name) = false
+
+abbrev pub may_take_memory : Option CommandName → Bool
+may_take_memory None = true
+may_take_memory (Some name) = takes_memory (topic_of name)
+
+-- memory may be wanting: for the word of an unknown command, or by a command of such a topic
+abbrev pub MayWantMemory : List Word → Type 0
+MayWantMemory [] = ⊥
+MayWantMemory (word ∷ words) = may_take_memory (named word) ≡ true
+
+-- the refusal of an unknown command, or no memory for a copy of its word
+abbrev pub TellsUnknown : Word → ReadError → Type 0
+TellsUnknown word (errors.Refused refusal) = refusal ≡ UnknownCommand word
+TellsUnknown word errors.NoMemory = Unit {0}
+
+-- why words gave no command of this name
+abbrev pub error_of : CommandName → Stop → ReadError
+error_of name (stops.Refused refusal) = errors.Refused (OfCommand name refusal)
+error_of name stops.NoMemory = errors.NoMemory
+
+-- words were read, or no memory was found
+abbrev pub GivesWords : Result (Vec Word) ReadError → Result (List Word) Refusal → Type 0
+GivesWords (Ok words) read = read ≡ Ok words.items
+GivesWords (Err (errors.Refused refusal)) read = read ≡ Err refusal
+GivesWords (Err errors.NoMemory) read = Unit {0}

@@ -1,128 +1,165 @@
-ghost use Rattle.std.specs.Prelude.{◌≡◌, Err};
-ghost use Rattle.std.specs.Result.{result_map_both};
-ghost use Rattle.command_text.specs.Reading.{Gives, IsUnknown, command_of, command_with, in_place, name_of, no_argument, one_argument};
+ghost use Rattle.std.specs.Prelude.{◌≡◌, Err, true};
+ghost use Rattle.command_text.specs.Reading.{Gives, MayWantMemory, command_of, command_with, in_place, of_command, is_allowed};
+ghost use Rattle.command_text.specs.Reading.{takes_memory, TellsUnknown, error_of};
+ghost use Rattle.command_text.specs.Topics.{topic_of};
+ghost use Rattle.command_text.specs.Stops.{Reads};
+ghost use Rattle.command_text.specs.declared.stop.Stop.TheVariants as stops;
 
-use crate::argument::{argument, single, switch, volume};
 use crate::name::CommandName;
 use crate::place::Place;
 use crate::refusal::{CommandRefusal, ReadError, Refusal};
+use crate::stop::Stop;
+use crate::topic::{Topic, topic_of};
 use crate::words::Word;
-use player_core::{Single, Volume};
+use filter_expr::LineWord;
 use std::alloc::Global;
 
-/// A command and its arguments, as the MPD protocol reference 0.23 describes each.
+pub mod database;
+pub mod finding;
+pub mod lists;
+pub mod playing;
+pub mod queue;
+pub mod session;
+pub mod settings;
+pub mod sticker;
+
+use database::DatabaseCommand;
+use finding::FindingCommand;
+use lists::ListsCommand;
+use playing::PlayingCommand;
+use queue::QueueCommand;
+use session::SessionCommand;
+use settings::SettingsCommand;
+use sticker::StickersCommand;
+
+/// A command and its arguments, by its topic, as the MPD protocol reference 0.23 describes each. Its texts are those of the line's words.
 #[derive(Debug, Drop)]
-pub enum Command {
-    /// Closes the connection.
-    Close,
-    Consume(bool),
-    /// Ends the daemon.
-    Kill,
-    /// Does nothing.
-    Ping,
-    Random(bool),
-    Repeat(bool),
-    SetVolume(Volume),
-    Single(Single),
-    Status,
+pub enum Command<'w> {
+    Settings(SettingsCommand),
+    Database(DatabaseCommand<'w>),
+    Queue(QueueCommand<'w>),
+    Finding(FindingCommand<'w>),
+    Lists(ListsCommand<'w>),
+    Stickers(StickersCommand<'w>),
+    Playing(PlayingCommand),
+    Session(SessionCommand),
 }
 
-impl Command {
-    pub fn name(&self) -> CommandName
-        ensures { result ≡ name_of self.now }
-    {
-        match self {
-            Command::Close => CommandName::Close,
-            Command::Consume(_) => CommandName::Consume,
-            Command::Kill => CommandName::Kill,
-            Command::Ping => CommandName::Ping,
-            Command::Random(_) => CommandName::Random,
-            Command::Repeat(_) => CommandName::Repeat,
-            Command::SetVolume(_) => CommandName::SetVolume,
-            Command::Single(_) => CommandName::Single,
-            Command::Status => CommandName::Status,
-        }
-    }
+/// A command, and the name by which it was asked for.
+#[derive(Debug, Drop)]
+pub struct NamedCommand<'w> {
+    pub name: CommandName,
+    pub command: Command<'w>,
+}
 
-    /// The command that these words ask for in this place, or the first refusal: no word, an
-    /// unknown command, not allowed here, the count of arguments, the arguments from left to right.
+impl<'w> Command<'w> {
+    /// The command that these words ask for in this place, with its name, or the first refusal: no word, an unknown command, not
+    /// allowed here, the count of arguments, the arguments from left to right.
     #[tactic(auto, unfolding(crate::specs::Reading::command_of))]
-    pub fn read(alloc: Global, place: Place, words: &[Word]) -> Result<Command, ReadError>
+    pub fn read(
+        alloc: Global,
+        place: Place,
+        words: &'w [LineWord<'_>],
+    ) -> Result<NamedCommand<'w>, ReadError>
         ensures exact { Gives result (command_of place words.now) }
-        // Only the word of an unknown command takes memory.
-        ensures memory { result ≡ Err ReadError.NoMemory → IsUnknown words.now }
+        // Most commands are read without memory.
+        ensures memory { result ≡ Err ReadError.NoMemory → MayWantMemory words.now }
     {
         let Some((first, arguments)) = words.split_first() else {
             return Err(ReadError::Refused(Refusal::NoCommand));
         };
         match CommandName::named(first.bytes()) {
-            None => unknown(alloc, first),
-            Some(name) => match known(place, name, arguments) {
-                Ok(command) => Ok(command),
-                Err(refusal) => Err(ReadError::Refused(Refusal::OfCommand(name, refusal))),
-            },
+            None => Err(unknown(alloc, first.bytes())),
+            Some(name) => Command::of(alloc, place, name, arguments),
         }
     }
 
-    /// The command of this name with these arguments.
-    #[tactic(auto, unfolding(crate::specs::Reading::command_with))]
-    fn with(name: CommandName, arguments: &[Word]) -> Result<Command, CommandRefusal>
-        ensures { result ≡ command_with name arguments.now }
+    /// The command of this name in this place with these arguments, or the first refusal, as `read` gives them; also of a name that this
+    /// build doesn't have.
+    pub fn of(
+        alloc: Global,
+        place: Place,
+        name: CommandName,
+        arguments: &'w [LineWord<'_>],
+    ) -> Result<NamedCommand<'w>, ReadError>
+        ensures exact { Gives result (of_command name (in_place place name arguments.now)) }
+        ensures memory { result ≡ Err ReadError.NoMemory → takes_memory (topic_of name) ≡ true }
     {
-        match name {
-            CommandName::Close => no_argument(Command::Close, arguments),
-            CommandName::Consume => Ok(Command::Consume(argument(1, switch(only(arguments)?))?)),
-            CommandName::Kill => no_argument(Command::Kill, arguments),
-            CommandName::Ping => no_argument(Command::Ping, arguments),
-            CommandName::Random => Ok(Command::Random(argument(1, switch(only(arguments)?))?)),
-            CommandName::Repeat => Ok(Command::Repeat(argument(1, switch(only(arguments)?))?)),
-            CommandName::SetVolume => Ok(Command::SetVolume(argument(
-                1,
-                volume(only(arguments)?),
-            )?)),
-            CommandName::Single => Ok(Command::Single(argument(1, single(only(arguments)?))?)),
-            CommandName::Status => no_argument(Command::Status, arguments),
+        match in_place(alloc, place, name, arguments) {
+            Ok(command) => Ok(NamedCommand { name, command }),
+            Err(stop) => Err(refused(name, stop)),
         }
     }
 }
 
-/// The refusal of an unknown command, with a copy of the word.
-fn unknown(alloc: Global, word: &Word) -> Result<Command, ReadError>
-    ensures { Gives result (Err (Refusal.UnknownCommand word.now)) }
+/// Why the words give no command of this name.
+fn refused(name: CommandName, stop: Stop) -> ReadError
+    ensures { result ≡ error_of name stop }
 {
-    match Word::from_bytes(alloc, word.bytes()) {
-        Ok(word) => Err(ReadError::Refused(Refusal::UnknownCommand(word))),
-        Err(_) => Err(ReadError::NoMemory),
+    match stop {
+        Stop::Refused(refusal) => ReadError::Refused(Refusal::OfCommand(name, refusal)),
+        Stop::NoMemory => ReadError::NoMemory,
+    }
+}
+
+/// The refusal of an unknown command, with a copy of the word.
+fn unknown(alloc: Global, word: &[u8]) -> ReadError
+    ensures { TellsUnknown word.now result }
+{
+    match Word::from_bytes(alloc, word) {
+        Ok(word) => ReadError::Refused(Refusal::UnknownCommand(word)),
+        Err(_) => ReadError::NoMemory,
     }
 }
 
 /// The command of this name in this place, with these arguments.
 #[tactic(auto, unfolding(crate::specs::Reading::in_place))]
-fn known(place: Place, name: CommandName, arguments: &[Word]) -> Result<Command, CommandRefusal>
-    ensures { result ≡ in_place place name arguments.now }
+fn in_place<'w>(
+    alloc: Global,
+    place: Place,
+    name: CommandName,
+    words: &'w [LineWord<'_>],
+) -> Result<Command<'w>, Stop>
+    ensures exact { Reads result (in_place place name words.now) }
+    ensures memory { result ≡ Err stops.NoMemory → takes_memory (topic_of name) ≡ true }
 {
-    if place == Place::InList && !name.stands_in_lists() {
-        return Err(CommandRefusal::NotAllowedInList);
-    }
-    Command::with(name, arguments)
+    allowed(place, name)?;
+    with(alloc, topic_of(name), words)
 }
 
-/// The command, where it has no argument.
-fn no_argument(command: Command, arguments: &[Word]) -> Result<Command, CommandRefusal>
-    ensures { result ≡ no_argument command arguments.now }
+/// Whether the command may stand here.
+fn allowed(place: Place, name: CommandName) -> Result<(), CommandRefusal>
+    ensures { result ≡ is_allowed place name }
 {
-    match arguments {
-        [] => Ok(command),
-        _ => Err(CommandRefusal::WrongCount),
+    match place {
+        Place::Alone => match name {
+            CommandName::CommandListEnd => Err(CommandRefusal::NotInList),
+            _ => Ok(()),
+        },
+        Place::InList => {
+            if name.stands_in_lists() {
+                Ok(())
+            } else {
+                Err(CommandRefusal::NotAllowedInList)
+            }
+        }
     }
 }
 
-/// The bytes of the argument, where it is the only one.
-fn only(arguments: &[Word]) -> Result<&[u8], CommandRefusal>
-    ensures { result_map_both (λ word. word.now) (λ refusal. refusal) result ≡ one_argument arguments.now }
+/// The command of a topic with these arguments.
+#[tactic(auto, unfolding(crate::specs::Reading::command_with))]
+fn with<'w>(alloc: Global, topic: Topic, words: &'w [LineWord<'_>]) -> Result<Command<'w>, Stop>
+    ensures exact { Reads result (command_with topic words.now) }
+    ensures memory { result ≡ Err stops.NoMemory → takes_memory topic ≡ true }
 {
-    match arguments {
-        [word] => Ok(word.bytes()),
-        _ => Err(CommandRefusal::WrongCount),
+    match topic {
+        Topic::Settings(name) => Ok(Command::Settings(settings::read(name, words)?)),
+        Topic::Database(name) => Ok(Command::Database(database::read(alloc, name, words)?)),
+        Topic::Queue(name) => Ok(Command::Queue(queue::read(alloc, name, words)?)),
+        Topic::Finding(name) => Ok(Command::Finding(finding::read(alloc, name, words)?)),
+        Topic::Lists(name) => Ok(Command::Lists(lists::read(name, words)?)),
+        Topic::Stickers => Ok(Command::Stickers(sticker::read(words)?)),
+        Topic::Playing(name) => Ok(Command::Playing(playing::read(name, words)?)),
+        Topic::Session(name) => Ok(Command::Session(session::read(name, words)?)),
     }
 }

@@ -4,23 +4,43 @@
 pub mod answer;
 mod argument;
 pub mod command;
-mod decimal;
+mod counts;
+mod each;
 pub mod laws;
 pub mod line;
 pub mod name;
+mod named;
 pub mod place;
+pub mod range;
 pub mod refusal;
 pub mod request;
+mod stop;
+pub mod text;
+mod time;
+mod topic;
 pub mod words;
 
 pub use answer::{
-    NoMemory, WANT_OF_MEMORY_LENGTH, write_ack, write_greeting, write_list_ok, write_number,
-    write_ok, write_pair,
+    CurrentSong, NoMemory, StatusLines, WANT_OF_MEMORY_LENGTH, write_ack, write_changed,
+    write_command, write_counts, write_directory, write_entry, write_file, write_greeting,
+    write_id, write_job, write_list_ok, write_number, write_ok, write_pair, write_place,
+    write_playlist, write_song, write_statistics, write_status, write_sticker, write_tag_type,
+    write_value,
 };
-pub use command::Command;
-pub use line::{read_line, want_of_memory};
+pub use command::database::DatabaseCommand;
+pub use command::finding::{FindingCommand, Search};
+pub use command::lists::ListsCommand;
+pub use command::playing::PlayingCommand;
+pub use command::queue::QueueCommand;
+pub use command::session::SessionCommand;
+pub use command::settings::SettingsCommand;
+pub use command::sticker::{StickersCommand, ValueBound};
+pub use command::{Command, NamedCommand};
+pub use line::{read_words, want_of_memory};
 pub use name::CommandName;
 pub use place::Place;
+pub use range::{EntryIds, PositionRange, PositionRanges, Window};
 pub use refusal::{AckCode, CommandRefusal, ReadError, Refusal};
 pub use request::{Line, Lines, Request};
+pub use text::Text;
 pub use words::{Word, WordsError};

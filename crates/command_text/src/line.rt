@@ -1,21 +1,20 @@
 ghost use Rattle.std.specs.Prelude.{◌≡◌, is_some, true, Err};
 ghost use Rattle.std.specs.Str.{is_utf8};
-ghost use Rattle.command_text.specs.Reading.{Gives, line_reading, name_of_line, want_of_memory};
+ghost use Rattle.command_text.specs.Reading.{GivesWords, line_words, name_of_line, want_of_memory};
 ghost use Rattle.command_text.specs.Words.{words_from};
 ghost use Rattle.command_text.specs.Words.Standing.{Between};
 
-use crate::command::Command;
 use crate::name::CommandName;
-use crate::place::Place;
 use crate::refusal::{CommandRefusal, ReadError, Refusal};
 use crate::words::{self, Next, WordsError};
+use filter_expr::LineWord;
 use std::alloc::Global;
 
-/// The command that a line asks for, without its newline, or the first refusal: bytes that are not
-/// UTF-8, bad quoting, and those of `Command::read`.
-#[tactic(auto, unfolding(crate::specs::Reading::line_reading))]
-pub fn read_line(alloc: Global, place: Place, line: &[u8]) -> Result<Command, ReadError>
-    ensures exact { Gives result (line_reading place line.now) }
+/// The words of a line that is text, without its newline, or the first refusal: bytes that are not UTF-8, and bad quoting. What they ask
+/// for `Command::read` says.
+#[tactic(auto, unfolding(crate::specs::Reading::line_words))]
+pub fn read_words(alloc: Global, line: &[u8]) -> Result<Vec<LineWord<'_>>, ReadError>
+    ensures exact { GivesWords result (line_words line.now) }
     // Bytes that are not UTF-8 are refused without memory.
     ensures memory { result ≡ Err ReadError.NoMemory → is_utf8 line.now ≡ true }
 {
@@ -23,7 +22,7 @@ pub fn read_line(alloc: Global, place: Place, line: &[u8]) -> Result<Command, Re
         return Err(ReadError::Refused(Refusal::InvalidUtf8));
     }
     match words::words(alloc, line) {
-        Ok(words) => Command::read(alloc, place, &words),
+        Ok(words) => Ok(words),
         Err(WordsError::BadQuoting) => Err(ReadError::Refused(Refusal::BadQuoting)),
         Err(WordsError::NoMemory) => Err(ReadError::NoMemory),
     }

@@ -1,38 +1,162 @@
 ghost use Rattle.std.specs.Prelude.{◌≡◌};
-ghost use Rattle.command_text.specs.Names.{name_text, all_names, named, stands_in_lists};
+ghost use Rattle.command_text.specs.Names.{name_text, all_names, is_built, is_control, is_listed, stands_in_lists, known, named};
 ghost use Rattle.command_text.specs.NextWord.{spelled};
 
 use crate::words::WordText;
 
-/// The name of a command of the MPD protocol reference 0.23.
+/// The name of a command of the MPD protocol reference 0.23, or of a line that begins or ends a command list or an `idle`.
 #[derive(Clone, Copy, Debug, PartialEq, Eq)]
 pub enum CommandName {
+    Add,
+    AddId,
+    Clear,
+    ClearError,
     Close,
+    CommandListBegin,
+    CommandListEnd,
+    CommandListOkBegin,
+    Commands,
     Consume,
+    Count,
+    CurrentSong,
+    Delete,
+    DeleteId,
+    Find,
+    FindAdd,
+    Idle,
     Kill,
+    ListTag,
+    ListAll,
+    ListAllInfo,
+    ListPlaylist,
+    ListPlaylistInfo,
+    ListPlaylists,
+    Load,
+    ListInfo,
+    Move,
+    MoveId,
+    Next,
+    NoIdle,
+    NotCommands,
+    Pause,
     Ping,
+    Play,
+    PlayId,
+    PlaylistAdd,
+    PlaylistClear,
+    PlaylistDelete,
+    QueueFind,
+    QueueId,
+    QueueInfo,
+    PlaylistMove,
+    QueueSearch,
+    QueueChanges,
+    QueueChangesPositions,
+    Previous,
+    Priority,
+    PriorityId,
     Random,
+    Rename,
     Repeat,
+    Rescan,
+    Remove,
+    Save,
+    Search,
+    SearchAdd,
+    SearchAddPlaylist,
+    Seek,
+    SeekCurrent,
+    SeekId,
     SetVolume,
+    Shuffle,
     Single,
+    Stats,
     Status,
+    Sticker,
+    Stop,
+    Swap,
+    SwapId,
+    TagTypes,
+    Update,
 }
 
-/// Every command, rising by the bytes of its name.
-const NAMES: [CommandName; 9] = [
+/// Every name, rising by its bytes.
+const NAMES: [CommandName; 71] = [
+    CommandName::Add,
+    CommandName::AddId,
+    CommandName::Clear,
+    CommandName::ClearError,
     CommandName::Close,
+    CommandName::CommandListBegin,
+    CommandName::CommandListEnd,
+    CommandName::CommandListOkBegin,
+    CommandName::Commands,
     CommandName::Consume,
+    CommandName::Count,
+    CommandName::CurrentSong,
+    CommandName::Delete,
+    CommandName::DeleteId,
+    CommandName::Find,
+    CommandName::FindAdd,
+    CommandName::Idle,
     CommandName::Kill,
+    CommandName::ListTag,
+    CommandName::ListAll,
+    CommandName::ListAllInfo,
+    CommandName::ListPlaylist,
+    CommandName::ListPlaylistInfo,
+    CommandName::ListPlaylists,
+    CommandName::Load,
+    CommandName::ListInfo,
+    CommandName::Move,
+    CommandName::MoveId,
+    CommandName::Next,
+    CommandName::NoIdle,
+    CommandName::NotCommands,
+    CommandName::Pause,
     CommandName::Ping,
+    CommandName::Play,
+    CommandName::PlayId,
+    CommandName::PlaylistAdd,
+    CommandName::PlaylistClear,
+    CommandName::PlaylistDelete,
+    CommandName::QueueFind,
+    CommandName::QueueId,
+    CommandName::QueueInfo,
+    CommandName::PlaylistMove,
+    CommandName::QueueSearch,
+    CommandName::QueueChanges,
+    CommandName::QueueChangesPositions,
+    CommandName::Previous,
+    CommandName::Priority,
+    CommandName::PriorityId,
     CommandName::Random,
+    CommandName::Rename,
     CommandName::Repeat,
+    CommandName::Rescan,
+    CommandName::Remove,
+    CommandName::Save,
+    CommandName::Search,
+    CommandName::SearchAdd,
+    CommandName::SearchAddPlaylist,
+    CommandName::Seek,
+    CommandName::SeekCurrent,
+    CommandName::SeekId,
     CommandName::SetVolume,
+    CommandName::Shuffle,
     CommandName::Single,
+    CommandName::Stats,
     CommandName::Status,
+    CommandName::Sticker,
+    CommandName::Stop,
+    CommandName::Swap,
+    CommandName::SwapId,
+    CommandName::TagTypes,
+    CommandName::Update,
 ];
 
 impl CommandName {
-    /// Every command, rising by the bytes of its name.
+    /// Every name, rising by its bytes, whether this build has the command or not.
     pub fn all() -> &'static [CommandName]
         ensures { result.now ≡ all_names }
     {
@@ -44,26 +168,134 @@ impl CommandName {
         ensures { result.now ≡ name_text self }
     {
         match self {
+            CommandName::Add => "add",
+            CommandName::AddId => "addid",
+            CommandName::Clear => "clear",
+            CommandName::ClearError => "clearerror",
             CommandName::Close => "close",
+            CommandName::CommandListBegin => "command_list_begin",
+            CommandName::CommandListEnd => "command_list_end",
+            CommandName::CommandListOkBegin => "command_list_ok_begin",
+            CommandName::Commands => "commands",
             CommandName::Consume => "consume",
+            CommandName::Count => "count",
+            CommandName::CurrentSong => "currentsong",
+            CommandName::Delete => "delete",
+            CommandName::DeleteId => "deleteid",
+            CommandName::Find => "find",
+            CommandName::FindAdd => "findadd",
+            CommandName::Idle => "idle",
             CommandName::Kill => "kill",
+            CommandName::ListTag => "list",
+            CommandName::ListAll => "listall",
+            CommandName::ListAllInfo => "listallinfo",
+            CommandName::ListPlaylist => "listplaylist",
+            CommandName::ListPlaylistInfo => "listplaylistinfo",
+            CommandName::ListPlaylists => "listplaylists",
+            CommandName::Load => "load",
+            CommandName::ListInfo => "lsinfo",
+            CommandName::Move => "move",
+            CommandName::MoveId => "moveid",
+            CommandName::Next => "next",
+            CommandName::NoIdle => "noidle",
+            CommandName::NotCommands => "notcommands",
+            CommandName::Pause => "pause",
             CommandName::Ping => "ping",
+            CommandName::Play => "play",
+            CommandName::PlayId => "playid",
+            CommandName::PlaylistAdd => "playlistadd",
+            CommandName::PlaylistClear => "playlistclear",
+            CommandName::PlaylistDelete => "playlistdelete",
+            CommandName::QueueFind => "playlistfind",
+            CommandName::QueueId => "playlistid",
+            CommandName::QueueInfo => "playlistinfo",
+            CommandName::PlaylistMove => "playlistmove",
+            CommandName::QueueSearch => "playlistsearch",
+            CommandName::QueueChanges => "plchanges",
+            CommandName::QueueChangesPositions => "plchangesposid",
+            CommandName::Previous => "previous",
+            CommandName::Priority => "prio",
+            CommandName::PriorityId => "prioid",
             CommandName::Random => "random",
+            CommandName::Rename => "rename",
             CommandName::Repeat => "repeat",
+            CommandName::Rescan => "rescan",
+            CommandName::Remove => "rm",
+            CommandName::Save => "save",
+            CommandName::Search => "search",
+            CommandName::SearchAdd => "searchadd",
+            CommandName::SearchAddPlaylist => "searchaddpl",
+            CommandName::Seek => "seek",
+            CommandName::SeekCurrent => "seekcur",
+            CommandName::SeekId => "seekid",
             CommandName::SetVolume => "setvol",
+            CommandName::Shuffle => "shuffle",
             CommandName::Single => "single",
+            CommandName::Stats => "stats",
             CommandName::Status => "status",
+            CommandName::Sticker => "sticker",
+            CommandName::Stop => "stop",
+            CommandName::Swap => "swap",
+            CommandName::SwapId => "swapid",
+            CommandName::TagTypes => "tagtypes",
+            CommandName::Update => "update",
         }
+    }
+
+    /// Whether this build has the command. This is the one table of them: a name that isn't in it is told as an unknown command.
+    pub fn is_built(self) -> bool
+        ensures { result ≡ is_built self }
+    {
+        match self {
+            CommandName::Close
+            | CommandName::Consume
+            | CommandName::Kill
+            | CommandName::Ping
+            | CommandName::Random
+            | CommandName::Repeat
+            | CommandName::SetVolume
+            | CommandName::Single
+            | CommandName::Status => true,
+            _ => false,
+        }
+    }
+
+    /// Whether `commands` lists the command: those of this build, but for the lines of command lists and `noidle`.
+    pub fn is_listed(self) -> bool
+        ensures { result ≡ is_listed self }
+    {
+        self.is_built() && !self.is_control()
+    }
+
+    /// Whether it is a line that begins or ends a command list, or ends an `idle`.
+    fn is_control(self) -> bool
+        ensures { result ≡ is_control self }
+    {
+        matches!(
+            self,
+            CommandName::CommandListBegin
+                | CommandName::CommandListEnd
+                | CommandName::CommandListOkBegin
+                | CommandName::NoIdle
+        )
     }
 
     /// Whether a command list may hold the command.
     pub fn stands_in_lists(self) -> bool
         ensures { result ≡ stands_in_lists self }
     {
-        !matches!(self, CommandName::Close | CommandName::Kill)
+        !matches!(
+            self,
+            CommandName::Close
+                | CommandName::CommandListBegin
+                | CommandName::CommandListOkBegin
+                | CommandName::Idle
+                | CommandName::Kill
+                | CommandName::NoIdle
+        )
     }
 
-    /// The command that the word asks for.
+    /// The command that the word asks for, if this build has it.
     pub fn named(word: &[u8]) -> Option<CommandName>
         ensures { result ≡ named word.now }
     {
@@ -75,9 +307,20 @@ impl CommandName {
     pub(crate) fn named_by(word: WordText<'_>) -> Option<CommandName>
         ensures { result ≡ named (spelled word.entry) }
     {
-        NAMES
-            .iter()
-            .copied()
-            .find(|name| word.is(name.text().as_bytes()))
+        match known(word) {
+            Some(name) if name.is_built() => Some(name),
+            _ => None,
+        }
     }
+}
+
+/// The name that the word is, whether this build has the command or not.
+#[tactic(auto, unfolding(crate::specs::Names::known))]
+fn known(word: WordText<'_>) -> Option<CommandName>
+    ensures { result ≡ known (spelled word.entry) }
+{
+    NAMES
+        .iter()
+        .copied()
+        .find(|name| word.is(name.text().as_bytes()))
 }

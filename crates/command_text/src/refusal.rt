@@ -1,5 +1,6 @@
 ghost use Rattle.std.specs.Prelude.{◌≡◌};
-ghost use Rattle.command_text.specs.Refusals.{code_number, code_of, command_code_of, command_number_of, name_of_refusal, number_of_error, number_of_refusal};
+ghost use Rattle.command_text.specs.Refusals.{code_number, code_of, command_code_of, command_number_of, name_of_refusal, number_of_error};
+ghost use Rattle.command_text.specs.Refusals.{number_of_refusal};
 
 use crate::name::CommandName;
 use crate::words::Word;
@@ -11,29 +12,68 @@ pub enum AckCode {
     NotList = 1,
     Argument = 2,
     Unknown = 5,
+    NoExist = 50,
+    PlaylistMax = 51,
     System = 52,
+    UpdateAlready = 54,
+    PlayerSync = 55,
+    Exist = 56,
 }
 
 impl AckCode {
     /// The number that the line shows.
-    pub fn number(self) -> u32
+    pub fn number(self) -> u8
         ensures { result ≡ code_number self }
     {
-        self as u32
+        self as u8
     }
 }
 
-/// Why a known command was refused; each row has a code and a text.
+/// Why a known command was refused; each has a code and a text.
 #[derive(Debug, Drop)]
 pub enum CommandRefusal {
     /// The command can't stand in a command list.
     NotAllowedInList,
-    /// The command ends a list, and none was begun; no command of this build does.
+    /// The command ends a list, and none was begun.
     NotInList,
     /// Too few or too many arguments.
     WrongCount,
     /// The argument in this place, counted from 1, doesn't have the form that it must have.
-    BadArgument(u32),
+    BadArgument(usize),
+    /// The words are no filter.
+    BadFilter,
+    /// No tag has the name that stands in a tag's place.
+    UnknownTag(Word),
+    /// More parentheses of a filter are open at once than may be.
+    FilterTooDeep,
+    /// A position is past the end of the queue or of a playlist, or a place lies outside of it.
+    BadIndex,
+    /// No playlist may have the name.
+    BadPlaylistName,
+    /// No sticker may have the name.
+    BadStickerName,
+    /// No song or folder has the URI.
+    NoSuchUri,
+    /// No entry of the queue has the id.
+    NoSuchSong,
+    NoSuchPlaylist,
+    /// The song has no sticker of the name, or none at all.
+    NoSuchSticker,
+    /// The player is stopped.
+    NotPlaying,
+    /// A relative place, and no song is current.
+    NoCurrentSong,
+    PlaylistExists,
+    /// A job already updates the database.
+    AlreadyUpdating,
+    /// The queue would have more entries than it may.
+    QueueFull,
+    /// Fewer ids are left than entries would be added.
+    IdsSpent,
+    /// There would be more playlists, or more entries in all of them, than may be.
+    PlaylistsFull,
+    /// There would be more stickers than may be.
+    StickersFull,
     /// The changes of the request would take more bytes than a record of the journal holds.
     RequestTooLarge,
     /// Memory was refused while the command was performed.
@@ -45,25 +85,61 @@ impl CommandRefusal {
         ensures { result ≡ command_code_of self.now }
     {
         match self {
+            CommandRefusal::NotInList => AckCode::NotList,
             CommandRefusal::NotAllowedInList
             | CommandRefusal::WrongCount
-            | CommandRefusal::BadArgument(_) => AckCode::Argument,
-            CommandRefusal::NotInList => AckCode::NotList,
-            CommandRefusal::RequestTooLarge | CommandRefusal::OutOfMemory => AckCode::System,
+            | CommandRefusal::BadArgument(_)
+            | CommandRefusal::BadFilter
+            | CommandRefusal::UnknownTag(_)
+            | CommandRefusal::FilterTooDeep
+            | CommandRefusal::BadIndex
+            | CommandRefusal::BadPlaylistName
+            | CommandRefusal::BadStickerName => AckCode::Argument,
+            CommandRefusal::NoSuchUri
+            | CommandRefusal::NoSuchSong
+            | CommandRefusal::NoSuchPlaylist
+            | CommandRefusal::NoSuchSticker => AckCode::NoExist,
+            CommandRefusal::NotPlaying | CommandRefusal::NoCurrentSong => AckCode::PlayerSync,
+            CommandRefusal::PlaylistExists => AckCode::Exist,
+            CommandRefusal::AlreadyUpdating => AckCode::UpdateAlready,
+            CommandRefusal::QueueFull | CommandRefusal::IdsSpent | CommandRefusal::PlaylistsFull =>
+                AckCode::PlaylistMax,
+            CommandRefusal::StickersFull
+            | CommandRefusal::RequestTooLarge
+            | CommandRefusal::OutOfMemory => AckCode::System,
         }
     }
 
-    /// The number of the refusal; none for the two of command lists.
-    pub fn number(&self) -> Option<u32>
+    /// The number of the refusal. None for the two of command lists, for a relative place without a current song, for a job
+    /// that runs already, and for a request that is too large.
+    pub fn number(&self) -> Option<u8>
         ensures { result ≡ command_number_of self.now }
     {
         match self {
             CommandRefusal::NotAllowedInList
             | CommandRefusal::NotInList
+            | CommandRefusal::NoCurrentSong
+            | CommandRefusal::AlreadyUpdating
             | CommandRefusal::RequestTooLarge => None,
+            CommandRefusal::OutOfMemory => Some(7),
+            CommandRefusal::NoSuchUri => Some(17),
+            CommandRefusal::BadFilter => Some(19),
+            CommandRefusal::UnknownTag(_) => Some(20),
+            CommandRefusal::FilterTooDeep => Some(21),
+            CommandRefusal::BadIndex => Some(22),
+            CommandRefusal::NoSuchSong => Some(23),
+            CommandRefusal::QueueFull => Some(24),
+            CommandRefusal::IdsSpent => Some(25),
+            CommandRefusal::BadPlaylistName => Some(26),
+            CommandRefusal::NoSuchPlaylist => Some(27),
+            CommandRefusal::PlaylistExists => Some(28),
+            CommandRefusal::PlaylistsFull => Some(29),
+            CommandRefusal::NoSuchSticker => Some(30),
+            CommandRefusal::BadStickerName => Some(31),
+            CommandRefusal::StickersFull => Some(32),
+            CommandRefusal::NotPlaying => Some(33),
             CommandRefusal::WrongCount => Some(37),
             CommandRefusal::BadArgument(_) => Some(38),
-            CommandRefusal::OutOfMemory => Some(7),
         }
     }
 }
@@ -106,8 +182,9 @@ impl Refusal {
         }
     }
 
-    /// The number of the refusal; none for bytes that are not UTF-8, for a line without a word, and for the two of command lists.
-    pub fn number(&self) -> Option<u32>
+    /// The number of the refusal. None for bytes that are not UTF-8, for a line without a word, and where the command's
+    /// refusal has none.
+    pub fn number(&self) -> Option<u8>
         ensures { result ≡ number_of_refusal self.now }
     {
         match self {
@@ -132,7 +209,7 @@ pub enum ReadError {
 
 impl ReadError {
     /// The number of the refusal, as `Refusal::number` gives it; 7 where memory was refused.
-    pub fn number(&self) -> Option<u32>
+    pub fn number(&self) -> Option<u8>
         ensures { result ≡ number_of_error self.now }
     {
         match self {

@@ -1,16 +1,18 @@
 ghost use Rattle.std.specs.Prelude.{◌≡◌, ◌<◌, ◌≤◌, ℕ, List, [], Some, None, Err, length, slice_index, true, false, IfOk, MatchOption};
 ghost use Rattle.std.specs.Str.{bytes_eq};
-ghost use Rattle.command_text.specs.Words.{AreWordsOfLine, GivesWords, without_return, words_of, words_from, is_blank, is_plain, number_of_words_error};
+ghost use Rattle.command_text.specs.Words.{AreWordsOfLine, GivesWords, without_return, words_of, words_from, is_blank, is_plain};
+ghost use Rattle.command_text.specs.Words.{number_of_words_error};
 ghost use Rattle.command_text.specs.NextWord.{IsNext, IsNextInQuotes, IsClosedAt, unescaped, spelled};
 ghost use Rattle.command_text.specs.Words.Standing.{Between, Quoted};
 ghost use Rattle.command_text.specs.declared.words.WordsError.TheVariants.{NoMemory};
 
+use filter_expr::LineWord;
 use memchr::{memchr, memchr2, memchr3};
 use std::alloc::{AllocError, AllocFailed, Global};
 use std::marker::Model;
 use thiserror::Error;
 
-/// The bytes of a word, without the quotes and backslashes that spelled it.
+/// The bytes of a word, in memory of its own, as a refusal repeats it.
 #[derive(Debug, Drop)]
 pub struct Word {
     bytes: Vec<u8>,
@@ -54,7 +56,7 @@ pub enum WordsError {
 
 impl WordsError {
     /// The number of the refusal: 35, or 7 where memory was refused.
-    pub fn number(&self) -> u32
+    pub fn number(&self) -> u8
         ensures { result ≡ number_of_words_error self.now }
     {
         match self {
@@ -98,15 +100,17 @@ pub(crate) enum Next<'a> {
 }
 
 impl<'a> WordText<'a> {
-    /// The word, in memory of its own.
-    fn to_word(self, alloc: Global) -> Result<Word, AllocError>
-        ensures { IfOk result (λ word. word ≡ spelled self.entry) }
+    /// The word where it stands in the line, or in memory of its own where a backslash spells it.
+    fn to_word(self, alloc: Global) -> Result<LineWord<'a>, AllocError>
+        ensures exact { IfOk result (λ word. word ≡ spelled self.entry) }
     {
-        let bytes = match self {
-            WordText::Bare(text) => Vec::from_slice(alloc, text)?,
-            WordText::Inside(text) => without_backslashes(alloc, text)?,
-        };
-        Ok(Word { bytes })
+        match self {
+            WordText::Bare(text) => Ok(LineWord::from_slice(text)),
+            WordText::Inside(text) if has_backslash(text) => {
+                Ok(LineWord::from_vec(without_backslashes(alloc, text)?))
+            }
+            WordText::Inside(text) => Ok(LineWord::from_slice(text)),
+        }
     }
 
     /// Whether the word is this one; it takes no memory.
@@ -125,6 +129,16 @@ fn is_blank(byte: u8) -> bool
     ensures { result ≡ is_blank byte }
 {
     byte == b' ' || byte == b'\t'
+}
+
+/// Whether a backslash stands in the bytes; where none does, they stand for themselves.
+fn has_backslash(inside: &[u8]) -> bool
+    ensures { result ≡ false → unescaped inside.now ≡ inside.now }
+{
+    match memchr(b'\\', inside) {
+        Some(_) => true,
+        None => false,
+    }
 }
 
 /// The bytes that the inside of quotes stands for.
@@ -248,7 +262,7 @@ pub(crate) fn text_of_line(line: &[u8]) -> &[u8]
     line
 }
 
-fn parted(alloc: Global, text: &[u8]) -> Result<Vec<Word>, WordsError>
+fn parted<'a>(alloc: Global, text: &'a [u8]) -> Result<Vec<LineWord<'a>>, WordsError>
     ensures { GivesWords (λ words. words.items) result (words_from Between text.now) }
 {
     let mut words = Vec::new(alloc);
@@ -269,9 +283,9 @@ fn parted(alloc: Global, text: &[u8]) -> Result<Vec<Word>, WordsError>
 ///
 /// Spaces and tabs part words. A word that begins with `"` runs to the next `"` that no backslash
 /// escapes, and inside a backslash stands for the byte after it (MPD protocol reference 0.23,
-/// "Requests"). `BadQuoting` comes exactly where a line has no such reading, `NoMemory` only where
-/// memory was refused.
-pub fn words(alloc: Global, line: &[u8]) -> Result<Vec<Word>, WordsError>
+/// "Requests"). Each word is a slice of the line, or has memory of its own where a backslash spelled it.
+/// `BadQuoting` comes exactly where a line has no such reading, `NoMemory` only where memory was refused.
+pub fn words<'a>(alloc: Global, line: &'a [u8]) -> Result<Vec<LineWord<'a>>, WordsError>
     // What is read is in the grammar.
     ensures grammar { IfOk result (λ words. AreWordsOfLine line.now words.items) }
     // What is in the grammar is read, and nothing else, unless memory runs out.

@@ -1,9 +1,9 @@
 // The stored bytes of ops and of a state.
 use crate::assertions::{equal, prints, same_bytes};
-use player_core::{Options, Single, Volume};
-use state_codec::{
+use console_codec::{
     CodecError, NoMemory, Op, Saved, Setting, put_op, put_saved, take_ops, take_saved,
 };
+use player_core::{Options, Single, Volume};
 use std::alloc::Global;
 use std::process::Abort;
 use std::test::Fail;

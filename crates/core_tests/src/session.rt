@@ -1,7 +1,7 @@
 // A client's stream, cut into lines, and what is queued for it.
 use crate::assertions::{equal, prints, same_at};
 use client_session::{LINE_LIMIT, OUTPUT_LIMIT, Requests, Session, SessionError};
-use command_text::Request;
+use console_text::Request;
 use std::alloc::{AllocError, Global};
 use std::io::{self, Write};
 use std::process::Abort;

@@ -1,7 +1,7 @@
 // The words of a line, its command, and what is written.
 use crate::assertions::{equal, same_bytes, same_of};
-use command_text::words::words;
-use command_text::{
+use console_text::words::words;
+use console_text::{
     Line, Lines, NoMemory, Place, ReadError, Request, read_line, want_of_memory, write_ack,
     write_greeting, write_list_ok, write_number, write_ok, write_pair,
 };

@@ -2,10 +2,10 @@
 use Rattle.std.proofs.Common.{◌≡◌, Bool, true, false, not, List, [], refl, sym, ◌∙◌, ap, subst, eq-eqb}
 use Rattle.std.specs.Prelude.{Result, Ok, Err}
 use Rattle.player_core.specs.declared.options.Single.{Single as SingleMode}
-use Rattle.command_text.specs.declared.command.Command.{Command}
-use Rattle.command_text.specs.declared.command.Command.TheVariants.{Close, Consume, Kill, Ping, Random, Repeat, SetVolume, Single, Status}
-use Rattle.command_text.specs.declared.refusal.CommandRefusal.{CommandRefusal}
-use Rattle.state_codec.specs.declared.op.Op.{Op}
+use Rattle.console_text.specs.declared.command.Command.{Command}
+use Rattle.console_text.specs.declared.command.Command.TheVariants.{Close, Consume, Kill, Ping, Random, Repeat, SetVolume, Single, Status}
+use Rattle.console_text.specs.declared.refusal.CommandRefusal.{CommandRefusal}
+use Rattle.console_codec.specs.declared.op.Op.{Op}
 use Rattle.daemon_core.specs.State.{State}
 use Rattle.daemon_core.specs.Changed.{same_switch, same_single}
 use Rattle.daemon_core.specs.Meaning.{Meaning, meaning, ops_of, unless_same}

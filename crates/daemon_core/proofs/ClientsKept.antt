@@ -1,15 +1,15 @@
 -- A request keeps the clients: only connecting, leaving and waiting change them.
 use Rattle.std.proofs.Common.{◌≡◌, ℕ, suc, ◌+◌, List, [], ◌∷◌, length, Bool, true, false, Option, cond, refl, ◌∙◌}
 use Rattle.std.specs.Prelude.{Result, Ok, Err, nat_le}
-use Rattle.command_text.specs.declared.command.Command.{Command}
-use Rattle.command_text.specs.declared.command.Command.TheVariants.{Close, Consume, Kill, Ping, Random, Repeat, SetVolume, Single, Status}
-use Rattle.command_text.specs.declared.name.CommandName.{CommandName}
-use Rattle.command_text.specs.declared.place.Place.{Place}
-use Rattle.command_text.specs.declared.refusal.CommandRefusal.{CommandRefusal}
-use Rattle.command_text.specs.declared.refusal.Refusal.{Refusal}
-use Rattle.command_text.specs.Reading.{line_reading}
-use Rattle.state_codec.specs.declared.op.Op.{Op}
-use Rattle.state_codec.specs.Spelling.{ops_bytes}
+use Rattle.console_text.specs.declared.command.Command.{Command}
+use Rattle.console_text.specs.declared.command.Command.TheVariants.{Close, Consume, Kill, Ping, Random, Repeat, SetVolume, Single, Status}
+use Rattle.console_text.specs.declared.name.CommandName.{CommandName}
+use Rattle.console_text.specs.declared.place.Place.{Place}
+use Rattle.console_text.specs.declared.refusal.CommandRefusal.{CommandRefusal}
+use Rattle.console_text.specs.declared.refusal.Refusal.{Refusal}
+use Rattle.console_text.specs.Reading.{line_reading}
+use Rattle.console_codec.specs.declared.op.Op.{Op}
+use Rattle.console_codec.specs.Spelling.{ops_bytes}
 use Rattle.daemon_core.specs.State.{State}
 use Rattle.daemon_core.specs.Meaning.{meaning}
 use Rattle.daemon_core.specs.Run.{Did, Goes, Refuses, Closes, Kills, within, performed, read_and_performed, attempted, Ran, wants_memory, follow, is_refused_at, ran, max_request_bytes}
@@ -24,7 +24,7 @@ LeavesClients s Kills = Unit {0}
 within_leaves : (s after : State) (size : ℕ) (name : CommandName) (text : List ℕ) (ops : List Op) → after.clients ≡ s.clients →
     LeavesClients s (within size name (Ok (record { text = text; after = after })) ops)
 within_leaves s after size name text ops same =
-    elim (nat_le (size + length (ops_bytes ops)) max_request_bytes) as (λ b. LeavesClients s (cond b (Goes text after ops) (Refuses (Rattle.command_text.specs.declared.refusal.Refusal.TheVariants.OfCommand name Rattle.command_text.specs.declared.refusal.CommandRefusal.TheVariants.RequestTooLarge)))) [
+    elim (nat_le (size + length (ops_bytes ops)) max_request_bytes) as (λ b. LeavesClients s (cond b (Goes text after ops) (Refuses (Rattle.console_text.specs.declared.refusal.Refusal.TheVariants.OfCommand name Rattle.console_text.specs.declared.refusal.CommandRefusal.TheVariants.RequestTooLarge)))) [
       | true ↦ same
       | false ↦ tt
     ]

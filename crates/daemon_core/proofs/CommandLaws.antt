@@ -5,19 +5,19 @@ use Rattle.std.proofs.lemmas.Bool.{lt-leb}
 use Rattle.std.specs.Prelude.{Result, Ok, Err, OnOk, OnErr, IfOk, IfErr, vec_len, vec_capacity}
 use Rattle.player_core.specs.declared.options.Options.{Options}
 use Rattle.player_core.specs.declared.options.Single.{Single}
-use Rattle.command_text.specs.declared.command.Command.{Command}
-use Rattle.command_text.specs.declared.command.Command.TheVariants as asked
-use Rattle.command_text.specs.declared.name.CommandName.{CommandName}
-use Rattle.command_text.specs.declared.refusal.CommandRefusal.{CommandRefusal}
-use Rattle.command_text.specs.declared.refusal.CommandRefusal.TheVariants as refusals
-use Rattle.command_text.specs.declared.refusal.Refusal.TheVariants.{OfCommand}
-use Rattle.command_text.specs.Reading.{name_of}
+use Rattle.console_text.specs.declared.command.Command.{Command}
+use Rattle.console_text.specs.declared.command.Command.TheVariants as asked
+use Rattle.console_text.specs.declared.name.CommandName.{CommandName}
+use Rattle.console_text.specs.declared.refusal.CommandRefusal.{CommandRefusal}
+use Rattle.console_text.specs.declared.refusal.CommandRefusal.TheVariants as refusals
+use Rattle.console_text.specs.declared.refusal.Refusal.TheVariants.{OfCommand}
+use Rattle.console_text.specs.Reading.{name_of}
 use Rattle.idle_masks.specs.declared.subsystem.Subsystems.{Subsystems}
 use Rattle.idle_masks.specs.Subsystems.{none}
-use Rattle.state_codec.specs.declared.op.Op.{Op}
-use Rattle.state_codec.specs.declared.op.Op.TheVariants as ops
-use Rattle.state_codec.specs.declared.op.Setting.TheVariants as settings
-use Rattle.state_codec.specs.Spelling.{ops_bytes}
+use Rattle.console_codec.specs.declared.op.Op.{Op}
+use Rattle.console_codec.specs.declared.op.Op.TheVariants as ops
+use Rattle.console_codec.specs.declared.op.Setting.TheVariants as settings
+use Rattle.console_codec.specs.Spelling.{ops_bytes}
 use Rattle.daemon_core.specs.declared.work.Work.{Work}
 use Rattle.daemon_core.specs.declared.work.Failure.{Failure}
 use Rattle.daemon_core.specs.declared.work.Failure.TheVariants.{Refused, NoMemory}

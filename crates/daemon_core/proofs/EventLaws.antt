@@ -1,9 +1,9 @@
 -- The ops of any event rebuild the saved half, and fit into a record.
 use Rattle.std.proofs.Common.{ℕ, Bool, true, false, [], ◌∷◌, Option, Some, None, refl, arith}
-use Rattle.command_text.specs.declared.request.Request.{Request}
-use Rattle.command_text.specs.declared.request.Request.TheVariants.{Single, List as CommandList, OkList, Noidle}
-use Rattle.command_text.specs.declared.place.Place.TheVariants.{Alone, InList}
-use Rattle.command_text.specs.Answer.{list_ok}
+use Rattle.console_text.specs.declared.request.Request.{Request}
+use Rattle.console_text.specs.declared.request.Request.TheVariants.{Single, List as CommandList, OkList, Noidle}
+use Rattle.console_text.specs.declared.place.Place.TheVariants.{Alone, InList}
+use Rattle.console_text.specs.Answer.{list_ok}
 use Rattle.idle_masks.specs.declared.subsystem.Subsystems.{Subsystems}
 use Rattle.idle_masks.specs.declared.watch.Watched.{Watched}
 use Rattle.idle_masks.specs.Watched.{watched}

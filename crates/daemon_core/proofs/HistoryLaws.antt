@@ -5,16 +5,16 @@ use Rattle.std.specs.Option.{option_map}
 use Rattle.std.specs.List.{list_any, filter_map, AllByRecursion, cons_option}
 use Rattle.std.proofs.lemmas.Bool.{ne_eqb}
 use Rattle.std.proofs.Common.{ltb-true}
-use Rattle.command_text.specs.declared.request.Request.{Request}
-use Rattle.command_text.specs.declared.request.Request.TheVariants.{Single, List as CommandList, OkList, Noidle}
-use Rattle.command_text.specs.declared.place.Place.TheVariants.{Alone, InList}
-use Rattle.command_text.specs.Answer.{list_ok}
+use Rattle.console_text.specs.declared.request.Request.{Request}
+use Rattle.console_text.specs.declared.request.Request.TheVariants.{Single, List as CommandList, OkList, Noidle}
+use Rattle.console_text.specs.declared.place.Place.TheVariants.{Alone, InList}
+use Rattle.console_text.specs.Answer.{list_ok}
 use Rattle.idle_masks.specs.declared.subsystem.Subsystems.{Subsystems}
 use Rattle.idle_masks.specs.declared.watch.Watched.{Watched}
 use Rattle.idle_masks.specs.declared.ready.Report.{Report}
 use Rattle.idle_masks.specs.Subsystems.{contains, none, union, intersection, is_empty}
 use Rattle.idle_masks.specs.Watched.{newcomer, watched, left, told_to_wait, with_waiting, grown, marked, due, report_of, reports_of, reported, after_reports}
-use Rattle.state_codec.specs.SavedState.{SavedState}
+use Rattle.console_codec.specs.SavedState.{SavedState}
 use Rattle.daemon_core.specs.declared.event.Event.{Event}
 use Rattle.daemon_core.specs.declared.event.Event.TheVariants as events
 use Rattle.daemon_core.specs.declared.outcome.Ending.{Ending}

@@ -5,22 +5,22 @@ use Rattle.std.specs.Option.{option_and_then}
 use Rattle.std.proofs.lemmas.Bool.{leb-true, eqb-true}
 use Rattle.player_core.specs.declared.options.Single.{Single as SingleMode}
 use Rattle.player_core.specs.declared.options.Single.TheVariants.{Off, On, Oneshot}
-use Rattle.command_text.specs.declared.command.Command.{Command}
-use Rattle.command_text.specs.declared.command.Command.TheVariants.{Close, Consume, Kill, Ping, Random, Repeat, SetVolume, Single, Status}
-use Rattle.command_text.specs.declared.name.CommandName.{CommandName}
-use Rattle.command_text.specs.declared.name.CommandName.TheVariants as names
-use Rattle.command_text.specs.declared.place.Place.{Place}
-use Rattle.command_text.specs.declared.refusal.Refusal.{Refusal}
-use Rattle.command_text.specs.declared.refusal.Refusal.TheVariants.{OfCommand}
-use Rattle.command_text.specs.declared.refusal.CommandRefusal.TheVariants.{RequestTooLarge}
-use Rattle.command_text.specs.Reading.{line_reading}
-use Rattle.state_codec.specs.declared.op.Op.{Op}
-use Rattle.state_codec.specs.declared.op.Op.TheVariants as ops
-use Rattle.state_codec.specs.declared.op.Setting.TheVariants as settings
-use Rattle.state_codec.specs.SavedState.{SavedState}
-use Rattle.state_codec.specs.Spelling.{op_bytes, ops_bytes}
-use Rattle.state_codec.specs.Applied.{all_applied}
-use Rattle.state_codec.proofs.AppliedLaws.{all_applied-append}
+use Rattle.console_text.specs.declared.command.Command.{Command}
+use Rattle.console_text.specs.declared.command.Command.TheVariants.{Close, Consume, Kill, Ping, Random, Repeat, SetVolume, Single, Status}
+use Rattle.console_text.specs.declared.name.CommandName.{CommandName}
+use Rattle.console_text.specs.declared.name.CommandName.TheVariants as names
+use Rattle.console_text.specs.declared.place.Place.{Place}
+use Rattle.console_text.specs.declared.refusal.Refusal.{Refusal}
+use Rattle.console_text.specs.declared.refusal.Refusal.TheVariants.{OfCommand}
+use Rattle.console_text.specs.declared.refusal.CommandRefusal.TheVariants.{RequestTooLarge}
+use Rattle.console_text.specs.Reading.{line_reading}
+use Rattle.console_codec.specs.declared.op.Op.{Op}
+use Rattle.console_codec.specs.declared.op.Op.TheVariants as ops
+use Rattle.console_codec.specs.declared.op.Setting.TheVariants as settings
+use Rattle.console_codec.specs.SavedState.{SavedState}
+use Rattle.console_codec.specs.Spelling.{op_bytes, ops_bytes}
+use Rattle.console_codec.specs.Applied.{all_applied}
+use Rattle.console_codec.proofs.AppliedLaws.{all_applied-append}
 use Rattle.daemon_core.specs.State.{State}
 use Rattle.daemon_core.specs.Status.{status_lines}
 use Rattle.daemon_core.specs.Changed.{same_switch, same_single}

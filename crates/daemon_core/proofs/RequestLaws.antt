@@ -3,20 +3,20 @@ use Rattle.std.proofs.Common.{◌≡◌, ℕ, suc, ◌+◌, ◌≤◌, ◌<◌, 
 use Rattle.std.specs.Prelude.{Ok, Err, IfSome}
 use Rattle.std.proofs.lemmas.List.{append-nil}
 use Rattle.std.proofs.lemmas.Bool.{le-leb, ne_eqb}
-use Rattle.command_text.specs.declared.command.Command.{Command}
-use Rattle.command_text.specs.declared.command.Command.TheVariants.{Close, Consume, Kill, Ping, Random, Repeat, SetVolume, Single, Status}
-use Rattle.command_text.specs.declared.name.CommandName.{CommandName}
-use Rattle.command_text.specs.declared.place.Place.{Place}
-use Rattle.command_text.specs.declared.refusal.CommandRefusal.{CommandRefusal}
-use Rattle.command_text.specs.declared.refusal.CommandRefusal.TheVariants as refusals
-use Rattle.command_text.specs.declared.refusal.Refusal.{Refusal}
-use Rattle.command_text.specs.declared.refusal.Refusal.TheVariants.{OfCommand}
-use Rattle.command_text.specs.Reading.{line_reading, name_of, name_of_line, want_of_memory}
-use Rattle.command_text.specs.Answer.{ok, ack}
+use Rattle.console_text.specs.declared.command.Command.{Command}
+use Rattle.console_text.specs.declared.command.Command.TheVariants.{Close, Consume, Kill, Ping, Random, Repeat, SetVolume, Single, Status}
+use Rattle.console_text.specs.declared.name.CommandName.{CommandName}
+use Rattle.console_text.specs.declared.place.Place.{Place}
+use Rattle.console_text.specs.declared.refusal.CommandRefusal.{CommandRefusal}
+use Rattle.console_text.specs.declared.refusal.CommandRefusal.TheVariants as refusals
+use Rattle.console_text.specs.declared.refusal.Refusal.{Refusal}
+use Rattle.console_text.specs.declared.refusal.Refusal.TheVariants.{OfCommand}
+use Rattle.console_text.specs.Reading.{line_reading, name_of, name_of_line, want_of_memory}
+use Rattle.console_text.specs.Answer.{ok, ack}
 use Rattle.idle_masks.specs.declared.subsystem.Subsystems.{Subsystems}
 use Rattle.idle_masks.specs.Subsystems.{contains, none, union}
-use Rattle.state_codec.specs.declared.op.Op.{Op}
-use Rattle.state_codec.specs.Spelling.{ops_bytes}
+use Rattle.console_codec.specs.declared.op.Op.{Op}
+use Rattle.console_codec.specs.Spelling.{ops_bytes}
 use Rattle.daemon_core.specs.declared.outcome.Ending.{Ending}
 use Rattle.daemon_core.specs.declared.outcome.Ending.TheVariants.{Answered, Closed, Killed}
 use Rattle.daemon_core.specs.declared.work.Work.{Work}

@@ -8,10 +8,10 @@ use Rattle.idle_masks.specs.declared.refusal.WatchError.{WatchError}
 use Rattle.idle_masks.specs.declared.ready.Report.{Report}
 use Rattle.idle_masks.specs.Subsystems.{none, union, intersection, is_empty}
 use Rattle.idle_masks.specs.Watched.{newcomer, watched, joined, left, with_waiting, grown, marked, due, report_of, reports_of}
-use Rattle.command_text.specs.declared.request.Request.{Request}
-use Rattle.command_text.specs.declared.request.Request.TheVariants.{Single, List as CommandList, OkList, Noidle}
-use Rattle.command_text.specs.declared.place.Place.TheVariants.{Alone, InList}
-use Rattle.command_text.specs.Answer.{list_ok}
+use Rattle.console_text.specs.declared.request.Request.{Request}
+use Rattle.console_text.specs.declared.request.Request.TheVariants.{Single, List as CommandList, OkList, Noidle}
+use Rattle.console_text.specs.declared.place.Place.TheVariants.{Alone, InList}
+use Rattle.console_text.specs.Answer.{list_ok}
 use Rattle.daemon_core.specs.declared.event.Event.{Event}
 use Rattle.daemon_core.specs.declared.event.Event.TheVariants as events
 use Rattle.daemon_core.specs.declared.outcome.Ending.{Ending}

@@ -8,8 +8,8 @@ use Rattle.daemon_core.specs.declared.outcome.Output.{Output}
 use Rattle.daemon_core.specs.declared.outcome.Outcome.{Outcome}
 use Rattle.daemon_core.specs.declared.step.StepRoom.{StepRoom}
 use Rattle.daemon_core.specs.declared.step.Acts.{Acts}
-use Rattle.state_codec.specs.Applied.{all_applied}
-use Rattle.state_codec.specs.Spelling.{ops_bytes}
+use Rattle.console_codec.specs.Applied.{all_applied}
+use Rattle.console_codec.specs.Spelling.{ops_bytes}
 use Rattle.daemon_core.specs.Run.{max_request_bytes}
 use Rattle.daemon_core.proofs.EventLaws.{step_rebuilds}
 use Rattle.daemon_core.specs.State.{State}

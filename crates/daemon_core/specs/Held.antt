@@ -1,5 +1,5 @@
 -- What the fields of a `Core` stand for.
-use Rattle.state_codec.specs.SavedState.{SavedState}
+use Rattle.console_codec.specs.SavedState.{SavedState}
 use Rattle.daemon_core.specs.State.{State}
 use Rattle.daemon_core.specs.declared.machine.Core.TheInside.{Inside}
 

@@ -1,12 +1,12 @@
 -- What each command does, and the ops that spell what it changes.
 use Rattle.std.specs.Prelude.{ℕ, ◌+◌, ◌-◌, ◌^◌, ◌==◌, List, [], ◌∷◌, Bool, true, false, not, ◌&&◌, Result, Ok, if◌then◌else◌}
 use Rattle.player_core.specs.declared.options.Options.{Options}
-use Rattle.command_text.specs.declared.command.Command.{Command}
-use Rattle.command_text.specs.declared.command.Command.TheVariants.{Close, Consume, Kill, Ping, Random, Repeat, SetVolume, Single, Status}
-use Rattle.command_text.specs.declared.refusal.CommandRefusal.{CommandRefusal}
-use Rattle.state_codec.specs.declared.op.Op.{Op}
-use Rattle.state_codec.specs.declared.op.Op.TheVariants as ops
-use Rattle.state_codec.specs.declared.op.Setting.TheVariants as settings
+use Rattle.console_text.specs.declared.command.Command.{Command}
+use Rattle.console_text.specs.declared.command.Command.TheVariants.{Close, Consume, Kill, Ping, Random, Repeat, SetVolume, Single, Status}
+use Rattle.console_text.specs.declared.refusal.CommandRefusal.{CommandRefusal}
+use Rattle.console_codec.specs.declared.op.Op.{Op}
+use Rattle.console_codec.specs.declared.op.Op.TheVariants as ops
+use Rattle.console_codec.specs.declared.op.Setting.TheVariants as settings
 use Rattle.daemon_core.specs.State.{State}
 use Rattle.daemon_core.specs.Status.{status_lines}
 use Rattle.daemon_core.specs.Changed.{same_switch, same_single}

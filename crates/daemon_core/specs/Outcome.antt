@@ -1,7 +1,7 @@
 -- What a step answers.
 use Rattle.std.specs.Prelude.{◌≡◌, ℕ, ◌<◌, length, IfSome}
-use Rattle.command_text.specs.declared.request.Request.{Request}
-use Rattle.command_text.specs.declared.request.Request.TheVariants.{Single, List as CommandList, OkList, Noidle}
+use Rattle.console_text.specs.declared.request.Request.{Request}
+use Rattle.console_text.specs.declared.request.Request.TheVariants.{Single, List as CommandList, OkList, Noidle}
 use Rattle.daemon_core.specs.declared.event.Event.{Event}
 use Rattle.daemon_core.specs.declared.event.Event.TheVariants as events
 use Rattle.daemon_core.specs.declared.outcome.Outcome.{Outcome}

@@ -1,8 +1,8 @@
 -- What recovering gives.
 use Rattle.std.specs.Prelude.{◌≡◌, ℕ, List, Result, Ok, Err}
-use Rattle.state_codec.specs.declared.op.Op.{Op}
-use Rattle.state_codec.specs.SavedState.{SavedState}
-use Rattle.state_codec.specs.Applied.{applied_from}
+use Rattle.console_codec.specs.declared.op.Op.{Op}
+use Rattle.console_codec.specs.SavedState.{SavedState}
+use Rattle.console_codec.specs.Applied.{applied_from}
 use Rattle.daemon_core.specs.State.{State, start}
 use Rattle.daemon_core.specs.declared.machine.RecoverError.{RecoverError}
 use Rattle.daemon_core.specs.declared.machine.RecoverError.TheVariants.{BadOp, NoMemory}

@@ -1,20 +1,20 @@
 -- A request's commands, one after the other.
 use Rattle.std.specs.Prelude.{ℕ, suc, ◌+◌, ◌==◌, List, [], ◌∷◌, ◌++◌, length, Bool, true, false, Option, Some, None, Result, Ok, Err, nat_le, if◌then◌else◌}
-use Rattle.command_text.specs.declared.command.Command.{Command}
-use Rattle.command_text.specs.declared.command.Command.TheVariants.{Close, Consume, Kill, Ping, Random, Repeat, SetVolume, Single, Status}
-use Rattle.command_text.specs.declared.name.CommandName.{CommandName}
-use Rattle.command_text.specs.declared.name.CommandName.TheVariants as names
-use Rattle.command_text.specs.declared.place.Place.{Place}
-use Rattle.command_text.specs.declared.refusal.CommandRefusal.{CommandRefusal}
-use Rattle.command_text.specs.declared.refusal.CommandRefusal.TheVariants as refusals
-use Rattle.command_text.specs.declared.refusal.Refusal.{Refusal}
-use Rattle.command_text.specs.declared.refusal.Refusal.TheVariants.{OfCommand}
-use Rattle.command_text.specs.Reading.{line_reading, name_of_line, want_of_memory}
-use Rattle.command_text.specs.Answer.{ok, list_ok, ack}
+use Rattle.console_text.specs.declared.command.Command.{Command}
+use Rattle.console_text.specs.declared.command.Command.TheVariants.{Close, Consume, Kill, Ping, Random, Repeat, SetVolume, Single, Status}
+use Rattle.console_text.specs.declared.name.CommandName.{CommandName}
+use Rattle.console_text.specs.declared.name.CommandName.TheVariants as names
+use Rattle.console_text.specs.declared.place.Place.{Place}
+use Rattle.console_text.specs.declared.refusal.CommandRefusal.{CommandRefusal}
+use Rattle.console_text.specs.declared.refusal.CommandRefusal.TheVariants as refusals
+use Rattle.console_text.specs.declared.refusal.Refusal.{Refusal}
+use Rattle.console_text.specs.declared.refusal.Refusal.TheVariants.{OfCommand}
+use Rattle.console_text.specs.Reading.{line_reading, name_of_line, want_of_memory}
+use Rattle.console_text.specs.Answer.{ok, list_ok, ack}
 use Rattle.idle_masks.specs.declared.subsystem.Subsystems.{Subsystems}
 use Rattle.idle_masks.specs.Subsystems.{none, union}
-use Rattle.state_codec.specs.declared.op.Op.{Op}
-use Rattle.state_codec.specs.Spelling.{ops_bytes}
+use Rattle.console_codec.specs.declared.op.Op.{Op}
+use Rattle.console_codec.specs.Spelling.{ops_bytes}
 use Rattle.daemon_core.specs.declared.outcome.Ending.{Ending}
 use Rattle.daemon_core.specs.declared.outcome.Ending.TheVariants.{Answered, Closed, Killed}
 use Rattle.daemon_core.specs.State.{State}

@@ -1,7 +1,7 @@
 -- The daemon's state: the half that is kept on disk, and the half that runs.
 use Rattle.std.specs.Prelude.{List, []}
 use Rattle.idle_masks.specs.declared.watch.Watched.{Watched}
-use Rattle.state_codec.specs.SavedState.{SavedState}
+use Rattle.console_codec.specs.SavedState.{SavedState}
 
 -- Of the running half there are, so far, the connected clients, by rising number: for each what is pending and, if it
 -- waits, for what.

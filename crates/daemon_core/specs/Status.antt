@@ -4,8 +4,8 @@ use Rattle.std.specs.List.{concat}
 use Rattle.player_core.specs.declared.options.Single.{Single}
 use Rattle.player_core.specs.declared.options.Single.TheVariants.{Off, On, Oneshot}
 use Rattle.player_core.specs.declared.options.Options.{Options}
-use Rattle.state_codec.specs.SavedState.{SavedState}
-use Rattle.command_text.specs.Answer.{pair, number_pair}
+use Rattle.console_codec.specs.SavedState.{SavedState}
+use Rattle.console_text.specs.Answer.{pair, number_pair}
 
 abbrev pub switch_text : Bool → List ℕ
 switch_text false = codes "0"

@@ -1,10 +1,10 @@
 -- What an event does.
 use Rattle.std.specs.Prelude.{ℕ, List, [], ◌∷◌, ◌++◌, map, codes, Bool, true, false, Option, Some, None}
 use Rattle.std.specs.List.{flat_map}
-use Rattle.command_text.specs.declared.request.Request.{Request}
-use Rattle.command_text.specs.declared.request.Request.TheVariants.{Single, List as CommandList, OkList, Noidle}
-use Rattle.command_text.specs.declared.place.Place.TheVariants.{Alone, InList}
-use Rattle.command_text.specs.Answer.{pair, ok, list_ok, greeting}
+use Rattle.console_text.specs.declared.request.Request.{Request}
+use Rattle.console_text.specs.declared.request.Request.TheVariants.{Single, List as CommandList, OkList, Noidle}
+use Rattle.console_text.specs.declared.place.Place.TheVariants.{Alone, InList}
+use Rattle.console_text.specs.Answer.{pair, ok, list_ok, greeting}
 use Rattle.idle_masks.specs.declared.subsystem.Subsystem.{Subsystem}
 use Rattle.idle_masks.specs.declared.subsystem.Subsystems.{Subsystems}
 use Rattle.idle_masks.specs.declared.watch.Watched.{Watched}
@@ -12,7 +12,7 @@ use Rattle.idle_masks.specs.declared.ready.Report.{Report}
 use Rattle.idle_masks.specs.Subsystem.{name_of}
 use Rattle.idle_masks.specs.Subsystems.{none, listed}
 use Rattle.idle_masks.specs.Watched.{watched, joined, left, marked, with_waiting, reports_of, after_reports}
-use Rattle.state_codec.specs.declared.op.Op.{Op}
+use Rattle.console_codec.specs.declared.op.Op.{Op}
 use Rattle.daemon_core.specs.declared.event.Event.{Event}
 use Rattle.daemon_core.specs.declared.event.Event.TheVariants as events
 use Rattle.daemon_core.specs.declared.outcome.Output.{Output}

@@ -1,18 +1,18 @@
 -- What the code of one command does to the work on its request.
 use Rattle.std.specs.Prelude.{◌≡◌, ℕ, ◌+◌, ◌≤◌, ◌<◌, List, [], ◌++◌, length, IfSome, Ok, vec_len, vec_capacity}
-use Rattle.command_text.specs.declared.command.Command.{Command}
-use Rattle.command_text.specs.declared.refusal.CommandRefusal.TheVariants as refusals
-use Rattle.command_text.specs.declared.refusal.Refusal.{Refusal}
-use Rattle.command_text.specs.declared.refusal.Refusal.TheVariants.{OfCommand}
-use Rattle.command_text.specs.Reading.{name_of, name_of_line, want_of_memory}
-use Rattle.command_text.specs.Answer.{ack}
+use Rattle.console_text.specs.declared.command.Command.{Command}
+use Rattle.console_text.specs.declared.refusal.CommandRefusal.TheVariants as refusals
+use Rattle.console_text.specs.declared.refusal.Refusal.{Refusal}
+use Rattle.console_text.specs.declared.refusal.Refusal.TheVariants.{OfCommand}
+use Rattle.console_text.specs.Reading.{name_of, name_of_line, want_of_memory}
+use Rattle.console_text.specs.Answer.{ack}
 use Rattle.idle_masks.specs.declared.subsystem.Subsystems.{Subsystems}
-use Rattle.state_codec.specs.declared.op.Op.{Op}
-use Rattle.state_codec.specs.Spelling.{ops_bytes}
+use Rattle.console_codec.specs.declared.op.Op.{Op}
+use Rattle.console_codec.specs.Spelling.{ops_bytes}
 use Rattle.daemon_core.specs.declared.work.Work.{Work}
 use Rattle.daemon_core.specs.declared.work.Failure.{Failure}
 use Rattle.daemon_core.specs.declared.work.Failure.TheVariants.{Refused, NoMemory}
-use Rattle.command_text.specs.declared.place.Place.{Place}
+use Rattle.console_text.specs.declared.place.Place.{Place}
 use Rattle.daemon_core.specs.declared.request.RunEnd.{RunEnd}
 use Rattle.daemon_core.specs.declared.request.Attempt.{Attempt}
 use Rattle.daemon_core.specs.declared.request.Attempt.TheVariants as attempt

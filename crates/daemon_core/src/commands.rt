@@ -4,10 +4,10 @@ ghost use Rattle.daemon_core.specs.Changed.{same_options, same_single};
 
 use crate::machine::Core;
 use crate::work::{Failure, Work};
-use command_text::Command;
+use console_codec::{Op, Setting};
+use console_text::Command;
 use idle_masks::{Subsystem, Subsystems};
 use player_core::{Options, Single, Volume};
-use state_codec::{Op, Setting};
 
 fn same_single(a: Single, b: Single) -> bool
     ensures { result ≡ same_single a b }
@@ -31,7 +31,7 @@ fn same_options(a: Options, b: Options) -> bool
 
 impl Core {
     ghost use Rattle.std.specs.Prelude.{IfOk, IfErr, ℕ, List, [], ◌∷◌, OnOk, OnErr, true, false, ◌==◌};
-    ghost use Rattle.command_text.specs.declared.command.Command.TheVariants as asked;
+    ghost use Rattle.console_text.specs.declared.command.Command.TheVariants as asked;
     ghost use Rattle.daemon_core.specs.Changed.{changed};
     ghost use Rattle.daemon_core.specs.Status.{status_lines};
     ghost use Rattle.daemon_core.specs.Meaning.{unless_same, with_options, with_volume, next_order};

@@ -1,4 +1,4 @@
-use command_text::Request;
+use console_text::Request;
 use idle_masks::ClientId;
 
 /// What happens to the daemon: each event is handled whole before the next one.

@@ -1,7 +1,7 @@
 //! Laws of the definitions.
 ghost use Rattle.std.specs.Prelude.{◌≡◌, ◌⊎◌, ℕ, List, [], Option, None};
-ghost use Rattle.command_text.specs.declared.command.Command.{Command};
-ghost use Rattle.state_codec.specs.SavedState.{SavedState};
+ghost use Rattle.console_text.specs.declared.command.Command.{Command};
+ghost use Rattle.console_codec.specs.SavedState.{SavedState};
 ghost use Rattle.daemon_core.specs.State.{State};
 ghost use Rattle.daemon_core.specs.Meaning.{Meaning, meaning, ops_of};
 ghost use Rattle.daemon_core.specs.declared.event.Event.{Event};

@@ -1,12 +1,12 @@
 ghost use Rattle.std.specs.Prelude.{◌≡◌, IfOk, OnErr, IsOk};
-ghost use Rattle.state_codec.specs.SavedState.{IsSavedState};
+ghost use Rattle.console_codec.specs.SavedState.{IsSavedState};
 ghost use Rattle.daemon_core.specs.State.{State, start};
 
 use crate::event::Event;
 use crate::outcome::{NoMemory, Outcome};
+use console_codec::{Op, Saved, Setting};
 use idle_masks::Watch;
 use player_core::{Options, Volume};
-use state_codec::{Op, Saved, Setting};
 use std::alloc::Global;
 use std::marker::Model;
 use thiserror::Error;
@@ -49,7 +49,7 @@ pub struct Core {
 
 impl Model for Core {
     ghost use Rattle.daemon_core.specs.State.{State};
-    ghost use Rattle.state_codec.specs.SavedState.{IsSavedState};
+    ghost use Rattle.console_codec.specs.SavedState.{IsSavedState};
 
     ghost Value = { State };
 
@@ -62,7 +62,7 @@ impl Model for Core {
 
 impl Core {
     ghost use Rattle.daemon_core.specs.Recovered.{Recovers};
-    ghost use Rattle.state_codec.specs.Applied.{applied};
+    ghost use Rattle.console_codec.specs.Applied.{applied};
 
     /// A daemon that begins with what was saved: no client is connected.
     pub fn new(alloc: Global, saved: Saved) -> Self

@@ -7,7 +7,7 @@ ghost use Rattle.daemon_core.specs.Work.{HasRoom, Attempts, want_room};
 use crate::machine::Core;
 use crate::outcome::Ending;
 use crate::work::{Failure, Work};
-use command_text::{Command, Line, Place, ReadError, Refusal, read_line};
+use console_text::{Command, Line, Place, ReadError, Refusal, read_line};
 use idle_masks::Subsystems;
 use std::alloc::Global;
 

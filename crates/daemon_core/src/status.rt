@@ -2,7 +2,7 @@
 ghost use Rattle.std.specs.Prelude.{◌≡◌, ◌≤◌, ◌++◌, take, length, OnOk, OnErr, vec_capacity};
 ghost use Rattle.daemon_core.specs.Status.{switch_text, single_text, status_text};
 
-use command_text::{NoMemory, write_number, write_pair};
+use console_text::{NoMemory, write_number, write_pair};
 use player_core::{Options, Single, Volume};
 
 fn switch_text(on: bool) -> &'static [u8]

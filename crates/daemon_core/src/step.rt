@@ -1,6 +1,6 @@
 //! One event: its own work, and then what clients that wait are told.
 ghost use Rattle.std.specs.Prelude.{◌≡◌, ◌+◌, ◌≤◌, ◌++◌, None, false, [], length, vec_len, vec_capacity, map, IfOk, OnErr, OnOk, IsSome, IfSome, ◌<◌, Some};
-ghost use Rattle.command_text.specs.Answer.{greeting, ok};
+ghost use Rattle.console_text.specs.Answer.{greeting, ok};
 ghost use Rattle.idle_masks.specs.Subsystems.{none};
 ghost use Rattle.daemon_core.specs.Step.{is_noidle};
 
@@ -10,9 +10,9 @@ use crate::outcome::{Bytes, Ending, NoMemory, Outcome, Output};
 use crate::request::RunEnd;
 use crate::tell::{TellRoom, tell_all};
 use crate::work::Work;
-use command_text::{Line, Place, Request, write_greeting, write_ok};
+use console_codec::Op;
+use console_text::{Line, Place, Request, write_greeting, write_ok};
 use idle_masks::{ClientId, ReadyRoom, Subsystems, Watched};
-use state_codec::Op;
 use std::alloc::Global;
 
 /// A request has at most so many commands.
@@ -81,8 +81,8 @@ fn done(alloc: Global, outputs: Vec<Output>, closes: Vec<ClientId>) -> Acts
 impl Core {
     ghost use Rattle.idle_masks.specs.Watched.{watched, marked, reports_of, after_reports};
     ghost use Rattle.daemon_core.specs.Step.{told_to, connects_client, waits_no_more, without, runs, of_ran, acted, asked, requested_by, waiting_of};
-    ghost use Rattle.state_codec.specs.Applied.{all_applied};
-    ghost use Rattle.state_codec.specs.Spelling.{ops_bytes};
+    ghost use Rattle.console_codec.specs.Applied.{all_applied};
+    ghost use Rattle.console_codec.specs.Spelling.{ops_bytes};
     ghost use Rattle.daemon_core.specs.Outcome.{IsOutcome, command_count, commands_in};
     ghost use Rattle.daemon_core.specs.Run.{ran, separator, max_request_bytes};
     ghost use Rattle.daemon_core.specs.Room.{IsRoomFor, IsEmptyRoom, DoesAct, waiting_count, with_clients};

@@ -5,7 +5,7 @@ ghost use Rattle.idle_masks.specs.Subsystems.{contains};
 ghost use Rattle.daemon_core.specs.Step.{told, told_to, changed_line, line_if};
 
 use crate::outcome::{Bytes, NoMemory, Output};
-use command_text::{write_ok, write_pair};
+use console_text::{write_ok, write_pair};
 use idle_masks::{Report, Subsystem, Subsystems};
 use std::alloc::Global;
 use std::marker::Model;

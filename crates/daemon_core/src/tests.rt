@@ -1,8 +1,8 @@
 use crate::*;
-use command_text::{Line, Lines, Request};
+use console_codec::{Op, Saved, Setting};
+use console_text::{Line, Lines, Request};
 use idle_masks::{ClientId, Subsystem, Subsystems};
 use player_core::{Single, Volume};
-use state_codec::{Op, Saved, Setting};
 use std::alloc::{AllocError, Global};
 use std::fmt::{Debug, Display};
 use std::process::Abort;

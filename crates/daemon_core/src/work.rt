@@ -1,9 +1,9 @@
 ghost use Rattle.std.specs.Prelude.{◌≤◌};
 
 use crate::status::write_status;
-use command_text::{CommandRefusal, Refusal, want_of_memory, write_ack, write_list_ok, write_ok};
+use console_codec::Op;
+use console_text::{CommandRefusal, Refusal, want_of_memory, write_ack, write_list_ok, write_ok};
 use player_core::{Options, Volume};
-use state_codec::Op;
 use std::alloc::{AllocError, Global};
 
 /// The ops of one request take at most so many bytes, as many as a record of the journal holds.
@@ -33,8 +33,8 @@ pub enum Failure {
 
 impl Work {
     ghost use Rattle.std.specs.Prelude.{◌≡◌, ℕ, ◌+◌, ◌<◌, ◌≤◌, ◌^◌, List, [], ◌∷◌, ◌++◌, length, vec_len, vec_capacity, OnOk, OnErr, IfOk, IfErr, IfSome, MatchBool};
-    ghost use Rattle.command_text.specs.Answer.{ack, list_ok, ok};
-    ghost use Rattle.command_text.specs.Reading.{name_of_line, want_of_memory};
+    ghost use Rattle.console_text.specs.Answer.{ack, list_ok, ok};
+    ghost use Rattle.console_text.specs.Reading.{name_of_line, want_of_memory};
     ghost use Rattle.daemon_core.specs.Status.{status_text};
     ghost use Rattle.daemon_core.specs.Work.{HasRoom, AddsOps, AddsNothing, AddsText, IsTooLarge, want_room, command_room};
 

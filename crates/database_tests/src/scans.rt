@@ -324,6 +324,8 @@ impl Folder for BrokenFolder {
 
     ghost honest = { λ _. ⊥ };
 
+    ghost steady = { λ _. ⊥ };
+
     fn list(&mut self, alloc: Global, path: &str) -> Result<Option<Vec<FolderEntry>>, FolderFault> {
         self.folder.list(alloc, path)
     }
@@ -380,6 +382,8 @@ impl Folder for BrokenFile {
     ghost files = { λ _. [] };
 
     ghost honest = { λ _. ⊥ };
+
+    ghost steady = { λ _. ⊥ };
 
     fn list(&mut self, alloc: Global, path: &str) -> Result<Option<Vec<FolderEntry>>, FolderFault> {
         if !path.is_empty() {

@@ -1,8 +1,8 @@
 -- The count of faults over several calls.
 use Rattle.std.proofs.Common.{ℕ, ◌<◌, ◌≤◌, Result, Ok, Err, refl, arith}
 use Rattle.std.specs.Prelude.{OnErr, IsErrOf}
-use Rattle.disk_model.specs.declared.disk.DiskError.{DiskError}
-use Rattle.disk_model.specs.declared.disk.DiskError.TheVariants.{DiskFault, OutOfRange}
+use Rattle.disk_model.specs.declared.refusal.DiskError.{DiskError}
+use Rattle.disk_model.specs.declared.refusal.DiskError.TheVariants.{DiskFault, OutOfRange}
 use Rattle.disk_model.specs.Faults.{HasGrown, IsCounted}
 
 -- calls before the fault

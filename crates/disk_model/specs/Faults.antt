@@ -1,7 +1,7 @@
 -- The count of a disk's faults.
 use Rattle.std.specs.Prelude.{◌≡◌, ℕ, ◌-◌, ◌^◌, ◌<◌, ◌≤◌, Result, OnOk, IsErrOf}
-use Rattle.disk_model.specs.declared.disk.DiskError.{DiskError}
-use Rattle.disk_model.specs.declared.disk.DiskError.TheVariants.{DiskFault, OutOfRange}
+use Rattle.disk_model.specs.declared.refusal.DiskError.{DiskError}
+use Rattle.disk_model.specs.declared.refusal.DiskError.TheVariants.{DiskFault, OutOfRange}
 
 -- the count has grown, or stands at its end
 abbrev pub HasGrown : ℕ → ℕ → Type 0

@@ -1,7 +1,7 @@
 -- A disk with a fuse.
 use Rattle.std.specs.Prelude.{◌≡◌, ◌⊎◌, ℕ, ◌+◌, ◌-◌, ◌^◌, ◌≤◌, List, ◌∷◌, min, Result, IsErrOf}
-use Rattle.disk_model.specs.declared.disk.DiskError.{DiskError}
-use Rattle.disk_model.specs.declared.disk.DiskError.TheVariants.{DiskFault}
+use Rattle.disk_model.specs.declared.refusal.DiskError.{DiskError}
+use Rattle.disk_model.specs.declared.refusal.DiskError.TheVariants.{DiskFault}
 use Rattle.disk_model.specs.declared.fuse.Fuse.{Fuse}
 use Rattle.disk_model.specs.declared.fuse.Fuse.TheVariants.{Stop, Fail}
 use Rattle.disk_model.specs.declared.fuse.FuseDisk.{FuseDisk}

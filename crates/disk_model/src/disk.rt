@@ -1,35 +1,12 @@
 // The interface of a disk, and all that is promised of an honest one.
-ghost use Rattle.std.specs.Prelude.{◌≡◌, ◌+◌, ◌-◌, ◌^◌, ◌<◌, ◌≤◌, min, ◌↔◌, List, ℕ, [], ◌∷◌, length, take, slice_range, OnOk, OnErr, IsErrOf, IsTrue, ◌≢◌};
+ghost use Rattle.std.specs.Prelude.{◌≡◌, ◌+◌, ◌-◌, ◌^◌, ◌<◌, ◌≤◌, min, ◌↔◌, List, ℕ, [], ◌∷◌, length, take, slice_range, OnOk, OnErr};
+ghost use Rattle.std.specs.Prelude.{IsErrOf, IsTrue, ◌≢◌};
 ghost use Rattle.disk_model.specs.Calls.{overwritten, IsMadeOrNothing};
-ghost use Rattle.disk_model.specs.DiskErrors.{number_of};
 ghost use Rattle.disk_model.specs.Faults.{IsCounted};
 ghost use Rattle.disk_model.specs.History.{Change, Wrote, CutTo, Synced};
 ghost use Rattle.disk_model.specs.Images.{window, IsImage};
 
-use thiserror::Error;
-
-/// What a disk refuses.
-#[derive(Clone, Copy, Debug, PartialEq, Eq, Error)]
-pub enum DiskError {
-    /// The disk failed. Of a write or a cut any part may have been done.
-    #[error("disk fault")]
-    DiskFault,
-    /// A read past the end, a write that begins past the end, or a cut above the length. Nothing was done.
-    #[error("out of range")]
-    OutOfRange,
-}
-
-impl DiskError {
-    /// The number of the refusal, by which the daemon reports it.
-    pub fn number(self) -> u32
-        ensures { result ≡ number_of self }
-    {
-        match self {
-            DiskError::DiskFault => 1,
-            DiskError::OutOfRange => 2,
-        }
-    }
-}
+use crate::DiskError;
 
 /// One file on a disk. Offsets and lengths are in bytes, and a length is at most 2^63 - 1.
 ///

@@ -1,5 +1,6 @@
 // A disk over a real file.
-ghost use Rattle.std.specs.Prelude.{◌≡◌, ◌≢◌, ◌+◌, ◌-◌, ◌^◌, ◌<◌, ◌≤◌, ◌↔◌, true, false, min, max, ℕ, List, [], length, IfOk, OnOk, OnErr, IsErrOf};
+ghost use Rattle.std.specs.Prelude.{◌≡◌, ◌≢◌, ◌+◌, ◌-◌, ◌^◌, ◌<◌, ◌≤◌, ◌↔◌, true, false, min, max, ℕ, List, [], length, IfOk, OnOk};
+ghost use Rattle.std.specs.Prelude.{OnErr, IsErrOf};
 ghost use Rattle.disk_model.specs.Faults.{IsCounted};
 ghost use Rattle.disk_model.specs.FileLength.{length_of, file_faults, is_lost};
 

@@ -1,5 +1,6 @@
 // A disk that fails when a test wants it to.
-ghost use Rattle.std.specs.Prelude.{◌≡◌, ◌+◌, ◌-◌, ◌^◌, ◌<◌, ◌↔◌, ◌≢◌, ◌≤◌, ⊤, ℕ, min, [], ◌∷◌, length, take, slice_range, OnOk, OnErr, IsErrOf, IsTrue};
+ghost use Rattle.std.specs.Prelude.{◌≡◌, ◌+◌, ◌-◌, ◌^◌, ◌<◌, ◌↔◌, ◌≢◌, ◌≤◌, ⊤, ℕ, min, [], ◌∷◌, length, take, slice_range, OnOk, OnErr};
+ghost use Rattle.std.specs.Prelude.{IsErrOf, IsTrue};
 ghost use Rattle.disk_model.specs.Calls.{overwritten, IsMadeOrNothing};
 ghost use Rattle.disk_model.specs.Faults.{IsCounted};
 ghost use Rattle.disk_model.specs.Fuse.{IsBlown, ObeysFuse, IsHeldBack, IsMadeBlown, inner_of, fuse_of, calls_of, next_call, faults_of};

@@ -6,9 +6,11 @@ mod disk;
 mod file;
 mod fuse;
 mod memory;
+mod refusal;
 mod window;
 
-pub use disk::{Disk, DiskError};
+pub use disk::Disk;
 pub use file::FileDisk;
 pub use fuse::{Fuse, FuseDisk};
 pub use memory::MemDisk;
+pub use refusal::DiskError;

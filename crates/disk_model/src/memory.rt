@@ -1,5 +1,6 @@
 // A disk in memory. It keeps a record of each write, cut and sync that it made, from which its history follows.
-ghost use Rattle.std.specs.Prelude.{◌≡◌, ◌≤◌, ◌^◌, ◌<◌, [], ◌∷◌, ◌++◌, length, take, vec_len, ◌↔◌, IsTrue, All, IfOk, OnOk, OnErr, IsErrOf, slice_range, ◌+◌, ◌≢◌};
+ghost use Rattle.std.specs.Prelude.{◌≡◌, ◌≤◌, ◌^◌, ◌<◌, [], ◌∷◌, ◌++◌, length, take, vec_len, ◌↔◌, IsTrue, All, IfOk, OnOk, OnErr};
+ghost use Rattle.std.specs.Prelude.{IsErrOf, slice_range, ◌+◌, ◌≢◌};
 ghost use Rattle.disk_model.specs.Calls.{overwritten};
 ghost use Rattle.disk_model.specs.History.{Synced};
 ghost use Rattle.disk_model.specs.Images.{window, IsImage};

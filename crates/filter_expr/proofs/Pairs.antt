@@ -1,13 +1,12 @@
 -- How pairs are read, one after the other.
-use Rattle.std.proofs.Common.{◌≡◌, ℕ, zero, suc, ◌+◌, ◌-◌, ◌<◌, ◌≤◌, List, [], ◌∷◌, length, get_or, map, take, drop, false, Result, Ok, Err, Bor, refl, ap, ◌∙◌, arith, length-drop}
+use Rattle.std.proofs.Common.{◌≡◌, ℕ, zero, suc, ◌+◌, ◌-◌, ◌<◌, ◌≤◌, List, [], ◌∷◌, length, take, drop, Result, Ok, Err, refl, ap, ◌∙◌, arith, length-drop}
 use Rattle.filter_expr.specs.declared.name.Key.{Key}
 use Rattle.filter_expr.specs.declared.refusal.FilterError.{FilterError}
 use Rattle.filter_expr.specs.declared.refusal.FilterError.TheVariants as errors
 use Rattle.filter_expr.specs.Names.{key_named}
-use Rattle.filter_expr.specs.Parts.{opening, begins_so}
 use Rattle.filter_expr.specs.Tree.{Tree}
 use Rattle.filter_expr.specs.Tree.Tree.{And}
-use Rattle.filter_expr.specs.Words.{Refusal, ◌>>=◌, Gives, Refuses, keyed, half_pair, pair_at, more_pairs, pairs_of, filter_of}
+use Rattle.filter_expr.specs.Words.{Refusal, ◌>>=◌, Gives, Refuses, keyed, half_pair, pair_at, more_pairs, pairs_of}
 use Rattle.filter_expr.specs.Words.Refusal.{BadFilter}
 use Rattle.filter_expr.proofs.Windows.{all_taken}
 
@@ -49,11 +48,6 @@ pairs_end number tree words le = ap (more_pairs number tree) (none_left number w
     none_left zero (w ∷ ws) h = absurd (omega arith)
     none_left (suc n) (w ∷ ws) h = none_left n ws (omega arith)
 
-pub texts_drop : (n : ℕ) (words : List (Bor (List ℕ))) → map (λ word. word.now) (drop n words) ≡ drop n (map (λ word. word.now) words)
-texts_drop zero words = refl
-texts_drop (suc n) [] = refl
-texts_drop (suc n) (w ∷ words) = texts_drop n words
-
 pub drop_two : (n : ℕ) (ws : List (List ℕ)) → drop 2 (drop n ws) ≡ drop (n + 2) ws
 drop_two n ws = rw two (twice n ws)
   where
@@ -70,22 +64,6 @@ texts_left zero ws h = h
 texts_left (suc n) [] h = absurd (omega arith)
 texts_left (suc n) (w ∷ ws) h = texts_left n ws (omega arith)
 
-pub texts_count : (words : List (Bor (List ℕ))) → length (map (λ word. word.now) words) ≡ length words
-texts_count [] = refl
-texts_count (w ∷ words) = ap suc (texts_count words)
-
--- the texts of the words from a place on, as a slice gives them
-pub part_texts : (n : ℕ) (words : List (Bor (List ℕ))) → map (λ word. word.now) (take (length words - n) (drop n words)) ≡ drop n (map (λ word. word.now) words)
-part_texts n words =
-    let whole : take (length words - n) (drop n words) ≡ drop n words = all_taken (length words - n) (drop n words) (omega (arith, length-drop n words)) in
-    ap (λ ws. map (λ word. word.now) ws) whole ∙ texts_drop n words
-
-pub none_default : (words : List (Bor (List ℕ))) → length words < 1 → filter_of (map (λ word. word.now) words) ≡ pairs_of (map (λ word. word.now) words)
-unfolding filter_of pairs_of
-none_default [] lt = refl
-none_default (word ∷ words) lt = absurd (omega arith)
-
-pub other_default : (words : List (Bor (List ℕ))) (d : Bor (List ℕ)) → 0 < length words → begins_so opening (get_or words 0 d).now ≡ false → filter_of (map (λ word. word.now) words) ≡ pairs_of (map (λ word. word.now) words)
-unfolding filter_of
-other_default [] d lt h = absurd (omega arith)
-other_default (word ∷ words) d lt h = rw h refl
+-- the words from a place on, as a slice gives them
+pub part_texts : (n : ℕ) (words : List (List ℕ)) → take (length words - n) (drop n words) ≡ drop n words
+part_texts n words = all_taken (length words - n) (drop n words) (omega (arith, length-drop n words))

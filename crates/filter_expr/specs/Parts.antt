@@ -4,7 +4,8 @@ use Rattle.std.specs.Str.{is_utf8}
 use Rattle.filter_expr.specs.declared.name.Key.{Key}
 use Rattle.filter_expr.specs.Names.{key_named}
 
--- A fault, with how many bytes stand from it to the end of the text: no expression goes on so, the tag of this name is unknown, or one parenthesis more is open than may be.
+-- A fault, with how many bytes stand from it to the end of the text: no expression goes on so, the tag of this name is unknown, or one
+-- parenthesis more is open than may be.
 pub data Fault : Type 0 where
   Bad : ℕ → Fault
   Unknown : List ℕ → Fault

@@ -7,7 +7,8 @@ use Rattle.filter_expr.specs.declared.name.Key.{Key}
 use Rattle.filter_expr.specs.declared.name.Key.TheVariants as keys
 use Rattle.filter_expr.specs.declared.operator.Operator.{Operator}
 use Rattle.filter_expr.specs.declared.operator.Operator.TheVariants as operators
-use Rattle.filter_expr.specs.Parts.{Fault, ◌>>=◌, opening, closing, exclamation, equals_sign, begins_so, without_blanks, byte_at, word_at, between_gaps, key_at, value_at}
+use Rattle.filter_expr.specs.Parts.{Fault, ◌>>=◌, opening, closing, exclamation, equals_sign, begins_so, without_blanks, byte_at, word_at}
+use Rattle.filter_expr.specs.Parts.{between_gaps, key_at, value_at}
 use Rattle.filter_expr.specs.Parts.Fault.{Bad, Deep}
 use Rattle.filter_expr.specs.Tree.{Tree}
 use Rattle.filter_expr.specs.Tree.Tree.{Test, Base, Not, And}

@@ -15,7 +15,8 @@ use Rattle.filter_expr.specs.Reading.{whole}
 use Rattle.filter_expr.specs.Tree.{Tree}
 use Rattle.filter_expr.specs.Tree.Tree.{Test, Base, And}
 
--- Why words spell no filter: from this byte of this word on no filter goes on so, no tag has this name, or one parenthesis more is open at this byte than may be. Words and bytes count from 0.
+-- Why words spell no filter: from this byte of this word on no filter goes on so, no tag has this name, or one parenthesis more is open at
+-- this byte than may be. Words and bytes count from 0.
 pub data Refusal : Type 0 where
   BadFilter : ℕ → ℕ → Refusal
   UnknownTag : List ℕ → Refusal

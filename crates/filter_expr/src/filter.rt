@@ -1,4 +1,4 @@
-ghost use Rattle.std.specs.Prelude.{◌≡◌, IfOk, IsOk, map};
+ghost use Rattle.std.specs.Prelude.{◌≡◌, IfOk, IsOk};
 ghost use Rattle.filter_expr.specs.Words.{Gives, filter_of};
 ghost use Rattle.filter_expr.specs.Meaning.{is_match};
 ghost use Rattle.filter_expr.specs.declared.case.Case.TheVariants.{Exact, Folded};
@@ -6,8 +6,10 @@ ghost use Rattle.filter_expr.specs.declared.case.Case.TheVariants.{Exact, Folded
 use crate::case::Case;
 use crate::expression::Expression;
 use crate::folded_row::FoldedRow;
-use crate::refusal::{FilterError, NoMemory};
+use crate::refusal::FilterError;
+use crate::word::LineWord;
 use crate::words;
+use no_memory::NoMemory;
 use song_db::SongRow;
 use std::alloc::Global;
 use std::marker::Model;
@@ -30,11 +32,12 @@ impl Model for Filter {
 }
 
 impl Filter {
-    /// The filter that words spell: one word that is an expression, or pairs of a tag and a value, which hold together (MPD protocol reference 0.23, "Filters").
+    /// The filter that words spell: one word that is an expression, or pairs of a tag and a value, which hold together (MPD protocol
+    /// reference 0.23, "Filters").
     ///
     /// `BadFilter`, `UnknownTag` or `TooDeep` tells of the leftmost fault of words that spell none.
-    pub fn parse<'a>(alloc: Global, words: &[&'a [u8]]) -> Result<Filter, FilterError<'a>>
-        ensures exact { Gives (λ filter. filter) result (filter_of (map (λ word. word.now) words.now)) }
+    pub fn parse<'w>(alloc: Global, words: &'w [LineWord<'_>]) -> Result<Filter, FilterError<'w>>
+        ensures exact { Gives (λ filter. filter) result (filter_of words.now) }
     {
         Ok(Filter {
             root: words::filter_of(alloc, words)?,

@@ -15,11 +15,13 @@ pub mod refusal;
 mod row_text;
 pub mod subject;
 mod value;
+pub mod word;
 mod words;
 
 pub use case::Case;
 pub use filter::Filter;
 pub use name::tag_named;
 pub use order::{SortKey, SortOrder, sort_rows, window};
-pub use refusal::{FilterError, FilterPlace, NoMemory};
+pub use refusal::{FilterError, FilterPlace};
 pub use subject::{Comparison, Subject};
+pub use word::LineWord;

@@ -1,7 +1,9 @@
-ghost use Rattle.std.specs.Prelude.{◌≡◌, ◌<◌, ◌≤◌, ◌==◌, ◌||◌, not, false, Some, None, length, take, drop, IfOk, option_map, string_bytes, if◌then◌else◌};
+ghost use Rattle.std.specs.Prelude.{◌≡◌, ◌<◌, ◌≤◌, ◌==◌, ◌||◌, not, false, Some, None, length, take, drop, IfOk, option_map, string_bytes};
+ghost use Rattle.std.specs.Prelude.{if◌then◌else◌};
 ghost use Rattle.std.specs.Str.{is_utf8};
 ghost use Rattle.filter_expr.specs.Gives.{Gives};
-ghost use Rattle.filter_expr.specs.Parts.{is_blank, is_quote, ends_name, begins_so, without_blanks, byte_at, word_at, gap_at, between_gaps, name_in, behind_name, key_at, backslash, quoted, value_at};
+ghost use Rattle.filter_expr.specs.Parts.{is_blank, is_quote, ends_name, begins_so, without_blanks, byte_at, word_at, gap_at, between_gaps};
+ghost use Rattle.filter_expr.specs.Parts.{name_in, behind_name, key_at, backslash, quoted, value_at};
 ghost use Rattle.filter_expr.specs.declared.parts.Stop.TheVariants as stops;
 
 use crate::name::{Key, key_named};

@@ -1,6 +1,7 @@
 ghost use Rattle.std.specs.Prelude.{◌≡◌, ◌<◌, ◌≤◌, ℕ, length, IfOk, string_bytes};
 ghost use Rattle.filter_expr.specs.Gives.{Gives};
-ghost use Rattle.filter_expr.specs.Reading.{operator_at, test_of, test_tree, closed, test_at, negation_at, group_at, inside_at, expression_at, whole};
+ghost use Rattle.filter_expr.specs.Reading.{operator_at, test_of, test_tree, closed, test_at, negation_at, group_at, inside_at};
+ghost use Rattle.filter_expr.specs.Reading.{expression_at, whole};
 ghost use Rattle.filter_expr.specs.Tree.{tree_of};
 ghost use Rattle.filter_expr.specs.Tree.Tree.{And};
 

@@ -5,32 +5,6 @@ ghost use Rattle.filter_expr.specs.declared.refusal.FilterError.TheVariants as e
 use std::alloc::{AllocError, AllocFailed};
 use thiserror::Error;
 
-/// Memory was refused; nothing has changed.
-#[derive(Clone, Copy, Debug, PartialEq, Eq, Error)]
-#[error("out of memory")]
-pub struct NoMemory;
-
-impl NoMemory {
-    /// The number of the refusal: 7.
-    pub fn number(self) -> u8
-        ensures { result ≡ 7 }
-    {
-        FilterError::NoMemory.number()
-    }
-}
-
-impl From<AllocError> for NoMemory {
-    fn from(_error: AllocError) -> Self {
-        NoMemory
-    }
-}
-
-impl<T: Drop> From<AllocFailed<T>> for NoMemory {
-    fn from(_error: AllocFailed<T>) -> Self {
-        NoMemory
-    }
-}
-
 /// A byte of a word, each counted from 0.
 #[derive(Clone, Copy, Debug, PartialEq, Eq)]
 pub struct FilterPlace {

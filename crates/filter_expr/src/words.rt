@@ -1,9 +1,10 @@
-ghost use Rattle.std.specs.Prelude.{◌≡◌, ◌+◌, ◌<◌, ◌^◌, Some, None, map, IfOk, option_map, string_bytes, if◌then◌else◌};
+ghost use Rattle.std.specs.Prelude.{◌≡◌, ◌+◌, ◌<◌, ◌^◌, Some, None, IfOk, option_map, string_bytes, if◌then◌else◌};
 ghost use Rattle.std.specs.Str.{is_utf8};
 ghost use Rattle.filter_expr.specs.Names.{key_named};
 ghost use Rattle.filter_expr.specs.Reading.{whole};
 ghost use Rattle.filter_expr.specs.Tree.{tree_of};
-ghost use Rattle.filter_expr.specs.Words.{Gives, error_in, read_in_word, keyed, half_pair, pair_of, pair_tree, pair_at, pairs_of, filter_of};
+ghost use Rattle.filter_expr.specs.Words.{Gives, error_in, read_in_word, keyed, half_pair, pair_of, pair_tree, pair_at, pairs_of};
+ghost use Rattle.filter_expr.specs.Words.{filter_of};
 ghost use Rattle.filter_expr.specs.declared.refusal.FilterError.TheVariants as errors;
 
 use crate::expression::Expression;
@@ -13,6 +14,7 @@ use crate::reading::{both, whole};
 use crate::refusal::{FilterError, FilterPlace};
 use crate::subject::Comparison;
 use crate::value::TestValue;
+use crate::word::LineWord;
 use std::alloc::{AllocError, Global};
 
 /// Why a word of this number wasn't read.
@@ -113,24 +115,24 @@ fn half_pair(number: usize, name: &[u8]) -> Result<Expression, FilterError<'_>>
 }
 
 /// The pair in front of these words, the first of which has this number.
-fn pair_at<'a>(
+fn pair_at<'w>(
     alloc: Global,
     number: usize,
-    words: &[&'a [u8]],
-) -> Result<Expression, FilterError<'a>>
+    words: &'w [LineWord<'_>],
+) -> Result<Expression, FilterError<'w>>
     requires { number + 1 < 2 ^ 64 }
-    ensures { Gives tree_of result (pair_at number (map (λ word. word.now) words.now)) }
+    ensures { Gives tree_of result (pair_at number words.now) }
 {
     match words {
         [] => Err(bad_word(number)),
-        [name] => half_pair(number, name),
-        [name, value, ..] => pair_of(alloc, number, name, value),
+        [name] => half_pair(number, name.bytes()),
+        [name, value, ..] => pair_of(alloc, number, name.bytes(), value.bytes()),
     }
 }
 
 /// What holds where all the pairs of these words do.
-fn pairs_of<'a>(alloc: Global, words: &[&'a [u8]]) -> Result<Expression, FilterError<'a>>
-    ensures { Gives tree_of result (pairs_of (map (λ word. word.now) words.now)) }
+fn pairs_of<'w>(alloc: Global, words: &'w [LineWord<'_>]) -> Result<Expression, FilterError<'w>>
+    ensures { Gives tree_of result (pairs_of words.now) }
 {
     let mut tree = pair_at(alloc, 0, words)?;
     let mut number = 2;
@@ -144,19 +146,19 @@ fn pairs_of<'a>(alloc: Global, words: &[&'a [u8]]) -> Result<Expression, FilterE
 
 /// What the words say.
 #[tactic(auto, unfolding(crate::specs::Words::filter_of))]
-pub(crate) fn filter_of<'a>(
+pub(crate) fn filter_of<'w>(
     alloc: Global,
-    words: &[&'a [u8]],
-) -> Result<Expression, FilterError<'a>>
-    ensures { Gives tree_of result (filter_of (map (λ word. word.now) words.now)) }
+    words: &'w [LineWord<'_>],
+) -> Result<Expression, FilterError<'w>>
+    ensures { Gives tree_of result (filter_of words.now) }
 {
     let Some((word, others)) = words.split_first() else {
         return Err(bad_word(0));
     };
-    if !begins_so(b'(', word) {
+    if !begins_so(b'(', word.bytes()) {
         return pairs_of(alloc, words);
     }
-    let tree = expression_of(alloc, word)?;
+    let tree = expression_of(alloc, word.bytes())?;
     if !others.is_empty() {
         return Err(bad_word(1));
     }

@@ -1,6 +1,6 @@
 // Filters: what they find, the order of songs, refusals.
 use crate::assertions::{case_has, equal};
-use filter_expr::{Case, Filter, FilterError, SortOrder, sort_rows, window};
+use filter_expr::{Case, Filter, FilterError, LineWord, SortOrder, sort_rows, window};
 use song_db::{SongRow, Uri};
 use std::alloc::{AllocError, Global};
 use std::process::Abort;
@@ -68,10 +68,10 @@ fn rows(alloc: Global, count: usize) -> Result<Vec<SongRow>, Fail> {
 }
 
 /// The words of a text, which have bars between them.
-fn split(alloc: Global, text: &str) -> Result<Vec<&[u8]>, AllocError> {
+fn split(alloc: Global, text: &str) -> Result<Vec<LineWord<'_>>, AllocError> {
     let mut words = Vec::new(alloc);
     for word in text.split('|') {
-        words.push(word.as_bytes())?;
+        words.push(LineWord::from_slice(word.as_bytes()))?;
     }
     Ok(words)
 }

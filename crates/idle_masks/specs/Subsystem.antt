@@ -2,7 +2,8 @@
 use Rattle.std.specs.Prelude.{ℕ, List, [], ◌∷◌, Option, codes, find}
 use Rattle.std.specs.Str.{bytes_eq}
 use Rattle.idle_masks.specs.declared.subsystem.Subsystem.{Subsystem}
-use Rattle.idle_masks.specs.declared.subsystem.Subsystem.TheVariants.{Database, Update, StoredPlaylist, Playlist, Player, Mixer, Options, Sticker}
+use Rattle.idle_masks.specs.declared.subsystem.Subsystem.TheVariants.{Database, Update, StoredPlaylist, Playlist, Player, Mixer, Options}
+use Rattle.idle_masks.specs.declared.subsystem.Subsystem.TheVariants.{Sticker}
 
 -- all of them, as an answer of `idle` names them
 abbrev pub in_printed_order : List Subsystem

@@ -4,7 +4,8 @@ use Rattle.std.specs.Option.{option_map}
 use Rattle.std.specs.List.{list_any}
 use Rattle.std.specs.Str.{bytes_eq}
 use Rattle.idle_masks.specs.declared.subsystem.Subsystem.{Subsystem}
-use Rattle.idle_masks.specs.declared.subsystem.Subsystem.TheVariants.{Database, Update, StoredPlaylist, Playlist, Player, Mixer, Options, Sticker}
+use Rattle.idle_masks.specs.declared.subsystem.Subsystem.TheVariants.{Database, Update, StoredPlaylist, Playlist, Player, Mixer, Options}
+use Rattle.idle_masks.specs.declared.subsystem.Subsystem.TheVariants.{Sticker}
 use Rattle.idle_masks.specs.declared.subsystem.Subsystems.{Subsystems}
 use Rattle.idle_masks.specs.Subsystem.{in_printed_order, subsystem_named}
 

@@ -1,8 +1,10 @@
 ghost use Rattle.std.specs.Prelude.{◌≡◌, Some};
 ghost use Rattle.idle_masks.specs.Subsystem.{name_of, subsystem_named};
-ghost use Rattle.idle_masks.specs.Subsystems.{none, every, only, contains, union, intersection, difference, is_empty, mask_named, is_unreported_name};
+ghost use Rattle.idle_masks.specs.Subsystems.{none, every, only, contains, union, intersection, difference, is_empty, mask_named};
+ghost use Rattle.idle_masks.specs.Subsystems.{is_unreported_name};
 
-/// A part of the daemon's state whose changes `idle` reports (MPD protocol reference 0.23, "Querying MPD's status"), in the order in which they are printed.
+/// A part of the daemon's state whose changes `idle` reports (MPD protocol reference 0.23, "Querying MPD's status"), in the order in which
+/// they are printed.
 #[derive(Clone, Copy, Debug, PartialEq, Eq)]
 pub enum Subsystem {
     /// The song database, after an update that changed it.
@@ -127,7 +129,8 @@ impl Subsystems {
         set
     }
 
-    /// What a word of `idle` asks for: its subsystem, or nothing for `output`, `partition`, `subscription`, `message`, `neighbor` and `mount`, which `idle` takes and which are never reported. `None` for any other word.
+    /// What a word of `idle` asks for: its subsystem, or nothing for `output`, `partition`, `subscription`, `message`, `neighbor` and
+    /// `mount`, which `idle` takes and which are never reported. `None` for any other word.
     pub fn named(word: &[u8]) -> Option<Self>
         ensures { result ≡ mask_named word.now }
     {

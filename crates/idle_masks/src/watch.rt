@@ -1,7 +1,9 @@
-ghost use Rattle.std.specs.Prelude.{◌≡◌, ◌≤◌, ◌↔◌, List, [], length, None, Some, IsTrue, IsOk, IsSome, IsOkUnless, IfOk, IfErr, OnOk, OnErr};
+ghost use Rattle.std.specs.Prelude.{◌≡◌, ◌≤◌, ◌↔◌, List, [], length, None, Some, IsTrue, IsOk, IsSome, IsOkUnless, IfOk, IfErr, OnOk};
+ghost use Rattle.std.specs.Prelude.{OnErr};
 ghost use Rattle.std.specs.Slice.Iter.{iter_rest};
 ghost use Rattle.idle_masks.specs.Subsystems.{none};
-ghost use Rattle.idle_masks.specs.Watched.{IsRising, IsAt, IsGapFor, watched, joined, left, grown, marked, with_waiting, due, report_of, reported, reports_of, after_reports, AreRising};
+ghost use Rattle.idle_masks.specs.Watched.{IsRising, IsAt, IsGapFor, watched, joined, left, grown, marked, with_waiting, due, report_of};
+ghost use Rattle.idle_masks.specs.Watched.{reported, reports_of, after_reports, AreRising};
 
 use crate::ClientId;
 use crate::ready::{ReadyRoom, Report, Reports, take_ready};
@@ -177,7 +179,8 @@ impl Watch {
         mark_all(&mut self.clients, changed);
     }
 
-    /// Lets the client wait for these subsystems; they may be none. A mask that it had is replaced. A client that isn't watched is refused by `NoSuchClient`.
+    /// Lets the client wait for these subsystems; they may be none. A mask that it had is replaced. A client that isn't watched is refused
+    /// by `NoSuchClient`.
     pub fn wait(&mut self, client: ClientId, mask: Subsystems) -> Result<(), WatchError>
         ensures ok { OnOk result (self.new ≡ with_waiting self.old client (Some mask)) }
         ensures err { OnErr result (self.new ≡ self.old) }
@@ -197,7 +200,8 @@ impl Watch {
         set_waiting(&mut self.clients, client, None)
     }
 
-    /// Reports, by rising number, to each waiting client with a pending subsystem of its mask all such subsystems. They are pending no longer, and the client doesn't wait any more.
+    /// Reports, by rising number, to each waiting client with a pending subsystem of its mask all such subsystems. They are pending no
+    /// longer, and the client doesn't wait any more.
     pub fn ready(&mut self, alloc: Global) -> Result<Reports, WatchError>
         ensures reports { IfOk result (λ reports. reports ≡ reports_of self.old) }
         ensures in_order { IfOk result AreRising }

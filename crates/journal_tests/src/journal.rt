@@ -2,7 +2,7 @@
 use crate::assertions::{disk, equal, same_bytes};
 use disk_model::{Disk, Fuse, FuseDisk, MemDisk};
 use play_journal::laws::{found_is_said, keeps_order};
-use play_journal::{Journal, JournalError, Record, Refused};
+use play_journal::{Journal, JournalError, Refused, Stored};
 use std::alloc::{AllocError, Global};
 use std::process::Abort;
 use std::test::Fail;
@@ -30,11 +30,12 @@ const SMALL: [u8; 49] = [
     0,
 ];
 
-// The records have these bodies.
-pub fn same_records(rt: &impl Abort, records: &[Record], bodies: &[&[u8]]) {
-    equal(rt, records.len(), bodies.len());
-    for (record, body) in records.iter().zip(bodies.iter()) {
-        same_bytes(rt, record.as_bytes(), body);
+// These were found: the snapshot, and records with these bodies.
+pub fn same_stored(rt: &impl Abort, stored: &Stored, snapshot: &[u8], bodies: &[&[u8]]) {
+    same_bytes(rt, stored.snapshot(), snapshot);
+    equal(rt, stored.record_count(), bodies.len());
+    for place in 0..stored.record_count().min(bodies.len()) {
+        same_bytes(rt, stored.record(place), bodies[place]);
     }
 }
 
@@ -49,11 +50,7 @@ pub fn create<D: Disk + Drop>(
     Journal::create(alloc, a, b, snapshot)
 }
 
-pub fn open<D: Disk + Drop>(
-    alloc: Global,
-    a: D,
-    b: D,
-) -> Result<(Journal<D>, Vec<u8>, Vec<Record>), Refused<D>> {
+pub fn open<D: Disk + Drop>(alloc: Global, a: D, b: D) -> Result<(Journal<D>, Stored), Refused<D>> {
     Journal::open(alloc, a, b)
 }
 
@@ -66,14 +63,14 @@ pub fn appended<D: Disk + Drop>(
 
 // A journal over these bytes and an empty file.
 fn reopened(alloc: Global, bytes: &[u8]) -> Result<Journal<MemDisk>, Fail> {
-    let (journal, _, _) = open(alloc, disk(alloc, bytes)?, MemDisk::new(alloc))?;
+    let (journal, _) = open(alloc, disk(alloc, bytes)?, MemDisk::new(alloc))?;
     Ok(journal)
 }
 
 // How many records opening gives, or why it refuses.
 fn count_of<D: Disk + Drop>(alloc: Global, a: D, b: D) -> Result<usize, JournalError> {
     match open(alloc, a, b) {
-        Ok((_journal, _snapshot, records)) => Ok(records.len()),
+        Ok((_journal, stored)) => Ok(stored.record_count()),
         Err(refused) => Err(refused.error),
     }
 }
@@ -106,14 +103,13 @@ fn journal_bytes(rt: HostRuntime) -> Result<(), Fail> {
     let (a, b) = made(alloc)?;
     same_bytes(&rt, b.as_bytes(), &[]);
     expect_file(&rt, alloc, a.as_bytes())?;
-    let (mut journal, snapshot, records) = open(alloc, a, b)?;
-    same_bytes(&rt, &snapshot, &FRESH);
-    same_records(&rt, &records, &[]);
+    let (mut journal, stored) = open(alloc, a, b)?;
+    same_stored(&rt, &stored, &FRESH, &[]);
     expect_first_record(&rt, &mut journal)?;
     let (a, b) = journal.into_disks();
     expect_at_the_end(&rt, a.as_bytes());
-    let (_, _, records) = open(alloc, a, b)?;
-    same_records(&rt, &records, &[&[2, 0x28]]);
+    let (_, stored) = open(alloc, a, b)?;
+    same_stored(&rt, &stored, &FRESH, &[&[2, 0x28]]);
     Ok(())
 }
 
@@ -249,8 +245,8 @@ fn expect_longest(
     );
     equal(rt, appended(&mut journal, longest), Ok(1));
     let (a, b) = journal.into_disks();
-    let (_, _, records) = open(alloc, a, b)?;
-    same_records(rt, &records, &[longest]);
+    let (_, stored) = open(alloc, a, b)?;
+    same_stored(rt, &stored, b"", &[longest]);
     Ok(())
 }
 
@@ -406,7 +402,7 @@ fn attempt(
     b: FuseDisk<MemDisk>,
 ) -> (Option<JournalError>, FuseDisk<MemDisk>) {
     match open(alloc, a, b) {
-        Ok((journal, _snapshot, _records)) => {
+        Ok((journal, _stored)) => {
             let (a, _b) = journal.into_disks();
             (None, a)
         }
@@ -463,9 +459,8 @@ fn order_is_kept(rt: HostRuntime) -> Result<(), Fail> {
     let alloc = rt.alloc();
     let bodies = three_bodies(alloc)?;
     let (a, b) = (MemDisk::new(alloc), MemDisk::new(alloc));
-    let (snapshot, records) = keeps_order(alloc, a, b, b"abc", &bodies)?;
-    same_bytes(&rt, &snapshot, b"abc");
-    same_records(&rt, &records, &[b"de", b"", b"f"]);
+    let stored = keeps_order(alloc, a, b, b"abc", &bodies)?;
+    same_stored(&rt, &stored, b"abc", &[b"de", b"", b"f"]);
     Ok(())
 }
 

@@ -9,3 +9,5 @@ mod checkpoints;
 mod disks;
 #[cfg(test)]
 mod journal;
+#[cfg(test)]
+mod memory;

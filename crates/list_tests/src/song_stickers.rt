@@ -156,11 +156,13 @@ fn finds_under(
 }
 
 /// URIs, and the value of each under two names.
-const VALUES: [(&str, &str); 4] = [
+const VALUES: [(&str, &str); 6] = [
     ("b.wav", "9"),
     ("a.wav", "10"),
     ("a/c.wav", "7"),
     ("ab/c.wav", ""),
+    ("a0.wav", "8"),
+    ("a/d/e.wav", "6"),
 ];
 
 fn set_values(stickers: &mut Stickers, alloc: Global) -> Result<(), Fail> {
@@ -172,13 +174,22 @@ fn set_values(stickers: &mut Stickers, alloc: Global) -> Result<(), Fail> {
 }
 
 /// Bases, tests, and what is found.
-const FINDS: [(&str, ValueTest<'static>, &str); 7] = [
+const FINDS: [(&str, ValueTest<'static>, &str); 12] = [
     ("", ValueTest::Less("5"), "a.wav=10 ab/c.wav= "),
-    ("", ValueTest::Any, "a.wav=10 a/c.wav=7 ab/c.wav= b.wav=9 "),
-    ("a", ValueTest::Any, "a/c.wav=7 "),
+    (
+        "",
+        ValueTest::Any,
+        "a.wav=10 a/c.wav=7 a/d/e.wav=6 a0.wav=8 ab/c.wav= b.wav=9 ",
+    ),
+    ("/", ValueTest::Equal("8"), "a0.wav=8 "),
+    ("a", ValueTest::Any, "a/c.wav=7 a/d/e.wav=6 "),
+    ("a", ValueTest::Less("7"), "a/d/e.wav=6 "),
+    ("a/d", ValueTest::Any, "a/d/e.wav=6 "),
+    ("a/", ValueTest::Any, ""),
+    ("ab", ValueTest::Any, "ab/c.wav= "),
     ("ab/c.wav", ValueTest::Any, ""),
     ("", ValueTest::Equal("9"), "b.wav=9 "),
-    ("", ValueTest::Greater("7"), "b.wav=9 "),
+    ("", ValueTest::Greater("7"), "a0.wav=8 b.wav=9 "),
     ("c", ValueTest::Any, ""),
 ];
 

@@ -1,12 +1,12 @@
 -- Records decoded one after the other.
 use Rattle.std.proofs.Common.{◌≡◌, ℕ, ◌+◌, ◌-◌, ◌^◌, min, List, [], ◌∷◌, length, Some, None, Result, Ok, Err, refl, sym, subst, ◌∙◌, arith}
-use Rattle.state_codec.specs.SavedState.{SavedState}
-use Rattle.state_codec.specs.Answers.{GivesSaved}
-use Rattle.state_codec.specs.declared.refusal.CodecError.{CodecError}
-use Rattle.state_codec.specs.declared.refusal.CodecError.TheVariants.{NoMemory, BadOp, BadSnapshot}
-use Rattle.live_stage.specs.declared.error.StartError.TheVariants.{Damaged}
+use Rattle.console_codec.specs.SavedState.{SavedState}
+use Rattle.console_codec.specs.Answers.{GivesSaved}
+use Rattle.console_codec.specs.declared.refusal.CodecError.{CodecError}
+use Rattle.console_codec.specs.declared.refusal.CodecError.TheVariants.{NoMemory, BadOp, BadSnapshot}
+use Rattle.live_stage.specs.declared.refusal.StartError.TheVariants.{Damaged}
 use Rattle.live_stage.specs.Decoding.{GivesState}
-use Rattle.state_codec.specs.Reading.{saved_reading}
+use Rattle.console_codec.specs.Reading.{saved_reading}
 use Rattle.live_stage.specs.Found.{after_record, records_reading, stored_reading}
 
 -- these records are left, the state is the one before them, and the first one's gate has this offset, as far as offsets are counted

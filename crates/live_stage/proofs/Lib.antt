@@ -3,3 +3,4 @@ pub mod FoundLaws
 pub mod StartLaws
 pub mod ValidLaws
 pub mod RunLaws
+mod TurnLaws

@@ -1,5 +1,5 @@
 -- A run, one event more at a time.
-use Rattle.std.proofs.Common.{◌≡◌, ◌≢◌, ◌⊎◌, inl, inr, ◌↔◌, ℕ, ◌+◌, ◌-◌, ◌^◌, ◌≤◌, Bool, true, false, List, [], ◌∷◌, ◌++◌, length, length-append, Option, Some, None, Result, Ok, Err, refl, sym, ap, subst, ◌∙◌, arith}
+use Rattle.std.proofs.Common.{◌≡◌, ◌≢◌, ◌⊎◌, inl, inr, ◌↔◌, ℕ, ◌+◌, ◌≤◌, Bool, true, false, List, [], ◌∷◌, ◌++◌, length, length-append, Option, Some, None, Result, Ok, Err, refl, sym, ap, subst, ◌∙◌, arith}
 use Rattle.std.specs.Prelude.{IfOk, OnOk, OnErr, MatchBool}
 use Rattle.std.proofs.lemmas.List.{nil_from_length}
 use Rattle.disk_model.specs.Faults.{HasGrown}
@@ -7,17 +7,19 @@ use Rattle.disk_model.specs.History.{Change}
 use Rattle.disk_model.specs.Moments.{LeftSince, Continues}
 use Rattle.disk_model.proofs.MomentLaws.{now_only, counts_now, left_split, continues_join, continues_same}
 use Rattle.daemon_core.specs.declared.event.Event.{Event}
-use Rattle.state_codec.specs.SavedState.{SavedState}
+use Rattle.console_codec.specs.SavedState.{SavedState}
 use Rattle.daemon_core.specs.State.{State, start}
 use Rattle.daemon_core.specs.Step.{Stepped, step}
 use Rattle.daemon_core.specs.Replay.{Entry, stepped, replay}
 use Rattle.daemon_core.proofs.HistoryLaws.{outputs_are_replies}
-use Rattle.live_stage.specs.declared.error.LiveError.{LiveError}
-use Rattle.live_stage.specs.declared.error.LiveError.TheVariants.{Broken, NoMemory, NumbersSpent}
-use Rattle.live_stage.specs.Answer.{Answer, IsTurn, record_number, last_record_after}
+use Rattle.live_stage.specs.declared.refusal.LiveError.{LiveError}
+use Rattle.live_stage.specs.declared.refusal.LiveError.TheVariants.{Broken, NoMemory, NumbersSpent}
+use Rattle.live_stage.specs.Answer.{Answer, IsTurn, IsNumbered}
+use Rattle.live_stage.specs.Numbers.{Numbers, next_numbers, AreSpent}
+use Rattle.console_codec.specs.declared.op.Op.{Op}
 use Rattle.live_stage.specs.LiveState.{LiveState}
 use Rattle.live_stage.specs.Found.{found_state, AllFindNow, AllFindSince}
-use Rattle.live_stage.specs.Transcript.{entry_of, history_of, replayed, last_record_of, IsTranscript, broken_by, broken_after, SpendsNumbers, AreReplies, StaysBroken, first_broken, IsWhole, FindsWhole, FindsPrefix}
+use Rattle.live_stage.specs.Transcript.{entry_of, history_of, replayed, numbers_after, IsTranscript, broken_by, broken_after, SpendsNumbers, AreReplies, StaysBroken, first_broken, IsWhole, FindsWhole, FindsPrefix}
 
 abbrev Reply : Type 0
 Reply = Result Answer LiveError
@@ -88,8 +90,8 @@ pub record IsTurnMade {D : Type 0} (honest : D → Type 0) (history : D → List
   pub broken : old.is_broken ≡ true → (answer ≡ Err Broken) × (new ≡ old)
   pub breaks : answer ≡ Err Broken → new.is_broken ≡ true
   pub stays : OnErr answer (answer ≢ Err Broken → new ≡ old)
-  pub not_counted : OnErr answer (new.event ≡ old.event)
-  pub numbers_spent : old.is_broken ≡ false → ((answer ≡ Err NumbersSpent) ↔ ((old.event ≡ 2 ^ 64 - 1) ⊎ (old.last_record ≡ 2 ^ 64 - 1)))
+  pub not_counted : OnErr answer (new.numbers.event ≡ old.numbers.event)
+  pub numbers_spent : old.is_broken ≡ false → ((answer ≡ Err NumbersSpent) ↔ AreSpent old.numbers)
   pub continues_a : honest old.a → Continues (history old.a) (history new.a)
   pub continues_b : honest old.b → Continues (history old.b) (history new.b)
   pub honest_a : honest old.a ↔ honest new.a
@@ -125,8 +127,8 @@ pub record IsRunSoFar {D : Type 0} (honest : D → Type 0) (history : D → List
   pub unbroken : now.is_broken ≡ false → (first_broken events answers ≡ None) × (first.is_broken ≡ false)
   pub state : now.is_broken ≡ false → now.state ≡ replayed first.state (history_of [] events answers)
   pub spends : SpendsNumbers first [] first.is_broken events answers
-  pub event : now.event ≡ first.event + length (history_of [] events answers)
-  pub last_record : now.is_broken ≡ false → now.last_record ≡ last_record_of first.state first.last_record (history_of [] events answers)
+  pub event : now.numbers.event ≡ first.numbers.event + length (history_of [] events answers)
+  pub numbers : now.is_broken ≡ false → now.numbers ≡ numbers_after first.state first.numbers (history_of [] events answers)
   pub other_file : MatchBool first.is_in_b (now.a ≡ first.a) (now.b ≡ first.b)
   pub same_file : now.is_in_b ≡ first.is_in_b
   pub kept : honest first.a → honest first.b → now.is_broken ≡ false → AllFindNow (λ f. f ≡ Some now.state.saved) (history now.a) (history now.b)
@@ -157,7 +159,7 @@ begins honest history first kept = record {
   state = λ is. refl;
   spends = tt;
   event = omega arith;
-  last_record = λ is. refl;
+  numbers = λ is. refl;
   other_file = other_same first.is_in_b first;
   same_file = refl;
   kept = kept;
@@ -287,8 +289,8 @@ refused_still honest history first old events answers event e r so_broken was_br
       unbroken = λ is. (first_more events answers event (Err e) r.counted (r.unbroken is).0 ∙ first_refused event e (λ b. let no = was_broken b in cc), (r.unbroken is).1);
       state = λ is. r.state is ∙ ap (replayed first.state) longer;
       spends = spends;
-      event = r.event ∙ ap (λ (h : List Entry). first.event + length h) longer;
-      last_record = λ is. r.last_record is ∙ ap (last_record_of first.state first.last_record) longer;
+      event = r.event ∙ ap (λ (h : List Entry). first.numbers.event + length h) longer;
+      numbers = λ is. r.numbers is ∙ ap (numbers_after first.state first.numbers) longer;
       other_file = r.other_file;
       same_file = r.same_file;
       kept = r.kept;
@@ -315,8 +317,7 @@ spends_now honest history first old new events answers event answer r m =
     spends_more first [] first.is_broken events answers event answer r.counted r.spends (
       λ fine.
           let usable = r.broken ∙ fine in
-          subst (λ (n : ℕ). (answer ≡ Err NumbersSpent) ↔ ((first.event + length (history_of [] events answers) ≡ 2 ^ 64 - 1) ⊎ (n ≡ 2 ^ 64 - 1))) (r.last_record usable)
-          (subst (λ (n : ℕ). (answer ≡ Err NumbersSpent) ↔ ((n ≡ 2 ^ 64 - 1) ⊎ (old.last_record ≡ 2 ^ 64 - 1))) r.event (m.numbers_spent usable)),
+          subst (λ (n : Numbers). (answer ≡ Err NumbersSpent) ↔ AreSpent n) (r.numbers usable) (m.numbers_spent usable),
       tt,
     )
 
@@ -353,8 +354,8 @@ broke {D} honest history first old new events answers event usable r m =
       unbroken = λ is. absurd cc;
       state = λ is. absurd cc;
       spends = spends_now honest history first old new events answers event (Err Broken) r m;
-      event = m.not_counted ∙ r.event ∙ ap (λ (h : List Entry). first.event + length h) longer;
-      last_record = λ is. absurd cc;
+      event = m.not_counted ∙ r.event ∙ ap (λ (h : List Entry). first.numbers.event + length h) longer;
+      numbers = λ is. absurd cc;
       other_file = other_join first.is_in_b first old new r.other_file (subst (λ in_b. IsOtherKept in_b old new) r.same_file m.other_file);
       same_file = m.same_file ∙ r.same_file;
       kept = λ ha hb is. absurd cc;
@@ -372,6 +373,10 @@ broke {D} honest history first old new events answers event usable r m =
       honest_a = (λ h. m.honest_a.0 (r.honest_a.0 h), λ h. r.honest_a.1 (m.honest_a.1 h));
       honest_b = (λ h. m.honest_b.0 (r.honest_b.0 h), λ h. r.honest_b.1 (m.honest_b.1 h));
     }
+
+counts_one : (before : Numbers) (ops : List Op) → (let now : Numbers = next_numbers before ops in now.event) ≡ before.event + 1
+counts_one before [] = refl
+counts_one before (op ∷ ops) = refl
 
 -- an event was answered
 answered : {D : Type 0} (honest : D → Type 0) (history : D → List Change) (first old new : LiveState D) (events : List Event) (answers : List Reply) (event : Event) (t : Answer)
@@ -409,11 +414,8 @@ answered {D} honest history first old new events answers event t usable r m =
           closes = made.closes ∙ ap (λ (st : Stepped). st.closes) same;
           ended = made.ended ∙ ap (λ (st : Stepped). st.ended) same;
           refused_at = made.refused_at ∙ ap (λ (st : Stepped). st.refused_at) same;
-          event = (let before = r.event in omega (arith, made.number, before));
-          receipt_event = (let before = r.event in omega (arith, made.receipt_event, before));
-          receipt_number = made.receipt_number
-              ∙ ap (λ (n : ℕ). let now : Stepped = step old.state event t.refused_at in record_number n now.ops) (r.last_record usable)
-              ∙ ap (λ (st : Stepped). record_number (last_record_of first.state first.last_record whole) st.ops) same;
+          numbered = subst (λ (n : Numbers). let now : Stepped = stepped (replayed first.state whole) (entry_of event t) in IsNumbered n now.ops t)
+              (r.numbers usable) (subst (λ (st : Stepped). IsNumbered old.numbers st.ops t) same made.numbered);
         },
         tt,
       );
@@ -422,11 +424,16 @@ answered {D} honest history first old new events answers event t usable r m =
       unbroken = λ is. (first_more events answers event (Ok t) r.counted (r.unbroken usable).0, (r.unbroken usable).1);
       state = λ is. made.state ∙ ap (λ (st : Stepped). st.after) same ∙ ap (replayed first.state) longer;
       spends = spends_now honest history first old new events answers event (Ok t) r m;
-      event = (let before = r.event in omega (arith, made.event, before, ap length longer));
-      last_record = λ is. made.last_record
-          ∙ ap (λ (n : ℕ). let now : Stepped = step old.state event t.refused_at in last_record_after n now.ops) (r.last_record usable)
-          ∙ ap (λ (st : Stepped). last_record_after (last_record_of first.state first.last_record whole) st.ops) same
-          ∙ ap (last_record_of first.state first.last_record) longer;
+      event = (
+          let before = r.event in
+          let counted : new.numbers.event ≡ old.numbers.event + 1 = let asked : Stepped = step old.state event t.refused_at in
+          ap (λ (n : Numbers). n.event) made.numbers ∙ counts_one old.numbers asked.ops in
+          omega (arith, counted, before, ap length longer)
+          );
+      numbers = λ is. made.numbers
+          ∙ ap (λ (n : Numbers). let now : Stepped = step old.state event t.refused_at in next_numbers n now.ops) (r.numbers usable)
+          ∙ ap (λ (st : Stepped). next_numbers (numbers_after first.state first.numbers whole) st.ops) same
+          ∙ ap (numbers_after first.state first.numbers) longer;
       other_file = other_join first.is_in_b first old new r.other_file (subst (λ in_b. IsOtherKept in_b old new) r.same_file m.other_file);
       same_file = m.same_file ∙ r.same_file;
       kept = λ ha hb is. m.kept (r.honest_a.0 ha) (r.honest_b.0 hb) is;

@@ -1,28 +1,31 @@
 -- Two files as a stage is made or opened over them.
-use Rattle.std.proofs.Common.{◌≡◌, ◌⊎◌, inl, inr, ℕ, ◌+◌, ◌-◌, ◌^◌, ◌<◌, ◌≤◌, min, List, [], ◌∷◌, length, length-append, Some, None, Result, Ok, Err, refl, ap, subst, ◌∙◌, arith}
+use Rattle.std.proofs.Common.{◌≡◌, ◌⊎◌, inl, inr, ℕ, ◌+◌, ◌-◌, ◌^◌, ◌<◌, ◌≤◌, min, List, [], ◌∷◌, length, length-append, Some, None, Result, Ok, Err, refl, sym, ap, ◌∙◌, arith}
 use Rattle.std.specs.Prelude.{IsSome, flat_map}
 use Rattle.std.specs.Option.{ok_or}
 use Rattle.std.specs.Result.{result_ok}
-use Rattle.play_journal.specs.declared.error.JournalError.{JournalError}
-use Rattle.play_journal.specs.declared.error.JournalError.TheVariants as journal
+use Rattle.play_journal.specs.declared.refusal.JournalError.{JournalError}
+use Rattle.play_journal.specs.declared.refusal.JournalError.TheVariants as journal
 use Rattle.play_journal.specs.Content.{Content, fresh}
 use Rattle.play_journal.specs.Errors.{IsRefusalOfCreate}
 use Rattle.play_journal.specs.File.{IsFile, gated, spelling}
-use Rattle.play_journal.specs.Pair.{reading, found, IsPair}
+use Rattle.disk_model.specs.History.{Change}
+use Rattle.disk_model.proofs.MomentLaws.{now_only}
+use Rattle.play_journal.specs.Pair.{reading, found, IsPair, KeepsFound}
 use Rattle.play_journal.proofs.FileLaws.{length-spelling}
 use Rattle.play_journal.proofs.PairLaws.{pair-found}
 use Rattle.play_journal.proofs.RecordLaws.{IsBytes}
-use Rattle.state_codec.specs.SavedState.{SavedState, IsSavedState}
-use Rattle.state_codec.specs.SavedState as state
-use Rattle.state_codec.specs.Spelling.{saved_bytes}
-use Rattle.state_codec.specs.Reading.{saved_reading}
-use Rattle.state_codec.specs.Steps.{◌>>=◌}
-use Rattle.state_codec.proofs.SavedLaws.{snapshot_again}
-use Rattle.live_stage.specs.declared.error.StartError.{StartError}
-use Rattle.live_stage.specs.declared.error.StartError.TheVariants.{NotEmpty, NoJournal, Damaged, NoMemory, Broken}
+use Rattle.console_codec.specs.SavedState.{SavedState, IsSavedState}
+use Rattle.console_codec.specs.SavedState as state
+use Rattle.console_codec.specs.Spelling.{saved_bytes}
+use Rattle.console_codec.specs.Reading.{saved_reading}
+use Rattle.console_codec.specs.Steps.{◌>>=◌}
+use Rattle.console_codec.proofs.SavedLaws.{snapshot_again}
+use Rattle.live_stage.specs.declared.refusal.StartError.{StartError}
+use Rattle.live_stage.specs.declared.refusal.StartError.TheVariants.{NotEmpty, NoJournal, Damaged, NoMemory, Broken}
 use Rattle.live_stage.specs.Decoding.{GivesState}
+use Rattle.live_stage.specs.Numbers.{Numbers, numbers_found}
 use Rattle.live_stage.specs.Errors.{IsCause, start_error}
-use Rattle.live_stage.specs.Found.{after_record, records_reading, stored_reading, content_reading, state_of, found_state}
+use Rattle.live_stage.specs.Found.{after_record, records_reading, stored_reading, content_reading, state_of, found_state, KeepsFoundState}
 
 -- a pair that reads so is found so
 pub found_as_read : (x y : List ℕ) (content : Content) → reading x y ≡ Ok content → found x y ≡ Some content
@@ -145,3 +148,32 @@ pub only_a_fault : (e : JournalError) (snapshot key : List ℕ) → snapshot ≡
     → IsRefusalOfCreate e → (e ≡ journal.TooLong → 4294967295 < length snapshot) → start_error e ≡ Broken → e ≡ journal.DiskFault
 only_a_fault e snapshot key spelled long one too_long is =
     fault_of_create e one (λ t. let too = too_long t in omega (arith, too, ap length spelled, fresh_length key long)) is
+
+-- ---- the phases of an opening
+
+-- nothing was done
+pub nothing_done : (a b : List Change) → KeepsFoundState a b a b
+nothing_done a b = record {
+  middle_a = a;
+  middle_b = b;
+  first = λ x y lx ly. (x, y, now_only a x lx, now_only b y ly, refl);
+  second = (refl, refl);
+}
+
+-- the journal was opened, and nothing was done behind that
+pub opening_done : (old_a old_b new_a new_b : List Change) → KeepsFound old_a old_b new_a new_b → KeepsFoundState old_a old_b new_a new_b
+opening_done old_a old_b new_a new_b kept = record {
+  middle_a = new_a;
+  middle_b = new_b;
+  first = λ x y lx ly. (let was = kept x y lx ly in (was.0, was.1, was.2, was.3, ap state_of was.4));
+  second = (refl, refl);
+}
+
+-- the numbers of a stage over a journal that was opened
+pub numbers_are : (content : Content) (base count generation : ℕ) → content.base ≡ base → length content.records ≡ count
+    → content.generation ≡ generation → base + count < 2 ^ 64
+    → record { event = 0; last_record = min (base + count) (2 ^ 64 - 1); generation = generation } ≡ numbers_found content
+numbers_are content base count generation is_base is_count is_generation small =
+    let numbers : ℕ → ℕ → Numbers = λ last of_file. record { event = 0; last_record = last; generation = of_file } in
+    let last : min (base + count) (2 ^ 64 - 1) ≡ content.base + length content.records = omega (arith, is_base, is_count, small) in
+    ap (λ (n : ℕ). numbers n generation) last ∙ ap (λ (n : ℕ). numbers (content.base + length content.records) n) (sym is_generation)

@@ -1,8 +1,8 @@
 -- What decoding answers.
 use Rattle.std.specs.Prelude.{◌≡◌, ⊤, ℕ, ◌-◌, ◌^◌, min, Option, Some, None, Result, Ok, Err}
-use Rattle.state_codec.specs.SavedState.{SavedState}
-use Rattle.live_stage.specs.declared.error.StartError.{StartError}
-use Rattle.live_stage.specs.declared.error.StartError.TheVariants.{NotEmpty, NoJournal, Damaged, NoMemory, Broken}
+use Rattle.console_codec.specs.SavedState.{SavedState}
+use Rattle.live_stage.specs.declared.refusal.StartError.{StartError}
+use Rattle.live_stage.specs.declared.refusal.StartError.TheVariants.{NotEmpty, NoJournal, Damaged, NoMemory, Broken}
 
 -- the state or the offset that reading gives, unless memory ran out; offsets are counted up to 2^64 - 1
 abbrev pub GivesState : Result SavedState StartError → Result SavedState ℕ → Type 0

@@ -1,13 +1,13 @@
 -- The refusals of a live stage.
 use Rattle.std.specs.Prelude.{◌≡◌, ◌⊎◌, ℕ, List, Ok, Err}
-use Rattle.play_journal.specs.declared.error.JournalError.{JournalError}
-use Rattle.play_journal.specs.declared.error.JournalError.TheVariants as journal
+use Rattle.play_journal.specs.declared.refusal.JournalError.{JournalError}
+use Rattle.play_journal.specs.declared.refusal.JournalError.TheVariants as journal
 use Rattle.play_journal.specs.Content.{Content}
 use Rattle.play_journal.specs.Pair.{reading}
-use Rattle.live_stage.specs.declared.error.LiveError.{LiveError}
-use Rattle.live_stage.specs.declared.error.LiveError.TheVariants as turns
-use Rattle.live_stage.specs.declared.error.StartError.{StartError}
-use Rattle.live_stage.specs.declared.error.StartError.TheVariants.{NotEmpty, NoJournal, Damaged, NoMemory, Broken}
+use Rattle.live_stage.specs.declared.refusal.LiveError.{LiveError}
+use Rattle.live_stage.specs.declared.refusal.LiveError.TheVariants as turns
+use Rattle.live_stage.specs.declared.refusal.StartError.{StartError}
+use Rattle.live_stage.specs.declared.refusal.StartError.TheVariants.{NotEmpty, NoJournal, Damaged, NoMemory, Broken}
 use Rattle.live_stage.specs.Found.{content_reading}
 
 abbrev pub number_of : LiveError → ℕ

@@ -7,10 +7,10 @@ use Rattle.disk_model.specs.Images.{window, IsImage}
 use Rattle.disk_model.specs.Moments.{LeftSince}
 use Rattle.play_journal.specs.Content.{Content}
 use Rattle.play_journal.specs.Pair.{found}
-use Rattle.state_codec.specs.SavedState.{SavedState}
-use Rattle.state_codec.specs.Applied.{all_applied}
-use Rattle.state_codec.specs.Reading.{ops_reading, saved_reading}
-use Rattle.state_codec.specs.Steps.{◌>>=◌}
+use Rattle.console_codec.specs.SavedState.{SavedState}
+use Rattle.console_codec.specs.Applied.{all_applied}
+use Rattle.console_codec.specs.Reading.{ops_reading, saved_reading}
+use Rattle.console_codec.specs.Steps.{◌>>=◌}
 
 -- the state after the ops that a record's body spells, where it spells ops and all of them apply
 abbrev pub after_record : List ℕ → SavedState → Option SavedState
@@ -54,7 +54,18 @@ abbrev pub AllFindSince : (Option SavedState → Type 0) → List Change → ℕ
 AllFindSince P a s b t = (x y : List ℕ) → LeftSince a s x → LeftSince b t y → P (found_state x y)
 
 -- from each pair that crashes left since then, a restart finds what it finds from some pair of before
-abbrev pub KeepsFoundState : List Change → List Change → List Change → List Change → Type 0
-KeepsFoundState old_a old_b new_a new_b =
+abbrev pub FindsAsBefore : List Change → List Change → List Change → List Change → Type 0
+FindsAsBefore old_a old_b new_a new_b =
     (x y : List ℕ) → LeftSince new_a (length old_a) x → LeftSince new_b (length old_b) y
     → (v w : List ℕ) × IsImage (window old_a) v × IsImage (window old_b) w × (found_state x y ≡ found_state v w)
+
+-- From the middle of an opening to its end a restart finds one state. As yet nothing is done there.
+abbrev pub IsSecondPhase : List Change → List Change → List Change → List Change → Type 0
+IsSecondPhase middle_a middle_b new_a new_b = (new_a ≡ middle_a) × (new_b ≡ middle_b)
+
+-- An opening has two phases: up to its middle a restart finds what it might have found before, and then it finds one state.
+pub record KeepsFoundState (old_a old_b new_a new_b : List Change) : Type 0 where
+  pub middle_a : List Change
+  pub middle_b : List Change
+  pub first : FindsAsBefore old_a old_b middle_a middle_b
+  pub second : IsSecondPhase middle_a middle_b new_a new_b

@@ -1,5 +1,6 @@
 pub mod Found
 pub mod LiveState
+pub mod Numbers
 pub mod Errors
 pub mod Answer
 pub mod Decoding

@@ -1,14 +1,16 @@
 -- A run over many events.
-use Rattle.std.specs.Prelude.{◌≡◌, ◌⊎◌, ◌↔◌, ℕ, ◌+◌, ◌-◌, ◌^◌, List, [], ◌∷◌, ◌++◌, length, Bool, true, false, Option, Some, None, Result, Ok, Err}
+use Rattle.std.specs.Prelude.{◌≡◌, ◌⊎◌, ◌↔◌, ℕ, ◌+◌, List, [], ◌∷◌, ◌++◌, length, Bool, true, false, Option, Some, None, Result}
+use Rattle.std.specs.Prelude.{Ok, Err}
 use Rattle.daemon_core.specs.declared.event.Event.{Event}
-use Rattle.state_codec.specs.SavedState.{SavedState}
-use Rattle.daemon_core.specs.State.{State, start}
+use Rattle.console_codec.specs.SavedState.{SavedState}
+use Rattle.daemon_core.specs.State.{State}
 use Rattle.daemon_core.specs.Step.{Stepped}
 use Rattle.daemon_core.specs.Replay.{Entry, stepped, reply, replay}
-use Rattle.live_stage.specs.declared.error.LiveError.{LiveError}
-use Rattle.live_stage.specs.declared.error.LiveError.TheVariants.{Broken, NoMemory, NumbersSpent}
-use Rattle.live_stage.specs.Answer.{Answer, record_number, last_record_after}
+use Rattle.live_stage.specs.declared.refusal.LiveError.{LiveError}
+use Rattle.live_stage.specs.declared.refusal.LiveError.TheVariants.{Broken, NoMemory, NumbersSpent}
+use Rattle.live_stage.specs.Answer.{Answer, IsNumbered}
 use Rattle.live_stage.specs.LiveState.{LiveState}
+use Rattle.live_stage.specs.Numbers.{Numbers, next_numbers, AreSpent}
 
 -- an event in the history, with the refused place that its answer names
 abbrev pub entry_of : Event → Answer → Entry
@@ -27,10 +29,11 @@ abbrev pub replayed : State → List Entry → State
 replayed s [] = s
 replayed s (entry ∷ earlier) = let now = stepped (replayed s earlier) entry in now.after
 
--- the number of the last record after a history that began with this state and this last record
-abbrev pub last_record_of : State → ℕ → List Entry → ℕ
-last_record_of s last [] = last
-last_record_of s last (entry ∷ earlier) = let now = stepped (replayed s earlier) entry in last_record_after (last_record_of s last earlier) now.ops
+-- the numbers after a history that began with this state and these numbers
+abbrev pub numbers_after : State → Numbers → List Entry → Numbers
+numbers_after s first [] = first
+numbers_after s first (entry ∷ earlier) =
+    let now = stepped (replayed s earlier) entry in next_numbers (numbers_after s first earlier) now.ops
 
 -- an answer is that of a step, where the run began so and this history of it went before
 pub record IsStepOf {D : Type 0} (first : LiveState D) (earlier : List Entry) (st : Stepped) (t : Answer) : Type 0 where
@@ -38,9 +41,7 @@ pub record IsStepOf {D : Type 0} (first : LiveState D) (earlier : List Entry) (s
   pub closes : t.closes ≡ st.closes
   pub ended : t.ended ≡ st.ended
   pub refused_at : t.refused_at ≡ st.refused_at
-  pub event : t.event ≡ first.event + length earlier + 1
-  pub receipt_event : t.receipt.event ≡ first.event + length earlier + 1
-  pub receipt_number : t.receipt.number ≡ record_number (last_record_of first.state first.last_record earlier) st.ops
+  pub numbered : IsNumbered (numbers_after first.state first.numbers earlier) st.ops t
 
 -- each event was answered by the step that the run's history gives, or was refused
 abbrev pub IsTranscript : {D : Type 0} → LiveState D → List Entry → List Event → List (Result Answer LiveError) → Type 0
@@ -48,7 +49,8 @@ IsTranscript first earlier [] [] = Unit {0}
 IsTranscript first earlier [] (answer ∷ answers) = ⊥
 IsTranscript first earlier (event ∷ events) [] = ⊥
 IsTranscript first earlier (event ∷ events) (Ok t ∷ answers) =
-    IsStepOf first earlier (stepped (replayed first.state earlier) (entry_of event t)) t × IsTranscript first (entry_of event t ∷ earlier) events answers
+    IsStepOf first earlier (stepped (replayed first.state earlier) (entry_of event t)) t
+    × IsTranscript first (entry_of event t ∷ earlier) events answers
 IsTranscript first earlier (event ∷ events) (Err e ∷ answers) = IsTranscript first earlier events answers
 
 -- each event that was answered was answered by the reply of the one history of a life that began with what was kept
@@ -56,7 +58,8 @@ abbrev pub AreReplies : SavedState → List Entry → List Event → List (Resul
 AreReplies kept earlier [] [] = Unit {0}
 AreReplies kept earlier [] (answer ∷ answers) = ⊥
 AreReplies kept earlier (event ∷ events) [] = ⊥
-AreReplies kept earlier (event ∷ events) (Ok t ∷ answers) = (t.outputs ≡ reply kept earlier (entry_of event t)) × AreReplies kept (entry_of event t ∷ earlier) events answers
+AreReplies kept earlier (event ∷ events) (Ok t ∷ answers) =
+    (t.outputs ≡ reply kept earlier (entry_of event t)) × AreReplies kept (entry_of event t ∷ earlier) events answers
 AreReplies kept earlier (event ∷ events) (Err e ∷ answers) = AreReplies kept earlier events answers
 
 -- a stage that is broken, or that this answer breaks
@@ -71,9 +74,9 @@ abbrev pub broken_after : Bool → List (Result Answer LiveError) → Bool
 broken_after was [] = was
 broken_after was (answer ∷ answers) = broken_after (broken_by was answer) answers
 
--- the last event or the last record has the greatest number, where the run began so and this history of it went before
+-- the numbers are spent, where the run began so and this history of it went before
 abbrev pub AreNumbersSpent : {D : Type 0} → LiveState D → List Entry → Type 0
-AreNumbersSpent first earlier = (first.event + length earlier ≡ 2 ^ 64 - 1) ⊎ (last_record_of first.state first.last_record earlier ≡ 2 ^ 64 - 1)
+AreNumbersSpent first earlier = AreSpent (numbers_after first.state first.numbers earlier)
 
 -- a stage that isn't broken refuses an event for want of numbers exactly where these are spent
 abbrev pub SpendsNumbers : {D : Type 0} → LiveState D → List Entry → Bool → List Event → List (Result Answer LiveError) → Type 0
@@ -110,13 +113,15 @@ abbrev pub IsWhole : List Event → List (Result Answer LiveError) → List Entr
 IsWhole events answers whole = (whole ≡ history_of [] events answers) ⊎ HoldsTheBroken events answers whole
 
 -- a restart finds the state after the whole history of the run, from this state on
-pub record FindsWhole (s : State) (events : List Event) (answers : List (Result Answer LiveError)) (found : Option SavedState) : Type 0 where
+pub record FindsWhole (s : State) (events : List Event) (answers : List (Result Answer LiveError)) (found : Option SavedState)
+    : Type 0 where
   pub whole : List Entry
   pub is_whole : IsWhole events answers whole
   pub finds : let now = replayed s whole in found ≡ Some now.saved
 
 -- a restart finds the state after a prefix of the history of the run, from this state on: the oldest entries, in order, and none in part
-pub record FindsPrefix (s : State) (events : List Event) (answers : List (Result Answer LiveError)) (found : Option SavedState) : Type 0 where
+pub record FindsPrefix (s : State) (events : List Event) (answers : List (Result Answer LiveError)) (found : Option SavedState)
+    : Type 0 where
   pub whole : List Entry
   pub is_whole : IsWhole events answers whole
   pub later : List Entry
@@ -126,19 +131,22 @@ pub record FindsPrefix (s : State) (events : List Event) (answers : List (Result
 
 -- The answers of a run are those of the steps of its one history, in order, of the events that were answered; and the stage at its end
 -- has counted these, and has the state after them.
-pub record IsRun {D : Type 0} (first last : LiveState D) (events : List Event) (answers : List (Result Answer LiveError)) : Type 0 where
+pub record IsRun {D : Type 0} (first last : LiveState D) (events : List Event) (answers : List (Result Answer LiveError))
+    : Type 0 where
   pub transcript : IsTranscript first [] events answers
   pub state : last.is_broken ≡ false → last.state ≡ replayed first.state (history_of [] events answers)
-  pub event : last.event ≡ first.event + length (history_of [] events answers)
-  pub last_record : last.is_broken ≡ false → last.last_record ≡ last_record_of first.state first.last_record (history_of [] events answers)
+  pub event : last.numbers.event ≡ first.numbers.event + length (history_of [] events answers)
+  pub numbers : last.is_broken ≡ false → last.numbers ≡ numbers_after first.state first.numbers (history_of [] events answers)
 
 -- From the first disk fault on each answer is `Broken`, and `NumbersSpent` comes exactly where the numbers are spent.
-pub record RunRefuses {D : Type 0} (first last : LiveState D) (events : List Event) (answers : List (Result Answer LiveError)) : Type 0 where
+pub record RunRefuses {D : Type 0} (first last : LiveState D) (events : List Event) (answers : List (Result Answer LiveError))
+    : Type 0 where
   pub broken : StaysBroken first.is_broken answers
   pub is_broken : last.is_broken ≡ broken_after first.is_broken answers
   pub numbers_spent : SpendsNumbers first [] first.is_broken events answers
 
 -- in a life that began with what was kept, each answer is the reply of its one history, and the state its replay
-pub record IsOfOneLife {D : Type 0} (first last : LiveState D) (events : List Event) (answers : List (Result Answer LiveError)) (kept : SavedState) : Type 0 where
+pub record IsOfOneLife {D : Type 0} (first last : LiveState D) (events : List Event) (answers : List (Result Answer LiveError))
+    (kept : SavedState) : Type 0 where
   pub replies : AreReplies kept [] events answers
   pub state : last.is_broken ≡ false → last.state ≡ replay kept (history_of [] events answers)

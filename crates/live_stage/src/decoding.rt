@@ -4,9 +4,9 @@ ghost use Rattle.live_stage.specs.Decoding.{GivesState, GivesAfter};
 ghost use Rattle.live_stage.specs.Found.{after_record, stored_reading};
 
 use crate::StartError;
+use console_codec::{CodecError, Saved, take_ops, take_saved};
 use daemon_core::{Core, RecoverError};
-use play_journal::Record;
-use state_codec::{CodecError, Saved, take_ops, take_saved};
+use play_journal::Stored;
 use std::alloc::Global;
 
 /// The offset of a snapshot in its file, in bytes.
@@ -17,20 +17,17 @@ const RECORD_HEAD: u64 = 5;
 
 /// The state that the records make of the snapshot's, one after the other. A fault is told by the offset in the file of the
 /// snapshot or of the record's gate.
-pub(crate) fn take_state(
-    alloc: Global,
-    snapshot: &[u8],
-    records: &[Record],
-) -> Result<Saved, StartError>
-    ensures { GivesState result (stored_reading snapshot.now records.now) }
+pub(crate) fn take_state(alloc: Global, stored: &Stored) -> Result<Saved, StartError>
+    ensures { GivesState result (stored_reading stored.now.snapshot stored.now.records) }
 {
+    let snapshot = stored.snapshot();
     let mut saved = match take_saved(snapshot) {
         Ok(saved) => saved,
         Err(_) => return Err(StartError::Damaged(SNAPSHOT_AT)),
     };
     let mut gate = SNAPSHOT_AT.saturating_add(snapshot.len() as u64);
-    for record in records {
-        let body = record.as_bytes();
+    for place in 0..stored.record_count() {
+        let body = stored.record(place);
         saved = take_record(alloc, body, saved, gate)?;
         gate = gate
             .saturating_add(RECORD_HEAD)

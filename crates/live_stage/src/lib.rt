@@ -2,12 +2,12 @@
 #![tactic(auto)]
 
 mod decoding;
-mod error;
 mod live;
 mod recording;
+mod refusal;
 mod run;
 mod turn;
 
-pub use error::{LiveError, Refused, StartError};
 pub use live::Live;
+pub use refusal::{LiveError, Refused, StartError};
 pub use turn::{Receipt, Turn, TurnResult};

@@ -1,25 +1,26 @@
 // The stage.
-ghost use Rattle.std.specs.Prelude.{◌≡◌, ◌≢◌, ◌⊎◌, ◌↔◌, ◌+◌, ◌-◌, ◌^◌, ◌<◌, ◌≤◌, ℕ, true, false, [], length, Ok, Err, Some, None, Option, IsSome, IfOk, IfErr, OnOk, OnErr, IsErrAnd, MatchResult, MatchBool, vec_capacity};
+ghost use Rattle.std.specs.Prelude.{◌≡◌, ◌≢◌, ◌⊎◌, ◌↔◌, ◌+◌, ◌-◌, ◌^◌, ◌<◌, ◌≤◌, ℕ, true, false, [], length, Ok, Err, Some, None, Option};
+ghost use Rattle.std.specs.Prelude.{IsSome, IsTrue, IfOk, IfErr, OnOk, OnErr, IsErrAnd, MatchResult, MatchBool, vec_capacity};
 ghost use Rattle.disk_model.specs.Later.{AreLater, HasFailed};
-ghost use Rattle.state_codec.specs.SavedState.{IsSavedState, fresh};
-ghost use Rattle.state_codec.specs.Spelling.{saved_bytes};
+ghost use Rattle.console_codec.specs.SavedState.{IsSavedState, fresh};
+ghost use Rattle.console_codec.specs.Spelling.{saved_bytes};
 ghost use Rattle.play_journal.specs.Content.{Content};
 ghost use Rattle.play_journal.specs.Pair.{found};
 ghost use Rattle.daemon_core.specs.State.{start};
-ghost use Rattle.daemon_core.specs.Step.{step};
-ghost use Rattle.live_stage.specs.Answer.{IsTurn};
+ghost use Rattle.live_stage.specs.Answer.{IsTurn, IsBeforeOrAfter, HasNoOps};
 ghost use Rattle.live_stage.specs.Errors.{IsRefusalOfCreate, IsRefusalOfOpen, IsCause, start_error};
-ghost use Rattle.live_stage.specs.Turns.{IsBegun, StaysInFile, RefusesInOrder};
+ghost use Rattle.live_stage.specs.Numbers.{first_numbers, numbers_found, AreSpent};
+ghost use Rattle.live_stage.specs.Turns.{IsBegun, StaysInFile, MakesNoCall, RefusesInOrder};
 ghost use Rattle.live_stage.specs.Found.{found_state, AllFindNow, AllFindSince, KeepsFoundState};
 
 use crate::decoding::take_state;
 use crate::recording::{LONGEST_BODY, record_ops};
 use crate::turn::Turn;
 use crate::{LiveError, Refused, StartError};
+use console_codec::{Saved, put_saved};
 use daemon_core::{Core, Event};
 use disk_model::Disk;
 use play_journal::{Journal, JournalError};
-use state_codec::{NoMemory, Saved, put_saved};
 use std::alloc::Global;
 use std::marker::Model;
 use std::snapshot::Snapshot;
@@ -42,10 +43,22 @@ impl<D: Disk> Model for Live<D> {
 
     ghost Value = { LiveState D };
 
-    ghost view = { λ v. record { a = v.journal.a; b = v.journal.b; state = v.core; event = v.event; last_record = min (v.journal.base + v.journal.count) (2 ^ 64 - 1); is_in_b = v.journal.is_in_b; is_broken = v.journal.is_spent } };
+    ghost view = { λ v. record {
+      a = v.journal.a;
+      b = v.journal.b;
+      state = v.core;
+      numbers = record {
+        event = v.event;
+        last_record = min (v.journal.base + v.journal.count) (2 ^ 64 - 1);
+        generation = v.journal.generation;
+      };
+      is_in_b = v.journal.is_in_b;
+      is_broken = v.journal.is_spent;
+    } };
 
     ghost invariant = { λ v. (2097152 ≤ vec_capacity v.room)
-        × (v.journal.is_spent ≡ false → D.honest v.journal.a → D.honest v.journal.b → state_of (Some v.journal.content) ≡ Some v.core.saved) };
+        × (v.journal.is_spent ≡ false → D.honest v.journal.a → D.honest v.journal.b
+        → state_of (Some v.journal.content) ≡ Some v.core.saved) };
 }
 
 impl<D: Disk> Live<D> {
@@ -55,9 +68,10 @@ impl<D: Disk> Live<D> {
     /// empty nor a journal.
     pub fn create(alloc: Global, a: D, b: D, key: [u8; 32]) -> Result<Live<D>, Refused<D>>
         // From `Ok` on a restart finds the fresh state.
-        ensures kept { D.honest a → D.honest b → IfOk result (λ live. AllFindNow (λ f. f ≡ Some (fresh key)) (D.history live.a) (D.history live.b)) }
+        ensures kept { D.honest a → D.honest b
+            → IfOk result (λ live. AllFindNow (λ f. f ≡ Some (fresh key)) (D.history live.a) (D.history live.b)) }
         ensures begun { IfOk result (λ live. IsBegun (fresh key) live) }
-        ensures last_record { IfOk result (λ live. live.last_record ≡ 0) }
+        ensures numbers { IfOk result (λ live. live.numbers ≡ first_numbers) }
 
         ensures not_empty { D.honest a → D.honest b
             → (IsErrAnd result (λ e. e.error ≡ StartError.NotEmpty) ↔ ((D.content a ≢ []) ⊎ (D.content b ≢ []))) }
@@ -80,13 +94,7 @@ impl<D: Disk> Live<D> {
         let saved = Saved::fresh(key);
         let (room, snapshot) = match rooms_for(alloc, &saved) {
             Ok(rooms) => rooms,
-            Err(_) => {
-                return Err(Refused {
-                    error: StartError::NoMemory,
-                    a,
-                    b,
-                });
-            }
+            Err(error) => return Err(Refused { error, a, b }),
         };
         match Journal::create(alloc, a, b, &snapshot) {
             Ok(journal) => Ok(Live {
@@ -112,7 +120,8 @@ impl<D: Disk> Live<D> {
         ensures any_moment { D.honest a → D.honest b → MatchResult result
             (λ live. KeepsFoundState (D.history a) (D.history b) (D.history live.a) (D.history live.b))
             (λ e. KeepsFoundState (D.history a) (D.history b) (D.history e.a) (D.history e.b)) }
-        ensures kept { D.honest a → D.honest b → IfOk result (λ live. AllFindNow (λ f. f ≡ Some live.state.saved) (D.history live.a) (D.history live.b)) }
+        ensures kept { D.honest a → D.honest b
+            → IfOk result (λ live. AllFindNow (λ f. f ≡ Some live.state.saved) (D.history live.a) (D.history live.b)) }
 
         // Where each pair that a crash may have left gives a state, it opens, unless memory is wanting or a disk fails.
         ensures opens { D.honest a → D.honest b → AllFindNow (λ f. IsSome f) (D.history a) (D.history b)
@@ -121,8 +130,8 @@ impl<D: Disk> Live<D> {
             → IfErr result (λ e. e.error ≡ StartError.Broken → HasFailed D.faults a b e.a e.b) }
         ensures nothing_else { IfErr result (λ e. IsRefusalOfOpen e.error) }
 
-        ensures last_record { D.honest a → D.honest b → IfOk result (λ live. (content : Content) → found (D.content a) (D.content b) ≡ Some content
-            → live.last_record ≡ content.base + length content.records) }
+        ensures numbers { D.honest a → D.honest b → IfOk result (λ live. (content : Content)
+            → found (D.content a) (D.content b) ≡ Some content → live.numbers ≡ numbers_found content) }
         ensures later { MatchResult result (λ live. AreLater D.honest D.history D.faults a b live.a live.b)
             (λ e. AreLater D.honest D.history D.faults a b e.a e.b) }
     {
@@ -136,11 +145,11 @@ impl<D: Disk> Live<D> {
                 });
             }
         };
-        let (journal, snapshot, records) = match Journal::open(alloc, a, b) {
+        let (journal, stored) = match Journal::open(alloc, a, b) {
             Ok(opened) => opened,
             Err(refused) => return Err(refused_start(refused)),
         };
-        match take_state(alloc, &snapshot, &records) {
+        match take_state(alloc, &stored) {
             Ok(saved) => Ok(Live {
                 core: Core::new(alloc, saved),
                 journal,
@@ -167,13 +176,13 @@ impl<D: Disk> Live<D> {
         // Stopped at any moment, a restart finds the state from before or the state after, with one refused place throughout,
         // which is that of the answer.
         ensures any_moment { D.honest self.old.a → D.honest self.old.b → self.old.is_broken ≡ false
-            → (k : Option ℕ) × IfOk result (λ t. t.refused_at ≡ k) × AllFindSince (λ f. (f ≡ Some self.old.state.saved) ⊎ (let now = step self.old.state event k in f ≡ Some now.after.saved))
+            → (k : Option ℕ) × IfOk result (λ t. t.refused_at ≡ k) × AllFindSince (IsBeforeOrAfter self.old.state event k)
             (D.history self.new.a) (length (D.history self.old.a)) (D.history self.new.b) (length (D.history self.old.b)) }
 
         // From then on it finds the state after, and after a refusal without a fault the state from before, which stays.
         ensures kept { D.honest self.old.a → D.honest self.old.b → self.new.is_broken ≡ false
             → AllFindNow (λ f. f ≡ Some self.new.state.saved) (D.history self.new.a) (D.history self.new.b) }
-        ensures no_call { IfOk result (λ t. (let now = step self.old.state event t.refused_at in now.ops ≡ []) → (self.new.a ≡ self.old.a) × (self.new.b ≡ self.old.b)) }
+        ensures no_call { IfOk result (λ t. HasNoOps self.old event t → MakesNoCall self.old self.new) }
         ensures file { StaysInFile self.old self.new }
 
         ensures refuses { RefusesInOrder self.old self.new result }
@@ -184,7 +193,7 @@ impl<D: Disk> Live<D> {
         if self.journal.is_spent() {
             return Err(LiveError::Broken);
         }
-        if self.event == u64::MAX || self.last_record() == u64::MAX {
+        if self.are_numbers_spent() {
             return Err(LiveError::NumbersSpent);
         }
         let asked = Snapshot::of(&event);
@@ -200,18 +209,26 @@ impl<D: Disk> Live<D> {
 
     /// How many events there were since the stage was made or opened.
     pub fn last_event(&self) -> u64
-        ensures { result ≡ self.now.event }
+        ensures { result ≡ self.now.numbers.event }
     {
         self.event
     }
 
     /// The number of the last record in file and snapshot, 0 where there is none.
     pub fn last_record(&self) -> u64
-        ensures { result ≡ self.now.last_record }
+        ensures { result ≡ self.now.numbers.last_record }
     {
         self.journal
             .base()
             .saturating_add(self.journal.records_since_checkpoint())
+    }
+
+    /// Whether the last event or the last record has the number 2^64 - 1. Every later `turn` then answers `NumbersSpent`,
+    /// unless the stage is broken.
+    pub fn are_numbers_spent(&self) -> bool
+        ensures { IsTrue result ↔ AreSpent self.now.numbers }
+    {
+        self.event == u64::MAX || self.last_record() == u64::MAX
     }
 
     /// Whether a disk failed. Every later `turn` then answers `Broken`: open the files again.
@@ -238,14 +255,19 @@ impl<D: Disk> Live<D> {
 }
 
 // Room for one record's body, and the snapshot of a state.
-fn rooms_for(alloc: Global, saved: &Saved) -> Result<(Vec<u8>, Vec<u8>), NoMemory>
+fn rooms_for(alloc: Global, saved: &Saved) -> Result<(Vec<u8>, Vec<u8>), StartError>
     ensures room { IfOk result (λ rooms. LONGEST_BODY ≤ vec_capacity rooms.0) }
     ensures snapshot { IfOk result (λ rooms. rooms.1.items ≡ saved_bytes saved.now) }
     ensures in_range { OnOk result (IsSavedState saved.now) }
+    ensures no_memory { IfErr result (λ e. e ≡ StartError.NoMemory) }
 {
-    let room = Vec::with_capacity(alloc, LONGEST_BODY)?;
-    let snapshot = put_saved(alloc, saved)?;
-    Ok((room, snapshot))
+    match (
+        Vec::with_capacity(alloc, LONGEST_BODY),
+        put_saved(alloc, saved),
+    ) {
+        (Ok(room), Ok(snapshot)) => Ok((room, snapshot)),
+        _ => Err(StartError::NoMemory),
+    }
 }
 
 // A journal that was neither made nor opened.

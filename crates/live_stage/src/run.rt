@@ -1,7 +1,7 @@
 // Many events in order.
 ghost use Rattle.std.specs.Prelude.{◌≡◌, ◌↔◌, ◌⊎◌, ◌+◌, ◌≤◌, true, false, [], length, Err, IfOk, OnErr, MatchBool};
 ghost use Rattle.disk_model.specs.Later.{AreLater, HasFailed};
-ghost use Rattle.state_codec.specs.SavedState.{SavedState};
+ghost use Rattle.console_codec.specs.SavedState.{SavedState};
 ghost use Rattle.daemon_core.specs.State.{start};
 ghost use Rattle.live_stage.specs.Found.{AllFindNow, AllFindSince};
 ghost use Rattle.live_stage.specs.Transcript.{IsRun, RunRefuses, IsOfOneLife, FindsWhole, FindsPrefix};
@@ -33,7 +33,8 @@ impl<D: Disk> Live<D> {
 
         // At the end it finds the state after all that was given out.
         ensures given_out { D.honest self.old.a → D.honest self.old.b → self.old.is_broken ≡ false
-            → IfOk result (λ answers. AllFindNow (FindsWhole self.old.state events.items answers.items) (D.history self.new.a) (D.history self.new.b)) }
+            → IfOk result (λ answers. AllFindNow (FindsWhole self.old.state events.items answers.items)
+            (D.history self.new.a) (D.history self.new.b)) }
 
         ensures file { StaysInFile self.old self.new }
         ensures fault { D.honest self.old.a → D.honest self.old.b → self.old.is_broken ≡ false → self.new.is_broken ≡ true

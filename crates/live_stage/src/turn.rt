@@ -40,7 +40,16 @@ impl<D> Model for Turn<D> {
 
     ghost use Rattle.live_stage.specs.Answer.{IsOfItsEvent};
 
-    ghost view = { λ t. record { outputs = t.outputs.items; closes = t.closes.items; ended = t.ended; refused_at = t.refused_at; event = t.event; receipt = t.receipt; asked = t.asked.value; before = t.before.value } };
+    ghost view = { λ t. record {
+      outputs = t.outputs.items;
+      closes = t.closes.items;
+      ended = t.ended;
+      refused_at = t.refused_at;
+      event = t.event;
+      receipt = t.receipt;
+      asked = t.asked.value;
+      before = t.before.value;
+    } };
 
     ghost use Rattle.std.specs.Prelude.{◌≡◌};
     ghost use Rattle.daemon_core.specs.Step.{step};

@@ -1,10 +1,11 @@
 -- What a console of one life or two answers.
-use Rattle.std.proofs.Common.{◌≡◌, ◌≢◌, ◌⊎◌, inl, inr, ◌≤◌, ℕ, Option, Some, None, Result, Ok, Err, refl, sym, subst, ◌∙◌, ap}
+use Rattle.std.proofs.Common.{◌≡◌, ◌≢◌, ◌⊎◌, inl, inr, ◌≤◌, ℕ, Option, Some, None, Result, Ok, Err, refl, sym, subst, length, ◌∙◌, ap}
 use Rattle.std.specs.Prelude.{IsSome}
+use Rattle.disk_model.specs.Moments.{LeftSince}
 use Rattle.disk_model.proofs.MomentLaws.{counts_now}
-use Rattle.state_codec.specs.SavedState.{SavedState}
-use Rattle.live_stage.specs.declared.error.StartError.{StartError}
-use Rattle.live_stage.specs.declared.error.StartError.TheVariants.{NotEmpty, NoJournal, Damaged, NoMemory, Broken}
+use Rattle.console_codec.specs.SavedState.{SavedState}
+use Rattle.live_stage.specs.declared.refusal.StartError.{StartError}
+use Rattle.live_stage.specs.declared.refusal.StartError.TheVariants.{NotEmpty, NoJournal, Damaged, NoMemory, Broken}
 use Rattle.live_stage.specs.Errors.{IsRefusalOfOpen, start_number_of}
 use Rattle.mpd_program.specs.Lives.{Moment, HasFailed, AllFind, IsFaulted, IsRefused, IsLife, status_of, ending_of, IsConsole}
 use Rattle.mpd_program.specs.declared.console.Ending.{Ending}
@@ -66,7 +67,10 @@ some_is (Some t) s is = refl
 still_opens : (Honest : Type 0) (c : ℕ) (first between : Moment) → Honest → IsFaulted Honest c first between → AllFind (λ f. IsSome f) first → AllFind (λ f. IsSome f) between
 still_opens Honest c first between honest fault all = λ x y at_x at_y. elim fault.place [
   | inl opening ↦ (
-      let from = opening.holds honest x y (counts_now between.history_a _ x at_x) (counts_now between.history_b _ y at_y) in
+      let holds = opening.holds honest in
+      let left_a = subst (λ h. LeftSince h (length first.history_a) x) holds.second.0 (counts_now between.history_a _ x at_x) in
+      let left_b = subst (λ h. LeftSince h (length first.history_b) y) holds.second.1 (counts_now between.history_b _ y at_y) in
+      let from = holds.first x y left_a left_b in
       subst IsSome (sym from.4) (all from.0 from.1 from.2 from.3))
   | inr event ↦ (
       let either = event.holds honest in

@@ -3,7 +3,7 @@ use Rattle.std.proofs.Common.{◌≡◌, false, inl, inr, ℕ, ◌-◌, ◌^◌,
 use Rattle.std.specs.Io.KnownBytes.{Consumes, IsAtEnd, Keeps}
 use Rattle.std.proofs.lemmas.List.{append-nil}
 use Rattle.disk_model.specs.History.{Change}
-use Rattle.command_text.specs.declared.request.Request.{Request}
+use Rattle.console_text.specs.declared.request.Request.{Request}
 use Rattle.daemon_core.specs.declared.event.Event.{Event}
 use Rattle.daemon_core.specs.declared.event.Event.TheVariants as events
 use Rattle.daemon_core.specs.State.{State}

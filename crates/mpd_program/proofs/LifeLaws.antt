@@ -3,14 +3,14 @@ use Rattle.std.proofs.Common.{◌≡◌, ◌≢◌, ◌⊎◌, inl, inr, ℕ, Li
 use Rattle.std.specs.Prelude.{IsSome}
 use Rattle.std.specs.Io.KnownBytes.{Appends, Consumes, Keeps}
 use Rattle.disk_model.specs.History.{Change}
-use Rattle.state_codec.specs.SavedState.{SavedState}
+use Rattle.console_codec.specs.SavedState.{SavedState}
 use Rattle.daemon_core.specs.declared.event.Event.{Event}
 use Rattle.daemon_core.specs.State.{State, start}
 use Rattle.daemon_core.specs.Step.{Stepped}
 use Rattle.daemon_core.specs.Replay.{Entry, stepped, replay}
 use Rattle.daemon_core.proofs.HistoryLaws.{outputs_are_replies}
-use Rattle.live_stage.specs.declared.error.StartError.{StartError}
-use Rattle.live_stage.specs.declared.error.StartError.TheVariants.{NotEmpty, NoJournal, Damaged, NoMemory, Broken}
+use Rattle.live_stage.specs.declared.refusal.StartError.{StartError}
+use Rattle.live_stage.specs.declared.refusal.StartError.TheVariants.{NotEmpty, NoJournal, Damaged, NoMemory, Broken}
 use Rattle.live_stage.specs.Errors.{IsRefusalOfOpen, IsCause, start_number_of}
 use Rattle.live_stage.specs.Found.{found_state, AllFindNow, KeepsFoundState}
 use Rattle.live_stage.specs.Transcript.{replayed}

@@ -8,15 +8,15 @@ use Rattle.disk_model.specs.History.{Change}
 use Rattle.disk_model.specs.Later.{AreLater}
 use Rattle.disk_model.proofs.LaterLaws.{pair_begin, pair_on}
 use Rattle.disk_model.proofs.MomentLaws.{counts_now}
-use Rattle.command_text.specs.declared.request.Request.{Request}
+use Rattle.console_text.specs.declared.request.Request.{Request}
 use Rattle.daemon_core.specs.declared.event.Event.{Event}
 use Rattle.daemon_core.specs.declared.event.Event.TheVariants as events
 use Rattle.daemon_core.specs.State.{State}
 use Rattle.daemon_core.specs.declared.outcome.Output.{Output}
 use Rattle.daemon_core.specs.Step.{Stepped, step}
 use Rattle.daemon_core.specs.Replay.{Entry, stepped}
-use Rattle.live_stage.specs.declared.error.LiveError.{LiveError}
-use Rattle.live_stage.specs.declared.error.LiveError.TheVariants.{Broken, NoMemory, NumbersSpent}
+use Rattle.live_stage.specs.declared.refusal.LiveError.{LiveError}
+use Rattle.live_stage.specs.declared.refusal.LiveError.TheVariants.{Broken, NoMemory, NumbersSpent}
 use Rattle.live_stage.specs.LiveState.{LiveState}
 use Rattle.live_stage.specs.Found.{AllFindNow, AllFindSince}
 use Rattle.live_stage.specs.Transcript.{replayed}

@@ -25,7 +25,8 @@ pub record Settings : Type 0 where
 
 -- a key that a configuration may have
 abbrev pub is_known : List ℕ → Bool
-is_known key = bytes_eq key (codes "music") || bytes_eq key (codes "journal_a") || bytes_eq key (codes "journal_b") || bytes_eq key (codes "key")
+is_known key =
+    bytes_eq key (codes "music") || bytes_eq key (codes "journal_a") || bytes_eq key (codes "journal_b") || bytes_eq key (codes "key")
     || bytes_eq key (codes "tcp") || bytes_eq key (codes "unix") || bytes_eq key (codes "output")
 
 -- it has no key but these

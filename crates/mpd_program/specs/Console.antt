@@ -1,7 +1,7 @@
 -- What a console's client is given, along one history.
 use Rattle.std.specs.Prelude.{◌≡◌, ◌≢◌, ℕ, ◌==◌, List, [], ◌∷◌, ◌++◌, map, if◌then◌else◌}
-use Rattle.command_text.specs.declared.request.Request.{Request}
-use Rattle.state_codec.specs.SavedState.{SavedState}
+use Rattle.console_text.specs.declared.request.Request.{Request}
+use Rattle.console_codec.specs.SavedState.{SavedState}
 use Rattle.daemon_core.specs.declared.event.Event.{Event}
 use Rattle.daemon_core.specs.declared.event.Event.TheVariants as events
 use Rattle.daemon_core.specs.declared.outcome.Output.{Output}

@@ -3,11 +3,11 @@ use Rattle.std.specs.Prelude.{◌≡◌, ◌≢◌, ◌≤◌, ◌⊎◌, ℕ, L
 use Rattle.std.specs.Io.KnownBytes.{Appends, Consumes, Keeps}
 use Rattle.disk_model.specs.Faults.{HasGrown}
 use Rattle.disk_model.specs.History.{Change}
-use Rattle.state_codec.specs.SavedState.{SavedState}
+use Rattle.console_codec.specs.SavedState.{SavedState}
 use Rattle.daemon_core.specs.declared.event.Event.{Event}
 use Rattle.daemon_core.specs.Replay.{Entry, replay}
-use Rattle.live_stage.specs.declared.error.StartError.{StartError}
-use Rattle.live_stage.specs.declared.error.StartError.TheVariants.{NotEmpty, NoJournal, Damaged, NoMemory, Broken}
+use Rattle.live_stage.specs.declared.refusal.StartError.{StartError}
+use Rattle.live_stage.specs.declared.refusal.StartError.TheVariants.{NotEmpty, NoJournal, Damaged, NoMemory, Broken}
 use Rattle.live_stage.specs.Errors.{IsRefusalOfOpen, IsCause, start_number_of}
 use Rattle.live_stage.specs.Found.{found_state, AllFindNow, KeepsFoundState}
 use Rattle.client_session.specs.Requests.{requests_of}
@@ -32,7 +32,16 @@ pub record Moment : Type 0 where
 
 abbrev pub moment_of : {D : Type 0} → (D → List ℕ) → (D → List Change) → (D → ℕ) → D → D → Option (List ℕ) → Option (List ℕ) → Moment
 moment_of content history faults a b input output =
-    record { content_a = content a; content_b = content b; history_a = history a; history_b = history b; faults_a = faults a; faults_b = faults b; input = input; output = output }
+    record {
+      content_a = content a;
+      content_b = content b;
+      history_a = history a;
+      history_b = history b;
+      faults_a = faults a;
+      faults_b = faults b;
+      input = input;
+      output = output;
+    }
 
 -- a disk has failed between these moments
 abbrev pub HasFailed : Moment → Moment → Type 0

@@ -5,8 +5,8 @@ use Rattle.disk_model.specs.History.{Change}
 use Rattle.daemon_core.specs.declared.event.Event.{Event}
 use Rattle.daemon_core.specs.State.{State}
 use Rattle.daemon_core.specs.Replay.{Entry, stepped}
-use Rattle.live_stage.specs.declared.error.LiveError.{LiveError}
-use Rattle.live_stage.specs.declared.error.LiveError.TheVariants.{Broken, NoMemory, NumbersSpent}
+use Rattle.live_stage.specs.declared.refusal.LiveError.{LiveError}
+use Rattle.live_stage.specs.declared.refusal.LiveError.TheVariants.{Broken, NoMemory, NumbersSpent}
 use Rattle.live_stage.specs.Found.{AllFindNow}
 use Rattle.live_stage.specs.Transcript.{replayed}
 use Rattle.client_session.specs.Requests.{requests_of}
@@ -68,7 +68,8 @@ pub record ServesFront (c : ℕ) (events : List Event) (s t : State) (before aft
   pub written : WritesFront (given_from c s history) before after
 
 -- The events were served up to one in which a disk failed: of those before it all was written and is kept, and it is kept or not.
-pub record ServesToFault (Honest : Type 0) (c : ℕ) (events : List Event) (s : State) (a b : List Change) (before after : Option (List ℕ)) : Type 0 where
+pub record ServesToFault (Honest : Type 0) (c : ℕ) (events : List Event) (s : State) (a b : List Change)
+    (before after : Option (List ℕ)) : Type 0 where
   pub history : List Entry
   pub event : Event
   pub behind : List Event
@@ -95,7 +96,8 @@ abbrev pub IsAllRead : List ℕ → Option (List ℕ) → Type 0
 IsAllRead read input = IsAtEnd input ⊎ (2 ^ 64 - 1 ≤ length read)
 
 -- What came of the input that was read: at its end all requests were served, else the serving stopped.
-pub record ServesInput (Honest : Type 0) (c : ℕ) (first last : Option (List ℕ)) (s t : State) (a b : List Change) (before after : Option (List ℕ)) (result : Result Unit Ending) : Type 0 where
+pub record ServesInput (Honest : Type 0) (c : ℕ) (first last : Option (List ℕ)) (s t : State) (a b : List Change)
+    (before after : Option (List ℕ)) (result : Result Unit Ending) : Type 0 where
   pub read : List ℕ
   pub consumed : Consumes first last read
   pub served : MatchResult result
@@ -103,13 +105,16 @@ pub record ServesInput (Honest : Type 0) (c : ℕ) (first last : Option (List �
       (λ e. Stops Honest c (asked_by c (requests_of read)) s t a b before after e)
 
 -- how the serving of a client ended that connected and then made the requests of what was read
-abbrev pub StopsReading : Type 0 → ℕ → List Event → Type 0 → State → State → List Change → List Change → Option (List ℕ) → Option (List ℕ) → Ending → Type 0
-StopsReading Honest c events AllRead s t a b before after Whole = (ServesAll c events s t before after × AllRead) ⊎ ServesToClose c events s t before after
+abbrev pub StopsReading : Type 0 → ℕ → List Event → Type 0 → State → State → List Change → List Change
+    → Option (List ℕ) → Option (List ℕ) → Ending → Type 0
+StopsReading Honest c events AllRead s t a b before after Whole =
+    (ServesAll c events s t before after × AllRead) ⊎ ServesToClose c events s t before after
 StopsReading Honest c events AllRead s t a b before after Cut = ServesFront c events s t before after
 StopsReading Honest c events AllRead s t a b before after Faulted = ServesToFault Honest c events s a b before after
 
 -- What came of a client that was served from its connect on.
-pub record ServesClient (Honest : Type 0) (c : ℕ) (first last : Option (List ℕ)) (s t : State) (a b : List Change) (before after : Option (List ℕ)) (ending : Ending) : Type 0 where
+pub record ServesClient (Honest : Type 0) (c : ℕ) (first last : Option (List ℕ)) (s t : State) (a b : List Change)
+    (before after : Option (List ℕ)) (ending : Ending) : Type 0 where
   pub read : List ℕ
   pub consumed : Consumes first last read
   pub stops : StopsReading Honest c (events_of c (requests_of read)) (IsAllRead read last) s t a b before after ending

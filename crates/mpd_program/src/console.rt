@@ -27,7 +27,7 @@ pub enum Status {
     /// The client was served.
     Done,
     /// The journal was refused, with the number of the refusal: 4, 5 or 7.
-    JournalRefused(u32),
+    JournalRefused(u8),
     /// A second disk fault.
     DiskFault,
 }
@@ -81,7 +81,7 @@ pub struct ConsoleEnd<D> {
 // What came of the time from one opening of the journal on: how the client's serving ended, or the number with which the
 // journal was refused; and both disks.
 struct Life<D> {
-    came_to: Result<Ending, u32>,
+    came_to: Result<Ending, u8>,
     a: D,
     b: D,
 }

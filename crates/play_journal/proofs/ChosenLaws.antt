@@ -1,8 +1,8 @@
 -- Which of two files is in use, as the code finds it.
 use Rattle.std.proofs.Common.{◌≡◌, ◌⊎◌, inl, inr, ℕ, ◌<◌, Bool, true, false, eqb, ltb, Result, Ok, Err, arith, refl}
 use Rattle.std.proofs.lemmas.Bool.{ltb-true, ltb-false, eqb-false}
-use Rattle.play_journal.specs.declared.error.JournalError.{JournalError}
-use Rattle.play_journal.specs.declared.error.JournalError.TheVariants.{NoJournal, Damaged, DiskFault}
+use Rattle.play_journal.specs.declared.refusal.JournalError.{JournalError}
+use Rattle.play_journal.specs.declared.refusal.JournalError.TheVariants.{NoJournal, Damaged, DiskFault}
 use Rattle.play_journal.specs.Opening.{chosen_file}
 use Rattle.play_journal.specs.Reading.{Front, Closed, Bad, Open}
 

@@ -3,7 +3,7 @@ use Rattle.std.proofs.Common.{◌≡◌, ℕ, ◌+◌, ◌-◌, ◌^◌, ◌<◌
 use Rattle.std.specs.Prelude.{◌≢◌, slice_range}
 use Rattle.std.specs.Int.{w32, from_le_bytes}
 use Rattle.std.proofs.lemmas.Bool.{lt-ltb, le-leb}
-use Rattle.std.proofs.lemmas.List.{drop_more, drop_all, drop-drop, length-take-le}
+use Rattle.std.proofs.lemmas.List.{drop_more, drop_all, drop-drop}
 use Rattle.play_journal.specs.File.{open_gate, longest_body}
 use Rattle.play_journal.specs.Reading.{number_at, passes, with_first, records_at}
 use Rattle.play_journal.proofs.RecordLaws.{at_number, IsRecord, records_at-record, records_at-closed, records_at-passes, records_at-end}
@@ -66,9 +66,8 @@ module _ (bytes : List ℕ) (at before : ℕ) where
 
   pub open_record : (size : ℕ) → at + 5 ≤ length bytes → get_or bytes at 0 ≡ open_gate → size ≡ number_at w32 (at + 1) bytes
       → size ≤ longest_body → at + 5 + size ≤ length bytes → before + 1 < 2 ^ 64
-      → records_at 0 at before (drop at bytes) ≡ with_first (slice_range bytes (at + 5) (at + 5 + size)) (records_at 0 (at + 5 + length
-      (slice_range bytes (at + 5) (at + 5 + size))) (before + 1) (drop (at + 5 + length (slice_range bytes (at + 5)
-      (at + 5 + size))) bytes))
+      → records_at 0 at before (drop at bytes) ≡ with_first (slice_range bytes (at + 5) (at + 5 + size))
+      (records_at 0 (at + 5 + size) (before + 1) (drop (at + 5 + size) bytes))
   open_record size within gate is short all number =
       let stands : IsRecord before (drop (at + 1) bytes) size = record {
         field = omega (arith, length-behind);
@@ -82,12 +81,7 @@ module _ (bytes : List ℕ) (at before : ℕ) where
       (at + 5) (omega arith) ∙ at_number (λ (n : ℕ). take n (drop (at + 5) bytes)) size (at + 5 + size - (at + 5)) (omega arith) in
       let next : drop (4 + size) (drop (at + 1) bytes) ≡ drop (at + 5 + size) bytes = drop-drop (4 + size) (at + 1) bytes
       ∙ at_number (λ (n : ℕ). drop n bytes) (at + 1 + (4 + size)) (at + 5 + size) (omega arith) in
-      let same : at + 5 + size - (at + 5) ≡ size = omega arith in
-      let long : length (slice_range bytes (at + 5) (at + 5 + size)) ≡ size =
-      length-take-le (at + 5 + size - (at + 5)) (drop (at + 5) bytes) (omega (arith, length-drop (at + 5) bytes)) ∙ same in
       ap (λ (l : List ℕ). records_at 0 at before l) (is_open (omega arith) gate)
       ∙ records_at-record at before size (drop (at + 1) bytes) stands
       ∙ ap (λ (l : List ℕ). with_first l (records_at 0 (at + 5 + size) (before + 1) (drop (4 + size) (drop (at + 1) bytes)))) own
       ∙ ap (λ (l : List ℕ). with_first (slice_range bytes (at + 5) (at + 5 + size)) (records_at 0 (at + 5 + size) (before + 1) l)) next
-      ∙ ap (λ (n : ℕ). with_first (slice_range bytes (at + 5) (at + 5 + size)) (records_at 0 (at + 5 + n) (before + 1) (drop
-      (at + 5 + n) bytes))) (sym long)

@@ -12,7 +12,7 @@ use Rattle.disk_model.specs.Images.{window, settled, IsImage}
 use Rattle.disk_model.specs.Moments.{AllSince}
 use Rattle.disk_model.proofs.MomentLaws.{now_only}
 use Rattle.disk_model.proofs.WindowLaws.{settled_only}
-use Rattle.play_journal.specs.Content.{Content, present_layout, fresh, with_record, IsBeforeOrAfter}
+use Rattle.play_journal.specs.Content.{Content, present_layout, with_record, IsBeforeOrAfter}
 use Rattle.play_journal.specs.File.{open_gate, longest_body, head, gated, spelling, Fits, IsFile}
 use Rattle.play_journal.specs.JournalState.{no_content, content_in, IsInUse, IsKept}
 use Rattle.play_journal.specs.Opening.{IsAppending}

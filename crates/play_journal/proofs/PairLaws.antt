@@ -9,8 +9,8 @@ use Rattle.disk_model.specs.Images.{window, IsImage}
 use Rattle.disk_model.specs.Moments.{AllSince, Continues}
 use Rattle.disk_model.proofs.MomentLaws.{all_begin, all_step_or, all_join}
 use Rattle.disk_model.proofs.WindowLaws.{settled_all}
-use Rattle.play_journal.specs.declared.error.JournalError.{JournalError}
-use Rattle.play_journal.specs.declared.error.JournalError.TheVariants.{NotEmpty, NoJournal, Damaged, DiskFault, NoMemory, TooLong, NumbersSpent}
+use Rattle.play_journal.specs.declared.refusal.JournalError.{JournalError}
+use Rattle.play_journal.specs.declared.refusal.JournalError.TheVariants.{NotEmpty, NoJournal, Damaged, DiskFault, NoMemory, TooLong, NumbersSpent}
 use Rattle.play_journal.specs.Content.{Content}
 use Rattle.play_journal.specs.File.{IsFile}
 use Rattle.play_journal.specs.Opening.{ReadsSame, KeepsFile, IsCause}

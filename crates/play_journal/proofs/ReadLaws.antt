@@ -3,8 +3,8 @@ use Rattle.std.proofs.Common.{◌≡◌, ◌⊎◌, inl, inr, ℕ, ◌+◌, ◌<
 use Rattle.std.specs.Prelude.{IfErr, IsErrAnd, slice_range}
 use Rattle.std.specs.Int.{w32, w64}
 use Rattle.std.proofs.lemmas.Bool.{lt-ltb}
-use Rattle.play_journal.specs.declared.error.JournalError.{JournalError}
-use Rattle.play_journal.specs.declared.error.JournalError.TheVariants.{NoMemory, Damaged}
+use Rattle.play_journal.specs.declared.refusal.JournalError.{JournalError}
+use Rattle.play_journal.specs.declared.refusal.JournalError.TheVariants.{NoMemory, Damaged}
 use Rattle.play_journal.specs.Content.{Content}
 use Rattle.play_journal.specs.Opening.{IsCause}
 use Rattle.play_journal.specs.Pair.{told}

@@ -1,11 +1,13 @@
 -- What the calls of a journal do to it.
-use Rattle.std.specs.Prelude.{◌≡◌, ◌≢◌, ◌↔◌, ℕ, ◌+◌, ◌-◌, ◌^◌, ◌<◌, ◌≤◌, Bool, true, false, not, List, length, Some, Result, Err, MatchBool, OnErr}
+use Rattle.std.specs.Prelude.{◌≡◌, ◌≢◌, ◌↔◌, ℕ, ◌+◌, ◌-◌, ◌^◌, ◌<◌, ◌≤◌, true, false, not, List, length, Some, Result, Err}
+use Rattle.std.specs.Prelude.{MatchBool, OnErr}
 use Rattle.disk_model.specs.History.{Change}
-use Rattle.play_journal.specs.declared.error.JournalError.{JournalError}
-use Rattle.play_journal.specs.declared.error.JournalError.TheVariants.{DiskFault, TooLong, NumbersSpent}
+use Rattle.play_journal.specs.declared.refusal.JournalError.{JournalError}
+use Rattle.play_journal.specs.declared.refusal.JournalError.TheVariants.{DiskFault, TooLong, NumbersSpent}
 use Rattle.play_journal.specs.Content.{Content}
 use Rattle.play_journal.specs.JournalState.{JournalState}
 use Rattle.play_journal.specs.Pair.{AllPairsNow}
+use Rattle.play_journal.specs.Stored.{StoredParts}
 
 -- the journal has this content, and whatever a crash now leaves of its files gives it
 pub record Holds {D : Type 0} (history : D → List Change) (journal : JournalState D) (content : Content) : Type 0 where
@@ -21,12 +23,12 @@ pub record IsNew {D : Type 0} (journal : JournalState D) : Type 0 where
   pub usable : journal.is_spent ≡ false
 
 -- a journal that was opened, with the snapshot and the records that were found
-pub record IsOpened {D : Type 0} (Honest : Type 0) (journal : JournalState D) (snapshot : List ℕ) (records : List (List ℕ)) : Type 0 where
-  pub same_snapshot : Honest → snapshot ≡ journal.content.snapshot
-  pub same_records : Honest → records ≡ journal.content.records
+pub record IsOpened {D : Type 0} (Honest : Type 0) (journal : JournalState D) (stored : StoredParts) : Type 0 where
+  pub same_snapshot : Honest → stored.snapshot ≡ journal.content.snapshot
+  pub same_records : Honest → stored.records ≡ journal.content.records
   pub generation : Honest → journal.content.generation ≡ journal.generation
   pub base : Honest → journal.content.base ≡ journal.base
-  pub count : length records ≡ journal.count
+  pub count : length stored.records ≡ journal.count
   pub usable : journal.is_spent ≡ false
 
 -- a record has this number, which is the next one

@@ -1,7 +1,8 @@
 -- The refusals of a journal.
 use Rattle.std.specs.Prelude.{ℕ}
-use Rattle.play_journal.specs.declared.error.JournalError.{JournalError}
-use Rattle.play_journal.specs.declared.error.JournalError.TheVariants.{NotEmpty, NoJournal, Damaged, DiskFault, NoMemory, TooLong, NumbersSpent}
+use Rattle.play_journal.specs.declared.refusal.JournalError.{JournalError}
+use Rattle.play_journal.specs.declared.refusal.JournalError.TheVariants.{NotEmpty, NoJournal, Damaged, DiskFault, NoMemory, TooLong}
+use Rattle.play_journal.specs.declared.refusal.JournalError.TheVariants.{NumbersSpent}
 
 abbrev pub number_of : JournalError → ℕ
 number_of NotEmpty = 3

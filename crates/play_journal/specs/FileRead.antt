@@ -9,6 +9,6 @@ content_read file =
       layout = file.layout;
       generation = file.generation;
       base = file.base;
-      snapshot = file.snapshot.items;
-      records = file.records.items;
+      snapshot = file.stored.snapshot;
+      records = file.stored.records;
     }

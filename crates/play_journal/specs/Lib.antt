@@ -10,3 +10,4 @@ pub mod Opening
 pub mod Pair
 pub mod Reading
 pub mod Room
+pub mod Stored

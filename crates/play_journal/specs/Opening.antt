@@ -1,10 +1,12 @@
 -- What the steps of opening and appending do to one file.
-use Rattle.std.specs.Prelude.{◌≡◌, ◌⊎◌, ℕ, Bool, true, false, List, ◌∷◌, ◌++◌, length, Option, Some, None, Result, Ok, Err, nat_lt, ◌==◌, if◌then◌else◌}
+use Rattle.std.specs.Prelude.{◌≡◌, ◌⊎◌, ℕ, Bool, true, false, List, ◌∷◌, ◌++◌, length, Option, Some, None, Result, Ok, Err, nat_lt, ◌==◌}
+use Rattle.std.specs.Prelude.{if◌then◌else◌}
 use Rattle.disk_model.specs.History.{Change}
 use Rattle.disk_model.specs.Images.{window, IsImage}
 use Rattle.disk_model.specs.Moments.{LeftSince}
-use Rattle.play_journal.specs.declared.error.JournalError.{JournalError}
-use Rattle.play_journal.specs.declared.error.JournalError.TheVariants.{NotEmpty, NoJournal, Damaged, DiskFault, NoMemory, TooLong, NumbersSpent}
+use Rattle.play_journal.specs.declared.refusal.JournalError.{JournalError}
+use Rattle.play_journal.specs.declared.refusal.JournalError.TheVariants.{NotEmpty, NoJournal, Damaged, DiskFault, NoMemory, TooLong}
+use Rattle.play_journal.specs.declared.refusal.JournalError.TheVariants.{NumbersSpent}
 use Rattle.play_journal.specs.Reading.{Front, Closed, Bad, Open, front, read}
 
 -- how a file begins, as the code tells it

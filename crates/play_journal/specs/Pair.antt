@@ -4,8 +4,8 @@ use Rattle.std.specs.Result.{result_ok}
 use Rattle.disk_model.specs.History.{Change}
 use Rattle.disk_model.specs.Images.{window, IsImage}
 use Rattle.disk_model.specs.Moments.{LeftSince}
-use Rattle.play_journal.specs.declared.error.JournalError.{JournalError}
-use Rattle.play_journal.specs.declared.error.JournalError.TheVariants.{NoJournal, Damaged}
+use Rattle.play_journal.specs.declared.refusal.JournalError.{JournalError}
+use Rattle.play_journal.specs.declared.refusal.JournalError.TheVariants.{NoJournal, Damaged}
 use Rattle.play_journal.specs.Content.{Content}
 use Rattle.play_journal.specs.File.{IsFile, IsShut, IsOpenAt}
 use Rattle.play_journal.specs.Reading.{Front, Closed, Bad, Open, front, read}

@@ -1,5 +1,6 @@
 -- Reading a journal file from its start, with the first fault that is met.
-use Rattle.std.specs.Prelude.{ℕ, zero, suc, ◌+◌, ◌-◌, ◌^◌, Bool, not, ◌&&◌, ◌||◌, List, [], ◌∷◌, length, drop, slice_index, slice_range, Result, Ok, Err, nat_lt, nat_le, ◌==◌, if◌then◌else◌, bytes_eq}
+use Rattle.std.specs.Prelude.{ℕ, zero, suc, ◌+◌, ◌-◌, ◌^◌, Bool, not, ◌&&◌, ◌||◌, List, [], ◌∷◌, length, drop, slice_index, slice_range}
+use Rattle.std.specs.Prelude.{Result, Ok, Err, nat_lt, nat_le, ◌==◌, if◌then◌else◌, bytes_eq}
 use Rattle.std.specs.Int.{Width, w32, w64, byte_len, from_le_bytes}
 use Rattle.play_journal.specs.Content.{Content}
 use Rattle.play_journal.specs.File.{open_gate, name, longest_body}

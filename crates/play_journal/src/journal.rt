@@ -1,5 +1,6 @@
 // The journal.
-ghost use Rattle.std.specs.Prelude.{◌≡◌, ◌≢◌, ◌⊎◌, ◌↔◌, ◌+◌, ◌-◌, ◌^◌, ◌<◌, ◌≤◌, Bool, true, false, List, [], ◌∷◌, length, vec_len, Ok, Err, Some, None, IsTrue, IsSome, IfOk, IfErr, OnOk, OnErr, IsOk, IsErrAnd, MatchResult, MatchBool};
+ghost use Rattle.std.specs.Prelude.{◌≡◌, ◌≢◌, ◌⊎◌, ◌↔◌, ◌+◌, ◌-◌, ◌^◌, ◌<◌, ◌≤◌, Bool, true, false, List, [], ◌∷◌, length, vec_len, Ok};
+ghost use Rattle.std.specs.Prelude.{Err, Some, None, IsTrue, IsSome, IfOk, IfErr, OnOk, OnErr, IsOk, IsErrAnd, MatchResult, MatchBool};
 ghost use Rattle.disk_model.specs.Later.{AreLater, HasFailed};
 ghost use Rattle.play_journal.specs.Calls.{Holds, IsNew, IsOpened, IsNextRecord, StaysInFile, IsNextGeneration, RefusesInOrder};
 ghost use Rattle.play_journal.specs.Content.{fresh, with_record, with_snapshot, IsBeforeOrAfter, IsOldOrNew};
@@ -15,7 +16,7 @@ use crate::creating::{LONGEST_SNAPSHOT, fresh_journal};
 use crate::laying::{head_bytes, lay_down};
 use crate::opening::{Opened, open_files};
 use crate::reading::{FileRead, HEAD_LEN, LONGEST_BODY};
-use crate::{JournalError, Record, Refused};
+use crate::{JournalError, Refused, Stored};
 use disk_model::Disk;
 use std::alloc::Global;
 use std::marker::Model;
@@ -111,10 +112,10 @@ impl<D: Disk> Journal<D> {
     /// Opens two files that a crash may have left: the journal, its snapshot, and the records behind it in order.
     ///
     /// Both files are synced, and what stands behind the last record is cut off. A refusal hands both disks back.
-    pub fn open(alloc: Global, a: D, b: D) -> Result<(Journal<D>, Vec<u8>, Vec<Record>), Refused<D>>
+    pub fn open(alloc: Global, a: D, b: D) -> Result<(Journal<D>, Stored), Refused<D>>
         // It answers what the files give, and names what is wrong with them.
         ensures read { D.honest a → D.honest b → IfOk result (λ r. reading (D.content a) (D.content b) ≡ Ok r.0.content) }
-        ensures opened { IfOk result (λ r. IsOpened (D.honest a × D.honest b) r.0 r.1.items r.2.items) }
+        ensures opened { IfOk result (λ r. IsOpened (D.honest a × D.honest b) r.0 r.1) }
         ensures cause { D.honest a → D.honest b → IfErr result (λ e. IsCause (reading (D.content a) (D.content b)) e.error) }
 
         // Stopped at any moment, the files give what they might have given before, and from `Ok` on what is answered.
@@ -302,35 +303,28 @@ fn placed<D>(swapped: bool, first: D, second: D) -> (D, D)
     }
 }
 
-// The journal over a file that was opened, with its snapshot and its records.
-fn opened_journal<D: Disk>(
-    opened: Opened,
-    swapped: bool,
-    a: D,
-    b: D,
-) -> (Journal<D>, Vec<u8>, Vec<Record>)
+// The journal over a file that was opened, and what stands in it.
+fn opened_journal<D: Disk>(opened: Opened, swapped: bool, a: D, b: D) -> (Journal<D>, Stored)
     requires room { vec_len opened.buffer ≡ room }
-    requires numbers { opened.file.base + length opened.file.records.items < 2 ^ 64 }
+    requires numbers { opened.file.base + length opened.file.stored.records < 2 ^ 64 }
     requires in_use { D.honest a → D.honest b → IsKept (D.content (at_place swapped a b)) (D.content (at_place swapped b a))
         (D.history (at_place swapped a b)) (D.history (at_place swapped b a)) opened.file.end opened.file.generation opened.file.base
-        (length opened.file.records.items) }
+        (length opened.file.stored.records) }
     ensures a { result.0.a ≡ a }
     ensures b { result.0.b ≡ b }
     ensures generation { result.0.generation ≡ opened.file.generation }
     ensures base { result.0.base ≡ opened.file.base }
-    ensures count { result.0.count ≡ length opened.file.records.items }
+    ensures count { result.0.count ≡ length opened.file.stored.records }
     ensures content { result.0.content ≡ content_in (D.content (at_place swapped a b)) }
     ensures usable { result.0.is_spent ≡ false }
-    ensures snapshot { result.1 ≡ opened.file.snapshot }
-    ensures records { result.2 ≡ opened.file.records }
+    ensures stored { result.1 ≡ opened.file.stored }
 {
     let Opened { file, buffer } = opened;
     let FileRead {
         layout: _,
         generation,
         base,
-        snapshot,
-        records,
+        stored,
         end,
     } = file;
     let (here, there) = placed(swapped, a, b);
@@ -341,9 +335,9 @@ fn opened_journal<D: Disk>(
         end: end as u64,
         generation,
         base,
-        count: records.len() as u64,
+        count: stored.record_count() as u64,
         buffer,
         spent: false,
     };
-    (journal, snapshot, records)
+    (journal, stored)
 }

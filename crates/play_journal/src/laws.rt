@@ -2,7 +2,7 @@
 ghost use Rattle.std.specs.Prelude.{◌≡◌, map, IfOk};
 ghost use Rattle.play_journal.specs.Laws.{FoundIsSaid};
 
-use crate::{Journal, JournalError, Record};
+use crate::{Journal, JournalError, Stored};
 use disk_model::Disk;
 use std::alloc::Global;
 
@@ -18,9 +18,9 @@ pub fn keeps_order<D: Disk + Drop>(
     b: D,
     snapshot: &[u8],
     bodies: &[Vec<u8>],
-) -> Result<(Vec<u8>, Vec<Record>), JournalError>
-    ensures snapshot { D.honest a → D.honest b → IfOk result (λ r. r.0.items ≡ snapshot.now) }
-    ensures records { D.honest a → D.honest b → IfOk result (λ r. r.1.items ≡ map (λ body. body.items) bodies.now) }
+) -> Result<Stored, JournalError>
+    ensures snapshot { D.honest a → D.honest b → IfOk result (λ stored. stored.snapshot ≡ snapshot.now) }
+    ensures records { D.honest a → D.honest b → IfOk result (λ stored. stored.records ≡ map (λ body. body.items) bodies.now) }
 {
     let mut journal = match Journal::create(alloc, a, b, snapshot) {
         Ok(journal) => journal,
@@ -31,7 +31,7 @@ pub fn keeps_order<D: Disk + Drop>(
     }
     let (a, b) = journal.into_disks();
     match Journal::open(alloc, a, b) {
-        Ok((_, snapshot, records)) => Ok((snapshot, records)),
+        Ok((_, stored)) => Ok(stored),
         Err(refused) => Err(refused.error),
     }
 }

@@ -1,5 +1,6 @@
 // Laying a file down, in three steps: its gate is closed, the file is written behind the closed gate, and the gate is opened.
-ghost use Rattle.std.specs.Prelude.{◌≡◌, ◌≢◌, ◌⊎◌, ◌+◌, ◌^◌, ◌<◌, ◌≤◌, [], ◌∷◌, ◌++◌, length, take, slice_index, MatchBool, OnOk, OnErr, IfOk};
+ghost use Rattle.std.specs.Prelude.{◌≡◌, ◌≢◌, ◌⊎◌, ◌+◌, ◌^◌, ◌<◌, ◌≤◌, [], ◌∷◌, ◌++◌, length, take, slice_index, MatchBool, OnOk, OnErr};
+ghost use Rattle.std.specs.Prelude.{IfOk};
 ghost use Rattle.disk_model.specs.Calls.{overwritten};
 ghost use Rattle.disk_model.specs.Faults.{HasGrown};
 ghost use Rattle.disk_model.specs.Images.{window, settled};

@@ -3,14 +3,14 @@
 
 mod appending;
 mod creating;
-mod error;
 mod journal;
 pub mod laws;
 mod laying;
 mod opening;
 mod reading;
-mod record;
+mod refusal;
+mod stored;
 
-pub use error::{JournalError, Refused};
 pub use journal::Journal;
-pub use record::Record;
+pub use refusal::{JournalError, Refused};
+pub use stored::Stored;

@@ -1,5 +1,6 @@
 // Opening two files that a crash may have left.
-ghost use Rattle.std.specs.Prelude.{◌≡◌, ◌≢◌, ◌⊎◌, ◌↔◌, ◌+◌, ◌-◌, ◌^◌, ◌<◌, ◌≤◌, Bool, List, ◌++◌, length, take, flat_map, vec_len, Ok, Err, OnOk, OnErr, IfOk, IfErr};
+ghost use Rattle.std.specs.Prelude.{◌≡◌, ◌≢◌, ◌⊎◌, ◌↔◌, ◌+◌, ◌-◌, ◌^◌, ◌<◌, ◌≤◌, Bool, List, ◌++◌, length, take, flat_map, vec_len, Ok};
+ghost use Rattle.std.specs.Prelude.{Err, OnOk, OnErr, IfOk, IfErr};
 ghost use Rattle.disk_model.specs.Calls.{IsSameOrAdds};
 ghost use Rattle.disk_model.specs.Faults.{HasGrown};
 ghost use Rattle.disk_model.specs.History.{Synced};
@@ -15,8 +16,8 @@ ghost use Rattle.play_journal.specs.Pair.{told, reading};
 ghost use Rattle.play_journal.specs.Reading.{Open, front, read};
 ghost use Rattle.play_journal.specs.Room.{room};
 
+use crate::JournalError;
 use crate::reading::{FileRead, HEAD_LEN, LONGEST_BODY, file_of, generation_of, second_is_newer};
-use crate::{JournalError, Record};
 use disk_model::Disk;
 use std::alloc::{AllocError, Global};
 
@@ -89,9 +90,9 @@ pub(crate) struct Opened {
 fn open_file<D: Disk>(alloc: Global, disk: &mut D) -> Result<Opened, JournalError>
     ensures later { IsLater D.honest D.history D.faults disk.old disk.new }
     ensures room { IfOk result (λ r. vec_len r.buffer ≡ room) }
-    ensures numbers { IfOk result (λ r. r.file.base + length r.file.records.items < 2 ^ 64) }
+    ensures numbers { IfOk result (λ r. r.file.base + length r.file.stored.records < 2 ^ 64) }
     ensures read { D.honest disk.old → IfOk result (λ r. read (D.content disk.old) ≡ Ok (content_read r.file)) }
-    ensures end { IfOk result (λ r. r.file.end ≡ 32 + length r.file.snapshot.items + length (flat_map gated r.file.records.items)) }
+    ensures end { IfOk result (λ r. r.file.end ≡ 32 + length r.file.stored.snapshot + length (flat_map gated r.file.stored.records)) }
     ensures cause { D.honest disk.old → IfErr result (IsCause (told (read (D.content disk.old)))) }
     ensures refusal { IfErr result IsRefusalOfOpen }
     ensures any_moment { D.honest disk.old → window (D.history disk.old) ≡ settled (D.content disk.old) → (generation : _)
@@ -104,7 +105,7 @@ fn open_file<D: Disk>(alloc: Global, disk: &mut D) -> Result<Opened, JournalErro
         → result ≡ Err JournalError.DiskFault → HasGrown (D.faults disk.old) (D.faults disk.new) }
 {
     let bytes = bytes_of(alloc, disk)?;
-    let file = file_of(alloc, &bytes)?;
+    let file = file_of(alloc, bytes)?;
     let buffer = record_room(alloc)?;
     cut_to(disk, (file.end as u64).saturating_add(1))?;
     Ok(Opened { file, buffer })
@@ -147,7 +148,7 @@ pub(crate) fn open_files<D: Disk>(
     ensures kept_a { D.honest a.old → D.honest b.old → KeepsFile (D.history a.old) (D.history a.new) }
     ensures kept_b { D.honest a.old → D.honest b.old → KeepsFile (D.history b.old) (D.history b.new) }
     ensures room { IfOk result (λ r. vec_len r.1.buffer ≡ room) }
-    ensures numbers { IfOk result (λ r. r.1.file.base + length r.1.file.records.items < 2 ^ 64) }
+    ensures numbers { IfOk result (λ r. r.1.file.base + length r.1.file.stored.records < 2 ^ 64) }
     ensures read { D.honest a.old → D.honest b.old → IfOk result (λ r. reading (D.content a.old) (D.content b.old) ≡ Ok
         (content_read r.1.file)) }
     ensures content { D.honest a.old → D.honest b.old → IfOk result (λ r. content_in (D.content
@@ -155,7 +156,7 @@ pub(crate) fn open_files<D: Disk>(
     ensures in_use { D.honest a.old → D.honest b.old → IfOk result (λ r. IsKept (D.content (at_place r.0 a.new b.new)) (D.content
         (at_place r.0 b.new a.new))
         (D.history (at_place r.0 a.new b.new)) (D.history (at_place r.0 b.new a.new)) r.1.file.end r.1.file.generation r.1.file.base
-        (length r.1.file.records.items)) }
+        (length r.1.file.stored.records)) }
     ensures cause { D.honest a.old → D.honest b.old → IfErr result (IsCause (reading (D.content a.old) (D.content b.old))) }
     ensures refusal { IfErr result IsRefusalOfOpen }
     ensures uncut_a { D.honest a.old → IfErr result (λ e. e ≢ JournalError.DiskFault → D.content a.new ≡ D.content a.old) }

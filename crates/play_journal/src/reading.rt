@@ -1,13 +1,16 @@
 // Reading the bytes of a journal file.
-ghost use Rattle.std.specs.Prelude.{◌≡◌, ◌≢◌, ◌⊎◌, ◌+◌, ◌-◌, ◌^◌, ◌<◌, ◌≤◌, [], List, length, drop, flat_map, IfOk, IfErr, Ok, Err, MatchOption};
+ghost use Rattle.std.specs.Prelude.{◌≡◌, ◌≢◌, ◌⊎◌, ◌+◌, ◌-◌, ◌^◌, ◌<◌, ◌≤◌, [], List, length, drop, flat_map, All, IfOk, IfErr, Ok, Err};
+ghost use Rattle.std.specs.Prelude.{MatchOption};
 ghost use Rattle.std.specs.Int.{w32, w64};
 ghost use Rattle.play_journal.specs.File.{gated};
 ghost use Rattle.play_journal.specs.Opening.{told_front, is_second, IsCause};
 ghost use Rattle.play_journal.specs.Pair.{told};
 ghost use Rattle.play_journal.specs.FileRead.{content_read};
+ghost use Rattle.play_journal.specs.Stored.{bytes_in, bodies_in, IsWithin};
 ghost use Rattle.play_journal.specs.Reading.{front, number_at, records_at, with_first, read};
 
-use crate::{JournalError, Record};
+use crate::stored::Extent;
+use crate::{JournalError, Stored};
 use std::alloc::Global;
 
 pub(crate) const OPEN: u8 = 0xa5;
@@ -77,15 +80,15 @@ pub(crate) fn second_is_newer(first: Option<u64>, second: Option<u64>) -> Result
     }
 }
 
-// The body of the record whose gate stands at an offset, or none at a closed gate.
-fn body_at(bytes: &[u8], at: usize, before: u64) -> Result<Option<&[u8]>, JournalError>
+// Where the body stands of the record whose gate has this offset, or none at a closed gate.
+fn body_at(bytes: &[u8], at: usize, before: u64) -> Result<Option<Extent>, JournalError>
     requires { at ≤ length bytes.now }
     ensures closed { IfOk result (λ found. MatchOption found
         (records_at 0 at before (drop at bytes.now) ≡ Ok [])
         (λ body. records_at 0 at before (drop at bytes.now)
-        ≡ with_first body.now (records_at 0 (at + 5 + length body.now) (before + 1) (drop (at + 5 + length body.now) bytes.now)))) }
-    ensures within { IfOk result (λ found. MatchOption found (at < length bytes.now)
-        (λ body. at + 5 + length body.now ≤ length bytes.now)) }
+        ≡ with_first (bytes_in bytes.now body) (records_at 0 body.end (before + 1) (drop body.end bytes.now)))) }
+    ensures within { IfOk result (λ found. MatchOption found (at < length bytes.now) (IsWithin (length bytes.now))) }
+    ensures place { IfOk result (λ found. MatchOption found (at < length bytes.now) (λ body. body.start ≡ at + 5)) }
     ensures number { IfOk result (λ found. MatchOption found (before ≤ before) (λ body. before + 1 < 2 ^ 64)) }
     ensures fault { IfErr result (λ e. (e ≡ JournalError.Damaged at) × (records_at 0 at before (drop at bytes.now) ≡ Err at)) }
 {
@@ -103,32 +106,35 @@ fn body_at(bytes: &[u8], at: usize, before: u64) -> Result<Option<&[u8]>, Journa
     if len > LONGEST_BODY || bytes.len() - at - 5 < len || before == u64::MAX {
         return Err(damaged);
     }
-    Ok(Some(&bytes[at + 5..at + 5 + len]))
+    let start = at + 5;
+    let end = start + len;
+    Ok(Some(Extent { start, end }))
 }
 
-// The records from a gate on, and where their closing gate stands.
-fn records_from(
+// Where the bodies of the records from a gate on stand, and their closing gate.
+fn bodies_from(
     alloc: Global,
     bytes: &[u8],
     start: usize,
     base: u64,
-) -> Result<(Vec<Record>, usize), JournalError>
+) -> Result<(Vec<Extent>, usize), JournalError>
     requires { start ≤ length bytes.now }
-    ensures read { IfOk result (λ r. records_at 0 start base (drop start bytes.now) ≡ Ok r.0.items) }
-    ensures end { IfOk result (λ r. r.1 ≡ start + length (flat_map gated r.0.items)) }
+    ensures read { IfOk result (λ r. records_at 0 start base (drop start bytes.now) ≡ Ok (bodies_in bytes.now r.0.items)) }
+    ensures within { IfOk result (λ r. All (IsWithin (length bytes.now)) r.0.items) }
+    ensures end { IfOk result (λ r. r.1 ≡ start + length (flat_map gated (bodies_in bytes.now r.0.items))) }
     ensures numbers { IfOk result (λ r. base + length r.0.items < 2 ^ 64) }
     ensures fault { IfErr result (λ e. (e ≡ JournalError.NoMemory)
         ⊎ ((offset : _) × (e ≡ JournalError.Damaged offset) × (records_at 0 start base (drop start bytes.now) ≡ Err offset))) }
 {
-    let mut records = Vec::new(alloc);
+    let mut bodies = Vec::new(alloc);
     let mut at = start;
     let mut before = base;
     while let Some(body) = body_at(bytes, at, before)? {
-        records.push(Record::new(Vec::from_slice(alloc, body)?))?;
-        at += 5 + body.len();
+        bodies.push(body)?;
+        at = body.end;
         before += 1;
     }
-    Ok((records, at))
+    Ok((bodies, at))
 }
 
 // A file that was read.
@@ -137,39 +143,37 @@ pub(crate) struct FileRead {
     pub(crate) layout: u32,
     pub(crate) generation: u64,
     pub(crate) base: u64,
-    pub(crate) snapshot: Vec<u8>,
-    pub(crate) records: Vec<Record>,
+    pub(crate) stored: Stored,
     /// The offset of the closing gate.
     pub(crate) end: usize,
 }
 
 // A file whose head is right.
-pub(crate) fn file_of(alloc: Global, bytes: &[u8]) -> Result<FileRead, JournalError>
-    ensures read { IfOk result (λ f. read bytes.now ≡ Ok (content_read f)) }
-    ensures end { IfOk result (λ f. f.end ≡ 32 + length f.snapshot.items + length (flat_map gated f.records.items)) }
-    ensures numbers { IfOk result (λ f. f.base + length f.records.items < 2 ^ 64) }
-    ensures fault { IfErr result (IsCause (told (read bytes.now))) }
+pub(crate) fn file_of(alloc: Global, bytes: Vec<u8>) -> Result<FileRead, JournalError>
+    ensures read { IfOk result (λ f. read bytes.items ≡ Ok (content_read f)) }
+    ensures end { IfOk result (λ f. f.end ≡ 32 + length f.stored.snapshot + length (flat_map gated f.stored.records)) }
+    ensures numbers { IfOk result (λ f. f.base + length f.stored.records < 2 ^ 64) }
+    ensures fault { IfErr result (IsCause (told (read bytes.items))) }
     ensures no_fault { IfErr result (λ e. e ≢ JournalError.DiskFault) }
 {
-    if bytes.len() < HEAD_LEN {
+    let file = bytes.as_slice();
+    if file.len() < HEAD_LEN {
         return Err(JournalError::Damaged(28));
     }
-    let size = u32_at(bytes, 28) as usize;
-    if bytes.len() - HEAD_LEN < size {
+    let size = u32_at(file, 28) as usize;
+    if file.len() - HEAD_LEN < size {
         return Err(JournalError::Damaged(28));
     }
-    let layout = u32_at(bytes, 8);
-    let generation = u64_at(bytes, 12);
-    let base = u64_at(bytes, 20);
+    let layout = u32_at(file, 8);
+    let generation = u64_at(file, 12);
+    let base = u64_at(file, 20);
     let start = HEAD_LEN + size;
-    let (records, end) = records_from(alloc, bytes, start, base)?;
-    let snapshot = Vec::from_slice(alloc, &bytes[HEAD_LEN..start])?;
+    let (bodies, end) = bodies_from(alloc, file, start, base)?;
     Ok(FileRead {
         layout,
         generation,
         base,
-        snapshot,
-        records,
+        stored: Stored::new(bytes, start, bodies),
         end,
     })
 }

@@ -1,9 +1,12 @@
 pub mod Added
 pub mod Blocks
 pub mod Built
+mod Compacted
 pub mod Exchanged
 pub mod Kept
-pub mod Merged
+mod Located
+mod Marked
+mod Merged
 pub mod OwnIds
 pub mod Saved
 pub mod Searched

@@ -1,10 +1,9 @@
 -- Which parts of a saved queue a builder refuses.
-use Rattle.std.specs.Prelude.{◌≡◌, ℕ, Bool, ◌+◌, ◌==◌, ◌||◌, nat_lt, nat_le, List, length, Option, Some, None, Result}
-use Rattle.std.specs.Prelude.{Err, IsOk, IsOkUnless, if◌then◌else◌}
+use Rattle.std.specs.Prelude.{ℕ, Bool, ◌+◌, ◌==◌, ◌||◌, nat_lt, nat_le, List, length, Option, Some, None, if◌then◌else◌}
 use Rattle.std.specs.List.{list_any}
 use Rattle.play_queue.specs.declared.entry.Entry.{Entry}
 use Rattle.play_queue.specs.declared.refusal.PartError.{PartError}
-use Rattle.play_queue.specs.declared.refusal.PartError.TheVariants.{BadVersion, BadNextId, BadId, BadStamp, QueueFull, NoMemory}
+use Rattle.play_queue.specs.declared.refusal.PartError.TheVariants.{BadVersion, BadNextId, BadId, BadStamp, QueueFull}
 use Rattle.play_queue.specs.Limits.{MAX_ENTRIES, MAX_ID, MAX_VERSION}
 use Rattle.play_queue.specs.Queue.{QueueState}
 
@@ -26,13 +25,3 @@ part_refusal queue entry =
     else if nat_lt entry.id 1 || (nat_le queue.next_id entry.id || has_id queue.entries entry.id) then Some BadId
     else if nat_lt entry.stamp 1 || nat_lt queue.version entry.stamp then Some BadStamp
     else None
-
--- a part is refused by this, or else it is taken
-abbrev pub AnswersPart : {T : Type 0} → Option PartError → Result T PartError → Type 0
-AnswersPart None r = IsOk r
-AnswersPart (Some e) r = r ≡ Err e
-
--- a part is refused by this, or else by want of memory alone
-abbrev pub AnswersPartIfMemory : {T : Type 0} → Option PartError → Result T PartError → Type 0
-AnswersPartIfMemory None r = IsOkUnless r NoMemory
-AnswersPartIfMemory (Some e) r = r ≡ Err e

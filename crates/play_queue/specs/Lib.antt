@@ -3,6 +3,8 @@ pub mod Changes
 pub mod Entries
 pub mod Fits
 pub mod Limits
+pub mod Marks
+pub mod Positions
 pub mod Queue
 pub mod Ranges
 pub mod Refusal

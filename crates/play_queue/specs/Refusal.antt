@@ -12,11 +12,15 @@ number_of NoCurrentSong = 55
 number_of NoMemory = 7
 
 -- a call is refused by this, or else it succeeds
-abbrev pub Answers : {T : Type 0} → Option QueueError → Result T QueueError → Type 0
+abbrev pub Answers : {T E : Type 0} → Option E → Result T E → Type 0
 Answers None r = IsOk r
 Answers (Some e) r = r ≡ Err e
 
+-- a call is refused by this, or else by another refusal alone
+abbrev pub AnswersUnless : {T E : Type 0} → E → Option E → Result T E → Type 0
+AnswersUnless other None r = IsOkUnless r other
+AnswersUnless other (Some e) r = r ≡ Err e
+
 -- a call is refused by this, or else by want of memory alone
 abbrev pub AnswersIfMemory : {T : Type 0} → Option QueueError → Result T QueueError → Type 0
-AnswersIfMemory None r = IsOkUnless r NoMemory
-AnswersIfMemory (Some e) r = r ≡ Err e
+AnswersIfMemory refusal r = AnswersUnless NoMemory refusal r

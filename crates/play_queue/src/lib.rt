@@ -4,7 +4,9 @@
 mod editing;
 pub mod entry;
 pub mod limits;
+mod marks;
 mod parts;
+mod places;
 mod priority;
 pub mod queue;
 pub mod ranges;

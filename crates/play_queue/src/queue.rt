@@ -248,7 +248,8 @@ impl Queue {
     /// What a batch of the database means for the queue: entries of dropped URIs are taken out, and those of changed
     /// URIs have changed. All of it is one change.
     ///
-    /// Where neither has a URI, no entry is looked at; else the entries are gone through once or twice, with a binary search for each.
+    /// Where neither has a URI, no entry is looked at. Else each is looked up once among the dropped ones; and those in
+    /// front of the first that goes once or twice among the changed ones.
     pub fn follow_batch(&mut self, dropped: &SortedUris, changed: &SortedUris)
         ensures { self.new ≡ ruled self.old (kept self.old.entries dropped.now) changed.now }
     {
@@ -257,7 +258,7 @@ impl Queue {
         }
         let first = before_first(&self.entries, dropped);
         if first < self.entries.len() || has_any(&self.entries[..first], changed) {
-            keep_others(&mut self.entries, dropped);
+            keep_others(&mut self.entries, first, dropped);
             self.version = restamp_batch(&mut self.entries, first, changed, self.version);
         }
     }

@@ -26,11 +26,37 @@ pub(crate) fn has_any(entries: &[Entry], uris: &SortedUris) -> bool
     entries.iter().any(|entry| uris.contains(&entry.uri))
 }
 
-// Takes out the entries of these URIs.
-pub(crate) fn keep_others(entries: &mut Vec<Entry>, uris: &SortedUris)
-    ensures { entries.new.items ≡ kept entries.old.items uris.now }
+// Brings the entries of other URIs to the front, in their order, and says how many they are.
+fn bring_others_forward(entries: &mut [Entry], uris: &SortedUris) -> usize
+    ensures within { result ≤ length entries.old }
+    ensures others { take result entries.new ≡ kept entries.old uris.now }
 {
-    entries.retain(|entry| !uris.contains(&entry.uri));
+    let mut count = 0;
+    for at in 0..entries.len() {
+        if !uris.contains(&entries[at].uri) {
+            entries.swap(count, at);
+            count += 1;
+        }
+    }
+    count
+}
+
+// The same from `first` on, where those in front of it aren't touched; they are counted too.
+fn bring_forward_from(entries: &mut [Entry], first: usize, uris: &SortedUris) -> usize
+    requires in_range { first ≤ length entries.old }
+    ensures within { result ≤ length entries.old }
+    ensures others { take result entries.new ≡ take first entries.old ++ kept (drop first entries.old) uris.now }
+{
+    first + bring_others_forward(&mut entries[first..], uris)
+}
+
+// Takes out the entries of these URIs from `first` on.
+pub(crate) fn keep_others(entries: &mut Vec<Entry>, first: usize, uris: &SortedUris)
+    requires in_range { first ≤ length entries.old.items }
+    ensures { entries.new.items ≡ take first entries.old.items ++ kept (drop first entries.old.items) uris.now }
+{
+    let count = bring_forward_from(entries, first, uris);
+    entries.truncate(count);
 }
 
 // Gives the entries of these URIs the stamp.

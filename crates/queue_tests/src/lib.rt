@@ -4,4 +4,8 @@
 #[cfg(test)]
 mod assertions;
 #[cfg(test)]
+mod ends;
+#[cfg(test)]
+mod positions;
+#[cfg(test)]
 mod queue;

@@ -19,7 +19,7 @@ fn uris(alloc: Global, texts: &[&str]) -> Result<Vec<Uri>, Fail> {
 
 // An edit of a queue.
 #[derive(Clone, Copy)]
-enum Edit<'a> {
+pub enum Edit<'a> {
     Add(usize, &'a [&'a str]),
     Delete(usize, usize),
     DeleteId(u32),
@@ -159,13 +159,13 @@ fn shown(alloc: Global, queue: &Queue) -> Result<String, Fail> {
 }
 
 // The queue shows this.
-fn shows(rt: &impl Abort, alloc: Global, queue: &Queue, want: &str) -> Result<(), Fail> {
+pub fn shows(rt: &impl Abort, alloc: Global, queue: &Queue, want: &str) -> Result<(), Fail> {
     same_text(rt, shown(alloc, queue)?.as_str(), want);
     Ok(())
 }
 
 // Each edit succeeds, and the queue then shows what stands beside it.
-fn walk(
+pub fn walk(
     rt: &impl Abort,
     alloc: Global,
     queue: &mut Queue,
@@ -187,7 +187,7 @@ fn walk(
 }
 
 // Each edit is refused so, and the queue shows the same as before.
-fn refuses(
+pub fn refuses(
     rt: &impl Abort,
     alloc: Global,
     queue: &mut Queue,
@@ -235,7 +235,7 @@ fn entries(alloc: Global, rows: &[(u32, u32)]) -> Result<Vec<Entry>, Fail> {
 }
 
 // The queue of such entries.
-fn restored(
+pub fn restored(
     alloc: Global,
     rows: &[(u32, u32)],
     version: u32,

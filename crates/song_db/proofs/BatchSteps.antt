@@ -122,15 +122,14 @@ songs_settled bytes honest files uri changes (Ok None) (Song row) answer is told
 songs_settled bytes honest files uri changes (Ok (Some source)) (Song row) answer is told fault none memory of song before =
     All-same (λ (r : Row). song_at files r.uri ≡ Some r) _ _ (puts-append changes (Put row ∷ [])) (All-push (λ (r : Row). song_at
     files r.uri ≡ Some r) (puts_of changes) row before
-    (ap (song_at files) of ∙ ap (option_and_then (song_in uri)) told.0 ∙ song source refl told.1))
+    (ap (song_at files) of ∙ ap (option_and_then (song_in uri)) told.0 ∙ (song source refl told.1).0))
 
 pub batch_listed : {A : Type 0} (place : Option (List ℕ)) (start droppable : List (List ℕ)) (changes : List RowChange) (folder :
     List ℕ) (listing : Result A FolderFault) → IsBatch place start droppable changes
     → IsBatch place start (after_listing folder listing droppable) changes
 batch_listed place start droppable changes folder (Ok entries) batch = batch
-batch_listed place start droppable changes folder (Err Source) batch = batch_kept (λ known. not (is_below folder known)) place
+batch_listed place start droppable changes folder (Err fault) batch = batch_kept (λ known. not (is_below folder known)) place
     start droppable changes batch
-batch_listed place start droppable changes folder (Err NoMemory) batch = batch
 
 filter_none : (uris : List (List ℕ)) → filter (λ _. false) uris ≡ []
 filter_none [] = refl
@@ -144,8 +143,7 @@ batch_all_kept place start droppable changes batch = rw (filter_none droppable) 
 pub batch_own : {A : Type 0} (place : Option (List ℕ)) (start droppable : List (List ℕ)) (changes : List RowChange) (listing :
     Result A FolderFault) → IsBatch place start droppable changes → IsBatch place start (after_own listing droppable) changes
 batch_own place start droppable changes (Ok entries) batch = batch
-batch_own place start droppable changes (Err Source) batch = batch_all_kept place start droppable changes batch
-batch_own place start droppable changes (Err NoMemory) batch = batch
+batch_own place start droppable changes (Err fault) batch = batch_all_kept place start droppable changes batch
 
 -- a batch before its first step
 pub batch_none : (place : Option (List ℕ)) (start : List (List ℕ)) (changes : List RowChange) → changes ≡ []

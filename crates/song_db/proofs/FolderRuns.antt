@@ -1,6 +1,6 @@
 -- The rows below a folder all stand in it, so that a search may pass them by.
 use Rattle.std.proofs.Common.{◌≡◌, ◌⊎◌, inl, inr, ℕ, zero, suc, ◌+◌, ◌-◌, ◌<◌, ◌≤◌, ◌==◌, Bool, true, false, ◌&&◌, not}
-use Rattle.std.proofs.Common.{cond, List, [], ◌∷◌, ◌++◌, length, take, drop, get_or, nat_eq, nat_lt, Some, None}
+use Rattle.std.proofs.Common.{List, [], ◌∷◌, ◌++◌, length, take, drop, get_or, nat_eq, nat_lt, Some, None}
 use Rattle.std.proofs.Common.{filter, append_assoc, refl, sym, ap, ◌∙◌, arith, length-take, length-drop}
 use Rattle.std.specs.Prelude.{Option, option_map}
 use Rattle.std.specs.List.{position, position_or_len, filter_map}
@@ -17,7 +17,7 @@ use Rattle.std.proofs.lemmas.List.Quantifiers.{position-Some}
 use Rattle.std.proofs.lemmas.List.Sums.{position_or_len_is}
 use Rattle.song_db.specs.declared.place.Place.{Place}
 use Rattle.song_db.specs.Place.{is_below}
-use Rattle.song_db.specs.Query.{skipped, folder_of, is_right_in, with_texts, distinct_of}
+use Rattle.song_db.specs.Query.{skipped, folder_of, is_right_in, with_texts}
 use Rattle.song_db.specs.Replaced.{IsRising, replaced, IsBefore, IsNotBefore}
 use Rattle.song_db.specs.Row.{Row, row_uri}
 use Rattle.song_db.proofs.Below.{begins_below, below-bytes}

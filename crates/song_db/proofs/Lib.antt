@@ -1,19 +1,26 @@
-mod Batches
-mod BatchSteps
-mod Below
-mod BelowOrder
+pub mod Batches
+pub mod BatchSteps
+pub mod Below
+pub mod BelowOrder
+mod Counts
+pub mod Differences
 mod FolderRuns
 mod Folders
+mod HonestSteps
 mod Known
 mod KnownRows
 mod LastRow
+mod ListedSteps
 mod Ordered
+mod OwnSteps
 mod Picked
 mod Prefixes
-mod Replaced
-mod Rising
-mod RowPlaces
-mod SameRows
+mod ReadSteps
+pub mod Replaced
+pub mod Rising
+pub mod RowPlaces
+pub mod SameRows
 mod Slashes
-mod Timing
-mod Turns
+mod Taken
+pub mod Timing
+pub mod Turns

@@ -1,7 +1,7 @@
 -- The milliseconds of all songs through a change.
 use Rattle.std.proofs.Common.{◌≡◌, ℕ, ◌+◌, ◌-◌, ◌*◌, ◌^◌, ◌<◌, ◌≤◌, Bool, true, false, ◌||◌, cond, List, [], ◌∷◌, ◌++◌}
 use Rattle.std.proofs.Common.{length, nat_lt, Some, None, refl, sym, ap, ◌∙◌, arith}
-use Rattle.std.specs.Prelude.{Option, sum_by}
+use Rattle.std.specs.Prelude.{Option}
 use Rattle.std.specs.List.{AllByRecursion}
 use Rattle.std.specs.declared.cmp.Ordering.{Ordering}
 use Rattle.std.specs.declared.cmp.Ordering.TheVariants.{Less, Equal, Greater}
@@ -12,9 +12,8 @@ use Rattle.std.proofs.lemmas.Map.Keys.{sorted_head, sorted_tail}
 use Rattle.std.proofs.lemmas.Map.Text.{is_eq-slice_cmp}
 use Rattle.song_db.specs.declared.change.RowChange.{RowChange}
 use Rattle.song_db.specs.declared.change.RowChange.TheVariants.{Put, Drop}
-use Rattle.song_db.specs.declared.effect.Effect.{Effect}
-use Rattle.song_db.specs.declared.effect.Effect.TheVariants.{Nothing, Came, Replaced, Went, LeftOut}
-use Rattle.song_db.specs.Change.{IsDatabase, uri_of, rows_of, changed, fits, after_change}
+use Rattle.song_db.specs.declared.effect.Effect.TheVariants.{Nothing, Came, Replaced, LeftOut}
+use Rattle.song_db.specs.Change.{IsDatabase, uri_of, changed, after_change}
 use Rattle.song_db.specs.Duration.{milliseconds, total_of, IsTimed}
 use Rattle.song_db.specs.Effect.{put_effect, drop_effect, effect_of, loss_of, total_after}
 use Rattle.song_db.specs.Gain.{gain_of}

@@ -1,10 +1,10 @@
 -- What a scan looks at, and what it finds there.
-use Rattle.std.specs.Prelude.{◌≡◌, ℕ, Bool, true, false, not, nat_lt, List, [], ◌∷◌, ◌++◌, filter, Option, Some, None}
+use Rattle.std.specs.Prelude.{◌≡◌, ℕ, ◌+◌, ◌≤◌, Bool, true, false, not, nat_lt, List, [], ◌∷◌, ◌++◌, filter, Option, Some}
 use Rattle.std.specs.Prelude.{Result, Ok, Err, if◌then◌else◌}
 use Rattle.std.specs.Str.{bytes_eq}
 use Rattle.wave_pcm.specs.declared.info.WaveInfo.{WaveInfo}
-use Rattle.wave_pcm.specs.declared.error.WaveError.{WaveError}
-use Rattle.wave_pcm.specs.declared.error.WaveError.TheVariants.{NoMemory, NotWave, NoFormat, Unsupported, NoData, ReadFault, TooManyTurns}
+use Rattle.wave_pcm.specs.declared.refusal.WaveError.{WaveError}
+use Rattle.wave_pcm.specs.declared.refusal.WaveError.TheVariants.{NoMemory, NotWave, NoFormat, Unsupported, NoData, ReadFault, TooManyTurns}
 use Rattle.song_db.specs.declared.change.RowChange.{RowChange}
 use Rattle.song_db.specs.declared.change.RowChange.TheVariants.{Put}
 use Rattle.song_db.specs.Limits.{MAX_FOLDERS}
@@ -15,9 +15,10 @@ use Rattle.song_db.specs.declared.scan.found.Found.TheVariants.{Song, Kept, NoSo
 use Rattle.song_db.specs.declared.scan.visit.Visit.{Visit}
 use Rattle.song_db.specs.declared.scan.visit.Visit.TheVariants.{File, Folder, Nothing}
 use Rattle.song_db.specs.Name.{folders_over, is_song}
+use Rattle.song_db.specs.Pending.{Pending, file_at, below, times_pending}
 use Rattle.song_db.specs.Place.{is_below}
-use Rattle.song_db.specs.Row.{Row, row_of, is_within_limits}
-use Rattle.song_db.specs.Scan.{is_in, is_sought, song_in}
+use Rattle.song_db.specs.Row.{row_of, is_within_limits}
+use Rattle.song_db.specs.Scan.{is_in, is_sought, song_in, has_row}
 use Rattle.song_db.specs.Uri.{is_uri}
 
 -- what is done at a path, which is a folder's or a file's
@@ -30,9 +31,21 @@ abbrev pub visit_at : List ℕ → Bool → Visit
 visit_at path is_folder = if is_uri path then visit_of path is_folder else Nothing
 
 abbrev pub IsVisitIn : Option (List ℕ) → Visit → Type 0
-IsVisitIn place (File uri) = is_sought place uri ≡ true
+IsVisitIn place (File uri) = (is_sought place uri ≡ true) × (is_uri uri ≡ true)
 IsVisitIn place (Folder uri) = is_in place uri ≡ true
 IsVisitIn place Nothing = Unit {0}
+
+-- what a visit reads
+abbrev pub visited : Visit → List Pending
+visited (File uri) = file_at uri ∷ []
+visited (Folder uri) = below uri ∷ []
+visited Nothing = []
+
+-- a visit takes from what is still to be read, and passes over nothing that can be a song
+pub record IsTaken (before : List Pending) (visit : Visit) (after : List Pending) : Type 0 where
+  pub only : (uri : List ℕ) → times_pending (visited visit) uri + times_pending after uri ≤ times_pending before uri
+  pub whole : (uri : List ℕ) → is_uri uri ≡ true → is_song uri ≡ true
+      → times_pending before uri ≤ times_pending (visited visit) uri + times_pending after uri
 
 -- every path that begins so is in the job's place
 abbrev pub IsPrefixIn : Option (List ℕ) → List ℕ → Type 0
@@ -49,20 +62,21 @@ found_of uri (Err (Unsupported tag bits channels)) = Ok NoSong
 found_of uri (Err NoData) = Ok NoSong
 found_of uri (Err TooManyTurns) = Ok NoSong
 
+-- it isn't known only of a source that may fail
+abbrev pub IsKnown : Found → Type 0
+IsKnown (Song row) = Unit {0}
+IsKnown (Kept uri) = ⊥
+IsKnown NoSong = Unit {0}
+
 -- it is of that URI
 abbrev pub IsOf : List ℕ → Found → Type 0
 IsOf uri (Song row) = row.uri ≡ uri
 IsOf uri (Kept kept) = kept ≡ uri
 IsOf uri NoSong = Unit {0}
 
--- a WAVE file whose row is within the limits
-abbrev pub has_row : Option Row → Bool
-has_row None = false
-has_row (Some row) = is_within_limits row
-
--- a row is that of the bytes, and there is no song only where they have none
+-- a row is that of the bytes, within the limits, and there is no song only where they have none
 abbrev pub IsSongIn : List ℕ → List ℕ → Found → Type 0
-IsSongIn uri bytes (Song row) = song_in uri bytes ≡ Some row
+IsSongIn uri bytes (Song row) = (song_in uri bytes ≡ Some row) × (is_within_limits row ≡ true)
 IsSongIn uri bytes (Kept kept) = Unit {0}
 IsSongIn uri bytes NoSong = has_row (song_in uri bytes) ≡ false
 

@@ -1,5 +1,6 @@
 pub mod Batch
 pub mod Change
+pub mod Difference
 pub mod Droppable
 pub mod Duration
 pub mod Effect
@@ -10,6 +11,7 @@ pub mod Last
 pub mod Limits
 pub mod Name
 pub mod Order
+pub mod Pending
 pub mod Place
 pub mod Query
 pub mod Refusal

@@ -6,6 +6,7 @@ pub mod change;
 pub mod effect;
 mod folder_rows;
 mod known_rows;
+pub mod laws;
 pub mod limits;
 pub mod order;
 pub mod place;

@@ -1,5 +1,6 @@
-ghost use Rattle.std.specs.Prelude.{◌≡◌, [], true, false, Ok, None, IfOk, IfSome, OnErr, IsOkUnless};
-ghost use Rattle.song_db.specs.Scan.{IsAnswer, AreSongs};
+ghost use Rattle.std.specs.Prelude.{◌≡◌, true, false, Ok, None, IfOk, IfSome, OnErr, IsOkUnless};
+ghost use Rattle.song_db.specs.Pending.{own_pending};
+ghost use Rattle.song_db.specs.Scan.{IsAnswer, IsEnd, IsHonestAnswer, IsSameOrder, IsWholeAnswer, changes_in};
 ghost use Rattle.song_db.specs.declared.refusal.SongDbError.TheVariants.{NoMemory};
 
 mod droppable;
@@ -35,21 +36,29 @@ pub struct Scan {
 }
 
 impl Model for Scan {
-    ghost use Rattle.std.specs.Prelude.{◌≡◌, [], true};
+    ghost use Rattle.std.specs.Prelude.{◌≡◌, [], true, false};
+    ghost use Rattle.song_db.specs.Pending.{still_pending};
     ghost use Rattle.song_db.specs.Scan.{Progress};
 
     ghost Value = { Progress };
 
-    ghost view = { λ s. record { job = s.job; place = s.reader.walk; droppable = s.reader.droppable; is_over = s.is_over } };
+    ghost view = { λ s. record {
+      job = s.job;
+      place = s.reader.walk.place;
+      pending = still_pending s.reader.is_begun s.reader.walk;
+      droppable = s.reader.droppable;
+      is_over = s.is_over;
+    } };
 
-    ghost invariant = { λ s. s.is_over ≡ true → s.reader.droppable ≡ [] };
+    ghost invariant = { λ s. (s.reader.is_begun ≡ false → s.reader.walk.pending ≡ []) × (s.is_over ≡ true →
+        (s.reader.droppable ≡ []) × (still_pending s.reader.is_begun s.reader.walk ≡ [])) };
 }
 
 impl Scan {
     /// The scan of an order, which has read nothing yet. It takes memory for the marks; refused by `NoMemory`.
     pub fn begin(alloc: Global, order: ScanOrder) -> Result<Scan, SongDbError>
         ensures scan { IfOk result (λ scan. scan
-            ≡ record { job = order.job; place = order.uri; droppable = order.known; is_over = false }) }
+            ≡ record { job = order.job; place = order.uri; pending = own_pending order.uri; droppable = order.known; is_over = false }) }
         ensures only { IsOkUnless result NoMemory }
     {
         let (job, place, known) = order.into_parts();
@@ -74,25 +83,21 @@ impl Scan {
         alloc: Global,
         folder: &mut F,
     ) -> Result<Option<Vec<RowChange>>, SongDbError>
-        // The changes, and what may still be dropped.
+        // The changes, and the end, which stays.
         ensures some { IfOk result (λ answer. IfSome answer (λ changes. IsAnswer self.old self.new changes.items)) }
-        ensures going { IfOk result (λ answer. IfSome answer (λ changes. self.new.is_over ≡ false)) }
-
-        // The end, which stays.
-        ensures none { result ≡ Ok None → (self.new.is_over ≡ true) × (self.new.droppable ≡ []) }
-        ensures err { OnErr result ((self.new.is_over ≡ true) × (self.new.droppable ≡ [])) }
+        ensures none { result ≡ Ok None → IsEnd self.new }
+        ensures err { OnErr result (IsEnd self.new) }
         ensures over { self.old.is_over ≡ true → (result ≡ Ok None) × (folder.new ≡ folder.old) }
         ensures only { IsOkUnless result NoMemory }
+        ensures order { IsSameOrder self.old self.new }
 
-        // The order.
-        ensures job { self.new.job ≡ self.old.job }
-        ensures place { self.new.place ≡ self.old.place }
-
-        // The rows are those of files that are there.
-        ensures songs { F.honest folder.old →
-            IfOk result (λ answer. IfSome answer (λ changes. AreSongs (F.files folder.old) changes.items)) }
-        ensures honest { F.honest folder.old → F.honest folder.new }
-        ensures files { F.honest folder.old → F.files folder.new ≡ F.files folder.old }
+        // The changes are the difference between the rows that are known and the files.
+        ensures read { F.honest folder.old →
+            IfOk result (λ answer. IsHonestAnswer (F.files folder.old) self.old self.new (changes_in answer)) }
+        ensures whole { F.honest folder.old → F.steady folder.old →
+            IfOk result (λ answer. IsWholeAnswer (F.files folder.old) self.old self.new (changes_in answer)) }
+        ensures honest { F.honest folder.old → F.honest folder.new × (F.files folder.new ≡ F.files folder.old) }
+        ensures steady { F.steady folder.old → F.steady folder.new }
     {
         if self.is_over {
             return Ok(None);
@@ -106,7 +111,7 @@ impl Scan {
                 Ok(Some(changes))
             }
             Err(error) => {
-                self.reader.droppable.keep_all();
+                self.reader.give_up();
                 self.is_over = true;
                 Err(error)
             }

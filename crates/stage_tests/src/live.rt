@@ -1,6 +1,6 @@
 // The stage: the daemon's state and its journal together.
 use crate::assertions::{disk, equal, prints, same_bytes};
-use command_text::{Line, Lines, Request};
+use console_text::{Line, Lines, Request};
 use daemon_core::Event;
 use disk_model::{Disk, Fuse, FuseDisk, MemDisk};
 use live_stage::{Live, LiveError, Receipt, Refused, StartError, Turn, TurnResult};

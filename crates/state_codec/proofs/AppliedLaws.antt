@@ -1,15 +1,18 @@
 -- Ops applied one after the other.
-use Rattle.std.proofs.Common.{◌≡◌, ℕ, suc, List, [], ◌∷◌, ◌++◌, Some, None, refl}
+use Rattle.std.proofs.Common.{◌≡◌, ℕ, suc, List, [], ◌∷◌, ◌++◌, Option, Some, None, Result, Ok, Err, refl, sym, subst}
 use Rattle.std.specs.Prelude.{IfSome}
 use Rattle.std.specs.Option.{option_and_then, ok_or}
 use Rattle.std.specs.Result.{result_ok}
 use Rattle.std.specs.List.{AllByRecursion}
 use Rattle.state_codec.specs.declared.op.Op.{Op}
-use Rattle.state_codec.specs.declared.op.Op.TheVariants.{SetOption, SetVolume, SetOrder}
+use Rattle.state_codec.specs.declared.refusal.OpRefusal.{OpRefusal}
 use Rattle.state_codec.specs.SavedState.{SavedState, IsSavedState}
 use Rattle.state_codec.specs.Ops.{IsOp}
 use Rattle.state_codec.specs.Steps.{◌>>=◌}
-use Rattle.state_codec.specs.Applied.{applied, applied_from, all_applied}
+use Rattle.state_codec.specs.Applied.{refusal_of, after, unless_refused, applied, applied_from, all_applied}
+use Rattle.state_codec.specs.Editing.{AnswersApply, IsEdit}
+use Rattle.state_codec.specs.declared.refusal.ApplyError.{ApplyError}
+use Rattle.state_codec.proofs.KeptOps.{kept_after}
 
 -- the place at which counting begins has no part in the state
 from_any : (i j : ℕ) (ops : List Op) (s : SavedState) → result_ok (applied_from i ops s) ≡ result_ok (applied_from j ops s)
@@ -31,10 +34,12 @@ joined_from i (op ∷ a) b s =
 pub all_applied-append : (a b : List Op) (s : SavedState) → all_applied (a ++ b) s ≡ option_and_then (all_applied b) (all_applied a s)
 all_applied-append a b s = joined_from 0 a b s
 
-applied_in_range : (op : Op) (s : SavedState) → IsOp op → IsSavedState s → IfSome (applied op s) IsSavedState
-applied_in_range (SetOption setting) s fits good = record { key_len = good.key_len; key_bytes = good.key_bytes; order = good.order; version_low = good.version_low; version_high = good.version_high; next_id_low = good.next_id_low; next_id_high = good.next_id_high; volume = good.volume }
-applied_in_range (SetVolume volume) s fits good = record { key_len = good.key_len; key_bytes = good.key_bytes; order = good.order; version_low = good.version_low; version_high = good.version_high; next_id_low = good.next_id_low; next_id_high = good.next_id_high; volume = fits }
-applied_in_range (SetOrder order) s fits good = record { key_len = good.key_len; key_bytes = good.key_bytes; order = fits; version_low = good.version_low; version_high = good.version_high; next_id_low = good.next_id_low; next_id_high = good.next_id_high; volume = good.volume }
+pub applied_in_range : (op : Op) (s : SavedState) → IsOp op → IsSavedState s → IfSome (applied op s) IsSavedState
+applied_in_range op s form saved = of (refusal_of op s) refl
+  where
+    of : (o : Option OpRefusal) → refusal_of op s ≡ o → IfSome (unless_refused o (after op s)) IsSavedState
+    of None none = kept_after op s form saved none
+    of (Some refusal) refused = tt
 
 from_in_range : (i : ℕ) (ops : List Op) (s : SavedState) → AllByRecursion IsOp ops → IsSavedState s → IfSome (result_ok (applied_from i ops s)) IsSavedState
 from_in_range i [] s fits good = good
@@ -46,3 +51,12 @@ from_in_range i (op ∷ ops) s fits good =
 
 pub all_applied_in_range : (ops : List Op) (s : SavedState) → AllByRecursion IsOp ops → IsSavedState s → IfSome (all_applied ops s) IsSavedState
 all_applied_in_range ops s fits good = from_in_range 0 ops s fits good
+
+-- what an edit leaves, refused or not
+pub kept_edit : (op : Op) (s t : SavedState) (r : Result (Unit {0}) ApplyError) → IsOp op → IsSavedState s → IsEdit (refusal_of op s) (after op s) s t r → IsSavedState t
+kept_edit op s t (Err e) form saved edit = subst IsSavedState (sym edit.err) saved
+kept_edit op s t (Ok x) form saved edit = subst IsSavedState (sym edit.ok) (kept_after op s form saved (of (refusal_of op s) edit.answer))
+  where
+    of : (o : Option OpRefusal) → AnswersApply o (Ok x) → o ≡ None
+    of None answer = refl
+    of (Some refusal) answer = absurd (cc)

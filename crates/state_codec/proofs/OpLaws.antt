@@ -1,84 +1,328 @@
 -- Ops that are read are spelled so, and what is spelled so is read.
-use Rattle.std.proofs.Common.{◌≡◌, ℕ, zero, suc, ◌+◌, ◌-◌, ◌^◌, ◌<◌, ◌≤◌, ◌⊎◌, Bool, true, false, cond, eqb, List, [], ◌∷◌, ◌++◌, length, Result, Ok, Err, refl, sym, ap, subst, ◌∙◌, append_assoc, arith, inl, inr}
-use Rattle.std.specs.Prelude.{IfOk}
-use Rattle.std.specs.Global.{Vec}
+use Rattle.std.proofs.Common.{◌≡◌, ℕ, ◌^◌, ◌<◌, ◌≤◌, ◌⊎◌, Bool, true, false, cond, leb, eqb, List, [], ◌∷◌, ◌++◌, length, Ok, refl, sym, ap, subst, ◌∙◌, arith, inl, inr}
+use Rattle.std.specs.Prelude.{IsTrue}
 use Rattle.std.specs.List.{AllByRecursion}
-use Rattle.std.specs.Int.{w64, to_le_bytes}
-use Rattle.std.proofs.lemmas.Bool.{eqb-true, ne_eqb}
-use Rattle.std.proofs.lemmas.List.{append-nil, length-append}
-use Rattle.std.proofs.lemmas.List.Concat.{flat_map-cons}
-use Rattle.state_codec.specs.declared.refusal.CodecError.{CodecError}
+use Rattle.std.specs.Int.{is_in_range}
+use Rattle.std.specs.Str.{is_utf8}
+use Rattle.std.proofs.lemmas.Bool.{eqb-true, eqb-false, leb-true, le-leb}
+use Rattle.song_db.specs.Uri.{is_uri}
+use Rattle.song_db.specs.declared.change.RowChange.{RowChange}
+use Rattle.song_db.specs.declared.change.RowChange.TheVariants.{Put, Drop}
+use Rattle.stickers.specs.Value.{is_good_value}
 use Rattle.state_codec.specs.declared.op.Op.{Op}
-use Rattle.state_codec.specs.declared.op.Op.TheVariants.{SetOption, SetVolume, SetOrder}
-use Rattle.state_codec.specs.declared.op.Setting.{Setting}
-use Rattle.state_codec.specs.declared.op.Setting.TheVariants as settings
+use Rattle.state_codec.specs.declared.op.Op.TheVariants.{SetOption, SetVolume, SetOrder, Queue, List as OfList, Sticker, Batch}
+use Rattle.state_codec.specs.declared.op.setting.Setting.{Setting}
+use Rattle.state_codec.specs.declared.op.setting.Setting.TheVariants as settings
+use Rattle.state_codec.specs.declared.op.queue_op.QueueOp.{QueueOp}
+use Rattle.state_codec.specs.declared.op.queue_op.QueueOp.TheVariants as queue
+use Rattle.state_codec.specs.declared.op.list_op.ListOp.{ListOp}
+use Rattle.state_codec.specs.declared.op.list_op.ListOp.TheVariants as lists
+use Rattle.state_codec.specs.declared.op.sticker_op.StickerOp.{StickerOp}
+use Rattle.state_codec.specs.declared.op.sticker_op.StickerOp.TheVariants as stickers
+use Rattle.state_codec.specs.Changes.{is_count, IsChange, AreChanges}
+use Rattle.state_codec.specs.Fields.{Field, made, such, both, byte_at, u32_at, u64_at, pair_at, volume_at, flag_at, single_at, text_at}
+use Rattle.state_codec.specs.Numbers.{MAX_COUNT, AreRowNumbers, AreOpRanges}
+use Rattle.state_codec.specs.Ops.{IsOp, AreNumbers, IsQueueOp, IsListOp, IsStickerOp, IsText}
+use Rattle.state_codec.specs.ReadingOps.{setting_at, row_numbers_at, ranges_at, queue_op_at, list_op_at, value_at, sticker_op_at, op_at}
+use Rattle.state_codec.specs.ReadingRows.{uri_at, row_at, change_at, changes_at}
 use Rattle.state_codec.specs.SavedState.{IsBytes}
-use Rattle.state_codec.specs.Ops.{IsOp, AreOps}
-use Rattle.state_codec.specs.Steps.{◌>>=◌}
-use Rattle.state_codec.specs.Spelling.{flag_bytes, single_bytes, setting_bytes, op_bytes, ops_bytes}
-use Rattle.state_codec.specs.Reading.{Field, made, in_bytes, byte_at, number_at, volume_at, flag_at, single_at, setting_at, op_at, ops_at, ops_reading}
-use Rattle.state_codec.specs.Answers.{GivesOps}
-use Rattle.state_codec.proofs.FieldLaws.{bind_ok, ok_is, Takes, Takes-then, wide64, byte_takes, number_takes, number_again, volume_takes, volume_again, flag_takes, flag_again, single_takes, single_again}
+use Rattle.state_codec.specs.SpellingFields.{byte_bytes, u32_bytes, pair_bytes, flag_bytes, single_bytes, text_bytes}
+use Rattle.state_codec.specs.SpellingOps.{setting_bytes, row_numbers_bytes, ranges_bytes, queue_kind, queue_fields, list_kind, list_fields, sticker_kind, sticker_fields, op_bytes}
+use Rattle.state_codec.specs.SpellingRows.{row_bytes, change_bytes, changes_bytes}
+use Rattle.state_codec.specs.Text.{is_text, is_sticker_text}
+use Rattle.state_codec.proofs.FieldLaws.{bind_ok, ok_is, both_true, Takes, Takes-then, IsField, Any, both_is, such_is, fits_is, byte_is, u32_is, u64_is, volume_is, flag_is, single_is, text_is}
+use Rattle.state_codec.proofs.ItemLaws.{counted_is, alone_is}
+use Rattle.state_codec.proofs.ListLaws.{all_by, by_all}
+use Rattle.state_codec.proofs.RowLaws.{uri_is, row_is}
+
+-- ---- kinds
 
 -- which way a test went
 chosen : {A : Type 0} (b : Bool) (x y z : A) → cond b x y ≡ z → ((b ≡ true) × (x ≡ z)) ⊎ ((b ≡ false) × (y ≡ z))
 chosen true x y z e = inl (refl, e)
 chosen false x y z e = inr (refl, e)
 
--- a value that is spelled by its kind and a field
-kind_made : {A B : Type 0} (f : A → B) (text : A → List ℕ) (whole : B → List ℕ) (P : A → Type 0) (Q : B → Type 0) (kind found : ℕ) (bytes rest : List ℕ) (field : Field A) (y : B × List ℕ)
-    → Takes bytes (found ∷ []) rest → eqb found kind ≡ true → ((x : A × List ℕ) → field ≡ Ok x → Takes rest (text x.0) x.1 × P x.0)
-    → ((a : A) → kind ∷ text a ≡ whole (f a)) → ((a : A) → P a → Q (f a)) → made f field ≡ Ok y → Takes bytes (whole y.0) y.1 × Q y.0
-kind_made f text whole P Q kind found bytes rest field y front is_kind reads spelled keeps e =
-    let b = bind_ok field _ y e in
-    let t = reads b.0 b.1 in
-    let named : Takes bytes (kind ∷ []) rest = subst (λ (k : ℕ). Takes bytes (k ∷ []) rest) (eqb-true _ _ is_kind) front in
-    let joined : Takes bytes (kind ∷ text b.0.0) b.0.1 = Takes-then bytes (kind ∷ []) rest (text b.0.0) b.0.1 named t.0 in
-    let whole_is : Takes bytes (whole (f b.0.0)) b.0.1 = subst (λ (w : List ℕ). Takes bytes w b.0.1) (spelled b.0.0) joined in
-    subst (λ z. Takes bytes (whole z.0) z.1 × Q z.0) (ok_is (f b.0.0, b.0.1) y b.2) (whole_is, keeps b.0.0 t.1)
+-- a value whose number and fields are these
+pub record IsKind {B : Type 0} (kind_of : B → ℕ) (fields : B → List ℕ) (Good : B → Type 0) (kind : ℕ) (bytes : List ℕ) (y : B × List ℕ) : Type 0 where
+  pub taken : Takes bytes (fields y.0) y.1
+  pub named : kind_of y.0 ≡ kind
+  pub good : Good y.0
 
-abbrev Any : {A : Type 0} → A → Type 0
-Any x = Unit {0}
+-- a variant is spelled by its number and a field
+variant : {A B : Type 0} (f : A → B) (kind_of : B → ℕ) (fields : B → List ℕ) (Good : B → Type 0) (kind : ℕ) (at : List ℕ → Field A) (text : A → List ℕ) (Fits : A → Type 0)
+    → IsField at text Fits → ((a : A) → Fits a → (text a ≡ fields (f a)) × (kind_of (f a) ≡ kind) × Good (f a)) → (bytes : List ℕ) (y : B × List ℕ) → IsBytes bytes
+    → made f (at bytes) ≡ Ok y → IsKind kind_of fields Good kind bytes y
+variant f kind_of fields Good kind at text Fits field there bytes y fits e =
+    let a = bind_ok (at bytes) _ y e in
+    let t = field.takes bytes a.0 fits a.1 in
+    let h = there a.0.0 t.1 in
+    subst (IsKind kind_of fields Good kind bytes) (ok_is (f a.0.0, a.0.1) y a.2)
+    (record { taken = subst (λ s. Takes bytes s a.0.1) h.0 t.0; named = h.1; good = h.2 })
 
-setting_takes : (bytes : List ℕ) (y : Setting × List ℕ) → IsBytes bytes → setting_at bytes ≡ Ok y → Takes bytes (setting_bytes y.0) y.1 × Unit {0}
+-- under the number that was tested
+at_kind : {B : Type 0} (kind_of : B → ℕ) (fields : B → List ℕ) (Good : B → Type 0) (kind found : ℕ) (bytes : List ℕ) (y : B × List ℕ)
+    → eqb found kind ≡ true → IsKind kind_of fields Good kind bytes y → IsKind kind_of fields Good found bytes y
+at_kind kind_of fields Good kind found bytes y is h = subst (λ (k : ℕ). IsKind kind_of fields Good k bytes y) (sym (eqb-true _ _ is)) h
+
+-- ---- numbers
+
+pub count_is : IsField (λ bytes. u32_at bytes) (λ n. u32_bytes n) (λ n. n ≤ MAX_COUNT)
+count_is = fits_is (λ bytes. u32_at bytes) (λ n. u32_bytes n) (λ n. n < 2 ^ 32) (λ n. n ≤ MAX_COUNT) u32_is (λ n h. omega arith) (λ n h. omega arith)
+
+pub pair_is : IsField (λ bytes. pair_at bytes) pair_bytes (λ x. AreNumbers x.0 x.1)
+pair_is = both_is (λ bytes. u32_at bytes) _ _ _ _ _ count_is count_is
+
+pub row_numbers_is : IsField (λ bytes. row_numbers_at bytes) row_numbers_bytes AreRowNumbers
+row_numbers_is =
+    fits_is (λ bytes. row_numbers_at bytes) row_numbers_bytes (λ xs. (length xs ≤ MAX_COUNT) × AllByRecursion (λ n. n ≤ MAX_COUNT) xs) AreRowNumbers
+    (counted_is (λ bytes. u32_at bytes) _ _ count_is (λ known. u32_at) _ _ (alone_is (λ bytes. u32_at bytes) _ _ count_is) tt)
+    (λ xs h. record { few = h.0; each = by_all _ xs h.1 }) (λ xs h. (h.few, all_by _ xs h.each))
+
+pub ranges_is : IsField (λ bytes. ranges_at bytes) ranges_bytes AreOpRanges
+ranges_is =
+    fits_is (λ bytes. ranges_at bytes) ranges_bytes (λ xs. (length xs ≤ MAX_COUNT) × AllByRecursion (λ x. AreNumbers x.0 x.1) xs) AreOpRanges
+    (counted_is (λ bytes. u32_at bytes) _ _ count_is (λ known. pair_at) _ _ (alone_is (λ bytes. pair_at bytes) _ _ pair_is) tt)
+    (λ xs h. record { few = h.0; each = by_all _ xs h.1 }) (λ xs h. (h.few, all_by _ xs h.each))
+
+-- ---- changes
+
+change_takes : (bytes : List ℕ) (y : RowChange × List ℕ) → IsBytes bytes → change_at bytes ≡ Ok y → Takes bytes (change_bytes y.0) y.1 × IsChange y.0
+unfolding change_at
+change_takes bytes y fits e =
+    let b = bind_ok (byte_at bytes) _ y e in
+    let front = (byte_is.takes bytes b.0 fits b.1).0 in
+    elim (chosen (eqb b.0.0 1) _ _ (Ok y) b.2) [
+      | inl h ↦
+          let a = bind_ok (row_at uri_at b.0.1) _ y h.1 in
+          let t = row_is.takes b.0.1 a.0 front.rest_fits a.1 in
+          let named : Takes bytes (1 ∷ []) b.0.1 = subst (λ (k : ℕ). Takes bytes (k ∷ []) b.0.1) (eqb-true _ _ h.0) front in
+          subst (λ z. Takes bytes (change_bytes z.0) z.1 × IsChange z.0) (ok_is (Put a.0.0, a.0.1) y a.2) (Takes-then bytes (1 ∷ []) b.0.1 (row_bytes a.0.0) a.0.1 named t.0, t.1)
+      | inr n ↦ elim (chosen (eqb b.0.0 0) _ _ (Ok y) n.1) [
+        | inl h ↦
+            let a = bind_ok (uri_at b.0.1) _ y h.1 in
+            let t = uri_is.takes b.0.1 a.0 front.rest_fits a.1 in
+            let named : Takes bytes (0 ∷ []) b.0.1 = subst (λ (k : ℕ). Takes bytes (k ∷ []) b.0.1) (eqb-true _ _ h.0) front in
+            subst (λ z. Takes bytes (change_bytes z.0) z.1 × IsChange z.0) (ok_is (Drop a.0.0, a.0.1) y a.2) (Takes-then bytes (0 ∷ []) b.0.1 (text_bytes a.0.0) a.0.1 named t.0, t.1)
+        | inr n2 ↦ let h = n2.1 in absurd cc
+      ]
+    ]
+
+change_again : (change : RowChange) (rest : List ℕ) → IsChange change → change_at (change_bytes change ++ rest) ≡ Ok (change, rest)
+unfolding change_at
+change_again (Put row) rest good = ap (made Put) (row_is.again row rest good)
+change_again (Drop uri) rest good = ap (made Drop) (uri_is.again uri rest good)
+
+change_is : IsField (λ bytes. change_at bytes) change_bytes IsChange
+change_is = record { takes = change_takes; again = change_again }
+
+change_count_is : IsField (λ bytes. such is_count byte_at bytes) (λ n. byte_bytes n) (λ n. is_count n ≡ true)
+change_count_is =
+    fits_is (λ bytes. such is_count byte_at bytes) (λ n. byte_bytes n) (λ n. (n < 256) × (is_count n ≡ true)) (λ n. is_count n ≡ true)
+    (such_is is_count (λ bytes. byte_at bytes) (λ n. byte_bytes n) (λ n. n < 256) byte_is)
+    (λ n h. h.1) (λ n h. (omega (arith, leb-true _ _ (both_true (leb 1 n) (leb n 64) h).1), h))
+
+pub changes_is : IsField (λ bytes. changes_at bytes) changes_bytes AreChanges
+changes_is =
+    fits_is (λ bytes. changes_at bytes) changes_bytes (λ xs. (is_count (length xs) ≡ true) × AllByRecursion IsChange xs) AreChanges
+    (counted_is (λ bytes. such is_count byte_at bytes) _ _ change_count_is (λ known. change_at) _ _ (alone_is (λ bytes. change_at bytes) _ _ change_is) tt)
+    (λ xs h. record { count = h.0; each = by_all _ xs h.1 }) (λ xs h. (h.count, all_by _ xs h.each))
+
+-- ---- settings
+
+setting_takes : (bytes : List ℕ) (y : Setting × List ℕ) → IsBytes bytes → setting_at bytes ≡ Ok y → Takes bytes (setting_bytes y.0) y.1 × Any y.0
 unfolding setting_at
 setting_takes bytes y fits e =
     let b = bind_ok (byte_at bytes) _ y e in
     let k = b.0.0 in
     let rest = b.0.1 in
-    let front = byte_takes bytes b.0 fits b.1 in
+    let front = (byte_is.takes bytes b.0 fits b.1).0 in
     elim (chosen (eqb k 1) _ _ (Ok y) b.2) [
-      | inl h ↦ kind_made settings.Repeat flag_bytes setting_bytes Any Any 1 k bytes rest (flag_at rest) y front h.0 (λ x r. (flag_takes rest x front.rest_fits r, tt)) (λ a. refl) (λ a p. tt) h.1
+      | inl h ↦ option settings.Repeat flag_bytes 1 k bytes rest (flag_at rest) y front h.0 (λ x r. (flag_is.takes rest x front.rest_fits r).0) (λ a. refl) h.1
       | inr n1 ↦ elim (chosen (eqb k 2) _ _ (Ok y) n1.1) [
-        | inl h ↦ kind_made settings.Random flag_bytes setting_bytes Any Any 2 k bytes rest (flag_at rest) y front h.0 (λ x r. (flag_takes rest x front.rest_fits r, tt)) (λ a. refl) (λ a p. tt) h.1
+        | inl h ↦ option settings.Random flag_bytes 2 k bytes rest (flag_at rest) y front h.0 (λ x r. (flag_is.takes rest x front.rest_fits r).0) (λ a. refl) h.1
         | inr n2 ↦ elim (chosen (eqb k 3) _ _ (Ok y) n2.1) [
-          | inl h ↦ kind_made settings.Single single_bytes setting_bytes Any Any 3 k bytes rest (single_at rest) y front h.0 (λ x r. (single_takes rest x front.rest_fits r, tt)) (λ a. refl) (λ a p. tt) h.1
+          | inl h ↦ option settings.Single single_bytes 3 k bytes rest (single_at rest) y front h.0 (λ x r. (single_is.takes rest x front.rest_fits r).0) (λ a. refl) h.1
           | inr n3 ↦ elim (chosen (eqb k 4) _ _ (Ok y) n3.1) [
-            | inl h ↦ kind_made settings.Consume flag_bytes setting_bytes Any Any 4 k bytes rest (flag_at rest) y front h.0 (λ x r. (flag_takes rest x front.rest_fits r, tt)) (λ a. refl) (λ a p. tt) h.1
+            | inl h ↦ option settings.Consume flag_bytes 4 k bytes rest (flag_at rest) y front h.0 (λ x r. (flag_is.takes rest x front.rest_fits r).0) (λ a. refl) h.1
             | inr n4 ↦ let h = n4.1 in absurd cc
           ]
         ]
       ]
+    ] where
+      option : {A : Type 0} (f : A → Setting) (text : A → List ℕ) (kind found : ℕ) (bytes rest : List ℕ) (field : Field A) (y : Setting × List ℕ)
+          → Takes bytes (found ∷ []) rest → eqb found kind ≡ true → ((x : A × List ℕ) → field ≡ Ok x → Takes rest (text x.0) x.1)
+          → ((a : A) → kind ∷ text a ≡ setting_bytes (f a)) → made f field ≡ Ok y → Takes bytes (setting_bytes y.0) y.1 × Any y.0
+      option f text kind found bytes rest field y front is_kind reads spelled e =
+          let b = bind_ok field _ y e in
+          let t = reads b.0 b.1 in
+          let named : Takes bytes (kind ∷ []) rest = subst (λ (k : ℕ). Takes bytes (k ∷ []) rest) (eqb-true _ _ is_kind) front in
+          let joined : Takes bytes (kind ∷ text b.0.0) b.0.1 = Takes-then bytes (kind ∷ []) rest (text b.0.0) b.0.1 named t in
+          subst (λ z. Takes bytes (setting_bytes z.0) z.1 × Any z.0) (ok_is (f b.0.0, b.0.1) y b.2) (subst (λ (w : List ℕ). Takes bytes w b.0.1) (spelled b.0.0) joined, tt)
+
+setting_again : (value : Setting) (rest : List ℕ) → Any value → setting_at (setting_bytes value ++ rest) ≡ Ok (value, rest)
+unfolding setting_at
+setting_again (settings.Repeat on) rest any = ap (made settings.Repeat) (flag_is.again on rest tt)
+setting_again (settings.Random on) rest any = ap (made settings.Random) (flag_is.again on rest tt)
+setting_again (settings.Single value) rest any = ap (made settings.Single) (single_is.again value rest tt)
+setting_again (settings.Consume on) rest any = ap (made settings.Consume) (flag_is.again on rest tt)
+
+setting_is : IsField (λ bytes. setting_at bytes) setting_bytes (λ value. Any value)
+setting_is = record { takes = setting_takes; again = setting_again }
+
+-- ---- the families
+
+value_is : IsField (λ bytes. value_at bytes) (λ text. text_bytes text) (λ text. is_sticker_text text ≡ true)
+value_is =
+    fits_is (λ bytes. value_at bytes) (λ text. text_bytes text) (λ text. IsTrue (is_text text) × (is_good_value text ≡ true)) (λ text. is_sticker_text text ≡ true)
+    (such_is is_good_value (λ bytes. text_at bytes) (λ text. text_bytes text) (λ text. IsTrue (is_text text)) text_is)
+    (λ text h. let utf8 = both_true (is_utf8 text) _ h.0 in rw (utf8.0, h.1) refl)
+    (λ text h. let b = both_true (is_utf8 text) (is_good_value text) h in (rw (b.0, le-leb (length text) 65535 (omega (arith, leb-true _ _ b.1))) refl, b.1))
+
+add_is : IsField (λ bytes. both u32_at row_numbers_at bytes) (λ x. u32_bytes x.0 ++ row_numbers_bytes x.1) (λ x. (x.0 ≤ MAX_COUNT) × AreRowNumbers x.1)
+add_is = both_is (λ bytes. u32_at bytes) _ _ (λ bytes. row_numbers_at bytes) _ _ count_is row_numbers_is
+
+move_is : IsField (λ bytes. both pair_at u32_at bytes) (λ x. pair_bytes x.0 ++ u32_bytes x.1) (λ x. AreNumbers x.0.0 x.0.1 × (x.1 ≤ MAX_COUNT))
+move_is = both_is (λ bytes. pair_at bytes) _ _ (λ bytes. u32_at bytes) _ _ pair_is count_is
+
+prio_is : IsField (λ bytes. both byte_at ranges_at bytes) (λ x. byte_bytes x.0 ++ ranges_bytes x.1) (λ x. (x.0 < 256) × AreOpRanges x.1)
+prio_is = both_is (λ bytes. byte_at bytes) _ _ (λ bytes. ranges_at bytes) _ _ byte_is ranges_is
+
+list_add_is : IsField (λ bytes. both text_at row_numbers_at bytes) (λ x. text_bytes x.0 ++ row_numbers_bytes x.1) (λ x. IsText x.0 × AreRowNumbers x.1)
+list_add_is = both_is (λ bytes. text_at bytes) _ _ (λ bytes. row_numbers_at bytes) _ _ text_is row_numbers_is
+
+list_pair_is : IsField (λ bytes. both text_at pair_at bytes) (λ x. text_bytes x.0 ++ pair_bytes x.1) (λ x. IsText x.0 × AreNumbers x.1.0 x.1.1)
+list_pair_is = both_is (λ bytes. text_at bytes) _ _ (λ bytes. pair_at bytes) _ _ text_is pair_is
+
+rename_is : IsField (λ bytes. both text_at text_at bytes) (λ x. text_bytes x.0 ++ text_bytes x.1) (λ x. IsText x.0 × IsText x.1)
+rename_is = both_is (λ bytes. text_at bytes) _ _ (λ bytes. text_at bytes) _ _ text_is text_is
+
+set_is : IsField (λ bytes. both uri_at (both text_at value_at) bytes) (λ x. text_bytes x.0 ++ (text_bytes x.1.0 ++ text_bytes x.1.1)) (λ x. (is_uri x.0 ≡ true) × (IsText x.1.0 × (is_sticker_text x.1.1 ≡ true)))
+set_is = both_is (λ bytes. uri_at bytes) _ _ (λ bytes. both text_at value_at bytes) _ _ uri_is (both_is (λ bytes. text_at bytes) _ _ (λ bytes. value_at bytes) _ _ text_is value_is)
+
+delete_is : IsField (λ bytes. both uri_at text_at bytes) (λ x. text_bytes x.0 ++ text_bytes x.1) (λ x. (is_uri x.0 ≡ true) × IsText x.1)
+delete_is = both_is (λ bytes. uri_at bytes) _ _ (λ bytes. text_at bytes) _ _ uri_is text_is
+
+queue_takes : (kind : ℕ) (bytes : List ℕ) (y : QueueOp × List ℕ) → 4 ≤ kind → kind ≤ 9 → IsBytes bytes → queue_op_at kind bytes ≡ Ok y → IsKind queue_kind queue_fields IsQueueOp kind bytes y
+unfolding queue_op_at
+queue_takes kind bytes y low high fits e =
+    elim (chosen (eqb kind 4) _ _ (Ok y) e) [
+      | inl h ↦ at_kind queue_kind queue_fields IsQueueOp 4 kind bytes y h.0 (variant (λ x. queue.Add x.0 x.1) queue_kind queue_fields IsQueueOp 4 (λ bytes. both u32_at row_numbers_at bytes) _ _ add_is (λ a h. (refl, refl, h)) bytes y fits h.1)
+      | inr n4 ↦
+          elim (chosen (eqb kind 5) _ _ (Ok y) n4.1) [
+            | inl h ↦ at_kind queue_kind queue_fields IsQueueOp 5 kind bytes y h.0 (variant (λ x. queue.Delete x.0 x.1) queue_kind queue_fields IsQueueOp 5 (λ bytes. pair_at bytes) _ _ pair_is (λ a h. (refl, refl, h)) bytes y fits h.1)
+            | inr n5 ↦
+                elim (chosen (eqb kind 6) _ _ (Ok y) n5.1) [
+                  | inl h ↦ at_kind queue_kind queue_fields IsQueueOp 6 kind bytes y h.0 (variant (λ x. queue.Move x.0.0 x.0.1 x.1) queue_kind queue_fields IsQueueOp 6 (λ bytes. both pair_at u32_at bytes) _ _ move_is (λ a h. (refl, refl, h)) bytes y fits h.1)
+                  | inr n6 ↦
+                      elim (chosen (eqb kind 7) _ _ (Ok y) n6.1) [
+                        | inl h ↦ at_kind queue_kind queue_fields IsQueueOp 7 kind bytes y h.0 (variant (λ x. queue.Swap x.0 x.1) queue_kind queue_fields IsQueueOp 7 (λ bytes. pair_at bytes) _ _ pair_is (λ a h. (refl, refl, h)) bytes y fits h.1)
+                        | inr n7 ↦
+                            elim (chosen (eqb kind 8) _ _ (Ok y) n7.1) [
+                              | inl h ↦ at_kind queue_kind queue_fields IsQueueOp 8 kind bytes y h.0 (variant (λ x. queue.Shuffle x.0 x.1) queue_kind queue_fields IsQueueOp 8 (λ bytes. pair_at bytes) _ _ pair_is (λ a h. (refl, refl, h)) bytes y fits h.1)
+                              | inr n8 ↦
+                                  let is : kind ≡ 9 = omega (arith, eqb-false _ _ n4.0, eqb-false _ _ n5.0, eqb-false _ _ n6.0, eqb-false _ _ n7.0, eqb-false _ _ n8.0) in
+                                  subst (λ (k : ℕ). IsKind queue_kind queue_fields IsQueueOp k bytes y) (sym is) (variant (λ x. queue.Prio x.0 x.1) queue_kind queue_fields IsQueueOp 9 (λ bytes. both byte_at ranges_at bytes) _ _ prio_is (λ a h. (refl, refl, h)) bytes y fits n8.1)
+                            ]
+                      ]
+                ]
+          ]
     ]
 
-setting_again : (value : Setting) (rest : List ℕ) → setting_at (setting_bytes value ++ rest) ≡ Ok (value, rest)
-unfolding setting_at
-setting_again (settings.Repeat on) rest = rw flag_again refl
-setting_again (settings.Random on) rest = rw flag_again refl
-setting_again (settings.Single value) rest = rw single_again refl
-setting_again (settings.Consume on) rest = rw flag_again refl
+list_takes : (kind : ℕ) (bytes : List ℕ) (y : ListOp × List ℕ) → 10 ≤ kind → kind ≤ 16 → IsBytes bytes → list_op_at kind bytes ≡ Ok y → IsKind list_kind list_fields IsListOp kind bytes y
+unfolding list_op_at
+list_takes kind bytes y low high fits e =
+    elim (chosen (eqb kind 10) _ _ (Ok y) e) [
+      | inl h ↦ at_kind list_kind list_fields IsListOp 10 kind bytes y h.0 (variant lists.Save list_kind list_fields IsListOp 10 (λ bytes. text_at bytes) _ _ text_is (λ a h. (refl, refl, h)) bytes y fits h.1)
+      | inr n10 ↦
+          elim (chosen (eqb kind 11) _ _ (Ok y) n10.1) [
+            | inl h ↦ at_kind list_kind list_fields IsListOp 11 kind bytes y h.0 (variant (λ x. lists.Add x.0 x.1) list_kind list_fields IsListOp 11 (λ bytes. both text_at row_numbers_at bytes) _ _ list_add_is (λ a h. (refl, refl, h)) bytes y fits h.1)
+            | inr n11 ↦
+                elim (chosen (eqb kind 12) _ _ (Ok y) n11.1) [
+                  | inl h ↦ at_kind list_kind list_fields IsListOp 12 kind bytes y h.0 (variant (λ x. lists.Remove x.0 x.1.0 x.1.1) list_kind list_fields IsListOp 12 (λ bytes. both text_at pair_at bytes) _ _ list_pair_is (λ a h. (refl, refl, h)) bytes y fits h.1)
+                  | inr n12 ↦
+                      elim (chosen (eqb kind 13) _ _ (Ok y) n12.1) [
+                        | inl h ↦ at_kind list_kind list_fields IsListOp 13 kind bytes y h.0 (variant (λ x. lists.Move x.0 x.1.0 x.1.1) list_kind list_fields IsListOp 13 (λ bytes. both text_at pair_at bytes) _ _ list_pair_is (λ a h. (refl, refl, h)) bytes y fits h.1)
+                        | inr n13 ↦
+                            elim (chosen (eqb kind 14) _ _ (Ok y) n13.1) [
+                              | inl h ↦ at_kind list_kind list_fields IsListOp 14 kind bytes y h.0 (variant lists.Clear list_kind list_fields IsListOp 14 (λ bytes. text_at bytes) _ _ text_is (λ a h. (refl, refl, h)) bytes y fits h.1)
+                              | inr n14 ↦
+                                  elim (chosen (eqb kind 15) _ _ (Ok y) n14.1) [
+                                    | inl h ↦ at_kind list_kind list_fields IsListOp 15 kind bytes y h.0 (variant (λ x. lists.Rename x.0 x.1) list_kind list_fields IsListOp 15 (λ bytes. both text_at text_at bytes) _ _ rename_is (λ a h. (refl, refl, h)) bytes y fits h.1)
+                                    | inr n15 ↦
+                                        let is : kind ≡ 16 = omega (arith, eqb-false _ _ n10.0, eqb-false _ _ n11.0, eqb-false _ _ n12.0, eqb-false _ _ n13.0, eqb-false _ _ n14.0, eqb-false _ _ n15.0) in
+                                        subst (λ (k : ℕ). IsKind list_kind list_fields IsListOp k bytes y) (sym is) (variant lists.Drop list_kind list_fields IsListOp 16 (λ bytes. text_at bytes) _ _ text_is (λ a h. (refl, refl, h)) bytes y fits n15.1)
+                                  ]
+                            ]
+                      ]
+                ]
+          ]
+    ]
 
-abbrev order_bytes : ℕ → List ℕ
-order_bytes order = to_le_bytes w64 order
+sticker_takes : (kind : ℕ) (bytes : List ℕ) (y : StickerOp × List ℕ) → 17 ≤ kind → kind ≤ 19 → IsBytes bytes → sticker_op_at kind bytes ≡ Ok y → IsKind sticker_kind sticker_fields IsStickerOp kind bytes y
+unfolding sticker_op_at
+sticker_takes kind bytes y low high fits e =
+    elim (chosen (eqb kind 17) _ _ (Ok y) e) [
+      | inl h ↦ at_kind sticker_kind sticker_fields IsStickerOp 17 kind bytes y h.0 (variant (λ x. stickers.Set x.0 x.1.0 x.1.1) sticker_kind sticker_fields IsStickerOp 17 (λ bytes. both uri_at (both text_at value_at) bytes) _ _ set_is (λ a h. (refl, refl, h)) bytes y fits h.1)
+      | inr n17 ↦
+          elim (chosen (eqb kind 18) _ _ (Ok y) n17.1) [
+            | inl h ↦ at_kind sticker_kind sticker_fields IsStickerOp 18 kind bytes y h.0 (variant (λ x. stickers.Delete x.0 x.1) sticker_kind sticker_fields IsStickerOp 18 (λ bytes. both uri_at text_at bytes) _ _ delete_is (λ a h. (refl, refl, h)) bytes y fits h.1)
+            | inr n18 ↦
+                let is : kind ≡ 19 = omega (arith, eqb-false _ _ n17.0, eqb-false _ _ n18.0) in
+                subst (λ (k : ℕ). IsKind sticker_kind sticker_fields IsStickerOp k bytes y) (sym is) (variant stickers.DeleteAll sticker_kind sticker_fields IsStickerOp 19 (λ bytes. uri_at bytes) _ _ uri_is (λ a h. (refl, refl, h)) bytes y fits n18.1)
+          ]
+    ]
 
-abbrev volume_bytes : ℕ → List ℕ
-volume_bytes volume = volume ∷ []
+queue_again : (op : QueueOp) (rest : List ℕ) → IsQueueOp op → queue_op_at (queue_kind op) (queue_fields op ++ rest) ≡ Ok (op, rest)
+unfolding queue_op_at
+queue_again (queue.Add at rows) rest good = ap (made (λ x. queue.Add x.0 x.1)) (add_is.again (at, rows) rest good)
+queue_again (queue.Delete start end) rest good = ap (made (λ x. queue.Delete x.0 x.1)) (pair_is.again (start, end) rest good)
+queue_again (queue.Move start end to) rest good = ap (made (λ x. queue.Move x.0.0 x.0.1 x.1)) (move_is.again ((start, end), to) rest good)
+queue_again (queue.Swap one other) rest good = ap (made (λ x. queue.Swap x.0 x.1)) (pair_is.again (one, other) rest good)
+queue_again (queue.Shuffle start end) rest good = ap (made (λ x. queue.Shuffle x.0 x.1)) (pair_is.again (start, end) rest good)
+queue_again (queue.Prio priority ranges) rest good = ap (made (λ x. queue.Prio x.0 x.1)) (prio_is.again (priority, ranges) rest good)
 
-abbrev IsOrder : ℕ → Type 0
-IsOrder order = order < 2 ^ 64
+list_again : (op : ListOp) (rest : List ℕ) → IsListOp op → list_op_at (list_kind op) (list_fields op ++ rest) ≡ Ok (op, rest)
+unfolding list_op_at
+list_again (lists.Save name) rest good = ap (made lists.Save) (text_is.again name rest good)
+list_again (lists.Add name rows) rest good = ap (made (λ x. lists.Add x.0 x.1)) (list_add_is.again (name, rows) rest good)
+list_again (lists.Remove name start end) rest good = ap (made (λ x. lists.Remove x.0 x.1.0 x.1.1)) (list_pair_is.again (name, (start, end)) rest good)
+list_again (lists.Move name from to) rest good = ap (made (λ x. lists.Move x.0 x.1.0 x.1.1)) (list_pair_is.again (name, (from, to)) rest good)
+list_again (lists.Clear name) rest good = ap (made lists.Clear) (text_is.again name rest good)
+list_again (lists.Rename from to) rest good = ap (made (λ x. lists.Rename x.0 x.1)) (rename_is.again (from, to) rest good)
+list_again (lists.Drop name) rest good = ap (made lists.Drop) (text_is.again name rest good)
 
-abbrev IsVolume : ℕ → Type 0
-IsVolume volume = volume ≤ 100
+sticker_again : (op : StickerOp) (rest : List ℕ) → IsStickerOp op → sticker_op_at (sticker_kind op) (sticker_fields op ++ rest) ≡ Ok (op, rest)
+unfolding sticker_op_at
+sticker_again (stickers.Set uri name value) rest good = ap (made (λ x. stickers.Set x.0 x.1.0 x.1.1)) (set_is.again (uri, (name, value)) rest good)
+sticker_again (stickers.Delete uri name) rest good = ap (made (λ x. stickers.Delete x.0 x.1)) (delete_is.again (uri, name) rest good)
+sticker_again (stickers.DeleteAll uri) rest good = ap (made stickers.DeleteAll) (uri_is.again uri rest good)
+
+-- ---- an op
+
+-- an op of a kind alone
+alone : {A : Type 0} (f : A → Op) (kind found : ℕ) (bytes rest : List ℕ) (at : List ℕ → Field A) (text : A → List ℕ) (Fits : A → Type 0) → IsField at text Fits
+    → Takes bytes (found ∷ []) rest → eqb found kind ≡ true → ((a : A) → kind ∷ text a ≡ op_bytes (f a)) → ((a : A) → Fits a → IsOp (f a))
+    → (y : Op × List ℕ) → made f (at rest) ≡ Ok y → Takes bytes (op_bytes y.0) y.1 × IsOp y.0
+alone f kind found bytes rest at text Fits field front is_kind spelled keeps y e =
+    let b = bind_ok (at rest) _ y e in
+    let t = field.takes rest b.0 front.rest_fits b.1 in
+    let named : Takes bytes (kind ∷ []) rest = subst (λ (k : ℕ). Takes bytes (k ∷ []) rest) (eqb-true _ _ is_kind) front in
+    let joined : Takes bytes (kind ∷ text b.0.0) b.0.1 = Takes-then bytes (kind ∷ []) rest (text b.0.0) b.0.1 named t.0 in
+    subst (λ z. Takes bytes (op_bytes z.0) z.1 × IsOp z.0) (ok_is (f b.0.0, b.0.1) y b.2) (subst (λ (w : List ℕ). Takes bytes w b.0.1) (spelled b.0.0) joined, keeps b.0.0 t.1)
+
+-- an op of a family
+of_family : {B : Type 0} (f : B → Op) (kind_of : B → ℕ) (fields : B → List ℕ) (Good : B → Type 0) (found : ℕ) (bytes rest : List ℕ) (field : Field B)
+    → Takes bytes (found ∷ []) rest → ((z : B × List ℕ) → field ≡ Ok z → IsKind kind_of fields Good found rest z)
+    → ((b : B) → kind_of b ∷ fields b ≡ op_bytes (f b)) → ((b : B) → Good b → IsOp (f b)) → (y : Op × List ℕ) → made f field ≡ Ok y → Takes bytes (op_bytes y.0) y.1 × IsOp y.0
+of_family f kind_of fields Good found bytes rest field front takes spelled keeps y e =
+    let b = bind_ok field _ y e in
+    let k = takes b.0 b.1 in
+    let named : Takes bytes (kind_of b.0.0 ∷ []) rest = subst (λ (n : ℕ). Takes bytes (n ∷ []) rest) (sym k.named) front in
+    let joined : Takes bytes (kind_of b.0.0 ∷ fields b.0.0) b.0.1 = Takes-then bytes (kind_of b.0.0 ∷ []) rest (fields b.0.0) b.0.1 named k.taken in
+    subst (λ z. Takes bytes (op_bytes z.0) z.1 × IsOp z.0) (ok_is (f b.0.0, b.0.1) y b.2) (subst (λ (w : List ℕ). Takes bytes w b.0.1) (spelled b.0.0) joined, keeps b.0.0 k.good)
+
+within : (low high n : ℕ) → is_in_range low high n ≡ true → (low ≤ n) × (n ≤ high)
+within low high n h = let b = both_true (leb low n) (leb n high) h in (leb-true _ _ b.0, leb-true _ _ b.1)
 
 pub op_takes : (bytes : List ℕ) (y : Op × List ℕ) → IsBytes bytes → op_at bytes ≡ Ok y → Takes bytes (op_bytes y.0) y.1 × IsOp y.0
 unfolding op_at
@@ -86,150 +330,74 @@ op_takes bytes y fits e =
     let b = bind_ok (byte_at bytes) _ y e in
     let k = b.0.0 in
     let rest = b.0.1 in
-    let front = byte_takes bytes b.0 fits b.1 in
+    let front = (byte_is.takes bytes b.0 fits b.1).0 in
     elim (chosen (eqb k 1) _ _ (Ok y) b.2) [
-      | inl h ↦ kind_made SetOption setting_bytes op_bytes Any IsOp 1 k bytes rest (setting_at rest) y front h.0 (λ x r. setting_takes rest x front.rest_fits r) (λ a. refl) (λ a p. tt) h.1
+      | inl h ↦ alone SetOption 1 k bytes rest (λ s. setting_at s) _ _ setting_is front h.0 (λ a. refl) (λ a g. tt) y h.1
       | inr n1 ↦ elim (chosen (eqb k 2) _ _ (Ok y) n1.1) [
-        | inl h ↦ kind_made SetVolume volume_bytes op_bytes IsVolume IsOp 2 k bytes rest (volume_at rest) y front h.0 (λ x r. volume_takes rest x front.rest_fits r) (λ a. refl) (λ a p. p) h.1
+        | inl h ↦ alone SetVolume 2 k bytes rest (λ s. volume_at s) _ _ volume_is front h.0 (λ a. refl) (λ a g. g) y h.1
         | inr n2 ↦ elim (chosen (eqb k 3) _ _ (Ok y) n2.1) [
-          | inl h ↦ kind_made SetOrder order_bytes op_bytes IsOrder IsOp 3 k bytes rest (number_at w64 rest) y front h.0 (λ x r. number_takes w64 (2 ^ 64) wide64 rest x front.rest_fits r) (λ a. refl) (λ a p. p) h.1
-          | inr n3 ↦ let h = n3.1 in absurd cc
+          | inl h ↦ alone SetOrder 3 k bytes rest (λ s. u64_at s) _ _ u64_is front h.0 (λ a. refl) (λ a g. g) y h.1
+          | inr n3 ↦ elim (chosen (is_in_range 4 9 k) _ _ (Ok y) n3.1) [
+            | inl h ↦ let r = within 4 9 k h.0 in of_family Queue queue_kind queue_fields IsQueueOp k bytes rest (queue_op_at k rest) front (λ z f. queue_takes k rest z r.0 r.1 front.rest_fits f) (λ a. refl) (λ a g. g) y h.1
+            | inr n4 ↦ elim (chosen (is_in_range 10 16 k) _ _ (Ok y) n4.1) [
+              | inl h ↦ let r = within 10 16 k h.0 in of_family OfList list_kind list_fields IsListOp k bytes rest (list_op_at k rest) front (λ z f. list_takes k rest z r.0 r.1 front.rest_fits f) (λ a. refl) (λ a g. g) y h.1
+              | inr n5 ↦ elim (chosen (is_in_range 17 19 k) _ _ (Ok y) n5.1) [
+                | inl h ↦ let r = within 17 19 k h.0 in of_family Sticker sticker_kind sticker_fields IsStickerOp k bytes rest (sticker_op_at k rest) front (λ z f. sticker_takes k rest z r.0 r.1 front.rest_fits f) (λ a. refl) (λ a g. g) y h.1
+                | inr n6 ↦ elim (chosen (eqb k 20) _ _ (Ok y) n6.1) [
+                  | inl h ↦ alone Batch 20 k bytes rest (λ s. changes_at s) _ _ changes_is front h.0 (λ a. refl) (λ a g. g) y h.1
+                  | inr n7 ↦ let h = n7.1 in absurd cc
+                ]
+              ]
+            ]
+          ]
         ]
       ]
     ]
 
+queue_kinds : (op : QueueOp) (rest : List ℕ) → op_at (queue_kind op ∷ rest) ≡ made Queue (queue_op_at (queue_kind op) rest)
+unfolding op_at
+queue_kinds (queue.Add at rows) rest = refl
+queue_kinds (queue.Delete start end) rest = refl
+queue_kinds (queue.Move start end to) rest = refl
+queue_kinds (queue.Swap one other) rest = refl
+queue_kinds (queue.Shuffle start end) rest = refl
+queue_kinds (queue.Prio priority ranges) rest = refl
+
+list_kinds : (op : ListOp) (rest : List ℕ) → op_at (list_kind op ∷ rest) ≡ made OfList (list_op_at (list_kind op) rest)
+unfolding op_at
+list_kinds (lists.Save name) rest = refl
+list_kinds (lists.Add name rows) rest = refl
+list_kinds (lists.Remove name start end) rest = refl
+list_kinds (lists.Move name from to) rest = refl
+list_kinds (lists.Clear name) rest = refl
+list_kinds (lists.Rename from to) rest = refl
+list_kinds (lists.Drop name) rest = refl
+
+sticker_kinds : (op : StickerOp) (rest : List ℕ) → op_at (sticker_kind op ∷ rest) ≡ made Sticker (sticker_op_at (sticker_kind op) rest)
+unfolding op_at
+sticker_kinds (stickers.Set uri name value) rest = refl
+sticker_kinds (stickers.Delete uri name) rest = refl
+sticker_kinds (stickers.DeleteAll uri) rest = refl
+
 pub op_again : (op : Op) (rest : List ℕ) → IsOp op → op_at (op_bytes op ++ rest) ≡ Ok (op, rest)
 unfolding op_at
-op_again (SetOption value) rest fits = rw setting_again refl
-op_again (SetVolume volume) rest fits = rw volume_again refl
-op_again (SetOrder order) rest fits = ap (made SetOrder) (number_again w64 (2 ^ 64) wide64 order rest fits)
+op_again (SetOption value) rest good = ap (made SetOption) (setting_is.again value rest tt)
+op_again (SetVolume volume) rest good = ap (made SetVolume) (volume_is.again volume rest good)
+op_again (SetOrder order) rest good = ap (made SetOrder) (u64_is.again order rest good)
+op_again (Queue op) rest good = queue_kinds op (queue_fields op ++ rest) ∙ ap (made Queue) (queue_again op rest good)
+op_again (OfList op) rest good = list_kinds op (list_fields op ++ rest) ∙ ap (made OfList) (list_again op rest good)
+op_again (Sticker op) rest good = sticker_kinds op (sticker_fields op ++ rest) ∙ ap (made Sticker) (sticker_again op rest good)
+op_again (Batch changes) rest good = ap (made Batch) (changes_is.again changes rest good)
+
+pub op_is : IsField (λ bytes. op_at bytes) op_bytes IsOp
+op_is = record { takes = op_takes; again = op_again }
 
 -- an op takes a byte at least
 pub op_spelled : (op : Op) → 1 ≤ length (op_bytes op)
 op_spelled (SetOption value) = omega arith
 op_spelled (SetVolume volume) = omega arith
 op_spelled (SetOrder order) = omega arith
-
-ops_take : (n : ℕ) (bytes : List ℕ) (ops : List Op) → IsBytes bytes → ops_at n bytes ≡ Ok ops → (bytes ≡ ops_bytes ops) × AllByRecursion IsOp ops
-unfolding ops_at
-ops_take n [] ops fits e = subst (λ (x : List Op). ([] ≡ ops_bytes x) × AllByRecursion IsOp x) (ok_is [] ops e) (refl, tt)
-ops_take zero (b ∷ rest) ops fits e = absurd cc
-ops_take (suc n) (b ∷ rest) ops fits e =
-    let first = bind_ok (op_at (b ∷ rest)) _ ops e in
-    let others = bind_ok (ops_at n first.0.1) _ ops first.2 in
-    let one = op_takes (b ∷ rest) first.0 fits first.1 in
-    let more = ops_take n first.0.1 others.0 one.0.rest_fits others.1 in
-    let whole : b ∷ rest ≡ ops_bytes (first.0.0 ∷ others.0) = one.0.parts ∙ ap (λ (x : List ℕ). op_bytes first.0.0 ++ x) more.0 ∙ sym (flat_map-cons op_bytes first.0.0 others.0) in
-    subst (λ (x : List Op). (b ∷ rest ≡ ops_bytes x) × AllByRecursion IsOp x) (ok_is (first.0.0 ∷ others.0) ops others.2) (whole, (one.1, more.1))
-
--- reading goes on at bytes that are not at their end
-ops_step : (n : ℕ) (bytes : List ℕ) → 0 < length bytes → ops_at (suc n) bytes ≡ (op_at bytes >>= λ first. ops_at n first.1 >>= λ others. Ok (first.0 ∷ others))
-unfolding ops_at
-ops_step n [] some = absurd (omega arith)
-ops_step n (b ∷ rest) some = refl
-
-ops_ended : (n : ℕ) (bytes : List ℕ) → length bytes ≡ 0 → ops_at n bytes ≡ Ok []
-unfolding ops_at
-ops_ended n [] none = refl
-ops_ended n (b ∷ rest) none = absurd (omega arith)
-
-ops_again : (ops : List Op) (n : ℕ) → AllByRecursion IsOp ops → length (ops_bytes ops) ≤ n → ops_at n (ops_bytes ops) ≡ Ok ops
-ops_again [] n fits le = ops_ended n [] refl
-ops_again (op ∷ ops) zero fits le = absurd (omega (arith, op_spelled op, length-append (op_bytes op) (ops_bytes ops)))
-ops_again (op ∷ ops) (suc n) fits le =
-    let some : 0 < length (op_bytes op ++ ops_bytes ops) = omega (arith, op_spelled op, length-append (op_bytes op) (ops_bytes ops)) in
-    let less : length (ops_bytes ops) ≤ n = omega (arith, op_spelled op, length-append (op_bytes op) (ops_bytes ops)) in
-    ops_step n (op_bytes op ++ ops_bytes ops) some ∙ rw (op_again op (ops_bytes ops) fits.0, ops_again ops n fits.1 less) refl
-
--- ---- the whole body
-
-in_bytes_ok : {A : Type 0} (bytes : List ℕ) (r : Result A ℕ) (x : A) → in_bytes bytes r ≡ Ok x → r ≡ Ok x
-in_bytes_ok bytes (Ok y) x e = e
-in_bytes_ok bytes (Err d) x e = absurd cc
-
-some_ops : (bytes : List ℕ) (ops : List Op) → eqb (length bytes) 0 ≡ false → bytes ≡ ops_bytes ops → 0 < length ops
-some_ops bytes [] some e = let none : length bytes ≡ 0 = ap length e in absurd (let h : eqb (length bytes) 0 ≡ true = rw none refl in cc)
-some_ops bytes (op ∷ ops) some e = omega arith
-
-pub body_takes : (bytes : List ℕ) (ops : List Op) → IsBytes bytes → ops_reading bytes ≡ Ok ops → AreOps ops × (bytes ≡ ops_bytes ops)
-body_takes bytes ops fits e =
-    elim (chosen (eqb (length bytes) 0) _ _ (Ok ops) e) [
-      | inl none ↦ let h = none.1 in absurd cc
-      | inr some ↦
-          let t = ops_take (length bytes) bytes ops fits (in_bytes_ok bytes (ops_at (length bytes) bytes) ops some.1) in
-          ((some_ops bytes ops some.0 t.0, t.1), t.0)
-    ]
-
-some_bytes : (ops : List Op) → 0 < length ops → eqb (length (ops_bytes ops)) 0 ≡ false
-some_bytes [] some = absurd (omega arith)
-some_bytes (op ∷ ops) some = ne_eqb _ _ (λ (none : length (op_bytes op ++ ops_bytes ops) ≡ 0). omega (arith, op_spelled op, length-append (op_bytes op) (ops_bytes ops)))
-
-pub body_again : (ops : List Op) → AreOps ops → ops_reading (ops_bytes ops) ≡ Ok ops
-body_again ops fits = rw (some_bytes ops fits.0, ops_again ops (length (ops_bytes ops)) fits.1 (omega arith)) refl
-
-pub body_found : (bytes : List ℕ) (r : Result (Vec Op) CodecError) → IsBytes bytes → GivesOps r (ops_reading bytes) → IfOk r (λ ops. AreOps ops.items × (bytes ≡ ops_bytes ops.items))
-body_found bytes (Ok ops) fits given = body_takes bytes ops.items fits given
-body_found bytes (Err e) fits given = tt
-
-pub body_only : (bytes : List ℕ) (r : Result (Vec Op) CodecError) (ops : List Op) → AreOps ops → bytes ≡ ops_bytes ops → GivesOps r (ops_reading bytes) → GivesOps r (Ok ops)
-body_only bytes r ops fits e given = subst (GivesOps r) (ap ops_reading e ∙ body_again ops fits) given
-
--- ---- one op after the other, as a loop reads
-
--- what was read before, and what is still read
-abbrev pub with_front : List Op → Result (List Op) ℕ → Result (List Op) ℕ
-with_front front read = read >>= λ ops. Ok (front ++ ops)
-
-regroup : (front : List Op) (op : Op) (read : Result (List Op) ℕ) → with_front front (read >>= λ ops. Ok (op ∷ ops)) ≡ with_front (front ++ op ∷ []) read
-regroup front op (Ok ops) = ap (λ (x : List Op). Ok x) (simp append_assoc)
-regroup front op (Err f) = refl
-
--- what a loop keeps, with so many bytes in all
-pub record ReadSoFar (total : ℕ) (front : List Op) (rest : List ℕ) (all : Result (List Op) ℕ) : Type 0 where
-  pub reads : with_front front (ops_at (total - length front) rest) ≡ all
-  pub enough : length front + length rest ≤ total
-  pub rest_fits : IsBytes rest
-
-pub so_far_begins : (bytes : List ℕ) → IsBytes bytes → ReadSoFar (length bytes) [] bytes (ops_at (length bytes) bytes)
-so_far_begins bytes fits =
-    let front : List Op = [] in
-    let k : length bytes - length front ≡ length bytes = omega arith in
-    record { reads = ap (λ (n : ℕ). with_front [] (ops_at n bytes)) k ∙ nothing (ops_at (length bytes) bytes); enough = omega arith; rest_fits = fits } where
-      nothing : (read : Result (List Op) ℕ) → with_front [] read ≡ read
-      nothing (Ok ops) = refl
-      nothing (Err f) = refl
-
-op_shorter : (rest : List ℕ) (op : Op) (after : List ℕ) → Takes rest (op_bytes op) after → length after < length rest
-op_shorter rest op after t = omega (arith, ap length t.parts, length-append (op_bytes op) after, op_spelled op)
-
-pub falls : (total : ℕ) (front : List Op) (rest : List ℕ) (op : Op) (after : List ℕ) (all : Result (List Op) ℕ) → op_at rest ≡ Ok (op, after) → ReadSoFar total front rest all → length after < length rest
-falls total front rest op after all e so_far = op_shorter rest op after (op_takes rest (op, after) so_far.rest_fits e).0
-
-pub goes_on : (total : ℕ) (front : List Op) (rest : List ℕ) (op : Op) (after : List ℕ) (all : Result (List Op) ℕ) → op_at rest ≡ Ok (op, after)
-    → ReadSoFar total front rest all → ReadSoFar total (front ++ op ∷ []) after all
-goes_on total front rest op after all e so_far =
-    let t = op_takes rest (op, after) so_far.rest_fits e in
-    let shorter : length after < length rest = op_shorter rest op after t.0 in
-    let len : length (front ++ op ∷ []) ≡ suc (length front) = omega (arith, length-append front (op ∷ [])) in
-    let k : total - length front ≡ suc (total - length (front ++ op ∷ [])) = omega (arith, so_far.enough) in
-    let step : ops_at (total - length front) rest ≡ (ops_at (total - length (front ++ op ∷ [])) after >>= λ ops. Ok (op ∷ ops)) =
-    ap (λ (n : ℕ). ops_at n rest) k ∙ ops_step (total - length (front ++ op ∷ [])) rest (omega arith) ∙ rw e refl in
-    record {
-      reads = sym (regroup front op (ops_at (total - length (front ++ op ∷ [])) after)) ∙ ap (with_front front) (sym step) ∙ so_far.reads;
-      enough = omega (arith, so_far.enough);
-      rest_fits = t.0.rest_fits;
-    }
-
-pub stops : (total : ℕ) (front : List Op) (rest : List ℕ) (left : ℕ) (all : Result (List Op) ℕ) → 0 < length rest → op_at rest ≡ Err left → ReadSoFar total front rest all → all ≡ Err left
-stops total front rest left all some e so_far =
-    let k : total - length front ≡ suc (total - length front - 1) = omega (arith, so_far.enough) in
-    let step : ops_at (total - length front) rest ≡ Err left = ap (λ (n : ℕ). ops_at n rest) k ∙ ops_step (total - length front - 1) rest some ∙ rw e refl in
-    sym so_far.reads ∙ ap (with_front front) step
-
-pub is_done : (total : ℕ) (front : List Op) (rest : List ℕ) (all : Result (List Op) ℕ) → length rest ≡ 0 → ReadSoFar total front rest all → all ≡ Ok front
-is_done total front rest all none so_far =
-    sym so_far.reads ∙ ap (with_front front) (ops_ended (total - length front) rest none) ∙ ap (λ (x : List Op). Ok x) (append-nil front)
-
--- what the body reads as, once its ops are
-pub body_is : (bytes : List ℕ) (read : Result (List Op) ℕ) → eqb (length bytes) 0 ≡ false → ops_at (length bytes) bytes ≡ read → ops_reading bytes ≡ in_bytes bytes read
-body_is bytes read some e = rw (some, e) refl
+op_spelled (Queue op) = omega arith
+op_spelled (OfList op) = omega arith
+op_spelled (Sticker op) = omega arith
+op_spelled (Batch changes) = omega arith

@@ -1,17 +1,27 @@
 -- A snapshot that is read is spelled so, and what is spelled so is read.
-use Rattle.std.proofs.Common.{◌≡◌, ℕ, ◌^◌, eqb, List, [], ◌∷◌, ◌++◌, length, Result, Ok, Err, refl, sym, ap, subst, ◌∙◌, append_assoc, arith}
+use Rattle.std.proofs.Common.{◌≡◌, ℕ, ◌+◌, ◌^◌, ◌<◌, ◌≤◌, eqb, List, [], ◌++◌, length, Result, Ok, Err, refl, sym, ap, subst, ◌∙◌, append_assoc, arith}
 use Rattle.std.specs.Prelude.{IfOk}
-use Rattle.std.specs.Int.{w32, w64, to_le_bytes}
 use Rattle.std.proofs.lemmas.Bool.{eqb-true}
 use Rattle.std.proofs.lemmas.List.{append-nil, nil_from_length}
+use Rattle.play_queue.specs.Limits.{MAX_ID, MAX_VERSION}
 use Rattle.player_core.specs.declared.options.Options.{Options}
 use Rattle.state_codec.specs.declared.refusal.CodecError.{CodecError}
-use Rattle.state_codec.specs.declared.refusal.CodecError.TheVariants.{NoMemory, BadOp, BadSnapshot}
-use Rattle.state_codec.specs.SavedState.{SavedState, IsSavedState, IsBytes, largest, ids_spent}
-use Rattle.state_codec.specs.Spelling.{flag_bytes, single_bytes, options_bytes, no_parts, saved_bytes}
-use Rattle.state_codec.specs.Reading.{alone, in_bytes, number_at, number_within, volume_at, flag_at, single_at, key_at, options_at, no_parts_at, saved_at, saved_reading}
+use Rattle.state_codec.specs.declared.reading.saved.Header.{Header}
 use Rattle.state_codec.specs.Answers.{GivesSaved}
-use Rattle.state_codec.proofs.FieldLaws.{bind_ok, ok_is, passed_ok, Takes, Takes-then, wide64, number_takes, number_again, within_takes, within_again, volume_takes, volume_again, flag_takes, flag_again, single_takes, single_again, key_takes, key_again}
+use Rattle.state_codec.specs.Fields.{u64_at, number_within, volume_at, flag_at, single_at, key_at}
+use Rattle.state_codec.specs.Reading.{alone, in_bytes, saved_reading}
+use Rattle.state_codec.specs.ReadingSaved.{options_at, songs_at, entries_at, lists_at, stickers_at, header_at, parts_at, saved_at}
+use Rattle.state_codec.specs.SavedState.{SavedState, IsSavedState, IsBytes, key_len}
+use Rattle.state_codec.specs.Spelling.{options_bytes, entry_bytes, playlist_bytes, sticker_bytes, head_bytes, parts_bytes, saved_bytes}
+use Rattle.state_codec.specs.SpellingFields.{byte_bytes, u32_bytes, u64_bytes, flag_bytes, single_bytes, list_bytes}
+use Rattle.state_codec.specs.SpellingRows.{row_bytes}
+use Rattle.state_codec.proofs.FieldLaws.{bind_ok, ok_is, passed_ok, Takes, Takes-then, u64_is, within_is, flag_is, single_is, volume_is, key_is}
+use Rattle.state_codec.proofs.SongsLaws.{songs_is}
+use Rattle.state_codec.proofs.EntriesLaws.{entries_is}
+use Rattle.state_codec.proofs.PlaylistsLaws.{lists_is}
+use Rattle.state_codec.proofs.StickersLaws.{stickers_is}
+
+-- ---- options
 
 options_take : (bytes : List ℕ) (x : Options × List ℕ) → IsBytes bytes → options_at bytes ≡ Ok x → Takes bytes (options_bytes x.0) x.1
 unfolding options_at
@@ -20,102 +30,184 @@ options_take bytes x fits e =
     let b = bind_ok (flag_at a.0.1) _ x a.2 in
     let c = bind_ok (single_at b.0.1) _ x b.2 in
     let d = bind_ok (flag_at c.0.1) _ x c.2 in
-    let ta = flag_takes bytes a.0 fits a.1 in
-    let tb = flag_takes a.0.1 b.0 ta.rest_fits b.1 in
-    let tc = single_takes b.0.1 c.0 tb.rest_fits c.1 in
-    let td = flag_takes c.0.1 d.0 tc.rest_fits d.1 in
+    let ta = (flag_is.takes bytes a.0 fits a.1).0 in
+    let tb = (flag_is.takes a.0.1 b.0 ta.rest_fits b.1).0 in
+    let tc = (single_is.takes b.0.1 c.0 tb.rest_fits c.1).0 in
+    let td = (flag_is.takes c.0.1 d.0 tc.rest_fits d.1).0 in
     let tcd = Takes-then b.0.1 (single_bytes c.0.0) c.0.1 (flag_bytes d.0.0) d.0.1 tc td in
     let tbd = Takes-then a.0.1 (flag_bytes b.0.0) b.0.1 (single_bytes c.0.0 ++ flag_bytes d.0.0) d.0.1 tb tcd in
     let tad = Takes-then bytes (flag_bytes a.0.0) a.0.1 (flag_bytes b.0.0 ++ (single_bytes c.0.0 ++ flag_bytes d.0.0)) d.0.1 ta tbd in
     let made : Options × List ℕ = (record { repeat = a.0.0; random = b.0.0; single = c.0.0; consume = d.0.0 }, d.0.1) in
-    subst (λ (y : Options × List ℕ). Takes bytes (options_bytes y.0) y.1) (ok_is made x d.2) tad
+    subst (λ (y : Options × List ℕ). Takes bytes (options_bytes y.0) y.1) {x = made} (ok_is made x d.2) tad
 
 options_again : (options : Options) (rest : List ℕ) → options_at (options_bytes options ++ rest) ≡ Ok (options, rest)
 unfolding options_at
 options_again o rest =
     let regrouped : options_bytes o ++ rest ≡ flag_bytes o.repeat ++ (flag_bytes o.random ++ (single_bytes o.single ++ (flag_bytes o.consume ++ rest))) = simp append_assoc in
-    ap options_at regrouped ∙ rw (flag_again o.repeat (flag_bytes o.random ++ (single_bytes o.single ++ (flag_bytes o.consume ++ rest))), flag_again o.random (single_bytes o.single ++ (flag_bytes o.consume ++ rest)), single_again o.single (flag_bytes o.consume ++ rest), flag_again o.consume rest) refl
-
-abbrev count : List ℕ
-count = to_le_bytes w32 0
-
-count_takes : (bytes : List ℕ) (x : ℕ × List ℕ) → IsBytes bytes → number_within 0 0 bytes ≡ Ok x → Takes bytes count x.1
-count_takes bytes x fits e =
-    let t = within_takes 0 0 bytes x fits e in
-    let zero_is : x.0 ≡ 0 = omega (arith, t.2) in
-    subst (λ (n : ℕ). Takes bytes (to_le_bytes w32 n) x.1) zero_is t.0
-
-no_parts_take : (bytes : List ℕ) (x : Unit {0} × List ℕ) → IsBytes bytes → no_parts_at bytes ≡ Ok x → Takes bytes no_parts x.1
-unfolding no_parts_at
-no_parts_take bytes x fits e =
-    let a = bind_ok (number_within 0 0 bytes) _ x e in
-    let b = bind_ok (number_within 0 0 a.0.1) _ x a.2 in
-    let c = bind_ok (number_within 0 0 b.0.1) _ x b.2 in
-    let d = bind_ok (number_within 0 0 c.0.1) _ x c.2 in
-    let ta = count_takes bytes a.0 fits a.1 in
-    let tb = count_takes a.0.1 b.0 ta.rest_fits b.1 in
-    let tc = count_takes b.0.1 c.0 tb.rest_fits c.1 in
-    let td = count_takes c.0.1 d.0 tc.rest_fits d.1 in
-    let tcd = Takes-then b.0.1 count c.0.1 count d.0.1 tc td in
-    let tbd = Takes-then a.0.1 count b.0.1 (count ++ count) d.0.1 tb tcd in
-    let tad = Takes-then bytes count a.0.1 (count ++ (count ++ count)) d.0.1 ta tbd in
-    subst (λ (y : Unit {0} × List ℕ). Takes bytes no_parts y.1) (ok_is (tt, d.0.1) x d.2) tad
-
-no_parts_again : (rest : List ℕ) → no_parts_at (no_parts ++ rest) ≡ Ok (tt, rest)
-unfolding no_parts_at
-no_parts_again rest =
-    let again : (after : List ℕ) → number_within 0 0 (count ++ after) ≡ Ok (0, after) = λ after. within_again 0 0 0 after (omega arith) (omega arith) (omega arith) in
-    rw (again (count ++ (count ++ (count ++ rest))), again (count ++ (count ++ rest)), again (count ++ rest), again rest) refl
-
-saved_takes : (bytes : List ℕ) (x : SavedState × List ℕ) → IsBytes bytes → saved_at bytes ≡ Ok x → Takes bytes (saved_bytes x.0) x.1 × IsSavedState x.0
-unfolding saved_at
-saved_takes bytes x fits e =
-    let key = bind_ok (key_at bytes) _ x e in
-    let order = bind_ok (number_at w64 key.0.1) _ x key.2 in
-    let version = bind_ok (number_within 1 largest order.0.1) _ x order.2 in
-    let next_id = bind_ok (number_within 1 ids_spent version.0.1) _ x version.2 in
-    let volume = bind_ok (volume_at next_id.0.1) _ x next_id.2 in
-    let options = bind_ok (options_at volume.0.1) _ x volume.2 in
-    let parts = bind_ok (no_parts_at options.0.1) _ x options.2 in
-    let t0 = key_takes bytes key.0 fits key.1 in
-    let t1 = number_takes w64 (2 ^ 64) wide64 key.0.1 order.0 t0.0.rest_fits order.1 in
-    let t2 = within_takes 1 largest order.0.1 version.0 t1.0.rest_fits version.1 in
-    let t3 = within_takes 1 ids_spent version.0.1 next_id.0 t2.0.rest_fits next_id.1 in
-    let t4 = volume_takes next_id.0.1 volume.0 t3.0.rest_fits volume.1 in
-    let t5 = options_take volume.0.1 options.0 t4.0.rest_fits options.1 in
-    let t6 = no_parts_take options.0.1 parts.0 t5.rest_fits parts.1 in
-    let end = parts.0.1 in
-    let s : SavedState = record { key = key.0.0; order = order.0.0; version = version.0.0; next_id = next_id.0.0; volume = volume.0.0; options = options.0.0 } in
-    let j5 : Takes volume.0.1 (options_bytes s.options ++ no_parts) end = Takes-then volume.0.1 (options_bytes s.options) options.0.1 no_parts end t5 t6 in
-    let j4 = Takes-then next_id.0.1 (s.volume ∷ []) volume.0.1 (options_bytes s.options ++ no_parts) end t4.0 j5 in
-    let j3 = Takes-then version.0.1 (to_le_bytes w32 s.next_id) next_id.0.1 (s.volume ∷ (options_bytes s.options ++ no_parts)) end t3.0 j4 in
-    let j2 = Takes-then order.0.1 (to_le_bytes w32 s.version) version.0.1 (to_le_bytes w32 s.next_id ++ (s.volume ∷ (options_bytes s.options ++ no_parts))) end t2.0 j3 in
-    let j1 = Takes-then key.0.1 (to_le_bytes w64 s.order) order.0.1 (to_le_bytes w32 s.version ++ (to_le_bytes w32 s.next_id ++ (s.volume ∷ (options_bytes s.options ++ no_parts)))) end t1.0 j2 in
-    let j0 : Takes bytes (saved_bytes s) end = Takes-then bytes s.key key.0.1 (to_le_bytes w64 s.order ++ (to_le_bytes w32 s.version ++ (to_le_bytes w32 s.next_id ++ (s.volume ∷ (options_bytes s.options ++ no_parts))))) end t0.0 j1 in
-    let good : IsSavedState s = record { key_len = t0.1; key_bytes = t0.2; order = t1.1; version_low = t2.1; version_high = t2.2; next_id_low = t3.1; next_id_high = t3.2; volume = t4.1 } in
-    subst (λ (y : SavedState × List ℕ). Takes bytes (saved_bytes y.0) y.1 × IsSavedState y.0) (ok_is (s, end) x parts.2) (j0, good)
-
-saved_again : (s : SavedState) (rest : List ℕ) → IsSavedState s → saved_at (saved_bytes s ++ rest) ≡ Ok (s, rest)
-unfolding saved_at
-saved_again s rest fits =
-    let r6 = no_parts ++ rest in
-    let r5 = options_bytes s.options ++ r6 in
-    let r4 = s.volume ∷ r5 in
-    let r3 = to_le_bytes w32 s.next_id ++ r4 in
-    let r2 = to_le_bytes w32 s.version ++ r3 in
-    let r1 = to_le_bytes w64 s.order ++ r2 in
-    let regrouped : saved_bytes s ++ rest ≡ s.key ++ r1 = simp append_assoc in
-    ap saved_at regrouped
+    ap options_at regrouped
     ∙ rw (
-      key_again s.key r1 fits.key_len,
-      number_again w64 (2 ^ 64) wide64 s.order r2 fits.order,
-      within_again 1 largest s.version r3 fits.version_low fits.version_high (omega (arith, fits.version_high)),
-      within_again 1 ids_spent s.next_id r4 fits.next_id_low fits.next_id_high (omega (arith, fits.next_id_high)),
-      volume_again s.volume r5 fits.volume,
-      options_again s.options r6,
-      no_parts_again rest,
+      flag_is.again o.repeat (flag_bytes o.random ++ (single_bytes o.single ++ (flag_bytes o.consume ++ rest))) tt,
+      flag_is.again o.random (single_bytes o.single ++ (flag_bytes o.consume ++ rest)) tt,
+      single_is.again o.single (flag_bytes o.consume ++ rest) tt,
+      flag_is.again o.consume rest tt,
     )
     refl
+
+-- ---- the header
+
+record IsHeader (header : Header) : Type 0 where
+  key_len : length header.key ≡ key_len
+  key_bytes : IsBytes header.key
+  order : header.order < 2 ^ 64
+  version_low : 1 ≤ header.version
+  version_high : header.version ≤ MAX_VERSION
+  next_low : 1 ≤ header.next_id
+  next_high : header.next_id ≤ MAX_ID + 1
+  volume : header.volume ≤ 100
+
+abbrev header_text : Header → List ℕ
+header_text h = h.key ++ (u64_bytes h.order ++ (u32_bytes h.version ++ (u32_bytes h.next_id ++ (byte_bytes h.volume ++ options_bytes h.options))))
+
+header_takes : (bytes : List ℕ) (x : Header × List ℕ) → IsBytes bytes → header_at bytes ≡ Ok x → Takes bytes (header_text x.0) x.1 × IsHeader x.0
+unfolding header_at
+header_takes bytes x fits e =
+    let key = bind_ok (key_at bytes) _ x e in
+    let order = bind_ok (u64_at key.0.1) _ x key.2 in
+    let version = bind_ok (number_within 1 MAX_VERSION order.0.1) _ x order.2 in
+    let next_id = bind_ok (number_within 1 (MAX_ID + 1) version.0.1) _ x version.2 in
+    let volume = bind_ok (volume_at next_id.0.1) _ x next_id.2 in
+    let options = bind_ok (options_at volume.0.1) _ x volume.2 in
+    let t0 = key_is.takes bytes key.0 fits key.1 in
+    let t1 = u64_is.takes key.0.1 order.0 t0.0.rest_fits order.1 in
+    let t2 = (within_is 1 MAX_VERSION (omega arith)).takes order.0.1 version.0 t1.0.rest_fits version.1 in
+    let t3 = (within_is 1 (MAX_ID + 1) (omega arith)).takes version.0.1 next_id.0 t2.0.rest_fits next_id.1 in
+    let t4 = volume_is.takes next_id.0.1 volume.0 t3.0.rest_fits volume.1 in
+    let t5 = options_take volume.0.1 options.0 t4.0.rest_fits options.1 in
+    let end = options.0.1 in
+    let h : Header = record { key = key.0.0; order = order.0.0; version = version.0.0; next_id = next_id.0.0; volume = volume.0.0; options = options.0.0 } in
+    let j4 = Takes-then next_id.0.1 (byte_bytes h.volume) volume.0.1 (options_bytes h.options) end t4.0 t5 in
+    let j3 = Takes-then version.0.1 (u32_bytes h.next_id) next_id.0.1 (byte_bytes h.volume ++ options_bytes h.options) end t3.0 j4 in
+    let j2 = Takes-then order.0.1 (u32_bytes h.version) version.0.1 (u32_bytes h.next_id ++ (byte_bytes h.volume ++ options_bytes h.options)) end t2.0 j3 in
+    let j1 = Takes-then key.0.1 (u64_bytes h.order) order.0.1 (u32_bytes h.version ++ (u32_bytes h.next_id ++ (byte_bytes h.volume ++ options_bytes h.options))) end t1.0 j2 in
+    let j0 : Takes bytes (header_text h) end = Takes-then bytes h.key key.0.1 (u64_bytes h.order ++ (u32_bytes h.version ++ (u32_bytes h.next_id ++ (byte_bytes h.volume ++ options_bytes h.options)))) end t0.0 j1 in
+    let good : IsHeader h = record { key_len = t0.1.0; key_bytes = t0.1.1; order = t1.1; version_low = t2.1.0; version_high = t2.1.1; next_low = t3.1.0; next_high = t3.1.1; volume = t4.1 } in
+    subst (λ (y : Header × List ℕ). Takes bytes (header_text y.0) y.1 × IsHeader y.0) {x = (h, end)} (ok_is (h, end) x options.2) (j0, good)
+
+header_again : (h : Header) (rest : List ℕ) → IsHeader h → header_at (header_text h ++ rest) ≡ Ok (h, rest)
+unfolding header_at
+header_again h rest fits =
+    let r5 = options_bytes h.options ++ rest in
+    let r4 = byte_bytes h.volume ++ r5 in
+    let r3 = u32_bytes h.next_id ++ r4 in
+    let r2 = u32_bytes h.version ++ r3 in
+    let r1 = u64_bytes h.order ++ r2 in
+    let regrouped : header_text h ++ rest ≡ h.key ++ r1 = simp append_assoc in
+    ap header_at regrouped
+    ∙ rw (
+      key_is.again h.key r1 (fits.key_len, fits.key_bytes),
+      u64_is.again h.order r2 fits.order,
+      (within_is 1 MAX_VERSION (omega arith)).again h.version r3 (fits.version_low, fits.version_high),
+      (within_is 1 (MAX_ID + 1) (omega arith)).again h.next_id r4 (fits.next_low, fits.next_high),
+      volume_is.again h.volume r5 fits.volume,
+      options_again h.options rest,
+    )
+    refl
+
+-- ---- the parts
+
+abbrev header_of : SavedState → Header
+header_of s = record { key = s.key; order = s.order; version = s.queue.version; next_id = s.queue.next_id; volume = s.volume; options = s.options }
+
+parts_take : (h : Header) (bytes : List ℕ) (x : SavedState × List ℕ) → IsHeader h → IsBytes bytes → parts_at h bytes ≡ Ok x → Takes bytes (parts_bytes x.0) x.1 × (IsSavedState x.0 × (header_of x.0 ≡ h))
+unfolding parts_at
+parts_take h bytes x header fits e =
+    let songs = bind_ok (songs_at bytes) _ x e in
+    let entries = bind_ok (entries_at songs.0.0 h.version h.next_id songs.0.1) _ x songs.2 in
+    let lists = bind_ok (lists_at entries.0.1) _ x entries.2 in
+    let stickers = bind_ok (stickers_at songs.0.0 lists.0.1) _ x lists.2 in
+    let t0 = songs_is.takes bytes songs.0 fits songs.1 in
+    let t1 = (entries_is songs.0.0 t0.1 h.version h.next_id header.version_low header.version_high header.next_low header.next_high).takes songs.0.1 entries.0 t0.0.rest_fits entries.1 in
+    let t2 = lists_is.takes entries.0.1 lists.0 t1.0.rest_fits lists.1 in
+    let t3 = (stickers_is songs.0.0 t0.1).takes lists.0.1 stickers.0 t2.0.rest_fits stickers.1 in
+    let end = stickers.0.1 in
+    let s : SavedState = record {
+      key = h.key;
+      order = h.order;
+      volume = h.volume;
+      options = h.options;
+      songs = songs.0.0;
+      queue = record { entries = entries.0.0; version = h.version; next_id = h.next_id };
+      lists = lists.0.0;
+      stickers = stickers.0.0;
+    } in
+    let rows_text = list_bytes row_bytes s.songs in
+    let entries_text = list_bytes (entry_bytes s.songs) s.queue.entries in
+    let lists_text = list_bytes playlist_bytes s.lists in
+    let stickers_text = list_bytes sticker_bytes s.stickers in
+    let j2 = Takes-then entries.0.1 lists_text lists.0.1 stickers_text end t2.0 t3.0 in
+    let j1 = Takes-then songs.0.1 entries_text entries.0.1 (lists_text ++ stickers_text) end t1.0 j2 in
+    let j0 : Takes bytes (parts_bytes s) end = Takes-then bytes rows_text songs.0.1 (entries_text ++ (lists_text ++ stickers_text)) end t0.0 j1 in
+    let good : IsSavedState s = record {
+      key_len = header.key_len;
+      key_bytes = header.key_bytes;
+      order = header.order;
+      volume = header.volume;
+      songs = t0.1;
+      queue = t1.1;
+      lists = t2.1;
+      stickers = t3.1;
+    } in
+    subst (λ (y : SavedState × List ℕ). Takes bytes (parts_bytes y.0) y.1 × (IsSavedState y.0 × (header_of y.0 ≡ h))) {x = (s, end)} (ok_is (s, end) x stickers.2) (j0, (good, refl))
+
+parts_again : (s : SavedState) (rest : List ℕ) → IsSavedState s → parts_at (header_of s) (parts_bytes s ++ rest) ≡ Ok (s, rest)
+unfolding parts_at
+parts_again s rest fits =
+    let queue = fits.queue.queue in
+    let r3 = list_bytes sticker_bytes s.stickers ++ rest in
+    let r2 = list_bytes playlist_bytes s.lists ++ r3 in
+    let r1 = list_bytes (entry_bytes s.songs) s.queue.entries ++ r2 in
+    let join : (a b c : List ℕ) → (a ++ b) ++ c ≡ a ++ (b ++ c) = append_assoc in
+    let tail : (list_bytes playlist_bytes s.lists ++ list_bytes sticker_bytes s.stickers) ++ rest ≡ r2 = join (list_bytes playlist_bytes s.lists) (list_bytes sticker_bytes s.stickers) rest in
+    let middle : (list_bytes (entry_bytes s.songs) s.queue.entries ++ (list_bytes playlist_bytes s.lists ++ list_bytes sticker_bytes s.stickers)) ++ rest ≡ r1 =
+    join (list_bytes (entry_bytes s.songs) s.queue.entries) (list_bytes playlist_bytes s.lists ++ list_bytes sticker_bytes s.stickers) rest ∙ ap (λ (r : List ℕ). list_bytes (entry_bytes s.songs) s.queue.entries ++ r) tail in
+    let regrouped : parts_bytes s ++ rest ≡ list_bytes row_bytes s.songs ++ r1 =
+    join (list_bytes row_bytes s.songs) (list_bytes (entry_bytes s.songs) s.queue.entries ++ (list_bytes playlist_bytes s.lists ++ list_bytes sticker_bytes s.stickers)) rest ∙ ap (λ (r : List ℕ). list_bytes row_bytes s.songs ++ r) middle in
+    ap (parts_at (header_of s)) regrouped
+    ∙ rw (
+      songs_is.again s.songs r1 fits.songs,
+      (entries_is s.songs fits.songs s.queue.version s.queue.next_id queue.version_low queue.version_high queue.next_low queue.next_high).again s.queue.entries r2 fits.queue,
+      lists_is.again s.lists r3 fits.lists,
+      (stickers_is s.songs fits.songs).again s.stickers rest fits.stickers,
+    )
+    refl
+
+-- ---- the state
+
+pub saved_takes : (bytes : List ℕ) (x : SavedState × List ℕ) → IsBytes bytes → saved_at bytes ≡ Ok x → Takes bytes (saved_bytes x.0) x.1 × IsSavedState x.0
+unfolding saved_at
+saved_takes bytes x fits e =
+    let h = bind_ok (header_at bytes) _ x e in
+    let t = header_takes bytes h.0 fits h.1 in
+    let u = parts_take h.0.0 h.0.1 x t.1 t.0.rest_fits h.2 in
+    let front : Takes bytes (head_bytes x.0) h.0.1 = subst (λ (header : Header). Takes bytes (header_text header) h.0.1) (sym u.1.1) t.0 in
+    (Takes-then bytes (head_bytes x.0) h.0.1 (parts_bytes x.0) x.1 front u.0, u.1.0)
+
+pub saved_again : (s : SavedState) (rest : List ℕ) → IsSavedState s → saved_at (saved_bytes s ++ rest) ≡ Ok (s, rest)
+unfolding saved_at
+saved_again s rest fits =
+    let queue = fits.queue.queue in
+    let header : IsHeader (header_of s) = record {
+      key_len = fits.key_len;
+      key_bytes = fits.key_bytes;
+      order = fits.order;
+      version_low = queue.version_low;
+      version_high = queue.version_high;
+      next_low = queue.next_low;
+      next_high = queue.next_high;
+      volume = fits.volume;
+    } in
+    ap saved_at (append_assoc (head_bytes s) (parts_bytes s) rest)
+    ∙ rw (header_again (header_of s) (parts_bytes s ++ rest) header) (parts_again s rest fits)
 
 -- ---- the whole snapshot
 
@@ -141,12 +233,6 @@ pub snapshot_found : (bytes : List ℕ) (r : Result SavedState CodecError) → I
 snapshot_found bytes (Ok s) fits given = snapshot_takes bytes s fits given
 snapshot_found bytes (Err e) fits given = tt
 
--- a state is answered where reading gives it
-given_ok : (r : Result SavedState CodecError) (s : SavedState) → GivesSaved r (Ok s) → r ≡ Ok s
-given_ok (Ok t) s given = ap (λ (x : SavedState). Ok x) (sym (ok_is s t given))
-given_ok (Err NoMemory) s given = absurd given
-given_ok (Err (BadOp offset)) s given = absurd given
-given_ok (Err (BadSnapshot offset)) s given = absurd cc
-
-pub snapshot_only : (bytes : List ℕ) (r : Result SavedState CodecError) (s : SavedState) → IsSavedState s → bytes ≡ saved_bytes s → GivesSaved r (saved_reading bytes) → r ≡ Ok s
-snapshot_only bytes r s fits e given = given_ok r s (subst (GivesSaved r) (ap saved_reading e ∙ snapshot_again s fits) given)
+-- a state that is spelled is answered, unless memory runs out
+pub snapshot_only : (bytes : List ℕ) (r : Result SavedState CodecError) (s : SavedState) → IsSavedState s → bytes ≡ saved_bytes s → GivesSaved r (saved_reading bytes) → GivesSaved r (Ok s)
+snapshot_only bytes r s fits e given = subst (GivesSaved r) (ap saved_reading e ∙ snapshot_again s fits) given

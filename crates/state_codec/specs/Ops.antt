@@ -1,14 +1,58 @@
--- Which ops have a spelling.
-use Rattle.std.specs.Prelude.{◌<◌, ◌≤◌, ◌^◌, List, length}
+-- What every op of the program keeps: its numbers are in range and its texts have their form.
+use Rattle.std.specs.Prelude.{ℕ, ◌<◌, ◌≤◌, ◌^◌, List, length, IsTrue}
 use Rattle.std.specs.List.{AllByRecursion}
+use Rattle.song_db.specs.Uri.{is_uri}
+use Rattle.state_codec.specs.Changes.{AreChanges}
+use Rattle.state_codec.specs.Numbers.{MAX_COUNT, AreRowNumbers, AreOpRanges}
+use Rattle.state_codec.specs.Text.{is_text, is_sticker_text}
 use Rattle.state_codec.specs.declared.op.Op.{Op}
-use Rattle.state_codec.specs.declared.op.Op.TheVariants.{SetOption, SetVolume, SetOrder}
+use Rattle.state_codec.specs.declared.op.Op.TheVariants.{SetOption, SetVolume, SetOrder, Queue, List as OfList, Sticker, Batch}
+use Rattle.state_codec.specs.declared.op.queue_op.QueueOp.{QueueOp}
+use Rattle.state_codec.specs.declared.op.queue_op.QueueOp.TheVariants as queue
+use Rattle.state_codec.specs.declared.op.list_op.ListOp.{ListOp}
+use Rattle.state_codec.specs.declared.op.list_op.ListOp.TheVariants as lists
+use Rattle.state_codec.specs.declared.op.sticker_op.StickerOp.{StickerOp}
+use Rattle.state_codec.specs.declared.op.sticker_op.StickerOp.TheVariants as stickers
 
--- its numbers are in range, as those of an `Op` of the program always are
+abbrev pub AreNumbers : ℕ → ℕ → Type 0
+AreNumbers one other = (one ≤ MAX_COUNT) × (other ≤ MAX_COUNT)
+
+abbrev pub IsQueueOp : QueueOp → Type 0
+IsQueueOp (queue.Add at rows) = (at ≤ MAX_COUNT) × AreRowNumbers rows
+IsQueueOp (queue.Delete start end) = AreNumbers start end
+IsQueueOp (queue.Move start end to) = AreNumbers start end × (to ≤ MAX_COUNT)
+IsQueueOp (queue.Swap one other) = AreNumbers one other
+IsQueueOp (queue.Shuffle start end) = AreNumbers start end
+IsQueueOp (queue.Prio priority ranges) = (priority < 256) × AreOpRanges ranges
+
+abbrev pub IsText : List ℕ → Type 0
+IsText text = IsTrue (is_text text)
+
+abbrev pub IsListOp : ListOp → Type 0
+IsListOp (lists.Save name) = IsText name
+IsListOp (lists.Add name rows) = IsText name × AreRowNumbers rows
+IsListOp (lists.Remove name start end) = IsText name × AreNumbers start end
+IsListOp (lists.Move name from to) = IsText name × AreNumbers from to
+IsListOp (lists.Clear name) = IsText name
+IsListOp (lists.Rename from to) = IsText from × IsText to
+IsListOp (lists.Drop name) = IsText name
+
+abbrev pub IsUri : List ℕ → Type 0
+IsUri uri = IsTrue (is_uri uri)
+
+abbrev pub IsStickerOp : StickerOp → Type 0
+IsStickerOp (stickers.Set uri name value) = IsUri uri × (IsText name × IsTrue (is_sticker_text value))
+IsStickerOp (stickers.Delete uri name) = IsUri uri × IsText name
+IsStickerOp (stickers.DeleteAll uri) = IsUri uri
+
 abbrev pub IsOp : Op → Type 0
 IsOp (SetOption setting) = Unit {0}
 IsOp (SetVolume volume) = volume ≤ 100
 IsOp (SetOrder order) = order < 2 ^ 64
+IsOp (Queue op) = IsQueueOp op
+IsOp (OfList op) = IsListOp op
+IsOp (Sticker op) = IsStickerOp op
+IsOp (Batch changes) = AreChanges changes
 
 -- the ops of one record: at least one
 abbrev pub AreOps : List Op → Type 0

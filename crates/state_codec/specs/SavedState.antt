@@ -1,40 +1,76 @@
--- What is kept of the daemon's state on disk. There are no song rows, queue entries, playlists and stickers yet.
-use Rattle.std.specs.Prelude.{◌≡◌, ℕ, ◌<◌, ◌≤◌, ◌^◌, List, length, slice_index, false}
+-- What is kept of the daemon's state on disk.
+use Rattle.std.specs.Prelude.{◌≡◌, ℕ, ◌<◌, ◌≤◌, ◌^◌, List, [], length, slice_index, false, IsTrue}
+use Rattle.std.specs.List.{All, AllByRecursion}
+use Rattle.std.specs.Str.{is_utf8}
+use Rattle.play_queue.specs.declared.entry.Entry.{Entry}
+use Rattle.play_queue.specs.Queue.{QueueState, IsQueue}
 use Rattle.player_core.specs.declared.options.Options.{Options}
 use Rattle.player_core.specs.declared.options.Single.TheVariants.{Off}
+use Rattle.song_db.specs.Change.{IsDatabase, has_uri}
+use Rattle.song_db.specs.Row.{Row}
+use Rattle.state_codec.specs.Changes.{IsSavedRow}
+use Rattle.stickers.specs.Sticker.{Sticker, IsWithinLimits as AreStickers}
+use Rattle.stored_lists.specs.Lists.{Stored, IsRising, IsWithinLimits as AreLists}
 
 pub record SavedState : Type 0 where
   pub key : List ℕ
   pub order : ℕ
-  pub version : ℕ
-  pub next_id : ℕ
   pub volume : ℕ
   pub options : Options
+  pub songs : List Row
+  pub queue : QueueState
+  pub lists : Stored
+  pub stickers : List Sticker
 
 -- the key of the random order has so many bytes
 abbrev pub key_len : ℕ
 key_len = 32
 
--- versions and ids go up to this number
-abbrev pub largest : ℕ
-largest = 2147483647
-
--- the next id, once the largest was given
-abbrev pub ids_spent : ℕ
-ids_spent = 2147483648
-
 abbrev pub IsBytes : List ℕ → Type 0
 IsBytes bytes = (i : ℕ) → slice_index bytes i < 256
+
+-- an entry is of a song that has a row
+pub record IsSavedEntry (songs : List Row) (entry : Entry) : Type 0 where
+  pub has_row : IsTrue (has_uri songs entry.uri)
+  pub priority : entry.priority < 256
+
+-- a playlist's name is text; that its songs have rows isn't asked
+abbrev pub IsSavedList : List ℕ × List (List ℕ) → Type 0
+IsSavedList list = IsTrue (is_utf8 list.0)
+
+-- a sticker is of a song that has a row
+pub record IsSavedSticker (songs : List Row) (sticker : Sticker) : Type 0 where
+  pub has_row : IsTrue (has_uri songs sticker.uri)
+  pub name : IsTrue (is_utf8 sticker.name)
+  pub value : IsTrue (is_utf8 sticker.value)
+
+-- the songs, each of whose rows is one of the program's
+pub record AreSavedSongs (songs : List Row) : Type 0 where
+  pub database : IsDatabase songs
+  pub rows : All IsSavedRow songs
+
+pub record IsSavedQueue (songs : List Row) (saved : QueueState) : Type 0 where
+  pub queue : IsQueue saved
+  pub entries : All (IsSavedEntry songs) saved.entries
+
+pub record AreSavedLists (lists : Stored) : Type 0 where
+  pub rising : IsRising lists
+  pub within : AreLists lists
+  pub texts : AllByRecursion IsSavedList lists
+
+pub record AreSavedStickers (songs : List Row) (stickers : List Sticker) : Type 0 where
+  pub within : AreStickers stickers
+  pub each : AllByRecursion (IsSavedSticker songs) stickers
 
 pub record IsSavedState (s : SavedState) : Type 0 where
   pub key_len : length s.key ≡ key_len
   pub key_bytes : IsBytes s.key
   pub order : s.order < 2 ^ 64
-  pub version_low : 1 ≤ s.version
-  pub version_high : s.version ≤ largest
-  pub next_id_low : 1 ≤ s.next_id
-  pub next_id_high : s.next_id ≤ ids_spent
   pub volume : s.volume ≤ 100
+  pub songs : AreSavedSongs s.songs
+  pub queue : IsSavedQueue s.songs s.queue
+  pub lists : AreSavedLists s.lists
+  pub stickers : AreSavedStickers s.songs s.stickers
 
 -- the state of a new journal
 abbrev pub fresh : List ℕ → SavedState
@@ -42,8 +78,10 @@ fresh key =
     record {
       key = key;
       order = 0;
-      version = 1;
-      next_id = 1;
       volume = 100;
       options = record { repeat = false; random = false; single = Off; consume = false };
+      songs = [];
+      queue = record { entries = []; version = 1; next_id = 1 };
+      lists = [];
+      stickers = [];
     }

@@ -1,58 +1,49 @@
 -- The one spelling of ops and of a saved state in bytes. Numbers are little-endian.
-use Rattle.std.specs.Prelude.{ℕ, List, [], ◌∷◌, ◌++◌, Bool, true, false}
-use Rattle.std.specs.List.{concat, flat_map}
-use Rattle.std.specs.Int.{w32, w64, to_le_bytes}
+use Rattle.std.specs.Prelude.{ℕ, List, ◌++◌, unwrap_or}
+use Rattle.std.specs.List.{flat_map}
+use Rattle.play_queue.specs.declared.entry.Entry.{Entry}
 use Rattle.player_core.specs.declared.options.Options.{Options}
-use Rattle.player_core.specs.declared.options.Single.{Single}
-use Rattle.player_core.specs.declared.options.Single.TheVariants.{Off, On, Oneshot}
+use Rattle.song_db.specs.Query.{number_at}
+use Rattle.song_db.specs.Row.{Row}
+use Rattle.stickers.specs.Sticker.{Sticker}
 use Rattle.state_codec.specs.declared.op.Op.{Op}
-use Rattle.state_codec.specs.declared.op.Op.TheVariants.{SetOption, SetVolume, SetOrder}
-use Rattle.state_codec.specs.declared.op.Setting.{Setting}
-use Rattle.state_codec.specs.declared.op.Setting.TheVariants as settings
 use Rattle.state_codec.specs.SavedState.{SavedState}
-
-abbrev pub flag_bytes : Bool → List ℕ
-flag_bytes false = 0 ∷ []
-flag_bytes true = 1 ∷ []
-
-abbrev pub single_bytes : Single → List ℕ
-single_bytes Off = 0 ∷ []
-single_bytes On = 1 ∷ []
-single_bytes Oneshot = 2 ∷ []
-
--- the option's number and its value
-abbrev pub setting_bytes : Setting → List ℕ
-setting_bytes (settings.Repeat on) = 1 ∷ flag_bytes on
-setting_bytes (settings.Random on) = 2 ∷ flag_bytes on
-setting_bytes (settings.Single value) = 3 ∷ single_bytes value
-setting_bytes (settings.Consume on) = 4 ∷ flag_bytes on
-
--- the op's number and its fields
-abbrev pub op_bytes : Op → List ℕ
-op_bytes (SetOption value) = 1 ∷ setting_bytes value
-op_bytes (SetVolume volume) = 2 ∷ volume ∷ []
-op_bytes (SetOrder order) = 3 ∷ to_le_bytes w64 order
+use Rattle.state_codec.specs.SpellingFields.{byte_bytes, u32_bytes, u64_bytes, flag_bytes, single_bytes, text_bytes, list_bytes}
+use Rattle.state_codec.specs.SpellingOps.{op_bytes}
+use Rattle.state_codec.specs.SpellingRows.{row_bytes}
 
 -- the body of a record: its ops one after the other
 abbrev pub ops_bytes : List Op → List ℕ
 ops_bytes ops = flat_map op_bytes ops
 
 abbrev pub options_bytes : Options → List ℕ
-options_bytes options = flag_bytes options.repeat ++ (flag_bytes options.random ++ (single_bytes options.single ++ flag_bytes options.consume))
+options_bytes options =
+    flag_bytes options.repeat ++ (flag_bytes options.random ++ (single_bytes options.single ++ flag_bytes options.consume))
 
--- a count of 0 each for rows, queue entries, playlists and stickers
-abbrev pub no_parts : List ℕ
-no_parts = concat (to_le_bytes w32 0 ∷ to_le_bytes w32 0 ∷ to_le_bytes w32 0 ∷ to_le_bytes w32 0 ∷ [])
+-- an entry of the queue: its id, the number of its song's row, its priority and its stamp
+abbrev pub entry_bytes : List Row → Entry → List ℕ
+entry_bytes songs entry =
+    u32_bytes entry.id ++ (u32_bytes (unwrap_or (number_at songs entry.uri) 0) ++ (byte_bytes entry.priority ++ u32_bytes entry.stamp))
+
+-- a playlist: its name and its songs
+abbrev pub playlist_bytes : List ℕ × List (List ℕ) → List ℕ
+playlist_bytes list = text_bytes list.0 ++ list_bytes text_bytes list.1
+
+abbrev pub sticker_bytes : Sticker → List ℕ
+sticker_bytes sticker = text_bytes sticker.uri ++ (text_bytes sticker.name ++ text_bytes sticker.value)
+
+-- what stands in front of the parts: key, order, the queue's version and next id, volume and options
+abbrev pub head_bytes : SavedState → List ℕ
+head_bytes s =
+    s.key
+    ++ (u64_bytes s.order ++ (u32_bytes s.queue.version ++ (u32_bytes s.queue.next_id ++ (byte_bytes s.volume ++ options_bytes s.options))))
+
+-- rows, queue entries, playlists and stickers, each behind their number
+abbrev pub parts_bytes : SavedState → List ℕ
+parts_bytes s =
+    list_bytes row_bytes s.songs
+    ++ (list_bytes (entry_bytes s.songs) s.queue.entries ++ (list_bytes playlist_bytes s.lists ++ list_bytes sticker_bytes s.stickers))
 
 -- a snapshot
 abbrev pub saved_bytes : SavedState → List ℕ
-saved_bytes s =
-    concat (
-    s.key
-    ∷ to_le_bytes w64 s.order
-    ∷ to_le_bytes w32 s.version
-    ∷ to_le_bytes w32 s.next_id
-    ∷ (s.volume ∷ [])
-    ∷ options_bytes s.options
-    ∷ no_parts
-    ∷ [])
+saved_bytes s = head_bytes s ++ parts_bytes s

@@ -1,14 +1,16 @@
--- What the fields of a `Saved` stand for.
-use Rattle.state_codec.specs.declared.saved.Saved.TheInside.{Inside}
+-- What the parts of a `Saved` stand for.
+use Rattle.state_codec.specs.declared.saved.parts.SavedParts.{SavedParts}
 use Rattle.state_codec.specs.SavedState.{SavedState}
 
-abbrev pub stored : Inside → SavedState
-stored a =
+abbrev pub state_of : SavedParts → SavedState
+state_of parts =
     record {
-      key = a.key;
-      order = a.order;
-      version = a.version;
-      next_id = a.next_id;
-      volume = a.volume;
-      options = a.options;
+      key = parts.key;
+      order = parts.order;
+      volume = parts.volume;
+      options = parts.options;
+      songs = parts.songs;
+      queue = parts.queue;
+      lists = parts.lists;
+      stickers = parts.stickers;
     }

@@ -1,23 +1,37 @@
-ghost use Rattle.std.specs.Prelude.{◌≡◌, ◌-◌, length, IfOk};
-ghost use Rattle.std.specs.Int.{w32, w64, IsInRange};
-ghost use Rattle.state_codec.specs.Fields.{Gives};
-ghost use Rattle.state_codec.specs.Reading.{byte_at, number_at, number_within, volume_at, flag_at, single_at, key_at};
+ghost use Rattle.std.specs.Prelude.{◌≡◌, ◌-◌, length, IfOk, IfSome, IsTrue, is_some};
+ghost use Rattle.std.specs.Int.{IsInRange, w16};
+ghost use Rattle.std.specs.Str.{is_utf8};
+ghost use Rattle.state_codec.specs.Text.{is_text};
+ghost use Rattle.state_codec.specs.Given.{Gives, GivesText};
+ghost use Rattle.state_codec.specs.Fields.{byte_at, number_at, u32_at, u64_at, number_within};
+ghost use Rattle.state_codec.specs.Fields.{pair_at, volume_at, flag_at, single_at, key_at, text_at};
+ghost use Rattle.state_codec.specs.declared.fields.ReadError.TheVariants.{NoMemory as OutOfMemory};
 
 use player_core::{Single, Volume};
+use std::alloc::{AllocError, AllocFailed};
+use std::str;
 
-/// A field passes the end, or its value is out of range.
+/// Why a field could not be read.
 #[derive(Clone, Copy)]
-pub struct Fault {
-    /// How many bytes are left from that field on.
-    pub left: usize,
+pub enum ReadError {
+    /// A field passes the end, or its value is out of range. So many bytes are left from that field on.
+    Fault(usize),
+    NoMemory,
 }
 
-impl Fault {
-    /// The offset of the fault in the bytes that were read.
-    pub fn offset_in(self, bytes: &[u8]) -> usize
-        ensures { result ≡ length bytes.now - self.left }
-    {
-        bytes.len().saturating_sub(self.left)
+impl From<AllocError> for ReadError {
+    ghost from_gives = { λ _ e. e ≡ OutOfMemory };
+
+    fn from(_e: AllocError) -> ReadError {
+        ReadError::NoMemory
+    }
+}
+
+impl<T: Drop> From<AllocFailed<T>> for ReadError {
+    ghost from_gives = { λ _ e. e ≡ OutOfMemory };
+
+    fn from(_e: AllocFailed<T>) -> ReadError {
+        ReadError::NoMemory
     }
 }
 
@@ -27,17 +41,15 @@ pub struct Reader<'a> {
     pub rest: &'a [u8],
 }
 
-impl Reader<'_> {
+impl<'a> Reader<'a> {
     /// The field at the front is at fault.
-    pub fn fault(&self) -> Fault
-        ensures { result.left ≡ length self.now.rest.now }
+    pub fn fault(&self) -> ReadError
+        ensures { result ≡ ReadError.Fault (length self.now.rest.now) }
     {
-        Fault {
-            left: self.rest.len(),
-        }
+        ReadError::Fault(self.rest.len())
     }
 
-    pub fn byte(&mut self) -> Result<u8, Fault>
+    pub fn byte(&mut self) -> Result<u8, ReadError>
         ensures { Gives result self.new.rest.now (byte_at self.old.rest.now) }
     {
         match self.rest {
@@ -49,8 +61,19 @@ impl Reader<'_> {
         }
     }
 
-    fn u32(&mut self) -> Result<u32, Fault>
-        ensures { Gives result self.new.rest.now (number_at w32 self.old.rest.now) }
+    fn u16(&mut self) -> Result<u16, ReadError>
+        ensures { Gives result self.new.rest.now (number_at w16 self.old.rest.now) }
+    {
+        if self.rest.len() < 2 {
+            return Err(self.fault());
+        }
+        let (front, rest) = self.rest.split_at(2);
+        self.rest = rest;
+        Ok(u16::from_le_bytes([front[0], front[1]]))
+    }
+
+    pub fn u32(&mut self) -> Result<u32, ReadError>
+        ensures { Gives result self.new.rest.now (u32_at self.old.rest.now) }
     {
         if self.rest.len() < 4 {
             return Err(self.fault());
@@ -60,8 +83,8 @@ impl Reader<'_> {
         Ok(u32::from_le_bytes([front[0], front[1], front[2], front[3]]))
     }
 
-    pub fn u64(&mut self) -> Result<u64, Fault>
-        ensures { Gives result self.new.rest.now (number_at w64 self.old.rest.now) }
+    pub fn u64(&mut self) -> Result<u64, ReadError>
+        ensures { Gives result self.new.rest.now (u64_at self.old.rest.now) }
     {
         if self.rest.len() < 8 {
             return Err(self.fault());
@@ -74,8 +97,8 @@ impl Reader<'_> {
     }
 
     /// A number from `low` to `high`.
-    #[tactic(auto, unfolding(crate::specs::Reading::number_within))]
-    pub fn u32_within(&mut self, low: u32, high: u32) -> Result<u32, Fault>
+    #[tactic(auto, unfolding(crate::specs::Fields::such))]
+    pub fn u32_within(&mut self, low: u32, high: u32) -> Result<u32, ReadError>
         ensures value { Gives result self.new.rest.now (number_within low high self.old.rest.now) }
         ensures within { IfOk result (λ number. IsInRange low high number) }
     {
@@ -87,17 +110,17 @@ impl Reader<'_> {
         Ok(number)
     }
 
-    #[tactic(auto, unfolding(crate::specs::Reading::volume_at))]
-    pub fn volume(&mut self) -> Result<Volume, Fault>
-        ensures { Gives result self.new.rest.now (volume_at self.old.rest.now) }
+    #[tactic(auto, unfolding(crate::specs::Fields::both))]
+    pub fn pair(&mut self) -> Result<(u32, u32), ReadError>
+        ensures { Gives result self.new.rest.now (pair_at self.old.rest.now) }
     {
-        let fault = self.fault();
-        let percent = self.byte()?;
-        Volume::new(percent).ok_or(fault)
+        let first = self.u32()?;
+        let second = self.u32()?;
+        Ok((first, second))
     }
 
-    #[tactic(auto, unfolding(crate::specs::Reading::flag_at))]
-    pub fn flag(&mut self) -> Result<bool, Fault>
+    #[tactic(auto, unfolding(crate::specs::Fields::flag_at))]
+    pub fn flag(&mut self) -> Result<bool, ReadError>
         ensures { Gives result self.new.rest.now (flag_at self.old.rest.now) }
     {
         let (on, rest) = match self.rest {
@@ -109,8 +132,17 @@ impl Reader<'_> {
         Ok(on)
     }
 
-    #[tactic(auto, unfolding(crate::specs::Reading::single_at))]
-    pub fn single(&mut self) -> Result<Single, Fault>
+    #[tactic(auto, unfolding(crate::specs::Fields::such))]
+    pub fn volume(&mut self) -> Result<Volume, ReadError>
+        ensures { Gives result self.new.rest.now (volume_at self.old.rest.now) }
+    {
+        let fault = self.fault();
+        let percent = self.byte()?;
+        Volume::new(percent).ok_or(fault)
+    }
+
+    #[tactic(auto, unfolding(crate::specs::Fields::single_at))]
+    pub fn single(&mut self) -> Result<Single, ReadError>
         ensures { Gives result self.new.rest.now (single_at self.old.rest.now) }
     {
         let (single, rest) = match self.rest {
@@ -123,8 +155,8 @@ impl Reader<'_> {
         Ok(single)
     }
 
-    #[tactic(auto, unfolding(crate::specs::Reading::key_at))]
-    pub fn key(&mut self) -> Result<[u8; 32], Fault>
+    #[tactic(auto, unfolding(crate::specs::Fields::key_at))]
+    pub fn key(&mut self) -> Result<[u8; 32], ReadError>
         ensures { Gives result self.new.rest.now (key_at self.old.rest.now) }
     {
         if self.rest.len() < 32 {
@@ -135,5 +167,35 @@ impl Reader<'_> {
         let mut key = [0; 32];
         key.copy_from_slice(front);
         Ok(key)
+    }
+
+    /// A text, as it stands in the bytes.
+    #[tactic(auto, unfolding(crate::specs::Fields::text_at))]
+    pub fn text(&mut self) -> Result<&'a str, ReadError>
+        ensures value { GivesText result self.new.rest.now (text_at self.old.rest.now) }
+        ensures short { IfOk result (λ text. IsTrue (is_text text.now)) }
+    {
+        let fault = self.fault();
+        let len = usize::from(self.u16()?);
+        if self.rest.len() < len {
+            return Err(fault);
+        }
+        let (front, rest) = self.rest.split_at(len);
+        let Some(text) = text_of(front) else {
+            return Err(fault);
+        };
+        self.rest = rest;
+        Ok(text)
+    }
+}
+
+// The text that the bytes are in UTF-8.
+fn text_of(bytes: &[u8]) -> Option<&str>
+    ensures text { IfSome result (λ text. text.now ≡ bytes.now) }
+    ensures utf8 { is_some result ≡ is_utf8 bytes.now }
+{
+    match str::from_utf8(bytes) {
+        Ok(text) => Some(text),
+        Err(_) => None,
     }
 }

@@ -1,13 +1,15 @@
 //! Laws of the spelling and of ops, for the layers above: a call brings its clauses into their proofs.
-ghost use Rattle.std.specs.Prelude.{◌≡◌, ℕ, ◌++◌, List, Ok, IfSome};
-ghost use Rattle.std.specs.Option.{option_and_then};
-ghost use Rattle.std.specs.List.{AllByRecursion};
-ghost use Rattle.state_codec.specs.Ops.{IsOp, AreOps};
+ghost use Rattle.std.specs.Prelude.{◌≡◌, ℕ, ◌<◌, ◌≤◌, ◌^◌, List, Ok, length};
+ghost use Rattle.state_codec.specs.Longest.{longest_snapshot};
+ghost use Rattle.state_codec.specs.Ops.{AreOps};
 ghost use Rattle.state_codec.specs.SavedState.{SavedState, IsSavedState, IsBytes};
-ghost use Rattle.state_codec.specs.Applied.{all_applied};
 ghost use Rattle.state_codec.specs.Spelling.{ops_bytes, saved_bytes};
 ghost use Rattle.state_codec.specs.Reading.{ops_reading, saved_reading};
 ghost use Rattle.state_codec.specs.declared.op.Op.{Op};
+
+mod applied;
+
+pub use applied::applied_in_turn;
 
 /// No bytes spell two values.
 pub fn one_spelling()
@@ -26,10 +28,8 @@ pub fn read_as_spelled()
         → IsSavedState s × (bytes ≡ saved_bytes s) }
 {}
 
-/// Ops one after the other are applied in turn, and keep the state in range.
-pub fn applied_in_turn()
-    ensures joined { (a : List Op) (b : List Op) (s : SavedState)
-        → all_applied (a ++ b) s ≡ option_and_then (all_applied b) (all_applied a s) }
-    ensures in_range { (ops : List Op) (s : SavedState) → AllByRecursion IsOp ops → IsSavedState s
-        → IfSome (all_applied ops s) IsSavedState }
+/// How long a snapshot is at most: a number of 32 bits counts its bytes.
+pub fn snapshot_is_short()
+    ensures longest { (s : SavedState) → IsSavedState s → length (saved_bytes s) ≤ longest_snapshot }
+    ensures counted { longest_snapshot < 2 ^ 32 }
 {}

@@ -3,14 +3,14 @@
 
 mod fields;
 pub mod laws;
-mod op;
+pub mod op;
 mod reading;
-mod refusal;
-mod saved;
+pub mod refusal;
+pub mod saved;
 mod writing;
 
-pub use op::{Op, Setting};
+pub use op::{Changes, ListOp, Op, OpRanges, QueueOp, RowNumbers, Setting, StickerOp, Text};
 pub use reading::{take_ops, take_saved};
-pub use refusal::{CodecError, NoMemory};
-pub use saved::Saved;
+pub use refusal::{ApplyError, BodyError, CodecError, OpRefusal};
+pub use saved::{Saved, SavedParts};
 pub use writing::{put_op, put_saved};

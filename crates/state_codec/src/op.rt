@@ -1,36 +1,60 @@
-ghost use Rattle.std.specs.Prelude.{◌≡◌, length};
+ghost use Rattle.state_codec.specs.Ops.{IsOp};
 
-use player_core::{Single, Volume};
+use player_core::Volume;
 
-/// A playback option with the value that it is set to.
-#[derive(Clone, Copy, Debug, PartialEq, Eq)]
-pub enum Setting {
-    Repeat(bool),
-    Random(bool),
-    Single(Single),
-    Consume(bool),
-}
+mod changes;
+mod list_op;
+mod queue_op;
+mod ranges;
+mod row_numbers;
+mod setting;
+mod sticker_op;
+mod text;
+
+pub use changes::Changes;
+pub use list_op::ListOp;
+pub use queue_op::QueueOp;
+pub use ranges::OpRanges;
+pub use row_numbers::RowNumbers;
+pub use setting::Setting;
+pub use sticker_op::StickerOp;
+pub use text::Text;
 
 /// One change of the saved state, as a record of the journal keeps it.
-#[derive(Debug, PartialEq, Eq, Drop)]
+///
+/// A row number is the place of a song among the rows by URI, from 0 on, at the moment when the op is applied.
+#[derive(Debug, Drop)]
 pub enum Op {
     SetOption(Setting),
     SetVolume(Volume),
-    /// The order number from which the random order is drawn.
+    /// The number of the random order, from which the words of random order are drawn.
     SetOrder(u64),
+    Queue(QueueOp),
+    List(ListOp),
+    Sticker(StickerOp),
+    /// What a scan changed in the database; it takes queue entries and stickers of songs that go along.
+    Batch(Changes),
 }
 
 impl Op {
-    ghost use Rattle.state_codec.specs.Spelling.{op_bytes};
-
-    /// How many bytes the op takes in the body of a record.
-    pub fn spelled_len(&self) -> usize
-        ensures { result ≡ length (op_bytes self.now) }
+    // An op of the program has its numbers in range and its texts in their form.
+    pub(crate) fn keep_form(&self)
+        ensures { IsOp self.now }
     {
         match self {
-            Op::SetOption(_) => 3,
-            Op::SetVolume(_) => 2,
-            Op::SetOrder(_) => 9,
+            Op::SetOption(_) => {}
+            Op::SetVolume(volume) => {
+                let _percent = volume.percent();
+            }
+            Op::SetOrder(order) => {
+                let _order = *order;
+            }
+            Op::Queue(op) => op.keep_form(),
+            Op::List(op) => op.keep_form(),
+            Op::Sticker(op) => op.keep_form(),
+            Op::Batch(changes) => {
+                let _changes = changes.as_slice();
+            }
         }
     }
 }

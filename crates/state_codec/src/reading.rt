@@ -1,81 +1,42 @@
-ghost use Rattle.std.specs.Prelude.{◌≡◌, List, IfOk, Ok};
+ghost use Rattle.std.specs.Prelude.{◌≡◌, ◌-◌, List, IfOk, Ok, length};
 ghost use Rattle.state_codec.specs.Ops.{AreOps};
 ghost use Rattle.state_codec.specs.SavedState.{SavedState, IsSavedState};
 ghost use Rattle.state_codec.specs.Spelling.{ops_bytes, saved_bytes};
-ghost use Rattle.state_codec.specs.Fields.{Gives};
-ghost use Rattle.state_codec.specs.Reading.{setting_at, op_at, options_at, no_parts_at, saved_at, ops_reading, saved_reading};
-ghost use Rattle.state_codec.specs.Answers.{GivesOps, GivesSaved};
+ghost use Rattle.state_codec.specs.Reading.{ops_reading, saved_reading};
+ghost use Rattle.state_codec.specs.Answers.{GivesOps, GivesSaved, op_error, snapshot_error};
+ghost use Rattle.state_codec.specs.declared.op.Op.{Op as AnOp};
 
-use crate::fields::{Fault, Reader};
-use crate::op::{Op, Setting};
+use crate::fields::{ReadError, Reader};
+use crate::op::Op;
 use crate::refusal::CodecError;
 use crate::saved::Saved;
-use player_core::Options;
 use std::alloc::Global;
 
-impl Reader<'_> {
-    #[tactic(auto, unfolding(crate::specs::Reading::setting_at))]
-    fn setting(&mut self) -> Result<Setting, Fault>
-        ensures { Gives result self.new.rest.now (setting_at self.old.rest.now) }
-    {
-        let fault = self.fault();
-        match self.byte()? {
-            1 => Ok(Setting::Repeat(self.flag()?)),
-            2 => Ok(Setting::Random(self.flag()?)),
-            3 => Ok(Setting::Single(self.single()?)),
-            4 => Ok(Setting::Consume(self.flag()?)),
-            _ => Err(fault),
-        }
-    }
+mod body;
+mod lists;
+mod ops;
+mod queue;
+mod rows;
+mod saved;
+mod sticker_list;
 
-    #[tactic(auto, unfolding(crate::specs::Reading::op_at))]
-    fn op(&mut self) -> Result<Op, Fault>
-        ensures { Gives result self.new.rest.now (op_at self.old.rest.now) }
-    {
-        let fault = self.fault();
-        match self.byte()? {
-            1 => Ok(Op::SetOption(self.setting()?)),
-            2 => Ok(Op::SetVolume(self.volume()?)),
-            3 => Ok(Op::SetOrder(self.u64()?)),
-            _ => Err(fault),
-        }
+// What is told of a fault in the body of a record.
+fn op_error(bytes: &[u8], error: ReadError) -> CodecError
+    ensures { result ≡ op_error (length bytes.now) error }
+{
+    match error {
+        ReadError::Fault(left) => CodecError::BadOp(bytes.len().saturating_sub(left)),
+        ReadError::NoMemory => CodecError::NoMemory,
     }
+}
 
-    #[tactic(auto, unfolding(crate::specs::Reading::options_at))]
-    fn options(&mut self) -> Result<Options, Fault>
-        ensures { Gives result self.new.rest.now (options_at self.old.rest.now) }
-    {
-        Ok(Options {
-            repeat: self.flag()?,
-            random: self.flag()?,
-            single: self.single()?,
-            consume: self.flag()?,
-        })
-    }
-
-    #[tactic(auto, unfolding(crate::specs::Reading::no_parts_at))]
-    fn no_parts(&mut self) -> Result<(), Fault>
-        ensures { Gives result self.new.rest.now (no_parts_at self.old.rest.now) }
-    {
-        let _rows = self.u32_within(0, 0)?;
-        let _entries = self.u32_within(0, 0)?;
-        let _playlists = self.u32_within(0, 0)?;
-        let _stickers = self.u32_within(0, 0)?;
-        Ok(())
-    }
-
-    #[tactic(auto, unfolding(crate::specs::Reading::saved_at))]
-    fn saved(&mut self) -> Result<Saved, Fault>
-        ensures { Gives result self.new.rest.now (saved_at self.old.rest.now) }
-    {
-        let key = self.key()?;
-        let order = self.u64()?;
-        let version = self.u32_within(1, 2147483647)?;
-        let next_id = self.u32_within(1, 2147483648)?;
-        let volume = self.volume()?;
-        let options = self.options()?;
-        self.no_parts()?;
-        Ok(Saved::new(key, order, version, next_id, volume, options))
+// What is told of a fault in a snapshot.
+fn snapshot_error(bytes: &[u8], error: ReadError) -> CodecError
+    ensures { result ≡ snapshot_error (length bytes.now) error }
+{
+    match error {
+        ReadError::Fault(left) => CodecError::BadSnapshot(bytes.len().saturating_sub(left)),
+        ReadError::NoMemory => CodecError::NoMemory,
     }
 }
 
@@ -88,45 +49,46 @@ fn all_ops(alloc: Global, bytes: &[u8]) -> Result<Vec<Op>, CodecError>
     let mut reader = Reader { rest: bytes };
     let mut ops = Vec::new(alloc);
     while !reader.rest.is_empty() {
-        match reader.op() {
+        match reader.op(alloc) {
             Ok(op) => ops.push(op)?,
-            Err(fault) => return Err(CodecError::BadOp(fault.offset_in(bytes))),
+            Err(error) => return Err(op_error(bytes, error)),
         }
     }
     Ok(ops)
 }
 
-/// The ops that the body of a record spells, all of its bytes.
+/// The ops that the body of a record spells, all of its bytes. Refused by `BadOp` and `NoMemory`.
 pub fn take_ops(alloc: Global, bytes: &[u8]) -> Result<Vec<Op>, CodecError>
     // What is read is spelled so.
     ensures found { IfOk result (λ ops. AreOps ops.items × (bytes.now ≡ ops_bytes ops.items)) }
     // What is spelled so is read, unless memory runs out.
-    ensures only { (ops : List Op) → AreOps ops → bytes.now ≡ ops_bytes ops → GivesOps result (Ok ops) }
+    ensures only { (ops : List AnOp) → AreOps ops → bytes.now ≡ ops_bytes ops → GivesOps result (Ok ops) }
     // Else the fault is that of the first field from the left.
     ensures exact { GivesOps result (ops_reading bytes.now) }
 {
     all_ops(alloc, bytes)
 }
 
-fn only_saved(bytes: &[u8]) -> Result<Saved, CodecError>
+fn only_saved(alloc: Global, bytes: &[u8]) -> Result<Saved, CodecError>
     ensures { GivesSaved result (saved_reading bytes.now) }
 {
     let mut reader = Reader { rest: bytes };
-    match reader.saved() {
+    match reader.saved(alloc) {
         Ok(saved) if reader.rest.is_empty() => Ok(saved),
-        Ok(_) => Err(CodecError::BadSnapshot(reader.fault().offset_in(bytes))),
-        Err(fault) => Err(CodecError::BadSnapshot(fault.offset_in(bytes))),
+        Ok(_) => Err(snapshot_error(bytes, reader.fault())),
+        Err(error) => Err(snapshot_error(bytes, error)),
     }
 }
 
-/// The state that a snapshot spells, all of its bytes. It takes no memory.
-pub fn take_saved(bytes: &[u8]) -> Result<Saved, CodecError>
+/// The state that a snapshot spells, all of its bytes, made in linear time but for the look-ups of URIs. Refused by
+/// `BadSnapshot` and `NoMemory`.
+pub fn take_saved(alloc: Global, bytes: &[u8]) -> Result<Saved, CodecError>
     // What is read is spelled so.
     ensures found { IfOk result (λ saved. IsSavedState saved × (bytes.now ≡ saved_bytes saved)) }
-    // What is spelled so is read.
-    ensures only { (saved : SavedState) → IsSavedState saved → bytes.now ≡ saved_bytes saved → result ≡ Ok saved }
+    // What is spelled so is read, unless memory runs out.
+    ensures only { (saved : SavedState) → IsSavedState saved → bytes.now ≡ saved_bytes saved → GivesSaved result (Ok saved) }
     // Else the fault is that of the first field from the left.
     ensures exact { GivesSaved result (saved_reading bytes.now) }
 {
-    only_saved(bytes)
+    only_saved(alloc, bytes)
 }

@@ -1,18 +1,31 @@
-ghost use Rattle.std.specs.Prelude.{◌≡◌, ◌≤◌};
-ghost use Rattle.state_codec.specs.SavedState.{IsSavedState, fresh, largest, ids_spent};
+ghost use Rattle.std.specs.Prelude.{◌≡◌, IfOk};
+ghost use Rattle.state_codec.specs.SavedState.{IsSavedState, fresh};
+ghost use Rattle.state_codec.specs.Stored.{state_of};
 
+use no_memory::NoMemory;
+use play_queue::Queue;
 use player_core::{Options, Volume};
+use song_db::SongDb;
+use std::alloc::Global;
 use std::marker::Model;
+use stickers::Stickers;
+use stored_lists::Lists;
 
-/// The state that is kept on disk.
+mod applying;
+mod batch;
+mod checking;
+mod list_edits;
+mod parts;
+mod queue_edits;
+mod row_edits;
+mod sticker_edits;
+
+pub use parts::SavedParts;
+
+/// The state that is kept on disk. Each URI of the queue and of a sticker has a row.
 #[derive(Debug, Drop)]
 pub struct Saved {
-    key: [u8; 32],
-    order: u64,
-    version: u32,
-    next_id: u32,
-    volume: Volume,
-    options: Options,
+    parts: SavedParts,
 }
 
 impl Model for Saved {
@@ -20,98 +33,107 @@ impl Model for Saved {
 
     ghost Value = { SavedState };
 
-    ghost use Rattle.state_codec.specs.Stored.{stored};
+    ghost use Rattle.state_codec.specs.Stored.{state_of};
 
-    ghost view = { stored };
+    ghost view = { λ s. state_of s.parts };
 
-    ghost invariant = { λ a. IsSavedState (stored a) };
+    ghost invariant = { λ s. IsSavedState (state_of s.parts) };
 }
 
 impl Saved {
-    /// The state of a new journal, whose random order is drawn from this key.
-    pub fn fresh(key: [u8; 32]) -> Self
+    /// The state of a new journal, whose random order is drawn from this key. It takes no memory yet.
+    pub fn fresh(alloc: Global, key: [u8; 32]) -> Self
         ensures { result ≡ fresh key }
     {
         Saved {
-            key,
-            order: 0,
-            version: 1,
-            next_id: 1,
-            volume: Volume::default(),
-            options: Options::default(),
+            parts: SavedParts {
+                key,
+                order: 0,
+                volume: Volume::default(),
+                options: Options::default(),
+                songs: SongDb::new(alloc),
+                queue: Queue::new(alloc),
+                lists: Lists::new(alloc),
+                stickers: Stickers::new(alloc),
+            },
         }
     }
 
-    /// The state of these parts. A version is from 1 to 2147483647, and so is an id; a next id of 2147483648 says that all were given.
-    pub fn new(
-        key: [u8; 32],
-        order: u64,
-        version: u32,
-        next_id: u32,
-        volume: Volume,
-        options: Options,
-    ) -> Self
-        requires version_low { 1 ≤ version }
-        requires version_high { version ≤ largest }
-        requires next_id_low { 1 ≤ next_id }
-        requires next_id_high { next_id ≤ ids_spent }
-        ensures { result ≡ record {
-          key = key;
-          order = order;
-          version = version;
-          next_id = next_id;
-          volume = volume;
-          options = options;
-        } }
+    /// The state of these parts.
+    pub fn from_parts(parts: SavedParts) -> Self
+        requires { IsSavedState (state_of parts) }
+        ensures { result ≡ state_of parts }
     {
-        Saved {
-            key,
-            order,
-            version,
-            next_id,
-            volume,
-            options,
-        }
+        Saved { parts }
     }
 
     /// The key from which the random order is drawn.
     pub fn key(&self) -> [u8; 32]
-        ensures { result ≡ self.now.key }
+        ensures key { result ≡ self.now.key }
+        ensures kept { IsSavedState self.now }
     {
-        self.key
+        self.parts.key
     }
 
     /// The number of the random order that is in force.
     pub fn order(&self) -> u64
         ensures { result ≡ self.now.order }
     {
-        self.order
-    }
-
-    /// The queue's version, from 1 to 2147483647.
-    pub fn version(&self) -> u32
-        ensures value { result ≡ self.now.version }
-        ensures within { IsSavedState self.now }
-    {
-        self.version
-    }
-
-    /// The id of the next queue entry, or 2147483648 where all ids were given.
-    pub fn next_id(&self) -> u32
-        ensures { result ≡ self.now.next_id }
-    {
-        self.next_id
+        self.parts.order
     }
 
     pub fn volume(&self) -> Volume
         ensures { result ≡ self.now.volume }
     {
-        self.volume
+        self.parts.volume
     }
 
     pub fn options(&self) -> Options
         ensures { result ≡ self.now.options }
     {
-        self.options
+        self.parts.options
+    }
+
+    pub fn songs(&self) -> &SongDb
+        ensures { result.now ≡ self.now.songs }
+    {
+        &self.parts.songs
+    }
+
+    pub fn queue(&self) -> &Queue
+        ensures { result.now ≡ self.now.queue }
+    {
+        &self.parts.queue
+    }
+
+    pub fn lists(&self) -> &Lists
+        ensures { result.now ≡ self.now.lists }
+    {
+        &self.parts.lists
+    }
+
+    pub fn stickers(&self) -> &Stickers
+        ensures { result.now ≡ self.now.stickers }
+    {
+        &self.parts.stickers
+    }
+
+    /// The same state once more, in memory of its own.
+    pub fn try_clone(&self, alloc: Global) -> Result<Saved, NoMemory>
+        ensures { IfOk result (λ copy. copy ≡ self.now) }
+    {
+        let parts = &self.parts;
+        Ok(Saved {
+            parts: SavedParts {
+                key: parts.key,
+                order: parts.order,
+                volume: parts.volume,
+                options: parts.options,
+                songs: parts.songs.try_clone(alloc).map_err(|_| NoMemory)?,
+                queue: parts.queue.try_clone(alloc)?,
+                lists: parts.lists.try_clone(alloc)?,
+                stickers: parts.stickers.try_clone(alloc)?,
+            },
+        })
     }
 }

@@ -1,7 +1,8 @@
 mod Added
 mod Behind
+mod Below
 mod ByName
-mod Counted
+pub mod Counted
 mod FoundSongs
 mod Flat
 mod Named

@@ -1,13 +1,12 @@
 -- Which values change the stickers.
-use Rattle.std.proofs.Common.{◌≡◌, ◌≢◌, ℕ, Bool, true, false, not, ◌&&◌, List, [], ◌∷◌, find, Option, Some, None, refl, sym, ap, ◌∙◌}
+use Rattle.std.proofs.Common.{◌≡◌, ◌≢◌, ℕ, Bool, true, false, not, ◌&&◌, List, [], ◌∷◌, find, Some, None, refl, sym, ap, ◌∙◌}
 use Rattle.std.specs.declared.cmp.Ordering.{Ordering}
 use Rattle.std.specs.declared.cmp.Ordering.TheVariants.{Less, Equal, Greater}
 use Rattle.std.specs.Bool.{OnTrue, OnFalse}
 use Rattle.std.specs.Ordering.{match_ordering, is_eq}
-use Rattle.std.specs.Option.{option_map}
 use Rattle.std.specs.Str.{bytes_eq}
 use Rattle.std.proofs.lemmas.Slice.Eq.{bytes_eq-Decides}
-use Rattle.stickers.specs.Sticker.{Sticker, compare, placed, is_at, value_at, with_sticker, AreRising}
+use Rattle.stickers.specs.Sticker.{Sticker, compare, is_at, value_at, with_sticker, AreRising}
 use Rattle.stickers.proofs.Counted.{is_at-compare, none_after, below_later}
 
 abbrev sticker_of : List ℕ → List ℕ → List ℕ → Sticker

@@ -1,6 +1,5 @@
 -- Which stickers can't be added behind those that were saved before them.
-use Rattle.std.specs.Prelude.{◌≡◌, ℕ, Bool, true, not, nat_le, List, [], length, Option, Some, None, Result, Err, IsOk}
-use Rattle.std.specs.Prelude.{IsOkUnless, string_bytes, if◌then◌else◌}
+use Rattle.std.specs.Prelude.{◌≡◌, ℕ, Bool, true, not, nat_le, List, [], length, Option, Some, None, string_bytes, if◌then◌else◌}
 use Rattle.std.specs.declared.string.String.{String}
 use Rattle.std.specs.declared.alloc.Global.{Global}
 use Rattle.std.specs.List.{list_all}
@@ -9,7 +8,7 @@ use Rattle.stickers.specs.Limits.{MAX_STICKERS}
 use Rattle.stickers.specs.Name.{is_good_name}
 use Rattle.stickers.specs.Sticker.{Sticker, sticker, compare}
 use Rattle.stickers.specs.declared.refusal.PartError.{PartError}
-use Rattle.stickers.specs.declared.refusal.PartError.TheVariants.{BadName, NotRising, TooMany, NoMemory}
+use Rattle.stickers.specs.declared.refusal.PartError.TheVariants.{BadName, NotRising, TooMany}
 
 -- all stickers stand before one of this URI and name
 abbrev pub is_last : List Sticker → List ℕ → List ℕ → Bool
@@ -31,13 +30,3 @@ part_refusal all uri name =
     else if not (is_last all uri name) then Some NotRising
     else if nat_le MAX_STICKERS (length all) then Some TooMany
     else None
-
--- a part is refused by this, or else it is taken
-abbrev pub AnswersPart : {T : Type 0} → Option PartError → Result T PartError → Type 0
-AnswersPart None r = IsOk r
-AnswersPart (Some e) r = r ≡ Err e
-
--- a part is refused by this, or else by want of memory alone
-abbrev pub AnswersPartIfMemory : {T : Type 0} → Option PartError → Result T PartError → Type 0
-AnswersPartIfMemory None r = IsOkUnless r NoMemory
-AnswersPartIfMemory (Some e) r = r ≡ Err e

@@ -1,10 +1,10 @@
-ghost use Rattle.std.specs.Prelude.{◌≡◌, List, [], length, OnOk, OnErr, option_map, MatchOption, IfOk, map};
-ghost use Rattle.std.specs.Option.{option_to_list};
+ghost use Rattle.std.specs.Prelude.{◌≡◌, [], length, OnOk, OnErr, option_map, MatchOption, IfOk};
 ghost use Rattle.stickers.specs.Find.{found_in};
 ghost use Rattle.stickers.specs.Sticker.{flat, in_song, value_at, stickers_of, with_sticker, without_sticker, without_song};
 
 use crate::copying::clone_songs;
-use crate::find::{Found, FoundSticker, ValueTest};
+use crate::find::{Found, ValueTest};
+use crate::searching::{find_in, joined};
 use crate::song::SongStickers;
 use crate::stickers::Iter;
 use crate::value::StickerValue;
@@ -73,7 +73,8 @@ impl StickersBySong {
         }
     }
 
-    // The songs below a place with a sticker of the name whose value passes the test.
+    // The songs below a place with a sticker of the name whose value passes the test. Those below a folder stand
+    // together: their URIs begin with the folder and a slash, and `0` is the byte after the slash.
     pub(crate) fn find<'a>(
         &'a self,
         alloc: Global,
@@ -83,16 +84,14 @@ impl StickersBySong {
     ) -> Result<Found<'a>, AllocError>
         ensures { IfOk result (λ found. found ≡ found_in self.now place.entry name.now test.now) }
     {
-        let mut found = Vec::new(alloc);
-        for (uri, song) in self.songs.iter() {
-            if let Some(value) = found_in_song(uri.as_str(), song, place, name, test) {
-                found.push(FoundSticker {
-                    uri: uri.as_str(),
-                    value: value.as_str(),
-                })?;
+        match place {
+            Place::Root => find_in(alloc, self.songs.range(..), name, test),
+            Place::At(folder) => {
+                let first = joined(alloc, folder, "/")?;
+                let end = joined(alloc, folder, "0")?;
+                find_in(alloc, self.songs.range(first..end), name, test)
             }
         }
-        Ok(Found { found })
     }
 
     // Sets a value. What needs memory is taken before anything changes.
@@ -150,31 +149,5 @@ impl StickersBySong {
                 self.songs.remove(uri);
             }
         }
-    }
-}
-
-// The sticker of a song that `find` gives, if there is one.
-fn found_in_song<'a>(
-    uri: &str,
-    song: &'a SongStickers,
-    place: Place<'_>,
-    name: &str,
-    test: &ValueTest<'_>,
-) -> Option<&'a StickerValue>
-    ensures { map (λ value. (uri.now, value)) (option_to_list (option_map (λ value. value.now) result))
-        ≡ found_in (in_song (uri.now, song.now)) place.entry name.now test.now }
-{
-    if !place.is_over(uri) {
-        return None;
-    }
-    match song.get(name) {
-        Some(value) => {
-            if test.passes(value.as_str()) {
-                Some(value)
-            } else {
-                None
-            }
-        }
-        None => None,
     }
 }

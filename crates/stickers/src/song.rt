@@ -1,12 +1,15 @@
 ghost use Rattle.std.specs.Prelude.{◌≡◌, ℕ, ◌↔◌, List, [], ◌∷◌, length, IsTrue, IfOk, OnOk, OnErr, option_map, string_bytes};
-ghost use Rattle.stickers.specs.ByName.{by_name};
 ghost use Rattle.stickers.specs.Named.{IsRising, under, with_name, without_name};
 
 use crate::copying::clone_values;
 use crate::value::StickerValue;
 use std::alloc::{AllocError, Global};
-use std::collections::{BTreeMap, btree_map};
+use std::collections::BTreeMap;
 use std::marker::Model;
+
+mod iter;
+
+pub use iter::NamedValues;
 
 /// The stickers of one song by the bytes of their names.
 #[derive(Debug, Drop)]
@@ -63,10 +66,12 @@ impl SongStickers {
     }
 
     /// The names, by their bytes, with their values.
-    pub fn iter(&self) -> btree_map::Iter<'_, String, StickerValue>
-        ensures { by_name result ≡ self.now }
+    pub fn iter(&self) -> NamedValues<'_>
+        ensures { result ≡ self.now }
     {
-        self.values.iter()
+        NamedValues {
+            values: self.values.iter(),
+        }
     }
 
     /// The same stickers once more, in memory of their own.

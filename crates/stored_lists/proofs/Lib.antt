@@ -1,6 +1,6 @@
-mod Absent
+pub mod Absent
 mod ByName
-mod Counted
+pub mod Counted
 mod Last
-mod Renamed
+pub mod Renamed
 mod Turned

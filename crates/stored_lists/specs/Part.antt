@@ -1,5 +1,5 @@
 -- Which playlists can't be added behind those that were saved before them.
-use Rattle.std.specs.Prelude.{◌≡◌, ℕ, Bool, not, nat_le, List, length, Option, Some, None, Result, Err, IsOk, IsOkUnless, if◌then◌else◌}
+use Rattle.std.specs.Prelude.{ℕ, Bool, not, nat_le, List, length, Option, Some, None, if◌then◌else◌}
 use Rattle.std.specs.List.{list_all}
 use Rattle.std.specs.Ordering.{nat_cmp, is_lt}
 use Rattle.std.specs.Cmp.Lexicographic.{slice_cmp}
@@ -7,7 +7,7 @@ use Rattle.stored_lists.specs.Limits.{MAX_LISTS}
 use Rattle.stored_lists.specs.Lists.{Stored, is_full_for}
 use Rattle.stored_lists.specs.Name.{is_good_name}
 use Rattle.stored_lists.specs.declared.refusal.PartError.{PartError}
-use Rattle.stored_lists.specs.declared.refusal.PartError.TheVariants.{BadName, NotRising, TooManyLists, TooManyEntries, NoMemory}
+use Rattle.stored_lists.specs.declared.refusal.PartError.TheVariants.{BadName, NotRising, TooManyLists, TooManyEntries}
 
 -- all names are below this one
 abbrev pub is_last : Stored → List ℕ → Bool
@@ -21,13 +21,3 @@ part_refusal lists name count =
     else if nat_le MAX_LISTS (length lists) then Some TooManyLists
     else if is_full_for lists count then Some TooManyEntries
     else None
-
--- a part is refused by this, or else it is taken
-abbrev pub AnswersPart : {T : Type 0} → Option PartError → Result T PartError → Type 0
-AnswersPart None r = IsOk r
-AnswersPart (Some e) r = r ≡ Err e
-
--- a part is refused by this, or else by want of memory alone
-abbrev pub AnswersPartIfMemory : {T : Type 0} → Option PartError → Result T PartError → Type 0
-AnswersPartIfMemory None r = IsOkUnless r NoMemory
-AnswersPartIfMemory (Some e) r = r ≡ Err e

@@ -1,12 +1,12 @@
 ghost use Rattle.std.specs.Prelude.{◌≡◌, ◌↔◌, [], ◌∷◌, ◌++◌, length, IsTrue, Some, None, IfOk, OnOk, OnErr};
-ghost use Rattle.stored_lists.specs.Refusal.{Answers, AnswersIfMemory};
+ghost use Rattle.stored_lists.specs.Refusal.{Answers, AnswersIfMemory, AnswersUnless};
 ghost use Rattle.stored_lists.specs.Songs.{without_range, moved};
 ghost use Rattle.stored_lists.specs.Fits.{HasRoom};
 ghost use Rattle.stored_lists.specs.Lists.{names_of, songs_of, songs_or_none, total, IsRising, IsWithinLimits};
 ghost use Rattle.stored_lists.specs.Lists.{with_list, without_list, with_songs, added, renamed};
 ghost use Rattle.stored_lists.specs.Lists.{name_refusal, save_refusal, add_refusal, remove_refusal};
 ghost use Rattle.stored_lists.specs.Lists.{move_refusal, rename_refusal};
-ghost use Rattle.stored_lists.specs.Part.{part_refusal, AnswersPartIfMemory};
+ghost use Rattle.stored_lists.specs.Part.{part_refusal};
 
 use crate::name::is_good_name;
 use crate::named::NamedSongs;
@@ -186,7 +186,7 @@ impl Lists {
     pub fn push_last(&mut self, alloc: Global, name: &str, songs: Songs) -> Result<(), PartError>
         ensures ok { OnOk result (self.new ≡ self.old ++ (name.now, songs) ∷ []) }
         ensures err { OnErr result (self.new ≡ self.old) }
-        ensures answer { AnswersPartIfMemory (part_refusal self.old name.now (length songs)) result }
+        ensures answer { AnswersUnless PartError.NoMemory (part_refusal self.old name.now (length songs)) result }
     {
         self.check_last(name, songs.len())?;
         self.insert_new(alloc, name, songs)?;

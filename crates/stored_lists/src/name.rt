@@ -1,25 +1,19 @@
-ghost use Rattle.std.specs.Prelude.{◌≡◌};
-ghost use Rattle.stored_lists.specs.Name.{is_good_name, is_barred, has_barred};
+ghost use Rattle.std.specs.Prelude.{◌≡◌, ◌==◌};
+ghost use Rattle.std.specs.List.{list_any};
+ghost use Rattle.stored_lists.specs.Name.{is_good_name};
 
 use crate::limits::MAX_NAME_BYTES;
+use wave_pcm::has_control;
 
 /// Whether a playlist may have the name: 1 to 256 bytes of UTF-8, no `/` and no control character (Unicode's category Cc).
 pub fn is_good_name(name: &str) -> bool
     ensures { result ≡ is_good_name name.now }
 {
-    !name.is_empty() && name.len() <= MAX_NAME_BYTES && !has_barred(name)
+    !name.is_empty() && name.len() <= MAX_NAME_BYTES && !has_slash(name) && !has_control(name)
 }
 
-// Whether a text has a character that no name may have.
-fn has_barred(text: &str) -> bool
-    ensures { result ≡ has_barred text.now }
+fn has_slash(text: &str) -> bool
+    ensures { result ≡ list_any (λ b. b == 47) text.now }
 {
-    text.chars().any(|c| is_barred(c))
-}
-
-// Whether no name may have the character: a slash, or a control character.
-fn is_barred(c: char) -> bool
-    ensures { result ≡ is_barred c }
-{
-    c == '/' || c.is_control()
+    text.bytes().any(|b| b == b'/')
 }

@@ -7,7 +7,7 @@ use Rattle.std.proofs.lemmas.List.{take-map, length-map}
 use Rattle.wave_pcm.specs.Parts.{is_text, is_data, is_format}
 use Rattle.wave_pcm.specs.Format.{format_from}
 use Rattle.wave_pcm.specs.declared.listing.TheConstants.{MAX_CHUNKS}
-use Rattle.wave_pcm.specs.declared.error.WaveError.TheVariants.{NoFormat, TooManyTurns}
+use Rattle.wave_pcm.specs.declared.refusal.WaveError.TheVariants.{NoFormat, TooManyTurns}
 use Rattle.wave_pcm.specs.PartHead.{part_at, parts_at}
 use Rattle.wave_pcm.specs.Reading.{text_in, format_of, format_at, is_key, data_of, data_at}
 use Rattle.wave_pcm.specs.Text.{tag_text}

@@ -8,8 +8,8 @@ use Rattle.std.specs.Prelude.{Result, if◌then◌else◌}
 use Rattle.wave_pcm.specs.Format.{u16_at, u32_at, judged, is_supported, format_by, format_from}
 use Rattle.wave_pcm.specs.Reading.{Refuses}
 use Rattle.wave_pcm.specs.declared.format.Format.{Format}
-use Rattle.wave_pcm.specs.declared.error.WaveError.{WaveError}
-use Rattle.wave_pcm.specs.declared.error.WaveError.TheVariants.{Unsupported, NoFormat}
+use Rattle.wave_pcm.specs.declared.refusal.WaveError.{WaveError}
+use Rattle.wave_pcm.specs.declared.refusal.WaveError.TheVariants.{Unsupported, NoFormat}
 use Rattle.wave_pcm.proofs.ChunkList.{le_bytes-take}
 use Rattle.wave_pcm.proofs.Ranges.{take-range, range_is}
 

@@ -1,6 +1,7 @@
 pub mod ChunkList
 pub mod Finds
 mod FolderFiles
+mod Listings
 pub mod Formats
 pub mod FrameList
 pub mod PartList

@@ -16,8 +16,8 @@ use Rattle.wave_pcm.specs.Tag.{Texts}
 use Rattle.wave_pcm.specs.declared.parts.PartHead.{PartHead}
 use Rattle.wave_pcm.specs.declared.format.Format.{Format}
 use Rattle.wave_pcm.specs.declared.info.WaveInfo.{WaveInfo}
-use Rattle.wave_pcm.specs.declared.error.WaveError.{WaveError}
-use Rattle.wave_pcm.specs.declared.error.WaveError.TheVariants.{NoMemory, NotWave, NoFormat, Unsupported, NoData, ReadFault, TooManyTurns}
+use Rattle.wave_pcm.specs.declared.refusal.WaveError.{WaveError}
+use Rattle.wave_pcm.specs.declared.refusal.WaveError.TheVariants.{NoMemory, NotWave, NoFormat, Unsupported, NoData, ReadFault, TooManyTurns}
 use Rattle.wave_pcm.proofs.Ranges.{range_is}
 
 pub reading_ok : (parts : List Part) (format : Format) (sound : Part) → format_of parts ≡ Ok format → data_of parts ≡ Ok sound

@@ -2,8 +2,8 @@
 use Rattle.std.specs.Prelude.{ℕ, ◌*◌, List, length, drop, nat_lt, nat_le, ◌==◌, ◌&&◌, ◌||◌, Bool, Result, Ok, Err, if◌then◌else◌}
 use Rattle.std.specs.Int.{w16, w32, from_le_bytes}
 use Rattle.wave_pcm.specs.declared.format.Format.{Format}
-use Rattle.wave_pcm.specs.declared.error.WaveError.{WaveError}
-use Rattle.wave_pcm.specs.declared.error.WaveError.TheVariants.{NoFormat, Unsupported}
+use Rattle.wave_pcm.specs.declared.refusal.WaveError.{WaveError}
+use Rattle.wave_pcm.specs.declared.refusal.WaveError.TheVariants.{NoFormat, Unsupported}
 use Rattle.wave_pcm.specs.Limits.{MAX_RATE}
 
 abbrev pub u16_at : ℕ → List ℕ → ℕ

@@ -1,8 +1,10 @@
+pub mod Added
 pub mod ChunkHead
 pub mod Chunks
 pub mod Folder
 pub mod Format
 pub mod Limits
+pub mod Listing
 pub mod PartHead
 pub mod Parts
 pub mod Pcm

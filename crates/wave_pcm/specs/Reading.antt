@@ -11,8 +11,8 @@ use Rattle.wave_pcm.specs.declared.tags.Tag.{Tag}
 use Rattle.wave_pcm.specs.declared.tags.Tag.TheVariants.{Title, Artist, Album, Date, Genre, Comment}
 use Rattle.wave_pcm.specs.declared.format.Format.{Format}
 use Rattle.wave_pcm.specs.declared.info.WaveInfo.{WaveInfo}
-use Rattle.wave_pcm.specs.declared.error.WaveError.{WaveError}
-use Rattle.wave_pcm.specs.declared.error.WaveError.TheVariants.{NoMemory, NotWave, NoFormat, Unsupported, NoData, ReadFault, TooManyTurns}
+use Rattle.wave_pcm.specs.declared.refusal.WaveError.{WaveError}
+use Rattle.wave_pcm.specs.declared.refusal.WaveError.TheVariants.{NoMemory, NotWave, NoFormat, Unsupported, NoData, ReadFault, TooManyTurns}
 
 infixl 10 ◌>>=◌
 abbrev pub ◌>>=◌ : {A B : Type 0} → Result A WaveError → (A → Result B WaveError) → Result B WaveError

@@ -56,7 +56,7 @@ pub fn next_chunk<S: Source>(
     ensures only { IsOkUnless result WaveError.ReadFault }
     ensures fault { S.honest source.old → end ≤ length (S.bytes source.old) →
         OnErr result (Grows (S.faults source.old) (S.faults source.new)) }
-    ensures kept { S.honest source.old → Keeps S.bytes S.honest S.faults source.old source.new }
+    ensures kept { S.honest source.old → Keeps S.bytes S.honest S.faults S.steady source.old source.new }
 {
     if end - at < HEAD_LEN {
         return Ok(None);

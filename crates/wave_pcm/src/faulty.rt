@@ -31,6 +31,10 @@ impl Source for FaultySource<'_> {
 
     ghost faults = { λ s. s.faults };
 
+    ghost steady = { λ _. ⊥ };
+
+    ghost none_failed = { λ source steady. absurd steady };
+
     fn len(&self) -> u64 {
         self.source.len()
     }

@@ -20,6 +20,8 @@ impl<F: Folder + Drop> Folder for FaultyFolder<F> {
 
     ghost honest = { λ f. F.honest f.folder };
 
+    ghost steady = { λ _. ⊥ };
+
     fn list(&mut self, alloc: Global, path: &str) -> Result<Option<Vec<FolderEntry>>, FolderFault> {
         let now = self.calls == self.calls_before;
         self.calls = self.calls.saturating_add(1);

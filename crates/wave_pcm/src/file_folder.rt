@@ -99,6 +99,8 @@ impl Folder for FileFolder<'_> {
 
     ghost honest = { λ _. ⊥ };
 
+    ghost steady = { λ _. ⊥ };
+
     fn list(&mut self, alloc: Global, path: &str) -> Result<Option<Vec<FolderEntry>>, FolderFault> {
         let place = self.place(alloc, path)?;
         let name = String::from_str(alloc, path)?;

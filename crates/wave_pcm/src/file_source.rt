@@ -72,6 +72,10 @@ impl Source for FileSource {
 
     ghost faults = { λ _. 0 };
 
+    ghost steady = { λ _. ⊥ };
+
+    ghost none_failed = { λ source steady. absurd steady };
+
     fn len(&self) -> u64 {
         self.len
     }

@@ -1,5 +1,6 @@
-ghost use Rattle.std.specs.Prelude.{◌≡◌, List, None, Some, IfOk, MatchOption};
+ghost use Rattle.std.specs.Prelude.{◌≡◌, List, None, Some, IfOk, IfSome, IsOkUnless, MatchOption};
 ghost use Rattle.wave_pcm.specs.Folder.{File, bytes_at};
+ghost use Rattle.wave_pcm.specs.Listing.{IsListing, IsNoFile, entries_of};
 ghost use Rattle.wave_pcm.specs.declared.folder.FolderFault.TheVariants.{NoMemory};
 
 use crate::Source;
@@ -61,8 +62,14 @@ pub trait Folder {
     /// The folder tells its files and keeps them, and an opened file tells its bytes. It may fail all the same.
     ghost honest: { Self → Type 0 };
 
+    /// The folder never fails, and neither does a file that it opens.
+    ghost steady: { Self → Type 0 };
+
     /// What stands directly in a folder, in no particular order; `None` where there is no such folder.
     fn list(&mut self, alloc: Global, path: &str) -> Result<Option<Vec<FolderEntry>>, FolderFault>
+        ensures listed { honest self.old → IfOk result (λ listing. IsListing (files self.old) path.now (entries_of listing)) }
+        ensures no_file { honest self.old → IfOk result (IsNoFile (files self.old) path.now) }
+        ensures steady { steady self.old → IsOkUnless result NoMemory × steady self.new }
         ensures honest { honest self.old → honest self.new }
         ensures files { honest self.old → files self.new ≡ files self.old };
 
@@ -71,6 +78,8 @@ pub trait Folder {
         ensures opened { honest self.old →
             IfOk result (λ file. MatchOption file (bytes_at (files self.old) path.now ≡ None)
             (λ source. (bytes_at (files self.old) path.now ≡ Some (Self.File.bytes source)) × Self.File.honest source)) }
+        ensures unfailing { steady self.old → IfOk result (λ file. IfSome file Self.File.steady) }
+        ensures steady { steady self.old → IsOkUnless result NoMemory × steady self.new }
         ensures honest { honest self.old → honest self.new }
         ensures files { honest self.old → files self.new ≡ files self.old };
 }

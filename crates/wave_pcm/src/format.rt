@@ -69,7 +69,7 @@ pub fn read_format<S: Source>(source: &mut S, head: PartHead) -> Result<Format, 
         IfErr result (Refuses (format_from (slice_range (S.bytes source.old) head.first (head.first + head.len))) (Grows (S.faults
         source.old) (S.faults source.new))) }
     ensures channels { IfOk result (λ format. (1 ≤ format.channels) × (format.channels ≤ 2)) }
-    ensures kept { S.honest source.old → Keeps S.bytes S.honest S.faults source.old source.new }
+    ensures kept { S.honest source.old → Keeps S.bytes S.honest S.faults S.steady source.old source.new }
 {
     if head.len < FORMAT_LEN {
         return Err(WaveError::NoFormat);

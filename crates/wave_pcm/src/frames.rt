@@ -61,7 +61,7 @@ fn read_samples<S: Source>(
     ensures only { IfErr result (Fails (Unit {0})) }
     ensures fault { S.honest source.old → first + len ≤ length (S.bytes source.old) →
         IfErr result (Fails (Grows (S.faults source.old) (S.faults source.new))) }
-    ensures kept { S.honest source.old → Keeps S.bytes S.honest S.faults source.old source.new }
+    ensures kept { S.honest source.old → Keeps S.bytes S.honest S.faults S.steady source.old source.new }
 {
     let mut bytes = vec![in alloc; 0u8; len as usize]?;
     read_exact(source, first, &mut bytes)?;
@@ -87,7 +87,7 @@ pub fn read_frames<S: Source>(
     ensures short { S.honest source.old →
         length (S.bytes source.old) < info.now.first_byte + frame_len info.now * info.now.frames → result ≡ Err WaveError.ReadFault }
     ensures only { IfErr result (Fails (Unit {0})) }
-    ensures kept { S.honest source.old → Keeps S.bytes S.honest S.faults source.old source.new }
+    ensures kept { S.honest source.old → Keeps S.bytes S.honest S.faults S.steady source.old source.new }
 {
     let end = source.len();
     match frame_range(info, from, most, end) {

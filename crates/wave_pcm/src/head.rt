@@ -26,7 +26,7 @@ fn first_text<S: Source>(
         IfOk result (λ text. option_map string_bytes text ≡ text_in (parts_at (S.bytes source.old) listing.now.parts.items) tag) }
     ensures fault { S.honest source.old → listing.now.end ≤ length (S.bytes source.old) →
         IfErr result (Fails (Grows (S.faults source.old) (S.faults source.new))) }
-    ensures kept { S.honest source.old → Keeps S.bytes S.honest S.faults source.old source.new }
+    ensures kept { S.honest source.old → Keeps S.bytes S.honest S.faults S.steady source.old source.new }
 {
     match listing.first_text(tag) {
         Some(head) => read_text(alloc, source, head),
@@ -40,7 +40,7 @@ fn read_tags<S: Source>(alloc: Global, source: &mut S, listing: &Listing) -> Res
         IfOk result (λ tags. tags ≡ texts_of (parts_at (S.bytes source.old) listing.now.parts.items)) }
     ensures fault { S.honest source.old → listing.now.end ≤ length (S.bytes source.old) →
         IfErr result (Fails (Grows (S.faults source.old) (S.faults source.new))) }
-    ensures kept { S.honest source.old → Keeps S.bytes S.honest S.faults source.old source.new }
+    ensures kept { S.honest source.old → Keeps S.bytes S.honest S.faults S.steady source.old source.new }
 {
     let mut tags = Tags::new();
     for tag in Tag::ALL {
@@ -58,7 +58,7 @@ fn first_format<S: Source>(source: &mut S, listing: &Listing) -> Result<Format, 
         IfErr result (Refuses (format_of (parts_at (S.bytes source.old) listing.now.parts.items)) (Grows (S.faults source.old)
         (S.faults source.new))) }
     ensures channels { IfOk result (λ format. (1 ≤ format.channels) × (format.channels ≤ 2)) }
-    ensures kept { S.honest source.old → Keeps S.bytes S.honest S.faults source.old source.new }
+    ensures kept { S.honest source.old → Keeps S.bytes S.honest S.faults S.steady source.old source.new }
 {
     match listing.first_key() {
         Some(head) => {
@@ -85,7 +85,7 @@ fn begins_as_wave<S: Source>(source: &mut S, end: u64) -> Result<bool, WaveError
     ensures only { IsOkUnless result WaveError.ReadFault }
     ensures fault { S.honest source.old → end ≡ length (S.bytes source.old) →
         OnErr result (Grows (S.faults source.old) (S.faults source.new)) }
-    ensures kept { S.honest source.old → Keeps S.bytes S.honest S.faults source.old source.new }
+    ensures kept { S.honest source.old → Keeps S.bytes S.honest S.faults S.steady source.old source.new }
 {
     if end < 12 {
         return Ok(false);
@@ -124,7 +124,7 @@ fn read_listing<S: Source>(
         IfErr result (Refuses (reading_of (parts_at (S.bytes source.old) listing.now.parts.items)) (Grows (S.faults source.old)
         (S.faults source.new))) }
     ensures frames { IfOk result (λ info. info.first_byte + frame_len info * info.frames ≤ listing.now.end) }
-    ensures kept { S.honest source.old → Keeps S.bytes S.honest S.faults source.old source.new }
+    ensures kept { S.honest source.old → Keeps S.bytes S.honest S.faults S.steady source.old source.new }
 {
     let format = first_format(source, listing)?;
     let data = first_data(listing)?;
@@ -144,7 +144,7 @@ fn read_wave<S: Source>(alloc: Global, source: &mut S) -> Result<WaveInfo, WaveE
     ensures refused { S.honest source.old →
         IfErr result (Refuses (wave_reading (S.bytes source.old)) (Grows (S.faults source.old) (S.faults source.new))) }
     ensures frames { S.honest source.old → IfOk result (λ info. HasFrames info (S.bytes source.old)) }
-    ensures kept { S.honest source.old → Keeps S.bytes S.honest S.faults source.old source.new }
+    ensures kept { S.honest source.old → Keeps S.bytes S.honest S.faults S.steady source.old source.new }
 {
     let end = source.len();
     if !begins_as_wave(source, end)? {
@@ -171,7 +171,8 @@ pub fn read_head<S: Source>(alloc: Global, source: &mut S) -> Result<WaveInfo, W
     // A verdict is that of the bytes; else memory was wanting or the source failed.
     ensures refused { S.honest source.old → IfErr result (λ e. IsVerdict e → wave_reading (S.bytes source.old) ≡ Err e) }
     ensures fault { S.honest source.old → IsErrOf result WaveError.ReadFault → Grows (S.faults source.old) (S.faults source.new) }
-    ensures kept { S.honest source.old → Keeps S.bytes S.honest S.faults source.old source.new }
+    ensures steady { S.honest source.old → S.steady source.old → IsErrOf result WaveError.ReadFault → ⊥ }
+    ensures kept { S.honest source.old → Keeps S.bytes S.honest S.faults S.steady source.old source.new }
 {
     read_wave(alloc, source)
 }

@@ -2,7 +2,6 @@
 #![tactic(auto)]
 
 mod chunks;
-mod error;
 mod faulty;
 mod faulty_folder;
 mod file_folder;
@@ -16,12 +15,12 @@ mod listing;
 mod memory_folder;
 mod parts;
 mod read;
+mod refusal;
 mod source;
 mod tags;
 mod text;
 mod volume;
 
-pub use error::WaveError;
 pub use faulty::{FaultySource, ReadTrouble};
 pub use faulty_folder::FaultyFolder;
 pub use file_folder::FileFolder;
@@ -33,6 +32,7 @@ pub use head::read_head;
 pub use info::WaveInfo;
 pub use listing::MAX_CHUNKS;
 pub use memory_folder::MemFolder;
+pub use refusal::WaveError;
 pub use source::{MemSource, Source, SourceFault};
 pub use tags::{Tag, Tags};
 pub use text::{MAX_TAG_BYTES, has_control, is_tag_text};

@@ -92,7 +92,7 @@ fn list_texts<S: Source>(
     ensures bounded { (limit : ℕ) → end ≤ limit → All (EndsBy limit) parts.old.items → OnOk result (All (EndsBy limit) parts.new.items) }
     ensures fault { S.honest source.old → end ≤ length (S.bytes source.old) →
         IfErr result (Fails (Grows (S.faults source.old) (S.faults source.new))) }
-    ensures kept { S.honest source.old → Keeps S.bytes S.honest S.faults source.old source.new }
+    ensures kept { S.honest source.old → Keeps S.bytes S.honest S.faults S.steady source.old source.new }
 {
     let mut at = start;
     'texts: while parts.len() <= MAX_CHUNKS {
@@ -125,7 +125,7 @@ fn list_chunk<S: Source>(
         OnOk result (All (EndsBy limit) parts.new.items) }
     ensures fault { S.honest source.old → head.first + head.len ≤ length (S.bytes source.old) →
         IfErr result (Fails (Grows (S.faults source.old) (S.faults source.new))) }
-    ensures kept { S.honest source.old → Keeps S.bytes S.honest S.faults source.old source.new }
+    ensures kept { S.honest source.old → Keeps S.bytes S.honest S.faults S.steady source.old source.new }
 {
     let kind = Kind::in_file(head.id);
     parts.push(PartHead {
@@ -148,7 +148,7 @@ fn is_text_list<S: Source>(source: &mut S, kind: Kind, head: ChunkHead) -> Resul
     ensures only { IsOkUnless result WaveError.ReadFault }
     ensures fault { S.honest source.old → head.first + head.len ≤ length (S.bytes source.old) →
         OnErr result (Grows (S.faults source.old) (S.faults source.new)) }
-    ensures kept { S.honest source.old → Keeps S.bytes S.honest S.faults source.old source.new }
+    ensures kept { S.honest source.old → Keeps S.bytes S.honest S.faults S.steady source.old source.new }
 {
     if !kind.is_nested() || head.len < INFO_LEN {
         return Ok(false);
@@ -172,7 +172,7 @@ pub fn list_parts<S: Source>(
     ensures bounded { IfOk result (λ parts. All (EndsBy end) parts.items) }
     ensures fault { S.honest source.old → end ≤ length (S.bytes source.old) →
         IfErr result (Fails (Grows (S.faults source.old) (S.faults source.new))) }
-    ensures kept { S.honest source.old → Keeps S.bytes S.honest S.faults source.old source.new }
+    ensures kept { S.honest source.old → Keeps S.bytes S.honest S.faults S.steady source.old source.new }
 {
     let mut parts = Vec::new(alloc);
     let mut at = FIRST_CHUNK;

@@ -1,5 +1,7 @@
-ghost use Rattle.std.specs.Prelude.{◌≡◌, [], ◌∷◌, ◌++◌, OnOk, OnErr};
+ghost use Rattle.std.specs.Prelude.{◌≡◌, [], ◌∷◌, ◌++◌, OnOk, OnErr, option_copied};
+ghost use Rattle.wave_pcm.specs.Added.{IsAdded};
 ghost use Rattle.wave_pcm.specs.Folder.{File, bytes_at};
+ghost use Rattle.wave_pcm.specs.Listing.{behind, first_part, has_slash, AreApart};
 
 use crate::{Folder, FolderEntry, FolderFault, MemSource};
 use std::alloc::{AllocError, Global};
@@ -62,7 +64,9 @@ impl<'a> Folder for MemFolder<'a> {
 
     ghost files = { λ f. f };
 
-    ghost honest = { λ _. Unit {0} };
+    ghost honest = { AreApart };
+
+    ghost steady = { λ _. Unit {0} };
 
     fn list(&mut self, alloc: Global, path: &str) -> Result<Option<Vec<FolderEntry>>, FolderFault> {
         let mut entries = Vec::new(alloc);
@@ -88,19 +92,23 @@ impl<'a> Folder for MemFolder<'a> {
 }
 
 // What a path has behind a folder and a slash, if it stands below it.
-fn rest_below<'a>(folder: &str, path: &'a str) -> Option<&'a str> {
+fn rest_below<'a>(folder: &str, path: &'a str) -> Option<&'a str>
+    ensures { option_copied result ≡ behind folder.now path.now }
+{
     if folder.is_empty() {
         return Some(path);
     }
-    path.strip_prefix(folder)?.strip_prefix('/')
+    path.strip_prefix(folder)?.strip_prefix("/")
 }
 
-// Adds the first part of a path, unless it is there.
-fn add_entry(alloc: Global, entries: &mut Vec<FolderEntry>, path: &str) -> Result<(), AllocError> {
-    let (name, is_folder) = match path.split_once('/') {
-        Some((name, _)) => (name, true),
-        None => (path, false),
-    };
+// Adds the first part of a path, unless it is there or empty.
+fn add_entry(alloc: Global, entries: &mut Vec<FolderEntry>, path: &str) -> Result<(), AllocError>
+    ensures { OnOk result (IsAdded entries.old.items entries.new.items (first_part path.now) (has_slash path.now)) }
+{
+    let (name, is_folder) = first_name(path);
+    if name.is_empty() {
+        return Ok(());
+    }
     for entry in entries.iter() {
         if entry.name.as_str() == name && entry.is_folder == is_folder {
             return Ok(());
@@ -109,4 +117,15 @@ fn add_entry(alloc: Global, entries: &mut Vec<FolderEntry>, path: &str) -> Resul
     let name = String::from_str(alloc, name)?;
     entries.push(FolderEntry { name, is_folder })?;
     Ok(())
+}
+
+// The first part of a path, and whether more follows.
+fn first_name(path: &str) -> (&str, bool)
+    ensures name { result.0.now ≡ first_part path.now }
+    ensures kind { result.1 ≡ has_slash path.now }
+{
+    match path.split_once('/') {
+        Some((name, _)) => (name, true),
+        None => (path, false),
+    }
 }

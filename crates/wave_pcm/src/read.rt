@@ -12,7 +12,7 @@ pub fn read_exact<S: Source>(source: &mut S, at: u64, buffer: &mut [u8]) -> Resu
     ensures only { IsOkUnless result WaveError.ReadFault }
     ensures fault { S.honest source.old → at + length buffer.old ≤ length (S.bytes source.old) →
         OnErr result (Grows (S.faults source.old) (S.faults source.new)) }
-    ensures kept { S.honest source.old → Keeps S.bytes S.honest S.faults source.old source.new }
+    ensures kept { S.honest source.old → Keeps S.bytes S.honest S.faults S.steady source.old source.new }
 {
     let mut filled = 0;
     while filled < buffer.len() {

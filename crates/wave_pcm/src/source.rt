@@ -1,4 +1,5 @@
-ghost use Rattle.std.specs.Prelude.{◌≡◌, ℕ, ◌+◌, ◌-◌, ◌<◌, ◌≤◌, List, length, take, drop, min, slice_range, Ok, IfOk, OnErr};
+ghost use Rattle.std.specs.Prelude.{◌≡◌, ℕ, ◌+◌, ◌-◌, ◌<◌, ◌≤◌, List, length, take, drop, min, slice_range};
+ghost use Rattle.std.specs.Prelude.{Ok, IfOk, OnErr, refl};
 ghost use Rattle.wave_pcm.specs.Source.{Grows, Keeps};
 
 use std::error::Error;
@@ -28,6 +29,9 @@ pub trait Source {
     /// How often a read has failed or given no byte before the end, up to 2^64-1.
     ghost faults: { Self → ℕ };
 
+    /// No read has failed or given no byte before the end, and none will.
+    ghost steady: { Self → Type 0 };
+
     /// How many bytes there are.
     fn len(&self) -> u64
         ensures { honest self.now → result ≡ length (bytes self.now) };
@@ -40,7 +44,9 @@ pub trait Source {
         ensures failed { honest self.old → OnErr result (Grows (faults self.old) (faults self.new)) }
         ensures no_byte { honest self.old → result ≡ Ok 0 → 0 < length buffer.old → at < length (bytes self.old) →
             Grows (faults self.old) (faults self.new) }
-        ensures kept { honest self.old → Keeps bytes honest faults self.old self.new };
+        ensures kept { honest self.old → Keeps bytes honest faults steady self.old self.new };
+
+    ghost none_failed: { (source : Self) → steady source → faults source ≡ 0 };
 }
 
 /// Bytes in memory, which never fail.
@@ -69,6 +75,10 @@ impl Source for MemSource<'_> {
     ghost honest = { λ _. Unit {0} };
 
     ghost faults = { λ _. 0 };
+
+    ghost steady = { λ _. Unit {0} };
+
+    ghost none_failed = { λ source steady. refl };
 
     fn len(&self) -> u64 {
         self.bytes.len() as u64

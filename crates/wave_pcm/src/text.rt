@@ -74,7 +74,7 @@ pub fn read_text<S: Source>(
         ≡ tag_text (slice_range (S.bytes source.old) head.first (head.first + head.len))) }
     ensures fault { S.honest source.old → head.first + head.len ≤ length (S.bytes source.old) →
         IfErr result (Fails (Grows (S.faults source.old) (S.faults source.new))) }
-    ensures kept { S.honest source.old → Keeps S.bytes S.honest S.faults source.old source.new }
+    ensures kept { S.honest source.old → Keeps S.bytes S.honest S.faults S.steady source.old source.new }
 {
     let mut front = [0; FRONT_LEN];
     let count = head.len.min(front.len() as u64) as usize;
@@ -95,7 +95,7 @@ fn text_by_front<S: Source>(
         ≡ tag_text (slice_range (S.bytes source.old) head.first (head.first + head.len))) }
     ensures fault { S.honest source.old → head.first + head.len ≤ length (S.bytes source.old) →
         IfErr result (Fails (Grows (S.faults source.old) (S.faults source.new))) }
-    ensures kept { S.honest source.old → Keeps S.bytes S.honest S.faults source.old source.new }
+    ensures kept { S.honest source.old → Keeps S.bytes S.honest S.faults S.steady source.old source.new }
 {
     read_exact(source, head.first, front)?;
     match tag_text(front) {

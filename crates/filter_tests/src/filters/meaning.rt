@@ -1,4 +1,5 @@
-// What filters find. A line of a table has the words of a filter, each with a bar behind it, and the numbers of the rows that match, a digit each.
+// What filters find. A line of a table has the words of a filter, each with a bar behind it, and the numbers of the rows that match, a
+// digit each.
 use super::*;
 
 /// The numbers of the rows that match.
@@ -132,7 +133,7 @@ fn nested(alloc: Global, depth: usize) -> Result<String, Fail> {
 }
 
 /// The byte at which the words are nested too deeply.
-fn too_deep_at(alloc: Global, words: &[&[u8]]) -> Option<usize> {
+fn too_deep_at(alloc: Global, words: &[LineWord<'_>]) -> Option<usize> {
     match Filter::parse(alloc, words) {
         Err(FilterError::TooDeep(place)) => Some(place.byte),
         _ => None,
@@ -149,7 +150,7 @@ fn nested_filter(rt: HostRuntime) -> Result<(), Fail> {
 #[test]
 fn too_deep(rt: HostRuntime) -> Result<(), Fail> {
     let deeper = nested(rt.alloc(), 33)?;
-    let byte = too_deep_at(rt.alloc(), &[deeper.as_bytes()]);
+    let byte = too_deep_at(rt.alloc(), &[LineWord::from_slice(deeper.as_bytes())]);
     equal(&rt, byte, Some(32));
     Ok(())
 }

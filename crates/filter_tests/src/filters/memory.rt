@@ -4,7 +4,7 @@ use super::order::{are, order, references};
 use super::*;
 
 /// Whether the words spell a filter that finds the song, unless memory was refused.
-fn found_exact(alloc: Global, words: &[&[u8]], row: &SongRow) -> Option<bool> {
+fn found_exact(alloc: Global, words: &[LineWord<'_>], row: &SongRow) -> Option<bool> {
     match Filter::parse(alloc, words) {
         Ok(filter) => Some(filter.matches(alloc, row, Case::Exact).unwrap_or(false)),
         Err(error) if error.number() == 7 => None,

@@ -1,4 +1,5 @@
-// The leftmost fault of words that spell no filter. A line of the table has the words, each with a bar behind it, and the number of the refusal,
+// The leftmost fault of words that spell no filter. A line of the table has the words, each with a bar behind it, and the number of the
+// refusal,
 // then the word and the byte of a bad filter, or 0 and how long the name of an unknown tag is.
 use super::*;
 
@@ -10,7 +11,7 @@ fn told(error: &FilterError<'_>) -> (u8, usize, usize) {
     }
 }
 
-fn refusal(alloc: Global, words: &[&[u8]]) -> Result<String, Fail> {
+fn refusal(alloc: Global, words: &[LineWord<'_>]) -> Result<String, Fail> {
     let error = Filter::parse(alloc, words).err().ok_or("no error")?;
     let (number, word, byte) = told(&error);
     Ok(format!(in alloc; "{number} {word} {byte}")?)

@@ -76,8 +76,8 @@ fn serve_requests<D: Disk, W: Write>(
     ensures session { OnOk result (session.new ≡ session.old) }
     ensures served { OnOk result (ServesAll client (asked_by client requests) live.old.state live.new.state
         (W.contents writer.old) (W.contents writer.new)) }
-    ensures stopped { IfErr result (λ e. Stops (D.honest live.old.a × D.honest live.old.b) client (asked_by client requests) live.old.state live.new.state
-        (D.history live.new.a) (D.history live.new.b) (W.contents writer.old) (W.contents writer.new) e) }
+    ensures stopped { IfErr result (λ e. Stops (D.honest live.old.a × D.honest live.old.b) client (asked_by client requests)
+        live.old.state live.new.state (D.history live.new.a) (D.history live.new.b) (W.contents writer.old) (W.contents writer.new) e) }
     ensures usable { result ≢ Err Ending.Faulted → live.new.is_broken ≡ false }
     ensures failed { D.honest live.old.a → D.honest live.old.b → result ≡ Err Ending.Faulted
         → HasFailed D.faults live.old.a live.old.b live.new.a live.new.b }
@@ -108,9 +108,10 @@ fn serve_piece<D: Disk, W: Write>(
     requires usable { live.old.is_broken ≡ false }
     requires sent { session.old.queued ≡ [] }
     ensures session { OnOk result (session.new ≡ record session.old { pending = rest_of (session.old.pending ++ piece.now) }) }
-    ensures served { OnOk result (ServesAll client (asked_by client (requests_of (session.old.pending ++ piece.now))) live.old.state live.new.state
-        (W.contents writer.old) (W.contents writer.new)) }
-    ensures stopped { IfErr result (λ e. Stops (D.honest live.old.a × D.honest live.old.b) client (asked_by client (requests_of (session.old.pending ++ piece.now))) live.old.state live.new.state
+    ensures served { OnOk result (ServesAll client (asked_by client (requests_of (session.old.pending ++ piece.now)))
+        live.old.state live.new.state (W.contents writer.old) (W.contents writer.new)) }
+    ensures stopped { IfErr result (λ e. Stops (D.honest live.old.a × D.honest live.old.b) client
+        (asked_by client (requests_of (session.old.pending ++ piece.now))) live.old.state live.new.state
         (D.history live.new.a) (D.history live.new.b) (W.contents writer.old) (W.contents writer.new) e) }
     ensures usable { result ≢ Err Ending.Faulted → live.new.is_broken ≡ false }
     ensures failed { D.honest live.old.a → D.honest live.old.b → result ≡ Err Ending.Faulted

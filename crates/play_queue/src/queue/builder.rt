@@ -1,6 +1,7 @@
 // A queue as it was saved, made entry by entry.
 ghost use Rattle.std.specs.Prelude.{◌≡◌, [], ◌∷◌, ◌++◌, IfOk, OnOk, OnErr};
-ghost use Rattle.play_queue.specs.Builder.{begin_refusal, part_refusal, AnswersPart, AnswersPartIfMemory};
+ghost use Rattle.play_queue.specs.Builder.{begin_refusal, part_refusal};
+ghost use Rattle.play_queue.specs.Refusal.{Answers, AnswersUnless};
 
 use super::Queue;
 use crate::entry::Entry;
@@ -39,7 +40,7 @@ impl QueueBuilder {
     /// `BadNextId` where the next id isn't from 1 to 2147483648.
     pub fn new(alloc: Global, version: u32, next_id: u32) -> Result<QueueBuilder, PartError>
         ensures made { IfOk result (λ builder. builder ≡ record { entries = []; version = version; next_id = next_id }) }
-        ensures answer { AnswersPart (begin_refusal version next_id) result }
+        ensures answer { Answers (begin_refusal version next_id) result }
     {
         if version < 1 || MAX_VERSION < version {
             return Err(PartError::BadVersion);
@@ -61,7 +62,7 @@ impl QueueBuilder {
     pub fn push(&mut self, entry: Entry) -> Result<(), PartError>
         ensures ok { OnOk result (self.new ≡ record self.old { entries = self.old.entries ++ entry ∷ [] }) }
         ensures err { OnErr result (self.new ≡ self.old) }
-        ensures answer { AnswersPartIfMemory (part_refusal self.old entry) result }
+        ensures answer { AnswersUnless PartError.NoMemory (part_refusal self.old entry) result }
     {
         if MAX_ENTRIES <= self.entries.len() {
             return Err(PartError::QueueFull);

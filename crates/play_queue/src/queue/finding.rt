@@ -1,9 +1,11 @@
 // What is looked up in a queue.
 ghost use Rattle.std.specs.Prelude.{◌≡◌, ◌<◌, ◌==◌, length, position, IfOk, IfSome};
+ghost use Rattle.play_queue.specs.Positions.{items_of, positions_of};
 ghost use Rattle.play_queue.specs.Queue.{changed_since};
 
 use super::Queue;
 use crate::limits::MAX_ENTRIES;
+use crate::places::places_of;
 use std::alloc::{AllocError, Global};
 
 impl Queue {
@@ -13,6 +15,26 @@ impl Queue {
         ensures within { IfSome result (λ at. (at < length self.now.entries) × (at < MAX_ENTRIES)) }
     {
         self.entries.iter().position(|entry| entry.id == id)
+    }
+
+    /// The positions of the entries with these ids, in the order of the ids; or the first id that no entry has. It goes
+    /// through the entries once, however many ids there are, and takes memory for the ids alone.
+    pub fn positions_of(
+        &self,
+        alloc: Global,
+        ids: &[u32],
+    ) -> Result<Result<Vec<usize>, u32>, AllocError>
+        ensures { IfOk result (λ found. items_of found ≡ positions_of self.now.entries ids.now) }
+    {
+        let places = places_of(alloc, &self.entries, ids)?;
+        let mut positions = Vec::with_capacity(alloc, ids.len())?;
+        for id in ids {
+            match places.get(id) {
+                Some(at) => positions.push(*at)?,
+                None => return Ok(Err(*id)),
+            }
+        }
+        Ok(Ok(positions))
     }
 
     /// The positions of the entries that a later version than this one stamped, rising; all where the queue has not come to this version.

@@ -1,5 +1,5 @@
 ghost use Rattle.std.specs.Prelude.{◌≡◌, ◌<◌, ◌++◌, vec_len, vec_capacity, Ok, Err, Some, None, IfOk, IsOkUnless};
-ghost use Rattle.song_db.specs.Found.{found_of, IsOf, IsSongIn, changes_of, still_droppable};
+ghost use Rattle.song_db.specs.Found.{found_of, IsKnown, IsOf, IsSongIn, changes_of, still_droppable};
 
 use crate::change::RowChange;
 use crate::refusal::SongDbError;
@@ -50,6 +50,7 @@ pub(crate) fn found_in<S: Source + Drop>(
     ensures memory { opened ≡ Err FolderFault.NoMemory → result ≡ Err SongDbError.NoMemory }
     ensures of { IfOk result (IsOf uri) }
     ensures song { (source : S) → opened ≡ Ok (Some source) → S.honest source → IfOk result (IsSongIn uri (S.bytes source)) }
+    ensures known { (source : S) → opened ≡ Ok (Some source) → S.honest source → S.steady source → IfOk result IsKnown }
     ensures only { IsOkUnless result SongDbError.NoMemory }
 {
     match opened {

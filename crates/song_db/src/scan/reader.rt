@@ -1,8 +1,9 @@
-ghost use Rattle.std.specs.Prelude.{◌≡◌, ℕ, ◌+◌, ◌<◌, ◌≤◌, true, List, [], length, vec_len, vec_capacity, Ok, Err};
-ghost use Rattle.std.specs.Prelude.{None, IfOk, OnOk, IsOkUnless, IsTrue};
-ghost use Rattle.song_db.specs.Batch.{IsBatch, IsRead, after_listing, after_own, own_visit};
-ghost use Rattle.song_db.specs.Found.{IsVisitIn};
-ghost use Rattle.song_db.specs.Scan.{is_in, AreSongs};
+ghost use Rattle.std.specs.Prelude.{◌≡◌, ℕ, ◌+◌, ◌<◌, ◌≤◌, true, false, List, [], ◌∷◌, ◌++◌, length, vec_len, vec_capacity, Err};
+ghost use Rattle.std.specs.Prelude.{IfOk, OnOk, IsOkUnless, IsTrue};
+ghost use Rattle.song_db.specs.Batch.{IsBatch, IsHonestBatch, IsRead, IsWholeBatch, after_listing, after_own, visit_after};
+ghost use Rattle.song_db.specs.Found.{IsVisitIn, visited};
+ghost use Rattle.song_db.specs.Pending.{Pending, listed_pending, own_pending, own_prefix, still_pending, times_pending};
+ghost use Rattle.song_db.specs.Scan.{is_in, AreSongs, IsHonestRead, IsWholeRead};
 
 use crate::change::RowChange;
 use crate::limits::MAX_CHANGES;
@@ -31,10 +32,19 @@ impl Reader {
         alloc: Global,
         folder: &mut F,
     ) -> Result<Vec<RowChange>, SongDbError>
-        ensures walk { self.new.walk ≡ self.old.walk }
+        requires { self.old.is_begun ≡ false → self.old.walk.pending ≡ [] }
+        ensures place { self.new.walk.place ≡ self.old.walk.place }
         ensures few { IfOk result (λ changes. length changes.items ≤ MAX_CHANGES) }
-        ensures read { IfOk result (λ changes. IsRead self.old.walk self.old.droppable self.new.droppable changes.items) }
-        ensures none { IfOk result (λ changes. changes.items ≡ [] → self.new.droppable ≡ []) }
+        ensures read { IfOk result (λ changes. IsRead self.old.walk.place self.old.droppable self.new.droppable changes.items) }
+        ensures none { IfOk result (λ changes. changes.items ≡ [] → (self.new.droppable ≡ []) × (self.new.walk.pending ≡ [])) }
+        ensures begun { IfOk result (λ changes. self.new.is_begun ≡ true) }
+        ensures honest_read { F.honest folder.old →
+            IfOk result (λ changes. AreSongs (F.files folder.old) changes.items → IsHonestRead (F.files folder.old) self.old.walk.place
+            (still_pending self.old.is_begun self.old.walk) self.new.walk.pending self.old.droppable self.new.droppable changes.items) }
+        ensures whole_read { F.honest folder.old → F.steady folder.old →
+            IfOk result (λ changes. IsWholeRead (F.files folder.old) self.old.walk.place
+            (still_pending self.old.is_begun self.old.walk) self.new.walk.pending self.old.droppable self.new.droppable changes.items) }
+        ensures steady { F.steady folder.old → F.steady folder.new }
         ensures songs { F.honest folder.old → IfOk result (λ changes. AreSongs (F.files folder.old) changes.items) }
         ensures honest { F.honest folder.old → F.honest folder.new }
         ensures files { F.honest folder.old → F.files folder.new ≡ F.files folder.old }
@@ -59,14 +69,27 @@ impl Reader {
         folder: &mut F,
         changes: &mut Vec<RowChange>,
     ) -> Result<(), SongDbError>
-        requires { vec_len changes.old < vec_capacity changes.old }
-        ensures walk { self.new.walk ≡ self.old.walk }
+        requires room { vec_len changes.old < vec_capacity changes.old }
+        requires pending { self.old.walk.pending ≡ [] }
+        ensures begun { self.new.is_begun ≡ self.old.is_begun }
+        ensures place { self.new.walk.place ≡ self.old.walk.place }
         ensures capacity { vec_capacity changes.new ≡ vec_capacity changes.old }
         ensures few { vec_len changes.new ≤ vec_len changes.old + 1 }
-        ensures batch { (start : List (List ℕ)) → IsBatch self.old.walk start self.old.droppable changes.old.items →
-            OnOk result (IsBatch self.old.walk start self.new.droppable changes.new.items) }
+        ensures batch { (start : List (List ℕ)) → IsBatch self.old.walk.place start self.old.droppable changes.old.items →
+            OnOk result (IsBatch self.old.walk.place start self.new.droppable changes.new.items) }
         ensures songs { F.honest folder.old → AreSongs (F.files folder.old) changes.old.items →
             OnOk result (AreSongs (F.files folder.old) changes.new.items) }
+        ensures honest_batch { (start : List Pending) (known : List (List ℕ)) → F.honest folder.old →
+            IsHonestBatch (F.files folder.old) self.old.walk.place start known
+            (own_pending self.old.walk.place) self.old.droppable changes.old.items →
+            OnOk result (IsHonestBatch (F.files folder.old) self.old.walk.place start known self.new.walk.pending
+            self.new.droppable changes.new.items) }
+        ensures whole_batch { (start : List Pending) (known : List (List ℕ)) → F.honest folder.old → F.steady folder.old →
+            IsWholeBatch (F.files folder.old) self.old.walk.place start known
+            (own_pending self.old.walk.place) self.old.droppable changes.old.items →
+            OnOk result (IsWholeBatch (F.files folder.old) self.old.walk.place start known self.new.walk.pending
+            self.new.droppable changes.new.items) }
+        ensures steady { F.steady folder.old → F.steady folder.new }
         ensures honest { F.honest folder.old → F.honest folder.new }
         ensures files { F.honest folder.old → F.files folder.new ≡ F.files folder.old }
         ensures only { IsOkUnless result SongDbError.NoMemory }
@@ -85,19 +108,30 @@ impl Reader {
     ) -> Result<bool, SongDbError>
         requires room { MAX_CHANGES ≤ vec_capacity changes.old }
         requires few { vec_len changes.old ≤ MAX_CHANGES }
-        ensures walk { self.new.walk ≡ self.old.walk }
+        ensures begun { self.new.is_begun ≡ self.old.is_begun }
+        ensures place { self.new.walk.place ≡ self.old.walk.place }
         ensures capacity { vec_capacity changes.new ≡ vec_capacity changes.old }
         ensures few { vec_len changes.new ≤ MAX_CHANGES }
         ensures full { IfOk result (λ is_full. IsTrue is_full → vec_len changes.new ≡ MAX_CHANGES) }
-        ensures batch { (start : List (List ℕ)) → IsBatch self.old.walk start self.old.droppable changes.old.items →
-            OnOk result (IsBatch self.old.walk start self.new.droppable changes.new.items) }
+        ensures end { IfOk result (λ is_full. is_full ≡ false → self.new.walk.pending ≡ []) }
+        ensures batch { (start : List (List ℕ)) → IsBatch self.old.walk.place start self.old.droppable changes.old.items →
+            OnOk result (IsBatch self.old.walk.place start self.new.droppable changes.new.items) }
         ensures songs { F.honest folder.old → AreSongs (F.files folder.old) changes.old.items →
             OnOk result (AreSongs (F.files folder.old) changes.new.items) }
+        ensures honest_batch { (start : List Pending) (known : List (List ℕ)) → F.honest folder.old →
+            IsHonestBatch (F.files folder.old) self.old.walk.place start known self.old.walk.pending self.old.droppable changes.old.items →
+            OnOk result (IsHonestBatch (F.files folder.old) self.old.walk.place start known self.new.walk.pending
+            self.new.droppable changes.new.items) }
+        ensures whole_batch { (start : List Pending) (known : List (List ℕ)) → F.honest folder.old → F.steady folder.old →
+            IsWholeBatch (F.files folder.old) self.old.walk.place start known self.old.walk.pending self.old.droppable changes.old.items →
+            OnOk result (IsWholeBatch (F.files folder.old) self.old.walk.place start known self.new.walk.pending
+            self.new.droppable changes.new.items) }
+        ensures steady { F.steady folder.old → F.steady folder.new }
         ensures honest { F.honest folder.old → F.honest folder.new }
         ensures files { F.honest folder.old → F.files folder.new ≡ F.files folder.old }
         ensures only { IsOkUnless result SongDbError.NoMemory }
     {
-        // A folder may list new folders for ever: then the walk ends here, and the rows that were not read stay.
+        // A folder may list new folders for ever: then the scan is given up, and the rows that were not read stay.
         for _ in 0..u64::MAX {
             if changes.len() == MAX_CHANGES {
                 return Ok(true);
@@ -108,9 +142,19 @@ impl Reader {
             let visit = self.walk.next(alloc)?;
             self.make(alloc, folder, changes, visit)?;
         }
+        Err(SongDbError::NoMemory)
+    }
+
+    // Nothing more is read or dropped.
+    pub(crate) fn give_up(&mut self)
+        ensures place { self.new.walk.place ≡ self.old.walk.place }
+        ensures pending { self.new.walk.pending ≡ [] }
+        ensures droppable { self.new.droppable ≡ [] }
+        ensures begun { self.new.is_begun ≡ true }
+    {
+        self.is_begun = true;
         self.walk.stop();
         self.droppable.keep_all();
-        Ok(false)
     }
 
     // Makes a visit. There is room for its change.
@@ -121,15 +165,27 @@ impl Reader {
         changes: &mut Vec<RowChange>,
         visit: Visit,
     ) -> Result<(), SongDbError>
-        requires visit { IsVisitIn self.old.walk visit }
+        requires visit { IsVisitIn self.old.walk.place visit }
         requires room { vec_len changes.old < vec_capacity changes.old }
-        ensures walk { self.new.walk ≡ self.old.walk }
+        ensures begun { self.new.is_begun ≡ self.old.is_begun }
+        ensures place { self.new.walk.place ≡ self.old.walk.place }
         ensures capacity { vec_capacity changes.new ≡ vec_capacity changes.old }
         ensures few { vec_len changes.new ≤ vec_len changes.old + 1 }
-        ensures batch { (start : List (List ℕ)) → IsBatch self.old.walk start self.old.droppable changes.old.items →
-            OnOk result (IsBatch self.old.walk start self.new.droppable changes.new.items) }
+        ensures batch { (start : List (List ℕ)) → IsBatch self.old.walk.place start self.old.droppable changes.old.items →
+            OnOk result (IsBatch self.old.walk.place start self.new.droppable changes.new.items) }
         ensures songs { F.honest folder.old → AreSongs (F.files folder.old) changes.old.items →
             OnOk result (AreSongs (F.files folder.old) changes.new.items) }
+        ensures honest_batch { (start : List Pending) (known : List (List ℕ)) → F.honest folder.old →
+            IsHonestBatch (F.files folder.old) self.old.walk.place start known
+            (visited visit ++ self.old.walk.pending) self.old.droppable changes.old.items →
+            OnOk result (IsHonestBatch (F.files folder.old) self.old.walk.place start known self.new.walk.pending
+            self.new.droppable changes.new.items) }
+        ensures whole_batch { (start : List Pending) (known : List (List ℕ)) → F.honest folder.old → F.steady folder.old →
+            IsWholeBatch (F.files folder.old) self.old.walk.place start known
+            (visited visit ++ self.old.walk.pending) self.old.droppable changes.old.items →
+            OnOk result (IsWholeBatch (F.files folder.old) self.old.walk.place start known self.new.walk.pending
+            self.new.droppable changes.new.items) }
+        ensures steady { F.steady folder.old → F.steady folder.new }
         ensures honest { F.honest folder.old → F.honest folder.new }
         ensures files { F.honest folder.old → F.files folder.new ≡ F.files folder.old }
         ensures only { IsOkUnless result SongDbError.NoMemory }
@@ -156,9 +212,12 @@ impl Reader {
         uri: &Uri,
         listing: Result<Option<Vec<FolderEntry>>, FolderFault>,
     ) -> Result<(), SongDbError>
-        requires { is_in self.old.walk uri.now ≡ true }
-        ensures walk { self.new.walk ≡ self.old.walk }
-        ensures droppable { self.new.droppable ≡ after_listing uri.now listing self.old.droppable }
+        requires { is_in self.old.walk.place uri.now ≡ true }
+        ensures place { self.new.walk.place ≡ self.old.walk.place }
+        ensures begun { self.new.is_begun ≡ self.old.is_begun }
+        ensures droppable { OnOk result (self.new.droppable ≡ after_listing uri.now listing self.old.droppable) }
+        ensures pending { OnOk result ((path : List ℕ) → times_pending self.new.walk.pending path
+            ≡ times_pending (listed_pending (uri.now ++ 47 ∷ []) listing) path + times_pending self.old.walk.pending path) }
         ensures memory { listing ≡ Err FolderFault.NoMemory → result ≡ Err SongDbError.NoMemory }
         ensures only { IsOkUnless result SongDbError.NoMemory }
     {
@@ -180,11 +239,14 @@ impl Reader {
         alloc: Global,
         listing: Result<Option<Vec<FolderEntry>>, FolderFault>,
     ) -> Result<Visit, SongDbError>
-        ensures walk { self.new.walk ≡ self.old.walk }
-        ensures droppable { self.new.droppable ≡ after_own listing self.old.droppable }
+        ensures place { self.new.walk.place ≡ self.old.walk.place }
+        ensures begun { self.new.is_begun ≡ self.old.is_begun }
+        ensures droppable { OnOk result (self.new.droppable ≡ after_own listing self.old.droppable) }
+        ensures pending { OnOk result ((path : List ℕ) → times_pending self.new.walk.pending path
+            ≡ times_pending (listed_pending (own_prefix self.old.walk.place) listing) path + times_pending self.old.walk.pending path) }
         ensures memory { listing ≡ Err FolderFault.NoMemory → result ≡ Err SongDbError.NoMemory }
-        ensures missing { listing ≡ Ok None → IfOk result (λ visit. visit ≡ own_visit self.old.walk) }
-        ensures visit { IfOk result (IsVisitIn self.old.walk) }
+        ensures next { IfOk result (λ visit. visit ≡ visit_after self.old.walk.place listing) }
+        ensures visit { IfOk result (IsVisitIn self.old.walk.place) }
         ensures only { IsOkUnless result SongDbError.NoMemory }
     {
         match listing {

@@ -1,5 +1,8 @@
-ghost use Rattle.std.specs.Prelude.{◌≡◌, [], ◌∷◌, ◌++◌, IfOk, option_map, unwrap_or, string_bytes};
-ghost use Rattle.song_db.specs.Found.{IsPrefixIn, IsVisitIn, visit_at};
+ghost use Rattle.std.specs.Prelude.{◌≡◌, ℕ, ◌+◌, true, List, [], ◌∷◌, ◌++◌, IfOk, OnOk, IfSome, IsTrue, option_map, unwrap_or};
+ghost use Rattle.std.specs.String.{string_bytes};
+ghost use Rattle.song_db.specs.Found.{IsPrefixIn, IsTaken, IsVisitIn, visit_at};
+ghost use Rattle.song_db.specs.Pending.{entries_pending, times_pending};
+ghost use Rattle.song_db.specs.Uri.{is_uri};
 
 use crate::scan::visit::{Visit, visit_of};
 use crate::uri::Uri;
@@ -27,19 +30,23 @@ pub(crate) struct Walk {
 
 impl Model for Walk {
     ghost use Rattle.std.specs.Prelude.{ℕ, List, Option, string_bytes};
-    ghost use Rattle.std.specs.List.{All};
+    ghost use Rattle.std.specs.List.{All, flat_map};
     ghost use Rattle.song_db.specs.Found.{IsPrefixIn};
+    ghost use Rattle.song_db.specs.Pending.{Walked, entries_pending};
 
-    ghost Value = { Option (List ℕ) };
+    ghost Value = { Walked };
 
-    ghost view = { λ w. w.place };
+    ghost view = { λ w. record {
+      place = w.place;
+      pending = flat_map (λ level. entries_pending (string_bytes level.prefix) level.entries.items) w.levels.items;
+    } };
 
     ghost invariant = { λ w. All (λ level. IsPrefixIn w.place (string_bytes level.prefix)) w.levels.items };
 }
 
 impl Walk {
     pub(crate) fn new(alloc: Global, place: Option<Uri>) -> Walk
-        ensures { result ≡ place }
+        ensures { result ≡ record { place = place; pending = [] } }
     {
         Walk {
             place,
@@ -49,14 +56,15 @@ impl Walk {
 
     // The folder or song of the job; `None` is the root.
     pub(crate) fn place(&self) -> Option<&Uri>
-        ensures { option_map (λ uri. uri.now) result ≡ self.now }
+        ensures { option_map (λ uri. uri.now) result ≡ self.now.place }
     {
         self.place.as_ref()
     }
 
     // The path of the job's folder or song, which is empty for the root.
     pub(crate) fn path(&self) -> &str
-        ensures { result.now ≡ unwrap_or self.now [] }
+        ensures text { result.now ≡ unwrap_or self.now.place [] }
+        ensures form { IfSome self.now.place (λ uri. is_uri uri ≡ true) }
     {
         match &self.place {
             None => "",
@@ -64,7 +72,10 @@ impl Walk {
         }
     }
 
-    pub(crate) fn is_at_end(&self) -> bool {
+    // Nothing that was entered is still to be read.
+    pub(crate) fn is_at_end(&self) -> bool
+        ensures { IsTrue result → self.now.pending ≡ [] }
+    {
         self.levels.is_empty()
     }
 
@@ -74,8 +85,10 @@ impl Walk {
         prefix: String,
         mut entries: Vec<FolderEntry>,
     ) -> Result<(), AllocError>
-        requires { IsPrefixIn self.old (string_bytes prefix) }
-        ensures { self.new ≡ self.old }
+        requires { IsPrefixIn self.old.place (string_bytes prefix) }
+        ensures place { self.new.place ≡ self.old.place }
+        ensures pending { OnOk result ((uri : List ℕ) → times_pending self.new.pending uri
+            ≡ times_pending (entries_pending (string_bytes prefix) entries.items) uri + times_pending self.old.pending uri) }
     {
         entries.sort_unstable_by(|a, b| falling(a, b));
         self.levels.push(Level { prefix, entries })?;
@@ -84,8 +97,9 @@ impl Walk {
 
     // What is done at the next entry; `Nothing` where a folder is done with, too.
     pub(crate) fn next(&mut self, alloc: Global) -> Result<Visit, AllocError>
-        ensures place { self.new ≡ self.old }
-        ensures visit { IfOk result (IsVisitIn self.old) }
+        ensures place { self.new.place ≡ self.old.place }
+        ensures visit { IfOk result (IsVisitIn self.old.place) }
+        ensures taken { IfOk result (λ visit. IsTaken self.old.pending visit self.new.pending) }
     {
         let Some(mut level) = self.levels.pop() else {
             return Ok(Visit::Nothing);
@@ -100,7 +114,7 @@ impl Walk {
 
     // Leaves all folders.
     pub(crate) fn stop(&mut self)
-        ensures { self.new ≡ self.old }
+        ensures { self.new ≡ record { place = self.old.place; pending = [] } }
     {
         self.levels.clear();
     }

@@ -107,6 +107,7 @@ fn damaged_records(rt: HostRuntime) -> Result<(), Fail> {
 /// A stage that gave out the last number refuses each line of client 1, and counts none.
 fn numbers_are_spent(rt: &impl Abort, alloc: Global, live: &mut Live<MemDisk>) -> Result<(), Fail> {
     equal(rt, live.last_record(), u64::MAX);
+    equal(rt, live.are_numbers_spent(), true);
     refuses(rt, live, alloc, b"ping", LiveError::NumbersSpent)?;
     refuses(rt, live, alloc, b"setvol 41", LiveError::NumbersSpent)?;
     equal(rt, live.last_event(), 2);
@@ -131,6 +132,7 @@ fn file_after_the_last(alloc: Global) -> Result<Vec<u8>, AllocError> {
 
 /// The next record of a stage is the last one.
 fn next_is_the_last(rt: &impl Abort, alloc: Global, live: &mut Live<MemDisk>) -> Result<(), Fail> {
+    equal(rt, live.are_numbers_spent(), false);
     let event = line(alloc, b"setvol 40")?;
     hears(rt, live, alloc, event, (b"OK\n", Some(u64::MAX)))?;
     numbers_are_spent(rt, alloc, live)

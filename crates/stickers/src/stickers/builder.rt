@@ -1,7 +1,8 @@
 // Stickers as they were saved, made one by one.
 ghost use Rattle.std.specs.Prelude.{◌≡◌, [], ◌∷◌, ◌++◌, IsTrue, OnOk, OnErr};
 ghost use Rattle.stickers.specs.Fits.{HasRoom};
-ghost use Rattle.stickers.specs.Part.{is_last, is_behind, part_refusal, AnswersPart, AnswersPartIfMemory};
+ghost use Rattle.stickers.specs.Part.{is_last, is_behind, part_refusal};
+ghost use Rattle.stickers.specs.Refusal.{Answers, AnswersUnless};
 ghost use Rattle.stickers.specs.Sticker.{sticker};
 
 use super::Stickers;
@@ -48,7 +49,7 @@ impl StickersBuilder {
     /// What `push` would be refused for, but for want of memory: `BadName`, then `NotRising` where the sticker doesn't
     /// stand behind all others, then `TooMany`. It takes no memory.
     pub fn check(&self, uri: &Uri, name: &str) -> Result<(), PartError>
-        ensures answer { AnswersPart (part_refusal self.now uri.now name.now) result }
+        ensures answer { Answers (part_refusal self.now uri.now name.now) result }
         ensures fits { OnOk result (HasRoom self.now uri.now name.now) }
         ensures last { OnOk result (IsTrue (is_last self.now uri.now name.now)) }
     {
@@ -74,7 +75,7 @@ impl StickersBuilder {
     ) -> Result<(), PartError>
         ensures ok { OnOk result (self.new ≡ self.old ++ sticker uri (name.now, value) ∷ []) }
         ensures err { OnErr result (self.new ≡ self.old) }
-        ensures answer { AnswersPartIfMemory (part_refusal self.old uri name.now) result }
+        ensures answer { AnswersUnless PartError.NoMemory (part_refusal self.old uri name.now) result }
     {
         self.check(&uri, name)?;
         let last = String::from_str(alloc, name)?;

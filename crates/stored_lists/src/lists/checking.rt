@@ -5,7 +5,7 @@ ghost use Rattle.stored_lists.specs.Fits.{HasRoom, IsRangeOf, ArePlacesOf, CanRe
 ghost use Rattle.stored_lists.specs.Lists.{songs_of, songs_or_none};
 ghost use Rattle.stored_lists.specs.Lists.{name_refusal, save_refusal, add_refusal, remove_refusal};
 ghost use Rattle.stored_lists.specs.Lists.{move_refusal, rename_refusal};
-ghost use Rattle.stored_lists.specs.Part.{is_last, part_refusal, AnswersPart};
+ghost use Rattle.stored_lists.specs.Part.{is_last, part_refusal};
 ghost use Rattle.stored_lists.specs.Refusal.{Answers};
 ghost use Rattle.stored_lists.specs.Songs.{moved};
 
@@ -102,7 +102,7 @@ impl Lists {
 
     /// What `push_last` of so many songs would be refused for, but for want of memory.
     pub fn check_last(&self, name: &str, count: usize) -> Result<(), PartError>
-        ensures answer { AnswersPart (part_refusal self.now name.now count) result }
+        ensures answer { Answers (part_refusal self.now name.now count) result }
         ensures fits { OnOk result (HasRoom self.now name.now count) }
         ensures last { OnOk result (IsTrue (is_last self.now name.now)) }
     {

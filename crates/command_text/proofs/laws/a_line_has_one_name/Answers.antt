@@ -1,4 +1,4 @@
-use Rattle.command_text.proofs.Consistency.{read_name, refusal_name}
+use Rattle.command_text.proofs.LineNames.{read_name, refusal_name}
 use Rattle.command_text.proofs.laws.a_line_has_one_name.Goals as goal
 
 pub returns-clause-read : goal.returns-clause-read

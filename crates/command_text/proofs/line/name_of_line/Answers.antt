@@ -1,5 +1,5 @@
 use Rattle.std.proofs.Common.{sym, ◌∙◌, ap}
-use Rattle.command_text.specs.Reading.{first_name}
+use Rattle.command_text.specs.Reading.{first_name, quoted}
 use Rattle.command_text.specs.Words.{words_from}
 use Rattle.command_text.specs.NextWord.{spelled}
 use Rattle.command_text.specs.Words.Standing.{Between}
@@ -12,12 +12,12 @@ returns-then-not-is_utf8 c = sym (no_name c.args.line.now (sym c.is_utf8.ensures
 pub returns-in-End : goal.returns-in-End
 returns-in-End c =
     let at = name_at c.args.line.now c.text_of_line.result.now (sym c.is_utf8.ensures ∙ c.if-not-is_utf8.false) c.text_of_line.ensures in
-    sym (at ∙ ap first_name c.in-End.ensures)
+    sym (at ∙ ap (λ ws. first_name (quoted ws)) c.in-End.ensures)
 
 pub returns-in-Bad : goal.returns-in-Bad
 returns-in-Bad c =
     let at = name_at c.args.line.now c.text_of_line.result.now (sym c.is_utf8.ensures ∙ c.if-not-is_utf8.false) c.text_of_line.ensures in
-    sym (at ∙ ap first_name c.in-Bad.ensures)
+    sym (at ∙ ap (λ ws. first_name (quoted ws)) c.in-Bad.ensures)
 
 pub returns-then-parts_into_words : goal.returns-then-parts_into_words
 returns-then-parts_into_words c =

@@ -1,6 +1,6 @@
 use Rattle.std.proofs.Common.{◌++◌, ◌∙◌, ap}
 use Rattle.std.specs.Prelude.{codes}
-use Rattle.command_text.specs.Answer.{pair, number_pair}
+use Rattle.console_text.specs.Answer.{pair, number_pair}
 use Rattle.daemon_core.specs.Status.{switch_text, single_text, status_text}
 use Rattle.daemon_core.proofs.Lines.{eight_lines}
 use Rattle.daemon_core.proofs.status.write_status.Goals as goal

@@ -2,7 +2,9 @@ use Rattle.live_stage.proofs.DecodingLaws.{begins, refused_snapshot}
 use Rattle.live_stage.proofs.decoding.take_state.Goals as goal
 
 pub returns-in-Err : goal.returns-in-Err
-returns-in-Err c = refused_snapshot _ _ c.in-Err.field-0 c.in-Err.ensures.exact
+returns-in-Err c = refused_snapshot _ _ c.in-Err.field-0 (rw c.snapshot-snapshot.ensures at c.in-Err.ensures.exact)
 
-pub loop-record-init : goal.loop-record-init
-loop-record-init c = begins c.args.snapshot.now c.args.records.now c.in-Ok.saved c.saturating_add-gate.result c.in-Ok.ensures.exact c.saturating_add-gate.ensures
+pub loop-place-init : goal.loop-place-init
+loop-place-init c = begins c.args.stored.now.snapshot c.args.stored.now.records c.in-Ok.saved c.saturating_add-gate.result
+    (rw c.snapshot-snapshot.ensures at c.in-Ok.ensures.exact)
+    (rw c.snapshot-snapshot.ensures at c.saturating_add-gate.ensures)

@@ -3,5 +3,5 @@ use Rattle.live_stage.specs.Found.{stored_reading}
 use Rattle.live_stage.proofs.DecodingLaws.{IsReadTo}
 use Rattle.live_stage.proofs.decoding.take_state.Given as goal
 
-abbrev pub invariant-loop-record : goal.invariant-loop-record
-invariant-loop-record l = IsReadTo l.gate l.saved (drop l.record-index l.records) (stored_reading l.fn.snapshot l.records)
+abbrev pub invariant-loop-place : goal.invariant-loop-place
+invariant-loop-place l = IsReadTo l.gate l.saved (drop l.place l.stored.records) (stored_reading l.stored.snapshot l.stored.records)

@@ -1,8 +1,7 @@
-use Rattle.std.proofs.Common.{◌≡◌, ◌+◌, ◌∷◌, ◌++◌, length, take, arith}
-use Rattle.std.specs.Prelude.{slice_index}
+use Rattle.std.proofs.Common.{◌≡◌, ◌+◌, arith}
 use Rattle.disk_model.proofs.LaterLaws.{later_on}
 use Rattle.disk_model.proofs.MomentLaws.{all_weaker, all_join}
-use Rattle.play_journal.proofs.AppendLaws.{Appending, written_behind, staged, gate_inside, gate_written, opened}
+use Rattle.play_journal.proofs.AppendLaws.{Appending, written_behind, staged, gate_inside, gate_written}
 use Rattle.play_journal.proofs.appending.append_at.Goals as goal
 
 pub returns-in_err-write_synced-clause-any_moment : goal.returns-in_err-write_synced-clause-any_moment

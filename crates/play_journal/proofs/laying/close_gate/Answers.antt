@@ -1,6 +1,6 @@
-use Rattle.std.proofs.Common.{inl, refl, sym, ap, subst, length, ◌∙◌}
+use Rattle.std.proofs.Common.{inl, refl, sym, subst, length, ◌∙◌}
 use Rattle.disk_model.specs.History.{Synced}
-use Rattle.disk_model.proofs.LaterLaws.{later_same, later_made, later_on}
+use Rattle.disk_model.proofs.LaterLaws.{later_made, later_on}
 use Rattle.disk_model.proofs.MomentLaws.{all_begin}
 use Rattle.disk_model.proofs.WindowLaws.{settled_all, all_synced}
 use Rattle.disk_model.specs.Moments.{AllSince}

@@ -1,4 +1,4 @@
-use Rattle.std.proofs.Common.{◌≡◌, ◌+◌, ◌<◌, ◌≤◌, [], ◌∷◌, length, arith, ◌∙◌, refl, sym, ap, subst}
+use Rattle.std.proofs.Common.{◌+◌, ◌≤◌, [], ◌∷◌, length, arith, ◌∙◌, refl, sym, subst}
 use Rattle.disk_model.specs.History.{Wrote, CutTo, Synced}
 use Rattle.disk_model.proofs.BehindLaws.{behind_begin, behind_made, behind_failed, behind_since}
 use Rattle.disk_model.proofs.FaultLaws.{grown_before, grown_in_range, on_err_of}

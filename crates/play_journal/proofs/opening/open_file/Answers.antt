@@ -30,7 +30,7 @@ returns-in_err-cut_to-clause-any_moment g c = λ honest is_settled generation op
     let honest' = c.bytes_of.ensures.later.honesty.0 honest in
     let same : g.D.Disk.content c.bytes_of.new.disk ≡ bytes = c.bytes_of.ensures.content honest in
     let fits = bytes_fit bytes (g.met.D.Disk.content_is_image c.args.disk.now honest).bytes in
-    let is : read bytes ≡ Ok content = ap read (sym (c.deref.ensures.value ∙ c.in_ok-bytes.ensures.bytes honest))
+    let is : read bytes ≡ Ok content = ap read (sym (c.in_ok-bytes.ensures.bytes honest))
     ∙ c.in_ok-file.ensures.read in
     let within : gate_of content + 1 ≤ length bytes = gate_within bytes generation content fits opened is in
     let small = g.met.D.Disk.length_fits c.args.disk.now honest in
@@ -50,7 +50,7 @@ returns-clause-any_moment g c = λ honest is_settled generation opened.
     let honest' = c.bytes_of.ensures.later.honesty.0 honest in
     let same : g.D.Disk.content c.bytes_of.new.disk ≡ bytes = c.bytes_of.ensures.content honest in
     let fits = bytes_fit bytes (g.met.D.Disk.content_is_image c.args.disk.now honest).bytes in
-    let is : read bytes ≡ Ok content = ap read (sym (c.deref.ensures.value ∙ c.in_ok-bytes.ensures.bytes honest))
+    let is : read bytes ≡ Ok content = ap read (sym (c.in_ok-bytes.ensures.bytes honest))
     ∙ c.in_ok-file.ensures.read in
     let within : gate_of content + 1 ≤ length bytes = gate_within bytes generation content fits opened is in
     let small = g.met.D.Disk.length_fits c.args.disk.now honest in
@@ -70,7 +70,7 @@ returns-in_err-cut_to-clause-fault g c = λ honest generation opened failed.
     let honest' = c.bytes_of.ensures.later.honesty.0 honest in
     let same : g.D.Disk.content c.bytes_of.new.disk ≡ bytes = c.bytes_of.ensures.content honest in
     let fits = bytes_fit bytes (g.met.D.Disk.content_is_image c.args.disk.now honest).bytes in
-    let is : read bytes ≡ Ok content = ap read (sym (c.deref.ensures.value ∙ c.in_ok-bytes.ensures.bytes honest))
+    let is : read bytes ≡ Ok content = ap read (sym (c.in_ok-bytes.ensures.bytes honest))
     ∙ c.in_ok-file.ensures.read in
     let within : gate_of content + 1 ≤ length bytes = gate_within bytes generation content fits opened is in
     let small = g.met.D.Disk.length_fits c.args.disk.now honest in

@@ -1,4 +1,3 @@
-use Rattle.std.proofs.Common.{◌≡◌, ◌≤◌, sym, ap, ◌∙◌, arith}
 use Rattle.song_db.proofs.Timing.{total_fits, loss_counted, timed_after}
 use Rattle.song_db.proofs.Turns.{database_after}
 use Rattle.song_db.proofs.batch.make_timed.Goals as goal

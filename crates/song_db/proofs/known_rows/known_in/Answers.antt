@@ -1,4 +1,3 @@
-use Rattle.std.proofs.Common.{[], sym, ap, ◌∙◌}
 use Rattle.std.specs.Prelude.{option_map}
 use Rattle.song_db.proofs.KnownRows.{all_known, own_known, known_rise}
 use Rattle.song_db.proofs.known_rows.known_in.Goals as goal

@@ -1,7 +1,7 @@
 use Rattle.std.proofs.Common.{sym, ap, ◌∙◌}
 use Rattle.state_codec.specs.Reading.{ops_reading, saved_reading}
 use Rattle.state_codec.proofs.FieldLaws.{ok_is}
-use Rattle.state_codec.proofs.OpLaws.{body_again}
+use Rattle.state_codec.proofs.BodyLaws.{body_again}
 use Rattle.state_codec.proofs.SavedLaws.{snapshot_again}
 use Rattle.state_codec.proofs.laws.one_spelling.Goals as goal
 

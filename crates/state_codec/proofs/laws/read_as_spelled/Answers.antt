@@ -1,4 +1,4 @@
-use Rattle.state_codec.proofs.OpLaws.{body_takes, body_again}
+use Rattle.state_codec.proofs.BodyLaws.{body_takes, body_again}
 use Rattle.state_codec.proofs.SavedLaws.{snapshot_takes, snapshot_again}
 use Rattle.state_codec.proofs.laws.read_as_spelled.Goals as goal
 

@@ -1,6 +1,6 @@
 use Rattle.std.proofs.Common.{◌≡◌, ◌<◌, length, eqb, true, false, arith}
 use Rattle.std.proofs.lemmas.Bool.{eqb-true, eqb-false}
-use Rattle.state_codec.proofs.OpLaws.{so_far_begins, falls, goes_on, stops, is_done, body_is}
+use Rattle.state_codec.proofs.BodyLaws.{so_far_begins, falls, goes_on, stops, is_done, body_is}
 use Rattle.state_codec.proofs.reading.all_ops.Goals as goal
 
 pub loop-reader-init : goal.loop-reader-init
@@ -17,7 +17,7 @@ returns-in-Err c =
     let some : eqb (length c.args.bytes.now) 0 ≡ false = cc in
     let more : eqb (length c.loop-reader.reader.rest.now) 0 ≡ false = cc in
     let some_left : 0 < length c.loop-reader.reader.rest.now = omega (arith, eqb-false _ _ more) in
-    rw c.offset_in.ensures (body_is c.args.bytes.now _ some (stops _ _ _ c.in-Err.fault.left _ some_left c.in-Err.ensures c.loop-reader.invariant))
+    rw c.op_error.ensures (stops c.args.bytes.now _ _ c.in-Err.error some some_left c.in-Err.ensures c.loop-reader.invariant)
 
 pub returns : goal.returns
 returns c =

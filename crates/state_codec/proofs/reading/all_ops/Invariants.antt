@@ -1,6 +1,6 @@
 use Rattle.std.proofs.Common.{length}
-use Rattle.state_codec.specs.Reading.{ops_at}
-use Rattle.state_codec.proofs.OpLaws.{ReadSoFar}
+use Rattle.state_codec.specs.ReadingOps.{ops_at}
+use Rattle.state_codec.proofs.BodyLaws.{ReadSoFar}
 use Rattle.state_codec.proofs.reading.all_ops.Given as goal
 
 abbrev pub invariant-loop-reader : goal.invariant-loop-reader

@@ -1,5 +1,5 @@
 use Rattle.std.proofs.Common.{arith}
-use Rattle.state_codec.proofs.OpLaws.{body_found, body_only}
+use Rattle.state_codec.proofs.BodyLaws.{body_found, body_only}
 use Rattle.state_codec.proofs.reading.take_ops.Goals as goal
 
 pub returns-clause-found : goal.returns-clause-found

@@ -1,4 +1,4 @@
-use Rattle.std.proofs.Common.{◌≡◌, ◌∙◌, [], ◌∷◌, ◌++◌, string_bytes, append_assoc, refl, sym, ap, subst}
+use Rattle.std.proofs.Common.{◌≡◌, ◌∙◌, [], ◌∷◌, string_bytes, append_assoc, refl, sym, ap, subst}
 use Rattle.stickers.specs.ByName.{by_name}
 use Rattle.stickers.specs.Named.{IsRising, with_name}
 use Rattle.stickers.proofs.Added.{added_last}

@@ -1,7 +1,7 @@
 use Rattle.std.proofs.Common.{ap, sym, ◌∙◌, [], ◌∷◌, true}
-use Rattle.command_text.specs.declared.command.Command.TheVariants as asked
-use Rattle.state_codec.specs.declared.op.Op.TheVariants as ops
-use Rattle.state_codec.specs.declared.op.Setting.TheVariants as settings
+use Rattle.console_text.specs.declared.command.Command.TheVariants as asked
+use Rattle.console_codec.specs.declared.op.Op.TheVariants as ops
+use Rattle.console_codec.specs.declared.op.Setting.TheVariants as settings
 use Rattle.daemon_core.specs.Meaning.{next_order}
 use Rattle.daemon_core.proofs.CommandLaws.{nothing_went, silent_went, silent_failed, random_stays_meant, random_stays_made, random_begins_meant, random_begins_made, always_makes}
 use Rattle.daemon_core.proofs.machine.Core.begin_random.Goals as goal

@@ -1,7 +1,7 @@
 use Rattle.std.proofs.Common.{false}
-use Rattle.command_text.specs.declared.command.Command.TheVariants as asked
-use Rattle.state_codec.specs.declared.op.Op.TheVariants as ops
-use Rattle.state_codec.specs.declared.op.Setting.TheVariants as settings
+use Rattle.console_text.specs.declared.command.Command.TheVariants as asked
+use Rattle.console_codec.specs.declared.op.Op.TheVariants as ops
+use Rattle.console_codec.specs.declared.op.Setting.TheVariants as settings
 use Rattle.daemon_core.proofs.CommandLaws.{option_went, option_failed, random_off_meant, random_off_made}
 use Rattle.daemon_core.proofs.machine.Core.end_random.Goals as goal
 

@@ -1,5 +1,5 @@
 use Rattle.std.proofs.Common.{[]}
-use Rattle.command_text.specs.declared.command.Command.TheVariants as asked
+use Rattle.console_text.specs.declared.command.Command.TheVariants as asked
 use Rattle.daemon_core.proofs.CommandLaws.{nothing_went, close_meant, close_made, kill_meant, kill_made}
 use Rattle.daemon_core.proofs.machine.Core.perform.Goals as goal
 

@@ -1,4 +1,4 @@
-use Rattle.command_text.specs.declared.command.Command.TheVariants as asked
+use Rattle.console_text.specs.declared.command.Command.TheVariants as asked
 use Rattle.daemon_core.proofs.CommandLaws.{nothing_went, ping_meant, ping_made}
 use Rattle.daemon_core.proofs.machine.Core.ping.Goals as goal
 

@@ -1,5 +1,5 @@
 use Rattle.std.proofs.Common.{◌≡◌, drop}
-use Rattle.state_codec.specs.Applied.{applied_from}
+use Rattle.console_codec.specs.Applied.{applied_from}
 use Rattle.daemon_core.specs.State.{start}
 use Rattle.daemon_core.proofs.machine.Core.recover.Given as goal
 

@@ -1,6 +1,6 @@
-use Rattle.command_text.specs.declared.command.Command.TheVariants as asked
-use Rattle.state_codec.specs.declared.op.Op.TheVariants as ops
-use Rattle.state_codec.specs.declared.op.Setting.TheVariants as settings
+use Rattle.console_text.specs.declared.command.Command.TheVariants as asked
+use Rattle.console_codec.specs.declared.op.Op.TheVariants as ops
+use Rattle.console_codec.specs.declared.op.Setting.TheVariants as settings
 use Rattle.daemon_core.proofs.CommandLaws.{option_went, option_failed, consume_meant, consume_made}
 use Rattle.daemon_core.proofs.machine.Core.set_consume.Goals as goal
 

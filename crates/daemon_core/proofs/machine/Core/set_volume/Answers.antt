@@ -1,6 +1,6 @@
 use Rattle.std.proofs.Common.{[], ◌∷◌}
-use Rattle.command_text.specs.declared.command.Command.TheVariants as asked
-use Rattle.state_codec.specs.declared.op.Op.TheVariants as ops
+use Rattle.console_text.specs.declared.command.Command.TheVariants as asked
+use Rattle.console_codec.specs.declared.op.Op.TheVariants as ops
 use Rattle.daemon_core.specs.Meaning.{with_volume}
 use Rattle.daemon_core.proofs.CommandLaws.{silent_went, silent_failed, volume_meant, volume_made, err_makes}
 use Rattle.daemon_core.proofs.machine.Core.set_volume.Goals as goal

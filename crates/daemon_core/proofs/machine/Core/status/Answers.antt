@@ -1,5 +1,5 @@
 use Rattle.std.proofs.Common.{◌≡◌, subst}
-use Rattle.command_text.specs.declared.command.Command.TheVariants as asked
+use Rattle.console_text.specs.declared.command.Command.TheVariants as asked
 use Rattle.daemon_core.specs.Status.{status_text, status_lines}
 use Rattle.daemon_core.specs.Work.{AddsText}
 use Rattle.daemon_core.proofs.CommandLaws.{lines_went, status_meant, status_made}

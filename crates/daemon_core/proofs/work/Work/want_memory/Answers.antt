@@ -1,7 +1,7 @@
 use Rattle.std.proofs.Common.{ap, arith, length}
-use Rattle.command_text.specs.Answer.{ack}
-use Rattle.command_text.specs.Reading.{name_of_line}
-use Rattle.command_text.proofs.Consistency.{memory_fits}
+use Rattle.console_text.specs.Answer.{ack}
+use Rattle.console_text.specs.Reading.{name_of_line}
+use Rattle.console_text.proofs.Consistency.{memory_fits}
 use Rattle.daemon_core.proofs.work.Work.want_memory.Goals as goal
 
 pub unreachable-requires : goal.unreachable-requires

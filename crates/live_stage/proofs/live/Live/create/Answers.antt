@@ -1,6 +1,6 @@
 use Rattle.std.proofs.Common.{◌≡◌, [], length, Some, ap, ◌∙◌, sym}
-use Rattle.state_codec.specs.SavedState.{SavedState}
-use Rattle.state_codec.specs.Spelling.{saved_bytes}
+use Rattle.console_codec.specs.SavedState.{SavedState}
+use Rattle.console_codec.specs.Spelling.{saved_bytes}
 use Rattle.daemon_core.specs.State.{State}
 use Rattle.live_stage.proofs.FoundLaws.{find_now}
 use Rattle.live_stage.proofs.StartLaws.{fresh_stands, only_a_fault}

@@ -1,30 +1,32 @@
-use Rattle.std.proofs.Common.{◌≡◌, length, Some, refl, sym, ap, ◌∙◌, arith}
+use Rattle.std.proofs.Common.{◌≡◌, length, Some, sym, ap, ◌∙◌, arith}
 use Rattle.daemon_core.specs.State.{State}
-use Rattle.disk_model.proofs.MomentLaws.{now_only}
 use Rattle.play_journal.proofs.RecordLaws.{bytes_fit}
 use Rattle.play_journal.specs.Pair.{found}
-use Rattle.live_stage.proofs.StartLaws.{found_as_read, stands, found_so, found_small, refused_content, refused_good}
+use Rattle.live_stage.proofs.StartLaws.{nothing_done, numbers_are, found_as_read, stands, found_so, found_small, refused_content, refused_good}
 use Rattle.live_stage.proofs.live.Live.open.Goals as goal
 
 pub returns-in-Err-clause-any_moment : goal.returns-in-Err-clause-any_moment
-returns-in-Err-clause-any_moment g c = λ ha hb x y lx ly. (x, y, now_only (g.D.Disk.history c.args.a) x lx, now_only (g.D.Disk.history c.args.b) y ly, refl)
+returns-in-Err-clause-any_moment g c = λ ha hb. nothing_done (g.D.Disk.history c.args.a) (g.D.Disk.history c.args.b)
 
 pub returns-in-Ok-take_state-clause-found : goal.returns-in-Ok-take_state-clause-found
 returns-in-Ok-take_state-clause-found g c = λ ha hb.
     found_so _ _ c.in-Ok-open.opened.0.content _ (c.in-Ok-open.ensures.read ha hb)
-    (stands c.in-Ok-open.opened.0.content _ _ c.in-Ok-take_state.saved (c.deref.ensures.value ∙ c.in-Ok-open.ensures.opened.same_snapshot (ha, hb)) (c.deref-2.ensures.value ∙ c.in-Ok-open.ensures.opened.same_records (ha, hb)) c.in-Ok-take_state.ensures
+    (stands c.in-Ok-open.opened.0.content _ _ c.in-Ok-take_state.saved (c.in-Ok-open.ensures.opened.same_snapshot (ha, hb)) (c.in-Ok-open.ensures.opened.same_records (ha, hb)) c.in-Ok-take_state.ensures
     ∙ ap (λ (s : State). Some s.saved) (sym c.new.ensures))
 
-pub returns-in-Ok-take_state-clause-last_record : goal.returns-in-Ok-take_state-clause-last_record
-returns-in-Ok-take_state-clause-last_record g c = λ ha hb content is.
+pub returns-in-Ok-take_state-clause-numbers : goal.returns-in-Ok-take_state-clause-numbers
+returns-in-Ok-take_state-clause-numbers g c = λ ha hb content is.
     let own = c.in-Ok-open.opened.0.content in
-    let opened : found (g.D.Disk.content c.args.a) (g.D.Disk.content c.args.b) ≡ Some own = found_as_read _ _ own (c.in-Ok-open.ensures.read ha hb) in
+    let is_found : found (g.D.Disk.content c.args.a) (g.D.Disk.content c.args.b) ≡ Some own = found_as_read _ _ own (c.in-Ok-open.ensures.read ha hb) in
     let same : own ≡ content = (cc) in
     let image_a = g.met.D.Disk.content_is_image c.args.a ha in
     let image_b = g.met.D.Disk.content_is_image c.args.b hb in
     let small = found_small _ _ own (bytes_fit _ image_a.bytes) (bytes_fit _ image_b.bytes) (g.met.D.Disk.length_fits c.args.a ha) (g.met.D.Disk.length_fits c.args.b hb) (c.in-Ok-open.ensures.read ha hb) in
-    let counted = ap length (c.in-Ok-open.ensures.opened.same_records (ha, hb)) in
-    rw (← same) (omega (arith, small.numbers, counted, c.in-Ok-open.ensures.opened.base (ha, hb), c.in-Ok-open.ensures.opened.count))
+    let opened = c.in-Ok-open.ensures.opened in
+    let counted = ap length (opened.same_records (ha, hb)) in
+    let count : length own.records ≡ c.in-Ok-open.opened.0.count = omega (arith, counted, opened.count) in
+    rw (← same) (numbers_are own c.in-Ok-open.opened.0.base c.in-Ok-open.opened.0.count c.in-Ok-open.opened.0.generation
+    (opened.base (ha, hb)) count (opened.generation (ha, hb)) (omega (arith, small.numbers, count, opened.base (ha, hb))))
 
 pub returns-in-Err-take_state-clause-cause : goal.returns-in-Err-take_state-clause-cause
 returns-in-Err-take_state-clause-cause g c = λ ha hb.
@@ -33,7 +35,7 @@ returns-in-Err-take_state-clause-cause g c = λ ha hb.
     let image_b = g.met.D.Disk.content_is_image c.args.b hb in
     let small = found_small _ _ own (bytes_fit _ image_a.bytes) (bytes_fit _ image_b.bytes) (g.met.D.Disk.length_fits c.args.a ha) (g.met.D.Disk.length_fits c.args.b hb) (c.in-Ok-open.ensures.read ha hb) in
     refused_content _ _ own _ _ c.in-Err-take_state.error
-    (record { read = c.in-Ok-open.ensures.read ha hb; same_snapshot = c.deref.ensures.value ∙ c.in-Ok-open.ensures.opened.same_snapshot (ha, hb); same_records = c.deref-2.ensures.value ∙ c.in-Ok-open.ensures.opened.same_records (ha, hb); small = small })
+    (record { read = c.in-Ok-open.ensures.read ha hb; same_snapshot = c.in-Ok-open.ensures.opened.same_snapshot (ha, hb); same_records = c.in-Ok-open.ensures.opened.same_records (ha, hb); small = small })
     c.in-Err-take_state.ensures
 
 pub returns-in-Err-take_state-clause-opens : goal.returns-in-Err-take_state-clause-opens
@@ -43,6 +45,6 @@ returns-in-Err-take_state-clause-opens g c = λ ha hb all.
     let image_b = g.met.D.Disk.content_is_image c.args.b hb in
     let small = found_small _ _ own (bytes_fit _ image_a.bytes) (bytes_fit _ image_b.bytes) (g.met.D.Disk.length_fits c.args.a ha) (g.met.D.Disk.length_fits c.args.b hb) (c.in-Ok-open.ensures.read ha hb) in
     refused_good _ _ own _ _ c.in-Err-take_state.error
-    (record { read = c.in-Ok-open.ensures.read ha hb; same_snapshot = c.deref.ensures.value ∙ c.in-Ok-open.ensures.opened.same_snapshot (ha, hb); same_records = c.deref-2.ensures.value ∙ c.in-Ok-open.ensures.opened.same_records (ha, hb); small = small })
+    (record { read = c.in-Ok-open.ensures.read ha hb; same_snapshot = c.in-Ok-open.ensures.opened.same_snapshot (ha, hb); same_records = c.in-Ok-open.ensures.opened.same_records (ha, hb); small = small })
     (all _ _ image_a image_b)
     c.in-Err-take_state.ensures

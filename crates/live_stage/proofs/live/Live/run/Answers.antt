@@ -1,9 +1,11 @@
 use Rattle.std.proofs.Common.{◌≡◌, true, List, [], ◌∷◌, length, refl, sym, ap, subst, ◌∙◌, append_assoc, arith}
 use Rattle.std.proofs.lemmas.List.{append-nil, nil_from_length}
+use Rattle.std.specs.Prelude.{MatchBool}
 use Rattle.std.specs.Vec.Iter.{into_iter_items}
 use Rattle.daemon_core.specs.declared.event.Event.{Event}
 use Rattle.live_stage.specs.Transcript.{history_of}
 use Rattle.live_stage.proofs.RunLaws.{IsRunSoFar, IsTurnMade, begins, fails_on, goes_on, one_file, run_finds, run_replies, replayed_from_start}
+use Rattle.live_stage.proofs.TurnLaws.{still_in_file}
 use Rattle.live_stage.proofs.live.Live.run.Given.{Over}
 use Rattle.live_stage.proofs.live.Live.run.Goals as goal
 
@@ -43,8 +45,8 @@ loop-event-preserved g c =
       any_moment = turn.any_moment;
       kept = turn.kept;
       usable = turn.refuses.usable;
-      other_file = turn.file.other_file;
-      same_file = turn.file.same_file;
+      other_file = subst (λ (r : _). MatchBool r.is_in_b (c.turn-answer.new.self.a ≡ r.a) (c.turn-answer.new.self.b ≡ r.b)) turn.file.readied turn.file.other_file;
+      same_file = turn.file.same_file ∙ ap (λ r. r.is_in_b) turn.file.readied;
       broken = turn.refuses.broken;
       breaks = turn.refuses.breaks;
       stays = turn.refuses.stays;
@@ -79,7 +81,7 @@ run_done g c =
 pub returns-clause-run : goal.returns-clause-run
 returns-clause-run g c =
     let r = run_done g c in
-    record { transcript = r.transcript; state = r.state; event = r.event; last_record = r.last_record }
+    record { transcript = r.transcript; state = r.state; event = r.event; numbers = r.numbers }
 
 pub returns-clause-refuses : goal.returns-clause-refuses
 returns-clause-refuses g c =
@@ -102,7 +104,7 @@ returns-clause-any_moment g c = λ ha hb usable.
 pub returns-clause-file : goal.returns-clause-file
 returns-clause-file g c =
     let r = run_done g c in
-    record { same_file = r.same_file; other_file = r.other_file }
+    record { ready = c.args.self.now; readied = refl; same_file = r.same_file; other_file = r.other_file }
 
 pub returns-clause-given_out : goal.returns-clause-given_out
 returns-clause-given_out g c = λ ha hb usable. run_finds g.D.Disk.honest g.D.Disk.history c.args.self.now c.loop-event.self c.args.events.items c.loop-event.answers.items (run_done g c) ha hb usable
@@ -114,3 +116,6 @@ returns-clause-later g c =
       a = record { honesty = r.honest_a; done = r.continues_a; counted = c.loop-event.invariant.later_a };
       b = record { honesty = r.honest_b; done = r.continues_b; counted = c.loop-event.invariant.later_b };
     }
+
+pub returns-in-Err-clause-file : goal.returns-in-Err-clause-file
+returns-in-Err-clause-file g c = still_in_file c.args.self.now

@@ -1,14 +1,19 @@
 use Rattle.std.proofs.Common.{rules, ◌≡◌, false, Some, None, sym, ap, ◌∙◌, arith}
 use Rattle.std.specs.List.{AllByRecursion}
-use Rattle.state_codec.specs.Ops.{IsOp}
-use Rattle.state_codec.specs.Applied.{all_applied}
+use Rattle.console_codec.specs.Ops.{IsOp}
+use Rattle.console_codec.specs.Applied.{all_applied}
 use Rattle.daemon_core.specs.State.{State}
 use Rattle.daemon_core.specs.Step.{Stepped, step}
 use Rattle.live_stage.proofs.FoundLaws.{find_now, find_still, find_either, find_after, content_after}
+use Rattle.live_stage.proofs.TurnLaws.{still_in_file, no_call_made}
 use Rattle.live_stage.proofs.live.Live.turn.Goals as goal
 
-pub returns-then-self-clause-any_moment : goal.returns-then-self-clause-any_moment
-returns-then-self-clause-any_moment g c = rw (← c.self.view_is) (λ ha hb usable.
+pub returns-then-is_spent-clause-any_moment : goal.returns-then-is_spent-clause-any_moment
+returns-then-is_spent-clause-any_moment g c = rw (← c.self.view_is) (λ ha hb usable.
+    (None, tt, find_still _ _ c.self.inside.journal.content c.self.inside.core.saved _ (c.is_spent.ensures.kept ha hb usable) (c.self.invariant.1 usable ha hb)))
+
+pub returns-then-are_numbers_spent-clause-any_moment : goal.returns-then-are_numbers_spent-clause-any_moment
+returns-then-are_numbers_spent-clause-any_moment g c = rw (← c.self.view_is) (λ ha hb usable.
     (None, tt, find_still _ _ c.self.inside.journal.content c.self.inside.core.saved _ (c.is_spent.ensures.kept ha hb usable) (c.self.invariant.1 usable ha hb)))
 
 pub returns-in-Err-clause-any_moment : goal.returns-in-Err-clause-any_moment
@@ -71,8 +76,12 @@ returns-clause-kept g c =
     (λ some. let held = c.in_ok-number.ensures.kept some ha hb in held.says)
     (λ some. let held = c.in_ok-number.ensures.kept some ha hb in held.kept))
 
-pub returns-then-self-clause-kept : goal.returns-then-self-clause-kept
-returns-then-self-clause-kept g c = rw (← c.self.view_is) (λ ha hb usable.
+pub returns-then-is_spent-clause-kept : goal.returns-then-is_spent-clause-kept
+returns-then-is_spent-clause-kept g c = rw (← c.self.view_is) (λ ha hb usable.
+    find_now (g.D.Disk.history c.self.inside.journal.a) (g.D.Disk.history c.self.inside.journal.b) c.self.inside.journal.content c.self.inside.core.saved (c.is_spent.ensures.kept ha hb usable) (c.self.invariant.1 usable ha hb))
+
+pub returns-then-are_numbers_spent-clause-kept : goal.returns-then-are_numbers_spent-clause-kept
+returns-then-are_numbers_spent-clause-kept g c = rw (← c.self.view_is) (λ ha hb usable.
     find_now (g.D.Disk.history c.self.inside.journal.a) (g.D.Disk.history c.self.inside.journal.b) c.self.inside.journal.content c.self.inside.core.saved (c.is_spent.ensures.kept ha hb usable) (c.self.invariant.1 usable ha hb))
 
 pub returns-in-Err-clause-kept : goal.returns-in-Err-clause-kept
@@ -80,3 +89,20 @@ returns-in-Err-clause-kept g c =
     let same = c.in-Err.ensures.err in
     rw (← c.self.view_is, same) (λ ha hb usable.
     find_now (g.D.Disk.history c.self.inside.journal.a) (g.D.Disk.history c.self.inside.journal.b) c.self.inside.journal.content c.self.inside.core.saved (c.is_spent.ensures.kept ha hb usable) (c.self.invariant.1 usable ha hb))
+
+pub returns-then-is_spent-clause-file : goal.returns-then-is_spent-clause-file
+returns-then-is_spent-clause-file g c = still_in_file c.args.self.now
+
+pub returns-then-are_numbers_spent-clause-file : goal.returns-then-are_numbers_spent-clause-file
+returns-then-are_numbers_spent-clause-file g c = still_in_file c.args.self.now
+
+pub returns-in-Err-clause-file : goal.returns-in-Err-clause-file
+returns-in-Err-clause-file g c = rw (← c.self.view_is, c.in-Err.ensures.err) (still_in_file _)
+
+pub returns-clause-no_call : goal.returns-clause-no_call
+returns-clause-no_call g c =
+    let place : c.new.result.refused_at ≡ c.in-Ok.outcome.refused_at = ap (λ t. t.refused_at) c.new.ensures in
+    rw (← c.self.view_is) (λ none.
+    let empty = c.deref.ensures.value ∙ c.in-Ok.ensures.ok.ops ∙ (rw place at none) in
+    let same = (c.record_ops.ensures.none empty).1 in
+    no_call_made _ _ (ap (λ j. j.a) same) (ap (λ j. j.b) same))

@@ -1,4 +1,4 @@
-use Rattle.std.proofs.Common.{◌≡◌, ◌∙◌, ◌+◌, ◌^◌, ◌<◌, [], ◌∷◌, ◌++◌, Some, length, arith, sym, ap, subst, refl, ℕ, List}
+use Rattle.std.proofs.Common.{◌≡◌, ◌∙◌, ◌+◌, ◌^◌, ◌<◌, [], ◌∷◌, ◌++◌, Some, length, arith, ap, subst, refl, ℕ, List}
 use Rattle.std.specs.Prelude.{not}
 use Rattle.disk_model.specs.Moments.{AllSince}
 use Rattle.play_journal.specs.Content.{IsOldOrNew, with_snapshot}

@@ -1,7 +1,6 @@
-use Rattle.std.proofs.Common.{◌≡◌, ◌∙◌, ◌<◌, ◌^◌, [], Some, length, arith, rules, ap, inl, inr, lit<}
+use Rattle.std.proofs.Common.{◌≡◌, ◌∙◌, ◌<◌, ◌^◌, [], length, arith, rules, inl, inr, lit<}
 use Rattle.std.specs.Prelude.{IsTrue, false}
 use Rattle.std.proofs.lemmas.Bool.{cases_lt}
-use Rattle.disk_model.proofs.LaterLaws.{pair_begin}
 use Rattle.play_journal.specs.Content.{fresh}
 use Rattle.play_journal.specs.JournalState.{content_in, IsKept}
 use Rattle.play_journal.proofs.InUseLaws.{laid_content, fresh_kept}

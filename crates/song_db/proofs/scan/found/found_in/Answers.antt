@@ -3,14 +3,14 @@ use Rattle.std.specs.Prelude.{if◌then◌else◌, Result, IfOk, IfErr, option_m
 use Rattle.std.specs.Result.{result_ok}
 use Rattle.wave_pcm.specs.Reading.{wave_reading, IsVerdict}
 use Rattle.wave_pcm.specs.declared.info.WaveInfo.{WaveInfo}
-use Rattle.wave_pcm.specs.declared.error.WaveError.{WaveError}
-use Rattle.wave_pcm.specs.declared.error.WaveError.TheVariants.{NoMemory, NotWave, NoFormat, Unsupported, NoData, ReadFault, TooManyTurns}
+use Rattle.wave_pcm.specs.declared.refusal.WaveError.{WaveError}
+use Rattle.wave_pcm.specs.declared.refusal.WaveError.TheVariants.{NoMemory, NotWave, NoFormat, Unsupported, NoData, ReadFault, TooManyTurns}
 use Rattle.std.proofs.lemmas.Result.{IfOk-at_ok}
 use Rattle.song_db.specs.declared.refusal.SongDbError.{SongDbError}
 use Rattle.song_db.specs.declared.scan.found.Found.{Found}
 use Rattle.song_db.specs.declared.scan.found.Found.TheVariants.{Song, NoSong}
-use Rattle.song_db.specs.Found.{found_of, has_row, IsOf, IsSongIn}
-use Rattle.song_db.specs.Scan.{song_in}
+use Rattle.song_db.specs.Found.{found_of, IsKnown, IsOf, IsSongIn}
+use Rattle.song_db.specs.Scan.{song_in, has_row}
 use Rattle.song_db.specs.Row.{row_of, is_within_limits}
 use Rattle.song_db.proofs.scan.found.found_in.Goals as goal
 
@@ -36,7 +36,7 @@ song_of : (uri bytes : List ℕ) (head : Result WaveInfo WaveError) → IfOk hea
 song_of uri bytes (Ok info) read verdict = by_cases (is_within_limits (row_of uri info)) refl
   where
     by_cases : (b : Bool) → is_within_limits (row_of uri info) ≡ b → IsSongIn uri bytes (if b then Song (row_of uri info) else NoSong)
-    by_cases true told = ap (λ reading. option_map (row_of uri) (result_ok reading)) read
+    by_cases true told = (ap (λ reading. option_map (row_of uri) (result_ok reading)) read, told)
     by_cases false told = ap (λ reading. has_row (option_map (row_of uri) (result_ok reading))) read ∙ told
 song_of uri bytes (Err NoMemory) read verdict = tt
 song_of uri bytes (Err ReadFault) read verdict = tt
@@ -62,3 +62,23 @@ returns-in-Ok-Some-clause-song g c = λ source is told.
     c.in-Ok-Some.source)) c.found_of.ensures.found
     (song_of c.args.uri (g.S.Source.bytes c.in-Ok-Some.source) c.read_head-head.result (c.read_head-head.ensures.head (rw same at
     told)) (c.read_head-head.ensures.refused (rw same at told))))
+
+known_of : (uri : List ℕ) (head : Result WaveInfo WaveError) → (head ≡ Err ReadFault → ⊥) → IfOk (found_of uri head) IsKnown
+known_of uri (Ok info) steady = by_cases (is_within_limits (row_of uri info))
+  where
+    by_cases : (b : Bool) → IsKnown (if b then Song (row_of uri info) else NoSong)
+    by_cases true = tt
+    by_cases false = tt
+known_of uri (Err NoMemory) steady = tt
+known_of uri (Err ReadFault) steady = absurd (steady refl)
+known_of uri (Err NotWave) steady = tt
+known_of uri (Err NoFormat) steady = tt
+known_of uri (Err (Unsupported tag bits channels)) steady = tt
+known_of uri (Err NoData) steady = tt
+known_of uri (Err TooManyTurns) steady = tt
+
+pub returns-in-Ok-Some-clause-known : goal.returns-in-Ok-Some-clause-known
+returns-in-Ok-Some-clause-known g c = λ source is told steady.
+    let same : source ≡ c.in-Ok-Some.source = cc in
+    same_answer c.found_of.result (found_of c.args.uri c.read_head-head.result) IsKnown c.found_of.ensures.found
+    (known_of c.args.uri c.read_head-head.result (c.read_head-head.ensures.steady (rw same at told) (rw same at steady)))

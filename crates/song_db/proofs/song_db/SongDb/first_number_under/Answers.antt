@@ -1,4 +1,4 @@
-use Rattle.std.proofs.Common.{◌≡◌, ◌≤◌, ◌-◌, length, take, drop, refl, rules, arith}
+use Rattle.std.proofs.Common.{◌-◌, take, drop, refl, rules}
 use Rattle.song_db.proofs.Folders.{no_folder, some_folder}
 use Rattle.song_db.proofs.RowPlaces.{root_run, root_within, run_none, run_some}
 use Rattle.song_db.proofs.song_db.SongDb.first_number_under.Goals as goal

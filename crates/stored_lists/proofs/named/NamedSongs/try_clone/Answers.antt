@@ -1,4 +1,4 @@
-use Rattle.std.proofs.Common.{◌≡◌, ◌∙◌, true, [], ◌∷◌, ◌++◌, append_assoc, sym, subst}
+use Rattle.std.proofs.Common.{◌≡◌, ◌∙◌, true, [], ◌∷◌, append_assoc, sym, subst}
 use Rattle.stored_lists.specs.Lists.{IsRising}
 use Rattle.stored_lists.specs.Part.{is_last}
 use Rattle.stored_lists.proofs.Last.{last_added, rising_last}

@@ -1,4 +1,4 @@
-use Rattle.std.proofs.Common.{◌≡◌, sym, ap, ◌∙◌, arith, rules}
+use Rattle.std.proofs.Common.{ap, ◌∙◌, arith}
 use Rattle.wave_pcm.specs.Folder.{File}
 use Rattle.wave_pcm.proofs.FolderFiles.{opened, passed}
 use Rattle.wave_pcm.proofs.memory_folder.MemFolderFolder.open.Goals as goal

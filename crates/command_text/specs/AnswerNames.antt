@@ -1,0 +1,47 @@
+-- Lines of one name or value each, and of counts.
+use Rattle.std.specs.Prelude.{ℕ, List, [], ◌∷◌, ◌++◌, codes}
+use Rattle.std.specs.List.{concat}
+use Rattle.idle_masks.specs.declared.subsystem.Subsystem.{Subsystem}
+use Rattle.idle_masks.specs.Subsystem.{name_of as subsystem_name}
+use Rattle.wave_pcm.specs.declared.tags.Tag.{Tag}
+use Rattle.wave_pcm.specs.TagName.{name_of}
+use Rattle.command_text.specs.declared.name.CommandName.{CommandName}
+use Rattle.command_text.specs.Names.{name_text}
+use Rattle.command_text.specs.Answer.{pair, number_pair}
+use Rattle.command_text.specs.AnswerTimes.{whole_seconds}
+
+abbrev pub directory_line : List ℕ → List ℕ
+directory_line path = pair (codes "directory") path
+
+abbrev pub playlist_line : List ℕ → List ℕ
+playlist_line name = pair (codes "playlist") name
+
+-- `sticker: NAME=VALUE`
+abbrev pub sticker_line : List ℕ → List ℕ → List ℕ
+sticker_line name value = pair (codes "sticker") (name ++ (codes "=" ++ value))
+
+-- a value of a tag
+abbrev pub value_line : Tag → List ℕ → List ℕ
+value_line tag value = pair (name_of tag) value
+
+abbrev pub tag_type_line : Tag → List ℕ
+tag_type_line tag = pair (codes "tagtype") (name_of tag)
+
+abbrev pub command_line : CommandName → List ℕ
+command_line name = pair (codes "command") (name_text name)
+
+abbrev pub changed_line : Subsystem → List ℕ
+changed_line subsystem = pair (codes "changed") (subsystem_name subsystem)
+
+-- how many songs, and how long they play together
+abbrev pub count_lines : ℕ → ℕ → List ℕ
+count_lines songs milliseconds = number_pair (codes "songs") songs ++ pair (codes "playtime") (whole_seconds milliseconds)
+
+-- how many artists, albums and songs the database has, and how long all its songs play together
+abbrev pub database_lines : ℕ → ℕ → ℕ → ℕ → List ℕ
+database_lines artists albums songs milliseconds = concat (
+    number_pair (codes "artists") artists
+    ∷ number_pair (codes "albums") albums
+    ∷ number_pair (codes "songs") songs
+    ∷ pair (codes "db_playtime") (whole_seconds milliseconds)
+    ∷ [])

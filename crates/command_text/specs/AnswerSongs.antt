@@ -1,0 +1,62 @@
+-- The lines of a song, and of an entry of the queue.
+use Rattle.std.specs.Prelude.{ℕ, ◌==◌, List, [], ◌∷◌, ◌++◌, Option, Some, None, codes, if◌then◌else◌}
+use Rattle.std.specs.List.{concat, flat_map}
+use Rattle.std.specs.Fmt.{decimal}
+use Rattle.play_queue.specs.declared.entry.Entry.{Entry}
+use Rattle.song_db.specs.Row.{Row}
+use Rattle.song_db.specs.Duration.{milliseconds}
+use Rattle.wave_pcm.specs.declared.tags.Tag.{Tag}
+use Rattle.wave_pcm.specs.declared.tags.Tag.TheVariants.{Title, Artist, Album, Date, Genre, Comment}
+use Rattle.wave_pcm.specs.Tag.{Texts, text_of}
+use Rattle.wave_pcm.specs.TagName.{name_of}
+use Rattle.command_text.specs.Answer.{pair, number_pair}
+use Rattle.command_text.specs.AnswerTimes.{whole_seconds, exact_seconds}
+
+abbrev pub file_line : List ℕ → List ℕ
+file_line uri = pair (codes "file") uri
+
+-- `RATE:16:CHANNELS`, the rate in frames a second
+abbrev pub format_text : ℕ → ℕ → List ℕ
+format_text rate channels = decimal rate ++ (codes ":16:" ++ decimal channels)
+
+-- the tags in the order in which a song shows them
+abbrev pub shown_tags : List Tag
+shown_tags = Title ∷ Artist ∷ Album ∷ Date ∷ Genre ∷ Comment ∷ []
+
+-- a tag is shown where it has a text
+abbrev pub tag_line : Tag → Option (List ℕ) → List ℕ
+tag_line tag None = []
+tag_line tag (Some text) = pair (name_of tag) text
+
+abbrev pub tag_lines : Texts → List ℕ
+tag_lines texts = flat_map (λ tag. tag_line tag (text_of texts tag)) shown_tags
+
+abbrev pub song_lines : Row → List ℕ
+song_lines row = concat (
+    file_line row.uri
+    ∷ pair (codes "Format") (format_text row.rate row.channels)
+    ∷ tag_lines row.tags
+    ∷ pair (codes "Time") (whole_seconds (milliseconds row))
+    ∷ pair (codes "duration") (exact_seconds (milliseconds row))
+    ∷ [])
+
+-- the priority is shown where it isn't 0
+abbrev pub priority_line : ℕ → List ℕ
+priority_line priority = if priority == 0 then [] else number_pair (codes "Prio") priority
+
+-- the entry at a position, and its song
+abbrev pub entry_lines : Row → ℕ → Entry → List ℕ
+entry_lines row position entry = concat (
+    song_lines row
+    ∷ number_pair (codes "Pos") position
+    ∷ number_pair (codes "Id") entry.id
+    ∷ priority_line entry.priority
+    ∷ [])
+
+-- the same as `plchangesposid` shows it
+abbrev pub place_lines : ℕ → ℕ → List ℕ
+place_lines position id = number_pair (codes "cpos") position ++ number_pair (codes "Id") id
+
+-- what `addid` answers
+abbrev pub id_line : ℕ → List ℕ
+id_line id = number_pair (codes "Id") id

@@ -1,0 +1,42 @@
+-- The commands of the database and its scans.
+use Rattle.std.specs.Prelude.{List, Bool, ◌||◌, [], Option, Some, None, Result, Ok, codes, if◌then◌else◌}
+use Rattle.std.specs.Option.{option_map}
+use Rattle.std.specs.Str.{bytes_eq}
+use Rattle.song_db.specs.Uri.{is_uri}
+use Rattle.command_text.specs.declared.command.database.DatabaseCommand.{DatabaseCommand}
+use Rattle.command_text.specs.declared.command.database.DatabaseCommand.TheVariants as commands
+use Rattle.command_text.specs.declared.refusal.CommandRefusal.{CommandRefusal}
+use Rattle.command_text.specs.declared.topic.DatabaseName.{DatabaseName}
+use Rattle.command_text.specs.declared.topic.DatabaseName.TheVariants as names
+use Rattle.command_text.specs.Arguments.{text_of}
+use Rattle.command_text.specs.Counts.{◌>>=◌, Word, no_argument, optional_argument, argument, optional}
+
+-- the place that a scan reads: nothing, the empty text or `/` for the whole, or what has the form of a URI
+unfoldable pub scanned_place : Word → Option (Option Word)
+scanned_place word =
+    if bytes_eq word [] || bytes_eq word (codes "/") then Some None else (if is_uri word then Some (Some word) else None)
+
+abbrev pub place_or_root : Option (Option Word) → Option Word
+place_or_root None = None
+place_or_root (Some place) = place
+
+-- a path, of which any text is one
+abbrev pub path_argument : List Word → Result (Option Word) CommandRefusal
+path_argument words = optional_argument words >>= λ word. optional 1 text_of word
+
+unfoldable pub scan_of : List Word → Result DatabaseCommand CommandRefusal
+scan_of words = do
+  word ← optional_argument words
+  place ← optional 1 scanned_place word
+  Ok (commands.Update (place_or_root place))
+
+unfoldable pub database_of : DatabaseName → List Word → Result DatabaseCommand CommandRefusal
+database_of names.Commands words = no_argument commands.Commands words
+database_of names.ListAll words = path_argument words >>= λ path. Ok (commands.ListAll path)
+database_of names.ListAllInfo words = path_argument words >>= λ path. Ok (commands.ListAllInfo path)
+database_of names.ListInfo words = path_argument words >>= λ path. Ok (commands.ListInfo path)
+database_of names.NotCommands words = no_argument commands.NotCommands words
+database_of names.Rescan words = scan_of words
+database_of names.Stats words = no_argument commands.Stats words
+database_of names.TagTypes words = no_argument commands.TagTypes words
+database_of names.Update words = scan_of words

@@ -1,0 +1,136 @@
+-- The commands that find songs by a filter. Its count of words comes first; then each part from left to right.
+use Rattle.std.specs.Prelude.{ℕ, ◌+◌, ◌-◌, ◌%◌, List, [], ◌∷◌, length, take, drop, Bool, true, false, not, ◌==◌, ◌&&◌, ◌||◌, nat_le, Option}
+use Rattle.std.specs.Prelude.{Some, None, Result, Ok, Err, codes, if◌then◌else◌}
+use Rattle.std.specs.Str.{bytes_eq}
+use Rattle.filter_expr.specs.declared.case.Case.{Case}
+use Rattle.filter_expr.specs.declared.case.Case.TheVariants.{Exact, Folded}
+use Rattle.filter_expr.specs.declared.order.SortOrder.{SortOrder}
+use Rattle.filter_expr.specs.Parts.{opening, begins_so}
+use Rattle.filter_expr.specs.SortWord.{sort_order}
+use Rattle.filter_expr.specs.Tree.{Tree}
+use Rattle.play_queue.specs.declared.target.Target.{Target}
+use Rattle.command_text.specs.declared.command.finding.FindingCommand.{FindingCommand}
+use Rattle.command_text.specs.declared.command.finding.FindingCommand.TheVariants as commands
+use Rattle.command_text.specs.declared.command.finding.Search.{Search}
+use Rattle.command_text.specs.declared.range.Window.{Window}
+use Rattle.command_text.specs.declared.refusal.CommandRefusal.{CommandRefusal}
+use Rattle.command_text.specs.declared.refusal.CommandRefusal.TheVariants.{WrongCount, BadArgument}
+use Rattle.command_text.specs.declared.topic.FindingName.{FindingName}
+use Rattle.command_text.specs.declared.topic.FindingName.TheVariants as names
+use Rattle.command_text.specs.Arguments.{target_of, window_of}
+use Rattle.command_text.specs.Counts.{◌>>=◌, Word, argument}
+use Rattle.command_text.specs.NameArguments.{told, playlist_name, filter_argument, tag_argument}
+
+-- a filter is one word that is an expression, or pairs of a tag and a value
+abbrev pub is_expression : List Word → Bool
+is_expression [] = false
+is_expression (word ∷ words) = begins_so opening word
+
+abbrev pub is_even : ℕ → Bool
+is_even n = n % 2 == 0
+
+abbrev pub are_pairs : List Word → Bool
+are_pairs words = nat_le 2 (length words) && is_even (length words)
+
+-- the count of a filter that stands alone, and of one behind which parts of two words may stand
+abbrev pub has_filter_count : List Word → Bool
+has_filter_count words = if is_expression words then length words == 1 else are_pairs words
+
+abbrev pub has_search_count : List Word → Bool
+has_search_count words = if is_expression words then not (is_even (length words)) else are_pairs words
+
+-- the words that begin a part behind a filter
+abbrev pub begins_part : Bool → Word → Bool
+begins_part adds word =
+    bytes_eq word (codes "sort") || (bytes_eq word (codes "window") || (adds && bytes_eq word (codes "position")))
+
+-- how many words the pairs have up to the first part behind them
+unfoldable pub pairs_length : Bool → List Word → ℕ
+pairs_length adds [] = 0
+pairs_length adds (word ∷ []) = 0
+pairs_length adds (tag ∷ value ∷ words) = if begins_part adds tag then 0 else 2 + pairs_length adds words
+
+-- how many words the filter has: an expression one, and else the first pair and those behind it
+abbrev pub filter_length : Bool → List Word → ℕ
+filter_length adds words = if is_expression words then 1 else 2 + pairs_length adds (drop 2 words)
+
+-- what stands behind a name in front of these words
+abbrev pub value_behind : Word → List Word → Option Word
+value_behind name [] = None
+value_behind name (word ∷ []) = None
+value_behind name (word ∷ value ∷ words) = if bytes_eq word name then Some value else None
+
+-- what one part says, if it is there, and the words behind it
+abbrev pub Part : Type 0 → Type 0
+Part A = Result (Option A × List Word) CommandRefusal
+
+abbrev pub part : {A : Type 0} → (Word → Result A CommandRefusal) → List Word → Option Word → Part A
+part read words None = Ok (None, words)
+part read words (Some value) = read value >>= λ x. Ok (Some x, drop 2 words)
+
+-- the place of the second of these last words, where so many arguments are counted from 1
+abbrev pub second_place : ℕ → List Word → ℕ
+second_place total words = total - length words + 2
+
+unfoldable pub sort_part : List Word → Part SortOrder
+sort_part words = part (λ word. told (sort_order word)) words (value_behind (codes "sort") words)
+
+unfoldable pub window_part : ℕ → List Word → Part Window
+window_part total words =
+    part (λ word. argument (second_place total words) (window_of word)) words (value_behind (codes "window") words)
+
+unfoldable pub position_part : ℕ → List Word → Part Target
+position_part total words =
+    part (λ word. argument (second_place total words) (target_of word)) words (value_behind (codes "position") words)
+
+-- a part out of its order, or twice
+abbrev pub nothing_left : {A : Type 0} → ℕ → List Word → A → Result A CommandRefusal
+nothing_left total [] value = Ok value
+nothing_left total (word ∷ words) value = Err (BadArgument (total - length words))
+
+-- a filter, an order and a window, and the words behind them
+unfoldable pub search_parts : Bool → Case → List Word → Result (Search × List Word) CommandRefusal
+search_parts adds case words = do
+  filter ← filter_argument (take (filter_length adds words) words)
+  sort ← sort_part (drop (filter_length adds words) words)
+  window ← window_part (length words) sort.1
+  Ok (record { case = case; filter = filter; sort = sort.0; window = window.0 }, window.1)
+
+unfoldable pub find_of : Case → List Word → Result FindingCommand CommandRefusal
+find_of case words =
+    if not (has_search_count words) then Err WrongCount
+    else (search_parts false case words >>= λ x. nothing_left (length words) x.1 (commands.Find x.0))
+
+unfoldable pub find_add_of : Case → List Word → Result FindingCommand CommandRefusal
+find_add_of case words =
+    if not (has_search_count words) then Err WrongCount
+    else (search_parts true case words >>= λ x. position_part (length words) x.1
+    >>= λ to. nothing_left (length words) to.1 (commands.Add x.0 to.0))
+
+-- a filter and nothing behind it
+unfoldable pub filter_alone : List Word → Result Tree CommandRefusal
+filter_alone words = if not (has_filter_count words) then Err WrongCount else filter_argument words
+
+unfoldable pub add_to_playlist_of : List Word → Result FindingCommand CommandRefusal
+add_to_playlist_of [] = Err WrongCount
+add_to_playlist_of (name ∷ words) =
+    if not (has_filter_count words) then Err WrongCount
+    else (playlist_name name >>= λ list. filter_argument words >>= λ filter. Ok (commands.AddToPlaylist list filter))
+
+unfoldable pub list_of : List Word → Result FindingCommand CommandRefusal
+list_of [] = Err WrongCount
+list_of (tag ∷ []) = tag_argument tag >>= λ tag. Ok (commands.ListTag tag None)
+list_of (tag ∷ word ∷ words) =
+    if not (has_filter_count (word ∷ words)) then Err WrongCount
+    else (tag_argument tag >>= λ tag. filter_argument (word ∷ words) >>= λ filter. Ok (commands.ListTag tag (Some filter)))
+
+unfoldable pub finding_of : FindingName → List Word → Result FindingCommand CommandRefusal
+finding_of names.Count words = filter_alone words >>= λ filter. Ok (commands.Count filter)
+finding_of names.Find words = find_of Exact words
+finding_of names.FindAdd words = find_add_of Exact words
+finding_of names.ListTag words = list_of words
+finding_of names.QueueFind words = filter_alone words >>= λ filter. Ok (commands.InQueue Exact filter)
+finding_of names.QueueSearch words = filter_alone words >>= λ filter. Ok (commands.InQueue Folded filter)
+finding_of names.Search words = find_of Folded words
+finding_of names.SearchAdd words = find_add_of Folded words
+finding_of names.SearchAddPlaylist words = add_to_playlist_of words

@@ -1,0 +1,65 @@
+-- The commands of the stored playlists.
+use Rattle.std.specs.Prelude.{List, Result, Ok}
+use Rattle.command_text.specs.declared.command.lists.ListsCommand.{ListsCommand}
+use Rattle.command_text.specs.declared.command.lists.ListsCommand.TheVariants as commands
+use Rattle.command_text.specs.declared.refusal.CommandRefusal.{CommandRefusal}
+use Rattle.command_text.specs.declared.topic.ListsName.{ListsName}
+use Rattle.command_text.specs.declared.topic.ListsName.TheVariants as names
+use Rattle.command_text.specs.Arguments.{number_of, range_of, target_of, text_of}
+use Rattle.command_text.specs.Counts.{◌>>=◌, Word, no_argument, one_argument, two_arguments, three_arguments, one_to_three, argument}
+use Rattle.command_text.specs.Counts.{optional}
+use Rattle.command_text.specs.NameArguments.{playlist_name}
+
+-- the one argument is a playlist's name
+abbrev pub one_name : List Word → Result Word CommandRefusal
+one_name words = one_argument words >>= λ word. playlist_name word
+
+unfoldable pub load_of : List Word → Result ListsCommand CommandRefusal
+load_of words = do
+  given ← one_to_three words
+  name ← playlist_name given.0
+  range ← optional 2 range_of given.1.0
+  to ← optional 3 target_of given.1.1
+  Ok (commands.Load name range to)
+
+unfoldable pub rename_of : List Word → Result ListsCommand CommandRefusal
+rename_of words = do
+  given ← two_arguments words
+  from ← playlist_name given.0
+  to ← playlist_name given.1
+  Ok (commands.Rename from to)
+
+unfoldable pub list_add_of : List Word → Result ListsCommand CommandRefusal
+list_add_of words = do
+  given ← two_arguments words
+  name ← playlist_name given.0
+  uri ← argument 2 (text_of given.1)
+  Ok (commands.Add name uri)
+
+unfoldable pub list_delete_of : List Word → Result ListsCommand CommandRefusal
+list_delete_of words = do
+  given ← two_arguments words
+  name ← playlist_name given.0
+  range ← argument 2 (range_of given.1)
+  Ok (commands.Delete name range)
+
+unfoldable pub list_move_of : List Word → Result ListsCommand CommandRefusal
+list_move_of words = do
+  given ← three_arguments words
+  name ← playlist_name given.0
+  from ← argument 2 (number_of given.1.0)
+  to ← argument 3 (number_of given.1.1)
+  Ok (commands.Move name from to)
+
+unfoldable pub lists_of : ListsName → List Word → Result ListsCommand CommandRefusal
+lists_of names.ListPlaylist words = one_name words >>= λ name. Ok (commands.Songs name)
+lists_of names.ListPlaylistInfo words = one_name words >>= λ name. Ok (commands.SongsInfo name)
+lists_of names.ListPlaylists words = no_argument commands.Names words
+lists_of names.Load words = load_of words
+lists_of names.PlaylistAdd words = list_add_of words
+lists_of names.PlaylistClear words = one_name words >>= λ name. Ok (commands.Clear name)
+lists_of names.PlaylistDelete words = list_delete_of words
+lists_of names.PlaylistMove words = list_move_of words
+lists_of names.Remove words = one_name words >>= λ name. Ok (commands.Remove name)
+lists_of names.Rename words = rename_of words
+lists_of names.Save words = one_name words >>= λ name. Ok (commands.Save name)

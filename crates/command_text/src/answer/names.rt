@@ -1,0 +1,87 @@
+//! Lines of one name or value each, and of counts.
+ghost use Rattle.command_text.specs.Answer.{Adds};
+ghost use Rattle.command_text.specs.AnswerNames.{directory_line, playlist_line, sticker_line, value_line, tag_type_line, command_line};
+ghost use Rattle.command_text.specs.AnswerNames.{changed_line, count_lines, database_lines};
+
+use crate::answer::pairs::{append, write_number, write_pair};
+use crate::answer::times::write_whole_seconds;
+use crate::name::CommandName;
+use idle_masks::Subsystem;
+use no_memory::NoMemory;
+use wave_pcm::Tag;
+
+/// Adds the line `directory: PATH`.
+pub fn write_directory(out: &mut Vec<u8>, path: &str) -> Result<(), NoMemory>
+    ensures { Adds (directory_line path.now) result out.old out.new }
+{
+    write_pair(out, "directory", path.as_bytes())
+}
+
+/// Adds the line `playlist: NAME`.
+pub fn write_playlist(out: &mut Vec<u8>, name: &str) -> Result<(), NoMemory>
+    ensures { Adds (playlist_line name.now) result out.old out.new }
+{
+    write_pair(out, "playlist", name.as_bytes())
+}
+
+/// Adds the line `sticker: NAME=VALUE`.
+pub fn write_sticker(out: &mut Vec<u8>, name: &str, value: &str) -> Result<(), NoMemory>
+    ensures { Adds (sticker_line name.now value.now) result out.old out.new }
+{
+    append(
+        out,
+        &[b"sticker: ", name.as_bytes(), b"=", value.as_bytes(), b"\n"],
+    )
+}
+
+/// Adds the line `TAG: VALUE`.
+pub fn write_value(out: &mut Vec<u8>, tag: Tag, value: &str) -> Result<(), NoMemory>
+    ensures { Adds (value_line tag value.now) result out.old out.new }
+{
+    write_pair(out, tag.name(), value.as_bytes())
+}
+
+/// Adds the line `tagtype: TAG`.
+pub fn write_tag_type(out: &mut Vec<u8>, tag: Tag) -> Result<(), NoMemory>
+    ensures { Adds (tag_type_line tag) result out.old out.new }
+{
+    write_pair(out, "tagtype", tag.name().as_bytes())
+}
+
+/// Adds the line `command: NAME`.
+pub fn write_command(out: &mut Vec<u8>, name: CommandName) -> Result<(), NoMemory>
+    ensures { Adds (command_line name) result out.old out.new }
+{
+    write_pair(out, "command", name.text().as_bytes())
+}
+
+/// Adds the line `changed: SUBSYSTEM`.
+pub fn write_changed(out: &mut Vec<u8>, subsystem: Subsystem) -> Result<(), NoMemory>
+    ensures { Adds (changed_line subsystem) result out.old out.new }
+{
+    write_pair(out, "changed", subsystem.name().as_bytes())
+}
+
+/// Adds the lines of `count`: `songs`, and `playtime` in whole seconds.
+pub fn write_counts(out: &mut Vec<u8>, songs: usize, milliseconds: u128) -> Result<(), NoMemory>
+    ensures { Adds (count_lines songs milliseconds) result out.old out.new }
+{
+    write_number(out, "songs", songs)?;
+    write_whole_seconds(out, "playtime", milliseconds)
+}
+
+/// Adds the lines of `stats`: `artists`, `albums`, `songs`, and `db_playtime` in whole seconds.
+pub fn write_statistics(
+    out: &mut Vec<u8>,
+    artists: usize,
+    albums: usize,
+    songs: usize,
+    milliseconds: u128,
+) -> Result<(), NoMemory>
+    ensures { Adds (database_lines artists albums songs milliseconds) result out.old out.new }
+{
+    write_number(out, "artists", artists)?;
+    write_number(out, "albums", albums)?;
+    write_number(out, "songs", songs)?;
+    write_whole_seconds(out, "db_playtime", milliseconds)
+}

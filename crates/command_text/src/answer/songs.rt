@@ -1,0 +1,112 @@
+//! The lines of a song, and of an entry of the queue (MPD protocol reference 0.23, "Other Metadata").
+ghost use Rattle.wave_pcm.specs.Tag.{text_of};
+ghost use Rattle.command_text.specs.Answer.{Adds, pair};
+ghost use Rattle.command_text.specs.AnswerSongs.{file_line, format_text, tag_line, tag_lines, song_lines, priority_line, entry_lines};
+ghost use Rattle.command_text.specs.AnswerSongs.{place_lines, id_line};
+
+use crate::answer::pairs::{append, write_number, write_pair, write_position_and_id};
+use crate::answer::times::{write_exact_seconds, write_whole_seconds};
+use itoa::Buffer;
+use no_memory::NoMemory;
+use play_queue::Entry;
+use song_db::SongRow;
+use wave_pcm::{Tag, WaveInfo};
+
+/// Adds the line `file: URI`.
+pub fn write_file(out: &mut Vec<u8>, uri: &str) -> Result<(), NoMemory>
+    ensures { Adds (file_line uri.now) result out.old out.new }
+{
+    write_pair(out, "file", uri.as_bytes())
+}
+
+/// Adds the line of a format, `key: RATE:16:CHANNELS`.
+pub(crate) fn write_format(out: &mut Vec<u8>, key: &str, info: &WaveInfo) -> Result<(), NoMemory>
+    ensures { Adds (pair key.now (format_text info.now.rate info.now.channels)) result out.old out.new }
+{
+    let mut rate = Buffer::new();
+    let mut channels = Buffer::new();
+    append(
+        out,
+        &[
+            key.as_bytes(),
+            b": ",
+            rate.format(info.rate).as_bytes(),
+            b":16:",
+            channels.format(info.channels).as_bytes(),
+            b"\n",
+        ],
+    )
+}
+
+/// Adds the line of a tag, if the song has a text for it.
+fn write_tag(out: &mut Vec<u8>, row: &SongRow, tag: Tag) -> Result<(), NoMemory>
+    ensures { Adds (tag_line tag (text_of row.now.tags tag)) result out.old out.new }
+{
+    match row.tag(tag) {
+        Some(text) => write_pair(out, tag.name(), text.as_bytes()),
+        None => Ok(()),
+    }
+}
+
+/// Adds the lines of a song's tags.
+fn write_tags(out: &mut Vec<u8>, row: &SongRow) -> Result<(), NoMemory>
+    ensures { Adds (tag_lines row.now.tags) result out.old out.new }
+{
+    write_tag(out, row, Tag::Title)?;
+    write_tag(out, row, Tag::Artist)?;
+    write_tag(out, row, Tag::Album)?;
+    write_tag(out, row, Tag::Date)?;
+    write_tag(out, row, Tag::Genre)?;
+    write_tag(out, row, Tag::Comment)
+}
+
+/// Adds the lines of a song: `file`, `Format`, its tags, `Time` and `duration`.
+pub fn write_song(out: &mut Vec<u8>, row: &SongRow) -> Result<(), NoMemory>
+    ensures { Adds (song_lines row.now) result out.old out.new }
+{
+    write_file(out, row.uri())?;
+    write_format(out, "Format", row.info())?;
+    write_tags(out, row)?;
+    let milliseconds = row.milliseconds();
+    write_whole_seconds(out, "Time", milliseconds)?;
+    write_exact_seconds(out, "duration", milliseconds)
+}
+
+/// Adds the line of a priority, if it isn't 0.
+fn write_priority(out: &mut Vec<u8>, priority: u8) -> Result<(), NoMemory>
+    ensures { Adds (priority_line priority) result out.old out.new }
+{
+    if priority == 0 {
+        return Ok(());
+    }
+    write_number(out, "Prio", priority)
+}
+
+/// Adds the lines of an entry at a position of the queue: those of its song, `Pos`, `Id`, and `Prio` where it isn't 0.
+pub fn write_entry(
+    out: &mut Vec<u8>,
+    row: &SongRow,
+    position: usize,
+    entry: &Entry,
+) -> Result<(), NoMemory>
+    ensures { Adds (entry_lines row.now position entry.now) result out.old out.new }
+{
+    write_song(out, row)?;
+    write_number(out, "Pos", position)?;
+    write_number(out, "Id", entry.id)?;
+    write_priority(out, entry.priority)
+}
+
+/// Adds the lines `cpos` and `Id` of an entry that changed.
+pub fn write_place(out: &mut Vec<u8>, position: usize, id: u32) -> Result<(), NoMemory>
+    ensures { Adds (place_lines position id) result out.old out.new }
+{
+    write_position_and_id(out, "cpos", position, "Id", id)
+}
+
+/// Adds the line `Id: ID` of an entry that was added.
+pub fn write_id(out: &mut Vec<u8>, id: u32) -> Result<(), NoMemory>
+    ensures { Adds (id_line id) result out.old out.new }
+{
+    write_number(out, "Id", id)
+}

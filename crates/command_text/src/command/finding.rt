@@ -1,0 +1,348 @@
+ghost use Rattle.std.specs.Prelude.{◌≡◌, ◌+◌, ◌<◌, ◌≤◌, ◌^◌, length, IsTrue, IsSome};
+ghost use Rattle.std.specs.Option.{option_map};
+ghost use Rattle.std.specs.Result.{result_map_both};
+ghost use Rattle.command_text.specs.Finding.{is_expression, are_pairs, has_filter_count, has_search_count, begins_part, pairs_length};
+ghost use Rattle.filter_expr.specs.Parts.{opening, begins_so};
+ghost use Rattle.command_text.specs.Finding.{filter_length, value_behind, second_place, sort_part, window_part, position_part};
+ghost use Rattle.command_text.specs.Finding.{nothing_left};
+ghost use Rattle.command_text.specs.Finding.{search_parts, find_of, find_add_of, filter_alone, add_to_playlist_of, list_of, finding_of};
+ghost use Rattle.command_text.specs.Stops.{Reads, ReadsAs};
+
+use crate::argument::{argument, target, window};
+use crate::named::{filter_argument, playlist_name, sort_order, tag_argument};
+use crate::range::Window;
+use crate::refusal::CommandRefusal;
+use crate::stop::Stop;
+use crate::text::Text;
+use crate::topic::FindingName;
+use filter_expr::{Case, Filter, LineWord, SortOrder};
+use play_queue::Target;
+use std::alloc::Global;
+use wave_pcm::Tag;
+
+/// Which songs are looked for, in which order and which part of them.
+#[derive(Debug, Drop)]
+pub struct Search {
+    pub case: Case,
+    pub filter: Filter,
+    /// By URI, if nothing is said.
+    pub sort: Option<SortOrder>,
+    pub window: Option<Window>,
+}
+
+/// A command that finds songs.
+#[derive(Debug, Drop)]
+pub enum FindingCommand<'w> {
+    /// Adds what is found to the queue.
+    Add(Search, Option<Target>),
+    /// Adds what is found, the case of letters aside, to a playlist.
+    AddToPlaylist(Text<'w>, Filter),
+    Count(Filter),
+    Find(Search),
+    /// The entries of the queue that match.
+    InQueue(Case, Filter),
+    /// The distinct values of a tag, of all songs or of those that match.
+    ListTag(Tag, Option<Filter>),
+}
+
+/// The command of this name with these arguments.
+#[tactic(auto, unfolding(crate::specs::Finding::finding_of))]
+pub(crate) fn read<'w>(
+    alloc: Global,
+    name: FindingName,
+    words: &'w [LineWord<'_>],
+) -> Result<FindingCommand<'w>, Stop>
+    ensures { Reads result (finding_of name words.now) }
+{
+    match name {
+        FindingName::Count => Ok(FindingCommand::Count(filter_alone(alloc, words)?)),
+        FindingName::Find => find(alloc, Case::Exact, words),
+        FindingName::FindAdd => find_add(alloc, Case::Exact, words),
+        FindingName::ListTag => list(alloc, words),
+        FindingName::QueueFind => {
+            let filter = filter_alone(alloc, words)?;
+            Ok(FindingCommand::InQueue(Case::Exact, filter))
+        }
+        FindingName::QueueSearch => {
+            let filter = filter_alone(alloc, words)?;
+            Ok(FindingCommand::InQueue(Case::Folded, filter))
+        }
+        FindingName::Search => find(alloc, Case::Folded, words),
+        FindingName::SearchAdd => find_add(alloc, Case::Folded, words),
+        FindingName::SearchAddPlaylist => add_to_playlist(alloc, words),
+    }
+}
+
+/// Whether the first word is an expression.
+fn is_expression(words: &[LineWord<'_>]) -> bool
+    ensures { result ≡ is_expression words.now }
+{
+    match words {
+        [] => false,
+        [word, ..] => begins_expression(word.bytes()),
+    }
+}
+
+fn begins_expression(word: &[u8]) -> bool
+    ensures { result ≡ begins_so opening word.now }
+{
+    match word {
+        [] => false,
+        [first, ..] => *first == b'(',
+    }
+}
+
+/// Whether these are pairs by their count.
+fn are_pairs(words: &[LineWord<'_>]) -> bool
+    ensures { result ≡ are_pairs words.now }
+{
+    words.len() >= 2 && words.len() % 2 == 0
+}
+
+/// Whether these may be a filter that stands alone, by their count.
+fn has_filter_count(words: &[LineWord<'_>]) -> bool
+    ensures { result ≡ has_filter_count words.now }
+{
+    if is_expression(words) {
+        words.len() == 1
+    } else {
+        are_pairs(words)
+    }
+}
+
+/// Whether these may be a filter and parts behind it, by their count.
+fn has_search_count(words: &[LineWord<'_>]) -> bool
+    ensures { result ≡ has_search_count words.now }
+{
+    if is_expression(words) {
+        words.len() % 2 != 0
+    } else {
+        are_pairs(words)
+    }
+}
+
+/// Whether the word begins a part behind a filter.
+fn begins_part(adds: bool, word: &[u8]) -> bool
+    ensures { result ≡ begins_part adds word.now }
+{
+    word == b"sort".as_slice()
+        || word == b"window".as_slice()
+        || (adds && word == b"position".as_slice())
+}
+
+/// How many words the pairs have up to the first part behind them.
+fn pairs_length(adds: bool, words: &[LineWord<'_>]) -> usize
+    ensures value { result ≡ pairs_length adds words.now }
+    ensures bound { result ≤ length words.now }
+{
+    let mut passed = 0;
+    'pairs: while words.len() - passed >= 2 {
+        if begins_part(adds, words[passed].bytes()) {
+            return passed;
+        }
+        passed += 2;
+    }
+    passed
+}
+
+/// How many words the filter has.
+fn filter_length(adds: bool, words: &[LineWord<'_>]) -> usize
+    requires { IsTrue (has_search_count words.now) }
+    ensures value { result ≡ filter_length adds words.now }
+    ensures bound { result ≤ length words.now }
+{
+    if is_expression(words) {
+        1
+    } else {
+        2 + pairs_length(adds, &words[2..])
+    }
+}
+
+/// What stands behind a name in front of these words.
+fn value_behind<'w>(name: &[u8], words: &'w [LineWord<'_>]) -> Option<&'w [u8]>
+    ensures value { option_map (λ word. word.now) result ≡ value_behind name.now words.now }
+    ensures some { IsSome result → 2 ≤ length words.now }
+{
+    match words {
+        [word, value, ..] if word.bytes() == name => Some(value.bytes()),
+        _ => None,
+    }
+}
+
+/// The place of the second of these last words, where so many arguments are counted from 1.
+fn second_place(total: usize, words: &[LineWord<'_>]) -> usize
+    requires { total + 2 < 2 ^ 64 }
+    ensures { result ≡ second_place total words.now }
+{
+    total.saturating_sub(words.len()) + 2
+}
+
+/// An order, if it is there, and the words behind it.
+#[tactic(auto, unfolding(crate::specs::Finding::sort_part))]
+fn sort_part<'w, 'a>(
+    alloc: Global,
+    words: &'w [LineWord<'a>],
+) -> Result<(Option<SortOrder>, &'w [LineWord<'a>]), Stop>
+    ensures exact { ReadsAs (λ x. (x.0, x.1.now)) result (sort_part words.now) }
+{
+    match value_behind(b"sort", words) {
+        None => Ok((None, words)),
+        Some(word) => Ok((Some(sort_order(alloc, word)?), &words[2..])),
+    }
+}
+
+/// A window, if it is there, and the words behind it.
+#[tactic(auto, unfolding(crate::specs::Finding::window_part))]
+fn window_part<'w, 'a>(
+    total: usize,
+    words: &'w [LineWord<'a>],
+) -> Result<(Option<Window>, &'w [LineWord<'a>]), CommandRefusal>
+    requires { total + 2 < 2 ^ 64 }
+    ensures { result_map_both (λ x. (x.0, x.1.now)) (λ refusal. refusal) result ≡ window_part total words.now }
+{
+    match value_behind(b"window", words) {
+        None => Ok((None, words)),
+        Some(word) => {
+            let part = argument(second_place(total, words), window(word))?;
+            Ok((Some(part), &words[2..]))
+        }
+    }
+}
+
+/// A place where entries go, if it is there, and the words behind it.
+#[tactic(auto, unfolding(crate::specs::Finding::position_part))]
+fn position_part<'w, 'a>(
+    total: usize,
+    words: &'w [LineWord<'a>],
+) -> Result<(Option<Target>, &'w [LineWord<'a>]), CommandRefusal>
+    requires { total + 2 < 2 ^ 64 }
+    ensures { result_map_both (λ x. (x.0, x.1.now)) (λ refusal. refusal) result ≡ position_part total words.now }
+{
+    match value_behind(b"position", words) {
+        None => Ok((None, words)),
+        Some(word) => {
+            let part = argument(second_place(total, words), target(word))?;
+            Ok((Some(part), &words[2..]))
+        }
+    }
+}
+
+/// The value, where no word is left.
+fn nothing_left<T: Drop>(
+    total: usize,
+    words: &[LineWord<'_>],
+    value: T,
+) -> Result<T, CommandRefusal>
+    ensures { result ≡ nothing_left total words.now value }
+{
+    match words {
+        [] => Ok(value),
+        [_, rest @ ..] => Err(CommandRefusal::BadArgument(total.saturating_sub(rest.len()))),
+    }
+}
+
+/// A filter, an order and a window, and the words behind them.
+#[tactic(auto, unfolding(crate::specs::Finding::search_parts))]
+fn search_parts<'w, 'a>(
+    alloc: Global,
+    adds: bool,
+    case: Case,
+    words: &'w [LineWord<'a>],
+) -> Result<(Search, &'w [LineWord<'a>]), Stop>
+    requires { IsTrue (has_search_count words.now) }
+    ensures { ReadsAs (λ x. (x.0, x.1.now)) result (search_parts adds case words.now) }
+{
+    let (of_filter, behind) = words.split_at(filter_length(adds, words));
+    let filter = filter_argument(alloc, of_filter)?;
+    let (sort, behind) = sort_part(alloc, behind)?;
+    let (window, behind) = window_part(words.len(), behind)?;
+    let search = Search {
+        case,
+        filter,
+        sort,
+        window,
+    };
+    Ok((search, behind))
+}
+
+#[tactic(auto, unfolding(crate::specs::Finding::find_of))]
+fn find<'w>(
+    alloc: Global,
+    case: Case,
+    words: &'w [LineWord<'_>],
+) -> Result<FindingCommand<'w>, Stop>
+    ensures { Reads result (find_of case words.now) }
+{
+    if !has_search_count(words) {
+        return Err(Stop::Refused(CommandRefusal::WrongCount));
+    }
+    let (search, behind) = search_parts(alloc, false, case, words)?;
+    let command = FindingCommand::Find(search);
+    Ok(nothing_left(words.len(), behind, command)?)
+}
+
+#[tactic(auto, unfolding(crate::specs::Finding::find_add_of))]
+fn find_add<'w>(
+    alloc: Global,
+    case: Case,
+    words: &'w [LineWord<'_>],
+) -> Result<FindingCommand<'w>, Stop>
+    ensures { Reads result (find_add_of case words.now) }
+{
+    if !has_search_count(words) {
+        return Err(Stop::Refused(CommandRefusal::WrongCount));
+    }
+    let (search, behind) = search_parts(alloc, true, case, words)?;
+    let (to, behind) = position_part(words.len(), behind)?;
+    let command = FindingCommand::Add(search, to);
+    Ok(nothing_left(words.len(), behind, command)?)
+}
+
+/// A filter and nothing behind it.
+#[tactic(auto, unfolding(crate::specs::Finding::filter_alone))]
+fn filter_alone(alloc: Global, words: &[LineWord<'_>]) -> Result<Filter, Stop>
+    ensures { Reads result (filter_alone words.now) }
+{
+    if !has_filter_count(words) {
+        return Err(Stop::Refused(CommandRefusal::WrongCount));
+    }
+    filter_argument(alloc, words)
+}
+
+#[tactic(auto, unfolding(crate::specs::Finding::add_to_playlist_of))]
+fn add_to_playlist<'w>(alloc: Global, words: &'w [LineWord<'_>]) -> Result<FindingCommand<'w>, Stop>
+    ensures { Reads result (add_to_playlist_of words.now) }
+{
+    match words {
+        [] => Err(Stop::Refused(CommandRefusal::WrongCount)),
+        [name, words @ ..] => {
+            if !has_filter_count(words) {
+                return Err(Stop::Refused(CommandRefusal::WrongCount));
+            }
+            let name = playlist_name(name.bytes())?;
+            let filter = filter_argument(alloc, words)?;
+            Ok(FindingCommand::AddToPlaylist(name, filter))
+        }
+    }
+}
+
+#[tactic(auto, unfolding(crate::specs::Finding::list_of))]
+fn list<'w>(alloc: Global, words: &'w [LineWord<'_>]) -> Result<FindingCommand<'w>, Stop>
+    ensures { Reads result (list_of words.now) }
+{
+    match words {
+        [] => Err(Stop::Refused(CommandRefusal::WrongCount)),
+        [tag] => {
+            let tag = tag_argument(alloc, tag.bytes())?;
+            Ok(FindingCommand::ListTag(tag, None))
+        }
+        [tag, words @ ..] => {
+            if !has_filter_count(words) {
+                return Err(Stop::Refused(CommandRefusal::WrongCount));
+            }
+            let tag = tag_argument(alloc, tag.bytes())?;
+            let filter = filter_argument(alloc, words)?;
+            Ok(FindingCommand::ListTag(tag, Some(filter)))
+        }
+    }
+}

@@ -1,0 +1,111 @@
+ghost use Rattle.std.specs.Prelude.{◌≡◌};
+ghost use Rattle.command_text.specs.Lists.{lists_of, one_name, load_of, rename_of, list_add_of, list_delete_of, list_move_of};
+
+use crate::argument::{argument, number, optional_range, optional_target, range, text};
+use crate::counts::{no_argument, one, one_to_three, three, two};
+use crate::named::playlist_name;
+use crate::range::PositionRange;
+use crate::refusal::CommandRefusal;
+use crate::text::Text;
+use crate::topic::ListsName;
+use filter_expr::LineWord;
+use play_queue::Target;
+
+/// A command of the stored playlists. Each name is one that a playlist may have; a URI may be any text.
+#[derive(Debug, Drop)]
+pub enum ListsCommand<'w> {
+    /// Adds a song, or all songs under a folder.
+    Add(Text<'w>, Text<'w>),
+    Clear(Text<'w>),
+    Delete(Text<'w>, PositionRange),
+    /// Adds its songs, or those of a range, to the queue.
+    Load(Text<'w>, Option<PositionRange>, Option<Target>),
+    /// Moves the entry at a position to another, counted without it.
+    Move(Text<'w>, u32, u32),
+    /// Lists the names.
+    Names,
+    Remove(Text<'w>),
+    Rename(Text<'w>, Text<'w>),
+    /// Saves the queue.
+    Save(Text<'w>),
+    /// Lists its URIs.
+    Songs(Text<'w>),
+    /// Lists its songs.
+    SongsInfo(Text<'w>),
+}
+
+/// The command of this name with these arguments.
+#[tactic(auto, unfolding(crate::specs::Lists::lists_of))]
+pub(crate) fn read<'w>(
+    name: ListsName,
+    words: &'w [LineWord<'_>],
+) -> Result<ListsCommand<'w>, CommandRefusal>
+    ensures { result ≡ lists_of name words.now }
+{
+    match name {
+        ListsName::ListPlaylist => Ok(ListsCommand::Songs(one_name(words)?)),
+        ListsName::ListPlaylistInfo => Ok(ListsCommand::SongsInfo(one_name(words)?)),
+        ListsName::ListPlaylists => no_argument(ListsCommand::Names, words),
+        ListsName::Load => load(words),
+        ListsName::PlaylistAdd => add(words),
+        ListsName::PlaylistClear => Ok(ListsCommand::Clear(one_name(words)?)),
+        ListsName::PlaylistDelete => delete(words),
+        ListsName::PlaylistMove => move_entry(words),
+        ListsName::Remove => Ok(ListsCommand::Remove(one_name(words)?)),
+        ListsName::Rename => rename(words),
+        ListsName::Save => Ok(ListsCommand::Save(one_name(words)?)),
+    }
+}
+
+fn one_name<'w>(words: &'w [LineWord<'_>]) -> Result<Text<'w>, CommandRefusal>
+    ensures { result ≡ one_name words.now }
+{
+    playlist_name(one(words)?)
+}
+
+#[tactic(auto, unfolding(crate::specs::Lists::load_of))]
+fn load<'w>(words: &'w [LineWord<'_>]) -> Result<ListsCommand<'w>, CommandRefusal>
+    ensures { result ≡ load_of words.now }
+{
+    let (name, (range, to)) = one_to_three(words)?;
+    let name = playlist_name(name)?;
+    let range = optional_range(2, range)?;
+    Ok(ListsCommand::Load(name, range, optional_target(3, to)?))
+}
+
+#[tactic(auto, unfolding(crate::specs::Lists::rename_of))]
+fn rename<'w>(words: &'w [LineWord<'_>]) -> Result<ListsCommand<'w>, CommandRefusal>
+    ensures { result ≡ rename_of words.now }
+{
+    let (from, to) = two(words)?;
+    let from = playlist_name(from)?;
+    Ok(ListsCommand::Rename(from, playlist_name(to)?))
+}
+
+#[tactic(auto, unfolding(crate::specs::Lists::list_add_of))]
+fn add<'w>(words: &'w [LineWord<'_>]) -> Result<ListsCommand<'w>, CommandRefusal>
+    ensures { result ≡ list_add_of words.now }
+{
+    let (name, uri) = two(words)?;
+    let name = playlist_name(name)?;
+    Ok(ListsCommand::Add(name, argument(2, text(uri))?))
+}
+
+#[tactic(auto, unfolding(crate::specs::Lists::list_delete_of))]
+fn delete<'w>(words: &'w [LineWord<'_>]) -> Result<ListsCommand<'w>, CommandRefusal>
+    ensures { result ≡ list_delete_of words.now }
+{
+    let (name, positions) = two(words)?;
+    let name = playlist_name(name)?;
+    Ok(ListsCommand::Delete(name, argument(2, range(positions))?))
+}
+
+#[tactic(auto, unfolding(crate::specs::Lists::list_move_of))]
+fn move_entry<'w>(words: &'w [LineWord<'_>]) -> Result<ListsCommand<'w>, CommandRefusal>
+    ensures { result ≡ list_move_of words.now }
+{
+    let (name, (from, to)) = three(words)?;
+    let name = playlist_name(name)?;
+    let from = argument(2, number(from))?;
+    Ok(ListsCommand::Move(name, from, argument(3, number(to))?))
+}

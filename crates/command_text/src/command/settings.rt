@@ -1,0 +1,66 @@
+ghost use Rattle.std.specs.Prelude.{◌≡◌};
+ghost use Rattle.command_text.specs.Settings.{settings_of, one_switch};
+ghost use Rattle.command_text.specs.Arguments.{number_to};
+
+use crate::argument::{argument, number_to, single, switch};
+use crate::counts::{no_argument, one};
+use crate::refusal::CommandRefusal;
+use crate::topic::SettingsName;
+use filter_expr::LineWord;
+use player_core::{Single, Volume};
+
+/// A command of the settings.
+#[derive(Debug, Drop)]
+pub enum SettingsCommand {
+    /// Closes the connection.
+    Close,
+    Consume(bool),
+    /// Ends the daemon.
+    Kill,
+    /// Does nothing.
+    Ping,
+    Random(bool),
+    Repeat(bool),
+    SetVolume(Volume),
+    Single(Single),
+    Status,
+}
+
+/// The command of this name with these arguments.
+#[tactic(auto, unfolding(crate::specs::Settings::settings_of))]
+pub(crate) fn read(
+    name: SettingsName,
+    words: &[LineWord<'_>],
+) -> Result<SettingsCommand, CommandRefusal>
+    ensures { result ≡ settings_of name words.now }
+{
+    match name {
+        SettingsName::Close => no_argument(SettingsCommand::Close, words),
+        SettingsName::Consume => Ok(SettingsCommand::Consume(one_switch(words)?)),
+        SettingsName::Kill => no_argument(SettingsCommand::Kill, words),
+        SettingsName::Ping => no_argument(SettingsCommand::Ping, words),
+        SettingsName::Random => Ok(SettingsCommand::Random(one_switch(words)?)),
+        SettingsName::Repeat => Ok(SettingsCommand::Repeat(one_switch(words)?)),
+        SettingsName::SetVolume => {
+            let volume = argument(1, volume(one(words)?))?;
+            Ok(SettingsCommand::SetVolume(volume))
+        }
+        SettingsName::Single => Ok(SettingsCommand::Single(argument(1, single(one(words)?))?)),
+        SettingsName::Status => no_argument(SettingsCommand::Status, words),
+    }
+}
+
+fn one_switch(words: &[LineWord<'_>]) -> Result<bool, CommandRefusal>
+    ensures { result ≡ one_switch words.now }
+{
+    argument(1, switch(one(words)?))
+}
+
+/// A volume of at most 100.
+#[tactic(auto, unfolding(crate::specs::Arguments::number_to))]
+fn volume(word: &[u8]) -> Option<Volume>
+    ensures { result ≡ number_to 100 word.now }
+{
+    let percent = u8::try_from(number_to(100, word)?).ok()?;
+    Volume::new(percent)
+}

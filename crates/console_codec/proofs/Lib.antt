@@ -1,0 +1,4 @@
+pub mod FieldLaws
+pub mod OpLaws
+pub mod SavedLaws
+pub mod AppliedLaws

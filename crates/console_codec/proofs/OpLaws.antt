@@ -1,0 +1,235 @@
+-- Ops that are read are spelled so, and what is spelled so is read.
+use Rattle.std.proofs.Common.{◌≡◌, ℕ, zero, suc, ◌+◌, ◌-◌, ◌^◌, ◌<◌, ◌≤◌, ◌⊎◌, Bool, true, false, cond, eqb, List, [], ◌∷◌, ◌++◌, length, Result, Ok, Err, refl, sym, ap, subst, ◌∙◌, append_assoc, arith, inl, inr}
+use Rattle.std.specs.Prelude.{IfOk}
+use Rattle.std.specs.Global.{Vec}
+use Rattle.std.specs.List.{AllByRecursion}
+use Rattle.std.specs.Int.{w64, to_le_bytes}
+use Rattle.std.proofs.lemmas.Bool.{eqb-true, ne_eqb}
+use Rattle.std.proofs.lemmas.List.{append-nil, length-append}
+use Rattle.std.proofs.lemmas.List.Concat.{flat_map-cons}
+use Rattle.console_codec.specs.declared.refusal.CodecError.{CodecError}
+use Rattle.console_codec.specs.declared.op.Op.{Op}
+use Rattle.console_codec.specs.declared.op.Op.TheVariants.{SetOption, SetVolume, SetOrder}
+use Rattle.console_codec.specs.declared.op.Setting.{Setting}
+use Rattle.console_codec.specs.declared.op.Setting.TheVariants as settings
+use Rattle.console_codec.specs.SavedState.{IsBytes}
+use Rattle.console_codec.specs.Ops.{IsOp, AreOps}
+use Rattle.console_codec.specs.Steps.{◌>>=◌}
+use Rattle.console_codec.specs.Spelling.{flag_bytes, single_bytes, setting_bytes, op_bytes, ops_bytes}
+use Rattle.console_codec.specs.Reading.{Field, made, in_bytes, byte_at, number_at, volume_at, flag_at, single_at, setting_at, op_at, ops_at, ops_reading}
+use Rattle.console_codec.specs.Answers.{GivesOps}
+use Rattle.console_codec.proofs.FieldLaws.{bind_ok, ok_is, Takes, Takes-then, wide64, byte_takes, number_takes, number_again, volume_takes, volume_again, flag_takes, flag_again, single_takes, single_again}
+
+-- which way a test went
+chosen : {A : Type 0} (b : Bool) (x y z : A) → cond b x y ≡ z → ((b ≡ true) × (x ≡ z)) ⊎ ((b ≡ false) × (y ≡ z))
+chosen true x y z e = inl (refl, e)
+chosen false x y z e = inr (refl, e)
+
+-- a value that is spelled by its kind and a field
+kind_made : {A B : Type 0} (f : A → B) (text : A → List ℕ) (whole : B → List ℕ) (P : A → Type 0) (Q : B → Type 0) (kind found : ℕ) (bytes rest : List ℕ) (field : Field A) (y : B × List ℕ)
+    → Takes bytes (found ∷ []) rest → eqb found kind ≡ true → ((x : A × List ℕ) → field ≡ Ok x → Takes rest (text x.0) x.1 × P x.0)
+    → ((a : A) → kind ∷ text a ≡ whole (f a)) → ((a : A) → P a → Q (f a)) → made f field ≡ Ok y → Takes bytes (whole y.0) y.1 × Q y.0
+kind_made f text whole P Q kind found bytes rest field y front is_kind reads spelled keeps e =
+    let b = bind_ok field _ y e in
+    let t = reads b.0 b.1 in
+    let named : Takes bytes (kind ∷ []) rest = subst (λ (k : ℕ). Takes bytes (k ∷ []) rest) (eqb-true _ _ is_kind) front in
+    let joined : Takes bytes (kind ∷ text b.0.0) b.0.1 = Takes-then bytes (kind ∷ []) rest (text b.0.0) b.0.1 named t.0 in
+    let whole_is : Takes bytes (whole (f b.0.0)) b.0.1 = subst (λ (w : List ℕ). Takes bytes w b.0.1) (spelled b.0.0) joined in
+    subst (λ z. Takes bytes (whole z.0) z.1 × Q z.0) (ok_is (f b.0.0, b.0.1) y b.2) (whole_is, keeps b.0.0 t.1)
+
+abbrev Any : {A : Type 0} → A → Type 0
+Any x = Unit {0}
+
+setting_takes : (bytes : List ℕ) (y : Setting × List ℕ) → IsBytes bytes → setting_at bytes ≡ Ok y → Takes bytes (setting_bytes y.0) y.1 × Unit {0}
+unfolding setting_at
+setting_takes bytes y fits e =
+    let b = bind_ok (byte_at bytes) _ y e in
+    let k = b.0.0 in
+    let rest = b.0.1 in
+    let front = byte_takes bytes b.0 fits b.1 in
+    elim (chosen (eqb k 1) _ _ (Ok y) b.2) [
+      | inl h ↦ kind_made settings.Repeat flag_bytes setting_bytes Any Any 1 k bytes rest (flag_at rest) y front h.0 (λ x r. (flag_takes rest x front.rest_fits r, tt)) (λ a. refl) (λ a p. tt) h.1
+      | inr n1 ↦ elim (chosen (eqb k 2) _ _ (Ok y) n1.1) [
+        | inl h ↦ kind_made settings.Random flag_bytes setting_bytes Any Any 2 k bytes rest (flag_at rest) y front h.0 (λ x r. (flag_takes rest x front.rest_fits r, tt)) (λ a. refl) (λ a p. tt) h.1
+        | inr n2 ↦ elim (chosen (eqb k 3) _ _ (Ok y) n2.1) [
+          | inl h ↦ kind_made settings.Single single_bytes setting_bytes Any Any 3 k bytes rest (single_at rest) y front h.0 (λ x r. (single_takes rest x front.rest_fits r, tt)) (λ a. refl) (λ a p. tt) h.1
+          | inr n3 ↦ elim (chosen (eqb k 4) _ _ (Ok y) n3.1) [
+            | inl h ↦ kind_made settings.Consume flag_bytes setting_bytes Any Any 4 k bytes rest (flag_at rest) y front h.0 (λ x r. (flag_takes rest x front.rest_fits r, tt)) (λ a. refl) (λ a p. tt) h.1
+            | inr n4 ↦ let h = n4.1 in absurd cc
+          ]
+        ]
+      ]
+    ]
+
+setting_again : (value : Setting) (rest : List ℕ) → setting_at (setting_bytes value ++ rest) ≡ Ok (value, rest)
+unfolding setting_at
+setting_again (settings.Repeat on) rest = rw flag_again refl
+setting_again (settings.Random on) rest = rw flag_again refl
+setting_again (settings.Single value) rest = rw single_again refl
+setting_again (settings.Consume on) rest = rw flag_again refl
+
+abbrev order_bytes : ℕ → List ℕ
+order_bytes order = to_le_bytes w64 order
+
+abbrev volume_bytes : ℕ → List ℕ
+volume_bytes volume = volume ∷ []
+
+abbrev IsOrder : ℕ → Type 0
+IsOrder order = order < 2 ^ 64
+
+abbrev IsVolume : ℕ → Type 0
+IsVolume volume = volume ≤ 100
+
+pub op_takes : (bytes : List ℕ) (y : Op × List ℕ) → IsBytes bytes → op_at bytes ≡ Ok y → Takes bytes (op_bytes y.0) y.1 × IsOp y.0
+unfolding op_at
+op_takes bytes y fits e =
+    let b = bind_ok (byte_at bytes) _ y e in
+    let k = b.0.0 in
+    let rest = b.0.1 in
+    let front = byte_takes bytes b.0 fits b.1 in
+    elim (chosen (eqb k 1) _ _ (Ok y) b.2) [
+      | inl h ↦ kind_made SetOption setting_bytes op_bytes Any IsOp 1 k bytes rest (setting_at rest) y front h.0 (λ x r. setting_takes rest x front.rest_fits r) (λ a. refl) (λ a p. tt) h.1
+      | inr n1 ↦ elim (chosen (eqb k 2) _ _ (Ok y) n1.1) [
+        | inl h ↦ kind_made SetVolume volume_bytes op_bytes IsVolume IsOp 2 k bytes rest (volume_at rest) y front h.0 (λ x r. volume_takes rest x front.rest_fits r) (λ a. refl) (λ a p. p) h.1
+        | inr n2 ↦ elim (chosen (eqb k 3) _ _ (Ok y) n2.1) [
+          | inl h ↦ kind_made SetOrder order_bytes op_bytes IsOrder IsOp 3 k bytes rest (number_at w64 rest) y front h.0 (λ x r. number_takes w64 (2 ^ 64) wide64 rest x front.rest_fits r) (λ a. refl) (λ a p. p) h.1
+          | inr n3 ↦ let h = n3.1 in absurd cc
+        ]
+      ]
+    ]
+
+pub op_again : (op : Op) (rest : List ℕ) → IsOp op → op_at (op_bytes op ++ rest) ≡ Ok (op, rest)
+unfolding op_at
+op_again (SetOption value) rest fits = rw setting_again refl
+op_again (SetVolume volume) rest fits = rw volume_again refl
+op_again (SetOrder order) rest fits = ap (made SetOrder) (number_again w64 (2 ^ 64) wide64 order rest fits)
+
+-- an op takes a byte at least
+pub op_spelled : (op : Op) → 1 ≤ length (op_bytes op)
+op_spelled (SetOption value) = omega arith
+op_spelled (SetVolume volume) = omega arith
+op_spelled (SetOrder order) = omega arith
+
+ops_take : (n : ℕ) (bytes : List ℕ) (ops : List Op) → IsBytes bytes → ops_at n bytes ≡ Ok ops → (bytes ≡ ops_bytes ops) × AllByRecursion IsOp ops
+unfolding ops_at
+ops_take n [] ops fits e = subst (λ (x : List Op). ([] ≡ ops_bytes x) × AllByRecursion IsOp x) (ok_is [] ops e) (refl, tt)
+ops_take zero (b ∷ rest) ops fits e = absurd cc
+ops_take (suc n) (b ∷ rest) ops fits e =
+    let first = bind_ok (op_at (b ∷ rest)) _ ops e in
+    let others = bind_ok (ops_at n first.0.1) _ ops first.2 in
+    let one = op_takes (b ∷ rest) first.0 fits first.1 in
+    let more = ops_take n first.0.1 others.0 one.0.rest_fits others.1 in
+    let whole : b ∷ rest ≡ ops_bytes (first.0.0 ∷ others.0) = one.0.parts ∙ ap (λ (x : List ℕ). op_bytes first.0.0 ++ x) more.0 ∙ sym (flat_map-cons op_bytes first.0.0 others.0) in
+    subst (λ (x : List Op). (b ∷ rest ≡ ops_bytes x) × AllByRecursion IsOp x) (ok_is (first.0.0 ∷ others.0) ops others.2) (whole, (one.1, more.1))
+
+-- reading goes on at bytes that are not at their end
+ops_step : (n : ℕ) (bytes : List ℕ) → 0 < length bytes → ops_at (suc n) bytes ≡ (op_at bytes >>= λ first. ops_at n first.1 >>= λ others. Ok (first.0 ∷ others))
+unfolding ops_at
+ops_step n [] some = absurd (omega arith)
+ops_step n (b ∷ rest) some = refl
+
+ops_ended : (n : ℕ) (bytes : List ℕ) → length bytes ≡ 0 → ops_at n bytes ≡ Ok []
+unfolding ops_at
+ops_ended n [] none = refl
+ops_ended n (b ∷ rest) none = absurd (omega arith)
+
+ops_again : (ops : List Op) (n : ℕ) → AllByRecursion IsOp ops → length (ops_bytes ops) ≤ n → ops_at n (ops_bytes ops) ≡ Ok ops
+ops_again [] n fits le = ops_ended n [] refl
+ops_again (op ∷ ops) zero fits le = absurd (omega (arith, op_spelled op, length-append (op_bytes op) (ops_bytes ops)))
+ops_again (op ∷ ops) (suc n) fits le =
+    let some : 0 < length (op_bytes op ++ ops_bytes ops) = omega (arith, op_spelled op, length-append (op_bytes op) (ops_bytes ops)) in
+    let less : length (ops_bytes ops) ≤ n = omega (arith, op_spelled op, length-append (op_bytes op) (ops_bytes ops)) in
+    ops_step n (op_bytes op ++ ops_bytes ops) some ∙ rw (op_again op (ops_bytes ops) fits.0, ops_again ops n fits.1 less) refl
+
+-- ---- the whole body
+
+in_bytes_ok : {A : Type 0} (bytes : List ℕ) (r : Result A ℕ) (x : A) → in_bytes bytes r ≡ Ok x → r ≡ Ok x
+in_bytes_ok bytes (Ok y) x e = e
+in_bytes_ok bytes (Err d) x e = absurd cc
+
+some_ops : (bytes : List ℕ) (ops : List Op) → eqb (length bytes) 0 ≡ false → bytes ≡ ops_bytes ops → 0 < length ops
+some_ops bytes [] some e = let none : length bytes ≡ 0 = ap length e in absurd (let h : eqb (length bytes) 0 ≡ true = rw none refl in cc)
+some_ops bytes (op ∷ ops) some e = omega arith
+
+pub body_takes : (bytes : List ℕ) (ops : List Op) → IsBytes bytes → ops_reading bytes ≡ Ok ops → AreOps ops × (bytes ≡ ops_bytes ops)
+body_takes bytes ops fits e =
+    elim (chosen (eqb (length bytes) 0) _ _ (Ok ops) e) [
+      | inl none ↦ let h = none.1 in absurd cc
+      | inr some ↦
+          let t = ops_take (length bytes) bytes ops fits (in_bytes_ok bytes (ops_at (length bytes) bytes) ops some.1) in
+          ((some_ops bytes ops some.0 t.0, t.1), t.0)
+    ]
+
+some_bytes : (ops : List Op) → 0 < length ops → eqb (length (ops_bytes ops)) 0 ≡ false
+some_bytes [] some = absurd (omega arith)
+some_bytes (op ∷ ops) some = ne_eqb _ _ (λ (none : length (op_bytes op ++ ops_bytes ops) ≡ 0). omega (arith, op_spelled op, length-append (op_bytes op) (ops_bytes ops)))
+
+pub body_again : (ops : List Op) → AreOps ops → ops_reading (ops_bytes ops) ≡ Ok ops
+body_again ops fits = rw (some_bytes ops fits.0, ops_again ops (length (ops_bytes ops)) fits.1 (omega arith)) refl
+
+pub body_found : (bytes : List ℕ) (r : Result (Vec Op) CodecError) → IsBytes bytes → GivesOps r (ops_reading bytes) → IfOk r (λ ops. AreOps ops.items × (bytes ≡ ops_bytes ops.items))
+body_found bytes (Ok ops) fits given = body_takes bytes ops.items fits given
+body_found bytes (Err e) fits given = tt
+
+pub body_only : (bytes : List ℕ) (r : Result (Vec Op) CodecError) (ops : List Op) → AreOps ops → bytes ≡ ops_bytes ops → GivesOps r (ops_reading bytes) → GivesOps r (Ok ops)
+body_only bytes r ops fits e given = subst (GivesOps r) (ap ops_reading e ∙ body_again ops fits) given
+
+-- ---- one op after the other, as a loop reads
+
+-- what was read before, and what is still read
+abbrev pub with_front : List Op → Result (List Op) ℕ → Result (List Op) ℕ
+with_front front read = read >>= λ ops. Ok (front ++ ops)
+
+regroup : (front : List Op) (op : Op) (read : Result (List Op) ℕ) → with_front front (read >>= λ ops. Ok (op ∷ ops)) ≡ with_front (front ++ op ∷ []) read
+regroup front op (Ok ops) = ap (λ (x : List Op). Ok x) (simp append_assoc)
+regroup front op (Err f) = refl
+
+-- what a loop keeps, with so many bytes in all
+pub record ReadSoFar (total : ℕ) (front : List Op) (rest : List ℕ) (all : Result (List Op) ℕ) : Type 0 where
+  pub reads : with_front front (ops_at (total - length front) rest) ≡ all
+  pub enough : length front + length rest ≤ total
+  pub rest_fits : IsBytes rest
+
+pub so_far_begins : (bytes : List ℕ) → IsBytes bytes → ReadSoFar (length bytes) [] bytes (ops_at (length bytes) bytes)
+so_far_begins bytes fits =
+    let front : List Op = [] in
+    let k : length bytes - length front ≡ length bytes = omega arith in
+    record { reads = ap (λ (n : ℕ). with_front [] (ops_at n bytes)) k ∙ nothing (ops_at (length bytes) bytes); enough = omega arith; rest_fits = fits } where
+      nothing : (read : Result (List Op) ℕ) → with_front [] read ≡ read
+      nothing (Ok ops) = refl
+      nothing (Err f) = refl
+
+op_shorter : (rest : List ℕ) (op : Op) (after : List ℕ) → Takes rest (op_bytes op) after → length after < length rest
+op_shorter rest op after t = omega (arith, ap length t.parts, length-append (op_bytes op) after, op_spelled op)
+
+pub falls : (total : ℕ) (front : List Op) (rest : List ℕ) (op : Op) (after : List ℕ) (all : Result (List Op) ℕ) → op_at rest ≡ Ok (op, after) → ReadSoFar total front rest all → length after < length rest
+falls total front rest op after all e so_far = op_shorter rest op after (op_takes rest (op, after) so_far.rest_fits e).0
+
+pub goes_on : (total : ℕ) (front : List Op) (rest : List ℕ) (op : Op) (after : List ℕ) (all : Result (List Op) ℕ) → op_at rest ≡ Ok (op, after)
+    → ReadSoFar total front rest all → ReadSoFar total (front ++ op ∷ []) after all
+goes_on total front rest op after all e so_far =
+    let t = op_takes rest (op, after) so_far.rest_fits e in
+    let shorter : length after < length rest = op_shorter rest op after t.0 in
+    let len : length (front ++ op ∷ []) ≡ suc (length front) = omega (arith, length-append front (op ∷ [])) in
+    let k : total - length front ≡ suc (total - length (front ++ op ∷ [])) = omega (arith, so_far.enough) in
+    let step : ops_at (total - length front) rest ≡ (ops_at (total - length (front ++ op ∷ [])) after >>= λ ops. Ok (op ∷ ops)) =
+    ap (λ (n : ℕ). ops_at n rest) k ∙ ops_step (total - length (front ++ op ∷ [])) rest (omega arith) ∙ rw e refl in
+    record {
+      reads = sym (regroup front op (ops_at (total - length (front ++ op ∷ [])) after)) ∙ ap (with_front front) (sym step) ∙ so_far.reads;
+      enough = omega (arith, so_far.enough);
+      rest_fits = t.0.rest_fits;
+    }
+
+pub stops : (total : ℕ) (front : List Op) (rest : List ℕ) (left : ℕ) (all : Result (List Op) ℕ) → 0 < length rest → op_at rest ≡ Err left → ReadSoFar total front rest all → all ≡ Err left
+stops total front rest left all some e so_far =
+    let k : total - length front ≡ suc (total - length front - 1) = omega (arith, so_far.enough) in
+    let step : ops_at (total - length front) rest ≡ Err left = ap (λ (n : ℕ). ops_at n rest) k ∙ ops_step (total - length front - 1) rest some ∙ rw e refl in
+    sym so_far.reads ∙ ap (with_front front) step
+
+pub is_done : (total : ℕ) (front : List Op) (rest : List ℕ) (all : Result (List Op) ℕ) → length rest ≡ 0 → ReadSoFar total front rest all → all ≡ Ok front
+is_done total front rest all none so_far =
+    sym so_far.reads ∙ ap (with_front front) (ops_ended (total - length front) rest none) ∙ ap (λ (x : List Op). Ok x) (append-nil front)
+
+-- what the body reads as, once its ops are
+pub body_is : (bytes : List ℕ) (read : Result (List Op) ℕ) → eqb (length bytes) 0 ≡ false → ops_at (length bytes) bytes ≡ read → ops_reading bytes ≡ in_bytes bytes read
+body_is bytes read some e = rw (some, e) refl

@@ -1,0 +1,12 @@
+use Rattle.std.proofs.Common.{sym, ap, ◌∙◌}
+use Rattle.console_codec.specs.Reading.{ops_reading, saved_reading}
+use Rattle.console_codec.proofs.FieldLaws.{ok_is}
+use Rattle.console_codec.proofs.OpLaws.{body_again}
+use Rattle.console_codec.proofs.SavedLaws.{snapshot_again}
+use Rattle.console_codec.proofs.laws.one_spelling.Goals as goal
+
+pub returns-clause-ops : goal.returns-clause-ops
+returns-clause-ops c = λ a b fits_a fits_b e. ok_is a b (sym (body_again a fits_a) ∙ ap ops_reading e ∙ body_again b fits_b)
+
+pub returns-clause-saved : goal.returns-clause-saved
+returns-clause-saved c = λ a b fits_a fits_b e. ok_is a b (sym (snapshot_again a fits_a) ∙ ap saved_reading e ∙ snapshot_again b fits_b)

@@ -1,0 +1,11 @@
+pub mod Lists
+pub mod Parting
+pub mod Searches
+pub mod Following
+pub mod Spelling
+pub mod Grammar
+pub mod Numerals
+pub mod Digits
+pub mod Writing
+pub mod Readings
+pub mod Consistency

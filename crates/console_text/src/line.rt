@@ -1,0 +1,80 @@
+ghost use Rattle.std.specs.Prelude.{◌≡◌, is_some, true, Err};
+ghost use Rattle.std.specs.Str.{is_utf8};
+ghost use Rattle.console_text.specs.Reading.{Gives, line_reading, name_of_line, want_of_memory};
+ghost use Rattle.console_text.specs.Words.{words_from};
+ghost use Rattle.console_text.specs.Words.Standing.{Between};
+
+use crate::command::Command;
+use crate::name::CommandName;
+use crate::place::Place;
+use crate::refusal::{CommandRefusal, ReadError, Refusal};
+use crate::words::{self, Next, WordsError};
+use std::alloc::Global;
+
+/// The command that a line asks for, without its newline, or the first refusal: bytes that are not
+/// UTF-8, bad quoting, and those of `Command::read`.
+#[tactic(auto, unfolding(crate::specs::Reading::line_reading))]
+pub fn read_line(alloc: Global, place: Place, line: &[u8]) -> Result<Command, ReadError>
+    ensures exact { Gives result (line_reading place line.now) }
+    // Bytes that are not UTF-8 are refused without memory.
+    ensures memory { result ≡ Err ReadError.NoMemory → is_utf8 line.now ≡ true }
+{
+    if !is_utf8(line) {
+        return Err(ReadError::Refused(Refusal::InvalidUtf8));
+    }
+    match words::words(alloc, line) {
+        Ok(words) => Command::read(alloc, place, &words),
+        Err(WordsError::BadQuoting) => Err(ReadError::Refused(Refusal::BadQuoting)),
+        Err(WordsError::NoMemory) => Err(ReadError::NoMemory),
+    }
+}
+
+/// How want of memory at a line is answered: with the name of its command, if it is one. It takes no memory.
+pub fn want_of_memory(line: &[u8]) -> Refusal
+    ensures { result ≡ want_of_memory (name_of_line line.now) }
+{
+    match name_of_line(line) {
+        None => Refusal::OutOfMemory,
+        Some(name) => Refusal::OfCommand(name, CommandRefusal::OutOfMemory),
+    }
+}
+
+fn is_utf8(line: &[u8]) -> bool
+    ensures { result ≡ is_utf8 line.now }
+{
+    str::from_utf8(line).is_ok()
+}
+
+/// The name that the line begins with, where it parts into words and the first one is a name.
+fn name_of_line(line: &[u8]) -> Option<CommandName>
+    ensures { result ≡ name_of_line line.now }
+{
+    if !is_utf8(line) {
+        return None;
+    }
+    match words::next_word(words::text_of_line(line)) {
+        Next::End => None,
+        Next::Bad => None,
+        Next::Found(word, rest) => {
+            if parts_into_words(rest) {
+                CommandName::named_by(word)
+            } else {
+                None
+            }
+        }
+    }
+}
+
+/// Whether the quoting of these bytes is good.
+fn parts_into_words(bytes: &[u8]) -> bool
+    ensures { result ≡ is_some (words_from Between bytes.now) }
+{
+    let mut rest = bytes;
+    loop {
+        match words::next_word(rest) {
+            Next::End => return true,
+            Next::Bad => return false,
+            Next::Found(_, after) => rest = after,
+        }
+    }
+}

@@ -1,0 +1,49 @@
+//! Measures how many rows a second a filter tests, beside a plain pass over the same rows.
+#![tactic(auto)]
+
+mod pass;
+mod rows;
+mod timing;
+
+use anyhow::Result;
+use benchmark_figures::{per_second, ratio};
+use pass::Pass;
+use rows::{ROWS, rows};
+use std::env;
+use timing::measure;
+
+/// The passes in the order in which they are printed; the plain one comes first.
+const PASSES: [Pass; 4] = [
+    Pass::Plain,
+    Pass::Equality,
+    Pass::Containment,
+    Pass::FoldedPair,
+];
+
+/// Prints the rows a second of each pass, and how many times as long it takes as the plain one.
+fn print_all(rt: &HostRuntime) -> Result<()> {
+    let rows = rows(rt.alloc())?;
+    let mut plain = 0;
+    for pass in PASSES {
+        let time = measure(rt, pass, rows.as_slice())?;
+        if plain == 0 {
+            plain = time;
+        }
+        println!(rt;
+            "{}: {} rows a second, ratio {}",
+            pass.name(),
+            per_second(u64::from(ROWS), time),
+            ratio(time, plain)
+        )?;
+    }
+    Ok(())
+}
+
+fn main(rt: HostRuntime) -> Result<()> {
+    let mut args = env::args(&rt)?;
+    let _program = args.next();
+    if args.next().is_none() {
+        return Ok(println!(rt; "usage: filter_benchmark measure")?);
+    }
+    print_all(&rt)
+}

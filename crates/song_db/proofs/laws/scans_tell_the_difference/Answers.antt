@@ -1,0 +1,5 @@
+use Rattle.song_db.proofs.Differences.{scans_tell}
+use Rattle.song_db.proofs.laws.scans_tell_the_difference.Goals as goal
+
+pub returns : goal.returns
+returns c = record { difference = scans_tell }

@@ -1,0 +1,34 @@
+-- Lists: all items, and whether there is one.
+use Rattle.std.proofs.Common.{◌≡◌, ℕ, zero, suc, ◌+◌, Bool, true, false, cond, ltb, List, [], ◌∷◌, length, refl, sym, ◌∙◌, arith, Some, None, inl, inr}
+use Rattle.std.specs.Prelude.{is_some, position}
+use Rattle.std.specs.List.{All, AllByRecursion, list_any, position_or_len}
+use Rattle.std.proofs.lemmas.Bool.{cases_lt, lt-ltb, le-ltb}
+
+-- all items, by place and by recursion
+pub all_by : {A : Type 0} (P : A → Type 0) (xs : List A) → All P xs → AllByRecursion P xs
+all_by P [] all = tt
+all_by P (x ∷ xs) all = (all 0 x (omega arith), all_by P xs (λ k d lt. all (suc k) d (omega arith)))
+
+pub by_all : {A : Type 0} (P : A → Type 0) (xs : List A) → AllByRecursion P xs → All P xs
+by_all P [] all k d lt = absurd (omega arith)
+by_all P (x ∷ xs) all zero d lt = all.0
+by_all P (x ∷ xs) all (suc k) d lt = by_all P xs all.1 k d (omega arith)
+
+some_if : {A : Type 0} (b : Bool) (x : A) → is_some (cond b (Some x) None) ≡ b
+some_if true x = refl
+some_if false x = refl
+
+same_lt : (n m : ℕ) → ltb (1 + n) (suc m) ≡ ltb n m
+same_lt n m = elim (cases_lt n m) [ inl lt ↦ lt-ltb (1 + n) (suc m) (omega arith) ∙ sym (lt-ltb n m lt) | inr le ↦ le-ltb (1 + n) (suc m) (omega arith) ∙ sym (le-ltb n m le) ]
+
+any_step : {A : Type 0} (p : A → Bool) (x : A) (xs : List A) (b : Bool) → p x ≡ b → ltb (position_or_len p xs) (length xs) ≡ list_any p xs
+    → ltb (position_or_len p (x ∷ xs)) (length (x ∷ xs)) ≡ list_any p (x ∷ xs)
+any_step p x xs true e h = rw e (lt-ltb 0 (suc (length xs)) (omega arith))
+any_step p x xs false e h = rw e (same_lt (position_or_len p xs) (length xs) ∙ h)
+
+any_below : {A : Type 0} (p : A → Bool) (xs : List A) → ltb (position_or_len p xs) (length xs) ≡ list_any p xs
+any_below p [] = refl
+any_below p (x ∷ xs) = any_step p x xs (p x) refl (any_below p xs)
+
+pub any_position : {A : Type 0} (p : A → Bool) (xs : List A) → is_some (position p xs) ≡ list_any p xs
+any_position p xs = some_if (ltb (position_or_len p xs) (length xs)) (position_or_len p xs) ∙ any_below p xs

@@ -1,0 +1,5 @@
+use Rattle.state_codec.proofs.LengthLaws.{snapshot_len}
+use Rattle.state_codec.proofs.laws.snapshot_is_short.Goals as goal
+
+pub returns-clause-longest : goal.returns-clause-longest
+returns-clause-longest c = snapshot_len

@@ -1,0 +1,10 @@
+use Rattle.std.proofs.Common.{◌≡◌, None, sym}
+use Rattle.std.specs.List.{slice_get}
+use Rattle.std.proofs.lemmas.List.{append-nil}
+use Rattle.state_codec.proofs.Edits.{past_end}
+use Rattle.state_codec.proofs.saved.queue_edits.push_uri.Goals as goal
+
+pub returns-in-None : goal.returns-in-None
+returns-in-None c =
+    let none : slice_get c.args.rows.now c.args.number ≡ None = past_end c.args.rows.now c.args.number c.in-None.ensures.lookup.3 in
+    rw none (sym (append-nil c.args.uris.now.items))

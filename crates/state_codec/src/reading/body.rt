@@ -1,0 +1,67 @@
+// The body of a record, applied as it is read.
+ghost use Rattle.std.specs.Prelude.{◌≡◌, List, Ok, OnOk, length};
+ghost use Rattle.state_codec.specs.Applied.{applied_from};
+ghost use Rattle.state_codec.specs.Body.{body_applied, GivesBody, told_place, bad_op, not_applied};
+ghost use Rattle.state_codec.specs.Reading.{ops_reading};
+ghost use Rattle.state_codec.specs.declared.op.Op.{Op as AnOp};
+
+use crate::fields::{ReadError, Reader};
+use crate::refusal::{ApplyError, BodyError};
+use crate::saved::Saved;
+use std::alloc::Global;
+
+// What is told of a fault in the body.
+fn bad_op(body: &[u8], error: ReadError) -> BodyError
+    ensures { result ≡ bad_op (length body.now) error }
+{
+    match error {
+        ReadError::Fault(left) => BodyError::BadOp(body.len().saturating_sub(left)),
+        ReadError::NoMemory => BodyError::NoMemory,
+    }
+}
+
+// What is told of the op at a place that was refused.
+fn not_applied(place: usize, error: ApplyError) -> BodyError
+    ensures { result ≡ not_applied place error }
+{
+    match error {
+        ApplyError::NoMemory => BodyError::NoMemory,
+        ApplyError::Refused(_) => BodyError::DoesNotApply(place),
+    }
+}
+
+impl Saved {
+    /// Applies the ops that the body of a record spells: each is read, applied in place, and then the next. Refused by
+    /// `BadOp`, `DoesNotApply` and `NoMemory`; the state is then to be given up, since ops before the one at fault were
+    /// applied.
+    pub fn apply_body(&mut self, alloc: Global, body: &[u8]) -> Result<(), BodyError>
+        ensures exact { GivesBody result self.new (body_applied body.now self.old) }
+        // Of a body that spells ops: the state after all of them, or the first that doesn't apply.
+        ensures ops { (ops : List AnOp) → ops_reading body.now ≡ Ok ops
+            → GivesBody result self.new (told_place (applied_from 0 ops self.old)) }
+    {
+        self.apply_all(alloc, body)
+    }
+
+    fn apply_all(&mut self, alloc: Global, body: &[u8]) -> Result<(), BodyError>
+        ensures { GivesBody result self.new (body_applied body.now self.old) }
+    {
+        if body.is_empty() {
+            return Err(BodyError::BadOp(0));
+        }
+        let mut reader = Reader { rest: body };
+        let mut place = 0;
+        while !reader.rest.is_empty() {
+            let op = match reader.op(alloc) {
+                Ok(op) => op,
+                Err(error) => return Err(bad_op(body, error)),
+            };
+            match self.apply(alloc, op) {
+                Ok(()) => {}
+                Err(error) => return Err(not_applied(place, error)),
+            }
+            place += 1;
+        }
+        Ok(())
+    }
+}

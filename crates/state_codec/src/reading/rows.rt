@@ -1,0 +1,180 @@
+// The reading of URIs, song rows and the changes of a batch.
+ghost use Rattle.std.specs.Prelude.{◌≡◌, ℕ, List, [], length, IsTrue, IfOk, option_map, string_bytes};
+ghost use Rattle.std.specs.List.{list_all};
+ghost use Rattle.wave_pcm.specs.Text.{is_tag_text};
+ghost use Rattle.song_db.specs.Row.{row_of, six_texts, is_good_tag, is_within_limits};
+ghost use Rattle.std.specs.Int.{IsInRange};
+ghost use Rattle.state_codec.specs.Changes.{is_count};
+ghost use Rattle.state_codec.specs.Fields.{made, such, byte_at, text_at};
+ghost use Rattle.state_codec.specs.Given.{Gives, GivesList, GivesString, GivesTag, GivesHead};
+ghost use Rattle.state_codec.specs.Items.{items_at};
+ghost use Rattle.state_codec.specs.ReadingRows.{uri_at, tag_at, tags_at, rate_at, channels_at};
+ghost use Rattle.state_codec.specs.ReadingRows.{row_fields_at, row_with, row_at, change_at, changes_at};
+
+use crate::fields::{ReadError, Reader};
+use crate::op::Changes;
+use song_db::{RowChange, SongRow, Uri};
+use std::alloc::Global;
+use wave_pcm::{MAX_RATE, Tag, Tags, WaveInfo, is_tag_text};
+
+impl Reader<'_> {
+    #[tactic(auto, unfolding(crate::specs::Fields::such))]
+    pub(crate) fn uri(&mut self, alloc: Global) -> Result<Uri, ReadError>
+        ensures { Gives result self.new.rest.now (uri_at self.old.rest.now) }
+    {
+        let fault = self.fault();
+        let text = self.text()?;
+        match Uri::read(alloc, text)? {
+            Some(uri) => Ok(uri),
+            None => Err(fault),
+        }
+    }
+
+    #[tactic(auto, unfolding(crate::specs::Fields::such))]
+    fn tag_text(&mut self, alloc: Global) -> Result<String, ReadError>
+        ensures { GivesString result self.new.rest.now (such is_tag_text text_at self.old.rest.now) }
+    {
+        let fault = self.fault();
+        let text = self.text()?;
+        if !is_tag_text(text) {
+            return Err(fault);
+        }
+        Ok(String::from_str(alloc, text)?)
+    }
+
+    #[tactic(auto, unfolding(crate::specs::ReadingRows::tag_at))]
+    fn tag(&mut self, alloc: Global) -> Result<Option<String>, ReadError>
+        ensures { GivesTag result self.new.rest.now (tag_at self.old.rest.now) }
+    {
+        match self.rest {
+            [0, rest @ ..] => {
+                self.rest = rest;
+                Ok(None)
+            }
+            [1, rest @ ..] => {
+                self.rest = rest;
+                Ok(Some(self.tag_text(alloc)?))
+            }
+            _ => Err(self.fault()),
+        }
+    }
+
+    #[tactic(auto, unfolding(crate::specs::Items::items_at))]
+    fn tags(&mut self, alloc: Global) -> Result<Tags, ReadError>
+        ensures tags { Gives result self.new.rest.now (tags_at self.old.rest.now) }
+        ensures six { IfOk result (λ tags. six_texts tags ≡ tags) }
+    {
+        let mut tags = Tags::new();
+        let title = self.tag(alloc)?;
+        tags.set(Tag::Title, title);
+        let artist = self.tag(alloc)?;
+        tags.set(Tag::Artist, artist);
+        let album = self.tag(alloc)?;
+        tags.set(Tag::Album, album);
+        let date = self.tag(alloc)?;
+        tags.set(Tag::Date, date);
+        let genre = self.tag(alloc)?;
+        tags.set(Tag::Genre, genre);
+        let comment = self.tag(alloc)?;
+        tags.set(Tag::Comment, comment);
+        Ok(tags)
+    }
+
+    #[tactic(auto, unfolding(crate::specs::Fields::such))]
+    fn channels(&mut self) -> Result<u8, ReadError>
+        ensures { Gives result self.new.rest.now (channels_at self.old.rest.now) }
+    {
+        let fault = self.fault();
+        let channels = self.byte()?;
+        if channels < 1 || 2 < channels {
+            return Err(fault);
+        }
+        Ok(channels)
+    }
+
+    // What follows the URI of a row.
+    #[tactic(auto, unfolding(crate::specs::Fields::both))]
+    fn head(&mut self, alloc: Global) -> Result<WaveInfo, ReadError>
+        ensures { GivesHead result self.new.rest.now (row_fields_at self.old.rest.now) }
+    {
+        let rate = self.u32_within(1, MAX_RATE)?;
+        let channels = self.channels()?;
+        let first_byte = self.u64()?;
+        let frames = self.u64()?;
+        let tags = self.tags(alloc)?;
+        Ok(WaveInfo {
+            rate,
+            channels: u16::from(channels),
+            first_byte,
+            frames,
+            tags,
+        })
+    }
+
+    // The row of a URI, from what follows the URI.
+    pub(crate) fn rest_of_row(&mut self, alloc: Global, uri: Uri) -> Result<SongRow, ReadError>
+        ensures { Gives result self.new.rest.now (made (row_with uri) (row_fields_at self.old.rest.now)) }
+    {
+        let info = self.head(alloc)?;
+        match SongRow::new(alloc, uri, info)? {
+            Some(row) => Ok(row),
+            None => Err(ReadError::NoMemory),
+        }
+    }
+
+    #[tactic(auto, unfolding(crate::specs::ReadingRows::row_at))]
+    fn row(&mut self, alloc: Global) -> Result<SongRow, ReadError>
+        ensures { Gives result self.new.rest.now (row_at uri_at self.old.rest.now) }
+    {
+        let uri = self.uri(alloc)?;
+        self.rest_of_row(alloc, uri)
+    }
+
+    #[tactic(auto, unfolding(crate::specs::ReadingRows::change_at))]
+    fn change(&mut self, alloc: Global) -> Result<RowChange, ReadError>
+        ensures { Gives result self.new.rest.now (change_at self.old.rest.now) }
+    {
+        let fault = self.fault();
+        match self.byte()? {
+            1 => Ok(RowChange::Put(self.row(alloc)?)),
+            0 => Ok(RowChange::Drop(self.uri(alloc)?)),
+            _ => Err(fault),
+        }
+    }
+
+    fn change_list(&mut self, alloc: Global, count: u8) -> Result<Vec<RowChange>, ReadError>
+        ensures { GivesList result self.new.rest.now (items_at (λ known. change_at) count [] self.old.rest.now) }
+    {
+        let mut changes = Vec::with_capacity(alloc, usize::from(count))?;
+        for _i in 0..count {
+            let change = self.change(alloc)?;
+            changes.push(change)?;
+        }
+        Ok(changes)
+    }
+
+    #[tactic(auto, unfolding(crate::specs::Fields::such))]
+    fn change_count(&mut self) -> Result<u8, ReadError>
+        ensures { Gives result self.new.rest.now (such is_count byte_at self.old.rest.now) }
+    {
+        let fault = self.fault();
+        let count = self.byte()?;
+        if count < 1 || 64 < count {
+            return Err(fault);
+        }
+        Ok(count)
+    }
+
+    /// The changes of a batch.
+    #[tactic(auto, unfolding(crate::specs::Items::counted_at))]
+    pub(crate) fn changes(&mut self, alloc: Global) -> Result<Changes, ReadError>
+        ensures { Gives result self.new.rest.now (changes_at self.old.rest.now) }
+    {
+        let count = self.change_count()?;
+        let changes = self.change_list(alloc, count)?;
+        match Changes::new(changes) {
+            Some(changes) => Ok(changes),
+            None => Err(ReadError::NoMemory),
+        }
+    }
+}

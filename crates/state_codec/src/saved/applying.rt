@@ -1,0 +1,75 @@
+ghost use Rattle.std.specs.Prelude.{◌≡◌, Some, OnOk, OnErr};
+ghost use Rattle.state_codec.specs.Applied.{refusal_of, after, applied};
+ghost use Rattle.state_codec.specs.Editing.{AnswersApply, IsEdit};
+ghost use Rattle.state_codec.specs.OpsSettings.{with_setting};
+ghost use Rattle.state_codec.specs.SavedState.{IsSavedState};
+ghost use Rattle.state_codec.specs.Stored.{state_of};
+ghost use Rattle.state_codec.specs.declared.op.Op.TheVariants.{SetOption, SetVolume, SetOrder};
+
+use super::{Saved, SavedParts};
+use crate::op::{Op, Setting};
+use crate::refusal::ApplyError;
+use player_core::{Options, Volume};
+use std::alloc::Global;
+
+impl Saved {
+    /// Applies an op. Refused where `check` refuses it, and else by want of memory alone; the state then stays as it was.
+    pub fn apply(&mut self, alloc: Global, op: Op) -> Result<(), ApplyError>
+        ensures ok { OnOk result (applied op self.old ≡ Some self.new) }
+        ensures err { OnErr result (self.new ≡ self.old) }
+        ensures answer { AnswersApply (refusal_of op self.old) result }
+    {
+        op.keep_form();
+        apply_to(&mut self.parts, alloc, op)
+    }
+
+    /// Sets an option, as the op does.
+    pub fn set_option(&mut self, setting: Setting)
+        ensures { self.new ≡ after (SetOption setting) self.old }
+    {
+        set_option(&mut self.parts.options, setting);
+    }
+
+    /// Sets the volume, as the op does.
+    pub fn set_volume(&mut self, volume: Volume)
+        ensures { self.new ≡ after (SetVolume volume) self.old }
+    {
+        let _percent = volume.percent();
+        self.parts.volume = volume;
+    }
+
+    /// Sets the number of the random order, as the op does.
+    pub fn set_order(&mut self, order: u64)
+        ensures { self.new ≡ after (SetOrder order) self.old }
+    {
+        self.parts.order = order;
+    }
+}
+
+fn apply_to(parts: &mut SavedParts, alloc: Global, op: Op) -> Result<(), ApplyError>
+    requires { IsSavedState (state_of parts.old) }
+    ensures { IsEdit (refusal_of op (state_of parts.old)) (after op (state_of parts.old))
+        (state_of parts.old) (state_of parts.new) result }
+{
+    match op {
+        Op::SetOption(setting) => set_option(&mut parts.options, setting),
+        Op::SetVolume(volume) => parts.volume = volume,
+        Op::SetOrder(order) => parts.order = order,
+        Op::Queue(op) => return parts.edit_queue(alloc, op),
+        Op::List(op) => return parts.edit_list(alloc, op),
+        Op::Sticker(op) => return parts.edit_sticker(alloc, op),
+        Op::Batch(changes) => return parts.edit_rows(alloc, changes),
+    }
+    Ok(())
+}
+
+fn set_option(options: &mut Options, setting: Setting)
+    ensures { options.new ≡ with_setting setting options.old }
+{
+    match setting {
+        Setting::Repeat(on) => options.repeat = on,
+        Setting::Random(on) => options.random = on,
+        Setting::Single(single) => options.single = single,
+        Setting::Consume(on) => options.consume = on,
+    }
+}

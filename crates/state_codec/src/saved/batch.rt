@@ -1,0 +1,142 @@
+// What a batch does, told before any of it is made.
+ghost use Rattle.std.specs.Prelude.{◌≡◌, ◌≤◌, false, [], ◌∷◌, ◌++◌, option_map, IfOk, OnOk};
+ghost use Rattle.std.specs.Option.{option_to_list};
+ghost use Rattle.std.specs.List.{list_any};
+ghost use Rattle.song_db.specs.Change.{has_uri, after_batch};
+ghost use Rattle.song_db.specs.Effect.{effects_of, is_left_out};
+ghost use Rattle.song_db.specs.Refusal.{refusal_of as batch_refusal};
+ghost use Rattle.song_db.specs.Row.{row_at};
+ghost use Rattle.song_db.specs.Scan.{drops_of};
+ghost use Rattle.state_codec.specs.Editing.{AnswersCheck};
+ghost use Rattle.state_codec.specs.RowSteps.{is_put, count_after, is_named, says_other, changed_first, changed_by};
+ghost use Rattle.state_codec.specs.declared.refusal.OpRefusal.TheVariants.{Songs};
+
+use crate::refusal::OpRefusal;
+use song_db::{MAX_ROWS, RowChange, SongDb, SongDbError, SongRow, Uri};
+use std::alloc::{AllocError, Global};
+
+// Refused where a new row finds the database full at its turn.
+pub(super) fn check_rows(songs: &SongDb, changes: &[RowChange]) -> Result<(), OpRefusal>
+    ensures { AnswersCheck (option_map Songs (batch_refusal (effects_of songs.now changes.now))) result }
+{
+    let mut count = songs.len();
+    for (at, change) in changes.iter().enumerate() {
+        let there = has_row(songs, &changes[..at], change.uri());
+        match count_after(count, there, change) {
+            Some(after) => count = after,
+            None => return Err(OpRefusal::Songs(SongDbError::DbFull)),
+        }
+    }
+    Ok(())
+}
+
+// Whether a URI has a row after changes none of which is left out.
+fn has_row(songs: &SongDb, changes: &[RowChange], uri: &str) -> bool
+    requires { list_any is_left_out (effects_of songs.now changes.now) ≡ false }
+    ensures { result ≡ has_uri (after_batch songs.now changes.now) uri.now }
+{
+    let _rows = songs.len();
+    let mut there = songs.row_number(uri).is_ok();
+    for change in changes {
+        if uri == change.uri() {
+            there = is_put(change);
+        }
+    }
+    there
+}
+
+fn is_put(change: &RowChange) -> bool
+    ensures { result ≡ is_put change.now }
+{
+    match change {
+        RowChange::Put(_) => true,
+        RowChange::Drop(_) => false,
+    }
+}
+
+// How many rows there are after a change of a URI that has a row or none, of so many; none where the database is full.
+fn count_after(count: usize, there: bool, change: &RowChange) -> Option<usize>
+    requires { count ≤ MAX_ROWS }
+    ensures { result ≡ count_after count there change.now }
+{
+    match change {
+        RowChange::Put(_) if there => Some(count),
+        RowChange::Put(_) if count < MAX_ROWS => Some(count + 1),
+        RowChange::Put(_) => None,
+        RowChange::Drop(_) if there => Some(count.saturating_sub(1)),
+        RowChange::Drop(_) => Some(count),
+    }
+}
+
+// The URIs that a batch drops, in memory of their own.
+pub(super) fn dropped_by(alloc: Global, changes: &[RowChange]) -> Result<Vec<Uri>, AllocError>
+    ensures { IfOk result (λ uris. uris.items ≡ drops_of changes.now) }
+{
+    let mut uris = Vec::new(alloc);
+    for change in changes {
+        push_dropped(alloc, change, &mut uris)?;
+    }
+    Ok(uris)
+}
+
+fn push_dropped(alloc: Global, change: &RowChange, uris: &mut Vec<Uri>) -> Result<(), AllocError>
+    ensures { OnOk result (uris.new.items ≡ uris.old.items ++ drops_of (change.now ∷ [])) }
+{
+    if let RowChange::Drop(uri) = change {
+        uris.push(uri.try_clone(alloc)?)?;
+    }
+    Ok(())
+}
+
+// The URIs that a batch leaves with another row than before it, in memory of their own.
+pub(super) fn changed_by(
+    alloc: Global,
+    songs: &SongDb,
+    changes: &[RowChange],
+) -> Result<Vec<Uri>, AllocError>
+    ensures { IfOk result (λ uris. uris.items ≡ changed_by songs.now changes.now) }
+{
+    let mut uris = Vec::new(alloc);
+    for (at, change) in changes.iter().enumerate() {
+        let uri = changed_first(songs, change, &changes[at + 1..]);
+        push_some(alloc, uri, &mut uris)?;
+    }
+    Ok(uris)
+}
+
+fn push_some(alloc: Global, uri: Option<&Uri>, uris: &mut Vec<Uri>) -> Result<(), AllocError>
+    ensures { OnOk result (uris.new.items ≡ uris.old.items ++ option_to_list (option_map (λ uri. uri.now) uri.entry)) }
+{
+    if let Some(uri) = uri {
+        uris.push(uri.try_clone(alloc)?)?;
+    }
+    Ok(())
+}
+
+// The URI of a change that leaves it with another row than before the batch, where no later one is of that URI.
+fn changed_first<'a>(songs: &SongDb, change: &'a RowChange, more: &[RowChange]) -> Option<&'a Uri>
+    ensures { option_map (λ uri. uri.now) result ≡ changed_first songs.now change.now more.now }
+{
+    match change {
+        RowChange::Put(row) if !is_named(more, row.uri()) && says_other(songs, row) => Some(
+            row.as_uri(),
+        ),
+        _ => None,
+    }
+}
+
+fn is_named(changes: &[RowChange], uri: &str) -> bool
+    ensures { result ≡ is_named changes.now uri.now }
+{
+    changes.iter().any(|change| uri == change.uri())
+}
+
+// Whether a row's URI has another row.
+fn says_other(songs: &SongDb, row: &SongRow) -> bool
+    ensures { result ≡ says_other row.now (row_at songs.now row.now.uri) }
+{
+    match songs.get(row.uri()) {
+        Ok(old) => !old.is_same(row),
+        Err(_) => false,
+    }
+}

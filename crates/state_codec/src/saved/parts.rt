@@ -1,0 +1,20 @@
+use play_queue::Queue;
+use player_core::{Options, Volume};
+use song_db::SongDb;
+use stickers::Stickers;
+use stored_lists::Lists;
+
+/// The parts of a saved state.
+#[derive(Debug, Drop)]
+pub struct SavedParts {
+    /// The key from which the random order is drawn.
+    pub key: [u8; 32],
+    /// The number of the random order that is in force.
+    pub order: u64,
+    pub volume: Volume,
+    pub options: Options,
+    pub songs: SongDb,
+    pub queue: Queue,
+    pub lists: Lists,
+    pub stickers: Stickers,
+}

@@ -1,0 +1,41 @@
+// A batch of the database.
+ghost use Rattle.std.specs.Prelude.{◌≡◌};
+ghost use Rattle.state_codec.specs.Editing.{IsEdit};
+ghost use Rattle.state_codec.specs.OpsRows.{rows_refusal, after_rows, without_songs};
+ghost use Rattle.state_codec.specs.SavedState.{IsSavedState};
+ghost use Rattle.state_codec.specs.Stored.{state_of};
+
+use super::SavedParts;
+use super::batch::{changed_by, check_rows, dropped_by};
+use crate::op::Changes;
+use crate::refusal::ApplyError;
+use play_queue::SortedUris;
+use song_db::Uri;
+use std::alloc::Global;
+use stickers::Stickers;
+
+impl SavedParts {
+    // All memory is taken before anything changes.
+    pub(super) fn edit_rows(&mut self, alloc: Global, changes: Changes) -> Result<(), ApplyError>
+        requires { IsSavedState (state_of self.old) }
+        ensures { IsEdit (rows_refusal changes (state_of self.old)) (after_rows changes (state_of self.old))
+            (state_of self.old) (state_of self.new) result }
+    {
+        check_rows(&self.songs, changes.as_slice())?;
+        let dropped = SortedUris::new(dropped_by(alloc, changes.as_slice())?);
+        let changed = SortedUris::new(changed_by(alloc, &self.songs, changes.as_slice())?);
+        self.songs.apply_batch(alloc, changes.into_vec())?;
+        self.queue.follow_batch(&dropped, &changed);
+        drop_songs(&mut self.stickers, dropped.as_slice());
+        Ok(())
+    }
+}
+
+// The stickers of these songs go.
+fn drop_songs(stickers: &mut Stickers, uris: &[Uri])
+    ensures { stickers.new ≡ without_songs stickers.old uris.now }
+{
+    for uri in uris {
+        stickers.drop_uri(uri.as_str());
+    }
+}

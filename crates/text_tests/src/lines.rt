@@ -1,0 +1,93 @@
+// What this build answers to lines that are no command, and how it repeats a word.
+use crate::assertions::{equal, same_of};
+use crate::reading::answered;
+use command_text::{CommandName, Line, Lines, Place, Request, want_of_memory, write_ack};
+use std::alloc::Global;
+use std::process::Abort;
+use std::test::Fail;
+
+const BAD_LINES: [(&[u8], &[u8]); 15] = [
+    (b"foo", b"ACK [5@0] {} unknown command \"foo\"\n"),
+    (b"", b"ACK [5@0] {} No command given\n"),
+    (b" \t\r", b"ACK [5@0] {} No command given\n"),
+    (b"ping \"x", b"ACK [2@0] {} bad quoting\n"),
+    (b"foo \"x", b"ACK [2@0] {} bad quoting\n"),
+    (b"\"\"", b"ACK [5@0] {} unknown command \"\"\n"),
+    (b"Ping", b"ACK [5@0] {} unknown command \"Ping\"\n"),
+    (b"pin", b"ACK [5@0] {} unknown command \"pin\"\n"),
+    (b"pingping", b"ACK [5@0] {} unknown command \"pingping\"\n"),
+    (
+        b"\"a \\\"b\\\"\" 1",
+        b"ACK [5@0] {} unknown command \"a \"b\"\"\n",
+    ),
+    (b"\xffping \"", b"ACK [2@0] {} invalid UTF-8\n"),
+    (b"ping \xc3", b"ACK [2@0] {} invalid UTF-8\n"),
+    (b"ping \xc3 \xa9", b"ACK [2@0] {} invalid UTF-8\n"),
+    (
+        b"\"p\\ing\" a",
+        b"ACK [2@0] {ping} wrong number of arguments for \"ping\"\n",
+    ),
+    (b"setvol \"101\"", b"ACK [2@0] {setvol} bad argument 1\n"),
+];
+
+/// A line is answered so.
+fn expect_answered(
+    rt: &impl Abort,
+    alloc: Global,
+    line: &[u8],
+    expected: &[u8],
+) -> Result<(), Fail> {
+    let found = answered(alloc, Place::Alone, line)?;
+    same_of(rt, line, &found, expected);
+    Ok(())
+}
+
+#[test]
+fn bad_lines(rt: HostRuntime) -> Result<(), Fail> {
+    for (line, expected) in &BAD_LINES {
+        expect_answered(&rt, rt.alloc(), line, expected)?;
+    }
+    Ok(())
+}
+
+/// A name that this build doesn't have is unknown, and each that it has is found.
+#[test]
+fn names_of_this_build(rt: HostRuntime) -> Result<(), Fail> {
+    let mut listed: u32 = 0;
+    for name in CommandName::all() {
+        let found = CommandName::named(name.text().as_bytes());
+        equal(&rt, found.is_some(), name.is_built());
+        if name.is_listed() {
+            listed = u32::saturating_add(listed, 1);
+        }
+    }
+    equal(&rt, CommandName::all().len(), 71);
+    equal(&rt, listed > 8, true);
+    Ok(())
+}
+
+#[test]
+fn want_of_memory_names_the_command(rt: HostRuntime) -> Result<(), Fail> {
+    let mut out = Vec::new(rt.alloc());
+    write_ack(&mut out, 4294967295, &want_of_memory(b"setvol 4"))?;
+    write_ack(&mut out, 0, &want_of_memory(b"setvol \"4"))?;
+    write_ack(&mut out, 0, &want_of_memory(b"foo"))?;
+    let expected = b"ACK [52@4294967295] {setvol} out of memory\nACK [52@0] {} out of memory\n\
+ACK [52@0] {} out of memory\n";
+    same_of(&rt, b"setvol", &out, expected);
+    Ok(())
+}
+
+#[test]
+fn requests(rt: HostRuntime) -> Result<(), Fail> {
+    let mut lines = Lines::new(rt.alloc());
+    lines.push(Line::from_bytes(rt.alloc(), b"ping")?)?;
+    for line in lines.as_slice() {
+        same_of(&rt, b"line", line.bytes(), b"ping");
+    }
+    let request = Request::OkList(lines);
+    let text = format!(in rt.alloc(); "{request:?}")?;
+    let expected = b"OkList(Lines { lines: [Line { bytes: [112, 105, 110, 103] }] })";
+    same_of(&rt, b"request", text.as_bytes(), expected);
+    Ok(())
+}
