@@ -8,6 +8,8 @@ mod assertions;
 #[cfg(test)]
 mod given;
 #[cfg(test)]
+mod limits;
+#[cfg(test)]
 mod ops;
 #[cfg(test)]
 mod refusals;

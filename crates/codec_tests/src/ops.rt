@@ -7,7 +7,7 @@ use crate::given::{
 use no_memory::NoMemory;
 use song_db::RowChange;
 use state_codec::{Changes, CodecError, Op, put_op, take_ops};
-use std::alloc::Global;
+use std::alloc::{AllocError, Global};
 use std::process::Abort;
 use std::test::Fail;
 use wave_pcm::Tag;
@@ -156,6 +156,10 @@ fn put(out: &mut Vec<u8>, op: &Op) -> Result<(), NoMemory> {
     put_op(out, op)
 }
 
+fn copy_of(alloc: Global, op: &Op) -> Result<Op, AllocError> {
+    op.try_clone(alloc)
+}
+
 fn bad_op(alloc: Global, bytes: &[u8]) -> Option<usize> {
     match take_ops(alloc, bytes) {
         Err(CodecError::BadOp(offset)) => Some(offset),
@@ -168,7 +172,7 @@ fn again(alloc: Global, bytes: &[u8]) -> Result<Vec<u8>, Fail> {
     let ops = take_ops(alloc, bytes)?;
     let mut out = Vec::with_capacity(alloc, bytes.len())?;
     for op in &ops {
-        put(&mut out, op)?;
+        put(&mut out, &copy_of(alloc, op)?)?;
     }
     Ok(out)
 }

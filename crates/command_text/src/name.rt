@@ -247,15 +247,23 @@ impl CommandName {
         ensures { result ≡ is_built self }
     {
         match self {
-            CommandName::Close
+            CommandName::Clear
+            | CommandName::Close
             | CommandName::Consume
+            | CommandName::Count
+            | CommandName::Idle
             | CommandName::Kill
+            | CommandName::ListInfo
+            | CommandName::NoIdle
             | CommandName::Ping
             | CommandName::Random
+            | CommandName::Remove
             | CommandName::Repeat
             | CommandName::SetVolume
             | CommandName::Single
-            | CommandName::Status => true,
+            | CommandName::Status
+            | CommandName::Sticker
+            | CommandName::Stop => true,
             _ => false,
         }
     }

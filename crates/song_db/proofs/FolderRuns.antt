@@ -25,12 +25,12 @@ use Rattle.song_db.proofs.BelowOrder.{below_order}
 use Rattle.song_db.proofs.Rising.{texts, partitioned, no_row}
 
 -- the folder stands in front, and a slash behind it
-record Begins (folder path : List ℕ) : Type 0 where
-  within : length folder < length path
-  front : take (length folder) path ≡ folder
-  slash : get_or path (length folder) 0 ≡ 47
+pub record Begins (folder path : List ℕ) : Type 0 where
+  pub within : length folder < length path
+  pub front : take (length folder) path ≡ folder
+  pub slash : get_or path (length folder) 0 ≡ 47
 
-begins : (folder path : List ℕ) → begins_below folder path ≡ true → Begins folder path
+pub begins : (folder path : List ℕ) → begins_below folder path ≡ true → Begins folder path
 begins [] [] h = absurd (cc)
 begins [] (y ∷ ys) h = record { within = omega arith; front = refl; slash = grind (arith, nat_tests) }
 begins (x ∷ xs) [] h = absurd (cc)

@@ -1,5 +1,6 @@
 pub mod Batches
 pub mod BatchSteps
+pub mod Beginnings
 pub mod Below
 pub mod BelowOrder
 mod Counts
@@ -11,6 +12,7 @@ mod Known
 mod KnownRows
 mod LastRow
 mod ListedSteps
+mod Opened
 mod Ordered
 mod OwnSteps
 mod Picked
@@ -24,3 +26,5 @@ mod Slashes
 mod Taken
 pub mod Timing
 pub mod Turns
+mod WalkOrder
+mod Walks

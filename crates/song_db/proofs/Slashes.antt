@@ -18,7 +18,7 @@ slash_ends path skip n within is =
     let slash : get_or path (skip + n) 0 ≡ 47 = sym (get_or-drop skip path n 0) ∙ there in
     (omega (arith, length-drop skip path), λ under high. omega arith)
 
-begins_cut : (path : List ℕ) (n : ℕ) → n < length path → get_or path n 0 ≡ 47 → begins_below (take n path) path ≡ true
+pub begins_cut : (path : List ℕ) (n : ℕ) → n < length path → get_or path n 0 ≡ 47 → begins_below (take n path) path ≡ true
 begins_cut [] n within slash = absurd (omega arith)
 begins_cut (y ∷ ys) zero within slash = grind (arith, nat_tests)
 begins_cut (y ∷ ys) (suc n) within slash =

@@ -20,3 +20,4 @@ pub mod Row
 pub mod Same
 pub mod Scan
 pub mod Uri
+pub mod Walk

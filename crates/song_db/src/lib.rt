@@ -18,6 +18,7 @@ pub mod song_db;
 pub mod texts;
 pub mod uri;
 mod values;
+pub mod walk;
 
 pub use change::RowChange;
 pub use effect::{Effect, Effects};
@@ -30,3 +31,5 @@ pub use scan::Scan;
 pub use song_db::SongDb;
 pub use texts::Texts;
 pub use uri::{Uri, is_uri};
+pub use values::ValueCounts;
+pub use walk::{Listed, Walk};

@@ -33,7 +33,7 @@ impl<'a> Place<'a> {
 }
 
 // Whether a path begins with the folder and a slash.
-fn is_below(folder: &[u8], path: &[u8]) -> bool
+pub(crate) fn is_below(folder: &[u8], path: &[u8]) -> bool
     ensures { result ≡ is_below folder.now path.now }
 {
     if path.len() <= folder.len() {

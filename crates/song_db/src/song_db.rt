@@ -9,7 +9,9 @@ ghost use Rattle.song_db.specs.Query.{number_at, rows_under, is_folder, folders_
 ghost use Rattle.song_db.specs.Refusal.{AnswersExactlyIfThere, AnswersIfThere};
 ghost use Rattle.song_db.specs.Replaced.{IsRising};
 ghost use Rattle.song_db.specs.Row.{row_uri, row_at};
+ghost use Rattle.song_db.specs.Walk.{IsWalk, walk_of};
 ghost use Rattle.song_db.specs.declared.refusal.SongDbError.TheVariants.{NoMemory};
+ghost use Rattle.wave_pcm.specs.declared.tags.Tag.TheVariants.{Artist, Album};
 
 use crate::batch::make_changes;
 use crate::change::RowChange;
@@ -24,7 +26,8 @@ use crate::row::SongRow;
 use crate::rows::{clone_rows, ends_before, position};
 use crate::texts::Texts;
 use crate::uri::Uri;
-use crate::values::{folders_of, songs_of, values_of};
+use crate::values::{ValueCounts, folders_of, songs_of, value_counts, values_of};
+use crate::walk::Walk;
 use std::alloc::Global;
 use std::marker::Model;
 use wave_pcm::Tag;
@@ -221,6 +224,17 @@ impl SongDb {
         Ok(folders_of(alloc, rows, place)?)
     }
 
+    /// What stands below a place at all depths: folders and songs together, by the bytes of their paths. It takes no memory.
+    /// Refused by `NoSuchUri` where the place is no folder.
+    pub fn walk<'a>(&'a self, place: Place<'a>) -> Result<Walk<'a>, SongDbError>
+        ensures walk { IfOk result (λ walk. walk ≡ walk_of self.now place.entry) }
+        ensures whole { IfOk result (λ walk. IsWalk self.now place.entry walk) }
+        ensures answer { AnswersExactlyIfThere (is_folder self.now place.entry) result }
+    {
+        let rows = self.rows_under(place)?;
+        Ok(Walk::new(place, rows))
+    }
+
     /// The songs right in a place, with no folder between, by URI. Refused by `NoSuchUri` where the place is no folder, and by `NoMemory`.
     pub fn songs_in(&self, alloc: Global, place: Place<'_>) -> Result<Vec<&SongRow>, SongDbError>
         ensures songs { IfOk result (λ songs. map (λ song. song.now) songs.items ≡ songs_in self.now place.entry) }
@@ -228,6 +242,15 @@ impl SongDb {
     {
         let rows = self.rows_under(place)?;
         Ok(songs_of(alloc, rows, place)?)
+    }
+
+    /// How many artists and albums the songs have, each counted once, in one pass that copies no text. Refused by `NoMemory`.
+    pub fn value_counts(&self, alloc: Global) -> Result<ValueCounts, SongDbError>
+        ensures artists { IfOk result (λ counts. counts.artists ≡ length (values_of self.now Artist)) }
+        ensures albums { IfOk result (λ counts. counts.albums ≡ length (values_of self.now Album)) }
+        ensures only { IsOkUnless result NoMemory }
+    {
+        Ok(value_counts(alloc, &self.rows)?)
     }
 
     /// The values of a tag by their bytes; rows without the tag give none. Refused by `NoMemory`.

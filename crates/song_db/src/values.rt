@@ -1,9 +1,11 @@
-ghost use Rattle.std.specs.Prelude.{◌≡◌, ◌==◌, true, map, filter, IfOk, IfSome, option_copied};
+ghost use Rattle.std.specs.Prelude.{◌≡◌, ◌==◌, true, length, map, filter, IfOk, OnOk, IfSome, option_copied, option_to_list};
 ghost use Rattle.std.specs.List.{filter_map, position};
 ghost use Rattle.song_db.specs.Place.{is_below};
 ghost use Rattle.song_db.specs.Replaced.{IsRising};
 ghost use Rattle.song_db.specs.Row.{row_uri};
-ghost use Rattle.song_db.specs.Query.{skipped, folder_of, is_right_in, distinct_of, values_of};
+ghost use Rattle.song_db.specs.Query.{skipped, folder_of, is_right_in, with_texts, distinct_of, values_of};
+ghost use Rattle.wave_pcm.specs.Tag.{text_of};
+ghost use Rattle.wave_pcm.specs.declared.tags.Tag.TheVariants.{Artist, Album};
 
 use crate::folder_rows::end_below;
 use crate::place::Place;
@@ -23,6 +25,40 @@ pub(crate) fn values_of(alloc: Global, rows: &[SongRow], tag: Tag) -> Result<Tex
         }
     }
     Ok(values)
+}
+
+/// How many artists and albums there are, each counted once.
+#[derive(Clone, Copy, Debug)]
+pub struct ValueCounts {
+    pub artists: usize,
+    pub albums: usize,
+}
+
+// How many artists and albums the rows have.
+pub(crate) fn value_counts(alloc: Global, rows: &[SongRow]) -> Result<ValueCounts, AllocError>
+    ensures artists { IfOk result (λ counts. counts.artists ≡ length (values_of rows.now Artist)) }
+    ensures albums { IfOk result (λ counts. counts.albums ≡ length (values_of rows.now Album)) }
+{
+    let mut artists = Texts::new(alloc);
+    let mut albums = Texts::new(alloc);
+    for row in rows {
+        insert_value(&mut artists, row, Tag::Artist)?;
+        insert_value(&mut albums, row, Tag::Album)?;
+    }
+    Ok(ValueCounts {
+        artists: artists.len(),
+        albums: albums.len(),
+    })
+}
+
+// Takes a row's value of a tag, if it has one.
+fn insert_value<'a>(values: &mut Texts<'a>, row: &'a SongRow, tag: Tag) -> Result<(), AllocError>
+    ensures { OnOk result (values.new ≡ with_texts values.old (option_to_list (text_of row.now.tags tag))) }
+{
+    if let Some(text) = row.tag(tag) {
+        values.insert(text)?;
+    }
+    Ok(())
 }
 
 // The folders directly in a place that the rows stand below. The rows below a folder are passed by with a search.

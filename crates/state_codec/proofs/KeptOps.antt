@@ -49,51 +49,51 @@ use Rattle.state_codec.proofs.KeptRows.{kept_songs, kept_batch, stickers_left}
 use Rattle.state_codec.proofs.KeptStickers.{kept_filter, kept_set}
 use Rattle.state_codec.proofs.Named.{uris_have_rows, are_uris, entries_are_uris}
 
-map_none : {X Y : Type 0} (f : X → Y) (o : Option X) → option_map f o ≡ None → o ≡ None
+pub map_none : {X Y : Type 0} (f : X → Y) (o : Option X) → option_map f o ≡ None → o ≡ None
 map_none f None none = refl
 map_none f (Some x) none = absurd (cc)
 
-named_none : (b : Bool) (o : Option OpRefusal) → if_named b o ≡ None → (b ≡ true) × (o ≡ None)
+pub named_none : (b : Bool) (o : Option OpRefusal) → if_named b o ≡ None → (b ≡ true) × (o ≡ None)
 named_none true o none = (refl, none)
 named_none false o none = absurd (cc)
 
-cond_none : {X : Type 0} (b : Bool) (x : X) (rest : Option X) → cond b (Some x) rest ≡ None → (b ≡ false) × (rest ≡ None)
+pub cond_none : {X : Type 0} (b : Bool) (x : X) (rest : Option X) → cond b (Some x) rest ≡ None → (b ≡ false) × (rest ≡ None)
 cond_none true x rest none = absurd (cc)
 cond_none false x rest none = (refl, none)
 
-or_false : (a b : Bool) → (a || b) ≡ false → (a ≡ false) × (b ≡ false)
+pub or_false : (a b : Bool) → (a || b) ≡ false → (a ≡ false) × (b ≡ false)
 or_false true b none = absurd (cc)
 or_false false b none = (refl, none)
 
-and_true : (a b : Bool) → (a && b) ≡ true → (a ≡ true) × (b ≡ true)
+pub and_true : (a b : Bool) → (a && b) ≡ true → (a ≡ true) × (b ≡ true)
 and_true true b both = (refl, both)
 and_true false b both = absurd (cc)
 
-not_less : (a b : ℕ) → nat_lt a b ≡ false → b ≤ a
+pub not_less : (a b : ℕ) → nat_lt a b ≡ false → b ≤ a
 not_less a b none = grind (arith, nat_tests)
 
-not_le : (a b : ℕ) → nat_le a b ≡ false → b < a
+pub not_le : (a b : ℕ) → nat_le a b ≡ false → b < a
 not_le a b none = grind (arith, nat_tests)
 
-not_none : (b : Bool) → not b ≡ false → b ≡ true
+pub not_none : (b : Bool) → not b ≡ false → b ≡ true
 not_none true none = refl
 not_none false none = absurd (cc)
 
 -- a range that isn't refused
-range_within : (entries : List Entry) (start end : ℕ) → range_refusal entries start end ≡ None → (start ≤ end) × (end ≤ length entries)
+pub range_within : (entries : List Entry) (start end : ℕ) → range_refusal entries start end ≡ None → (start ≤ end) × (end ≤ length entries)
 range_within entries start end none =
     let parts = or_false _ _ (cond_none _ _ _ none).0 in
     (not_less end start parts.0, not_less (length entries) end parts.1)
 
-move_forward : (entries : List Entry) (start end to : ℕ) → queue_move_refusal entries start end to ≡ None → start ≤ end
+pub move_forward : (entries : List Entry) (start end to : ℕ) → queue_move_refusal entries start end to ≡ None → start ≤ end
 move_forward entries start end to none = not_less end start (or_false _ _ (cond_none _ _ _ none).0).0
 
-swap_within : (entries : List Entry) (one other : ℕ) → swap_refusal entries one other ≡ None → (one < length entries) × (other < length entries)
+pub swap_within : (entries : List Entry) (one other : ℕ) → swap_refusal entries one other ≡ None → (one < length entries) × (other < length entries)
 swap_within entries one other none =
     let parts = or_false _ _ (cond_none _ _ _ none).0 in
     (not_le (length entries) one parts.0, not_le (length entries) other parts.1)
 
-add_within : (q : QueueState) (at n : ℕ) → queue_add_refusal q at n ≡ None → (length q.entries + n ≤ QUEUE_ENTRIES) × (q.next_id + n ≤ MAX_ID + 1)
+pub add_within : (q : QueueState) (at n : ℕ) → queue_add_refusal q at n ≡ None → (length q.entries + n ≤ QUEUE_ENTRIES) × (q.next_id + n ≤ MAX_ID + 1)
 add_within q at n none =
     let place = cond_none _ _ _ none in
     let few = cond_none _ _ _ place.1 in
@@ -141,19 +141,19 @@ kept_queue (queue.Shuffle start end) s form saved none =
 kept_queue (queue.Prio priority ranges) s form saved none =
     with_queue s _ s.order saved (kept_prioritized s.songs s.queue ranges priority saved.queue form.0) saved.order
 
-is_none : {X : Type 0} (o : Option X) → is_some o ≡ false → o ≡ None
+pub is_none : {X : Type 0} (o : Option X) → is_some o ≡ false → o ≡ None
 is_none None absent = refl
 is_none (Some x) absent = absurd (cc)
 
 -- the songs of a playlist that is there
-found_songs : (all : Stored) (name : List ℕ) → is_some (songs_of all name) ≡ true → songs_of all name ≡ Some (songs_or_none all name)
+pub found_songs : (all : Stored) (name : List ℕ) → is_some (songs_of all name) ≡ true → songs_of all name ≡ Some (songs_or_none all name)
 found_songs all name present = of (songs_of all name) refl present
   where
     of : (o : Option Uris) → songs_of all name ≡ o → is_some o ≡ true → songs_of all name ≡ Some (songs_or_none all name)
     of None found present = absurd (cc)
     of (Some songs) found present = rw (songs_or_none_present all name songs found) found
 
-there_from : (all : Stored) (name : List ℕ) → name_refusal all name ≡ None → songs_of all name ≡ Some (songs_or_none all name)
+pub there_from : (all : Stored) (name : List ℕ) → name_refusal all name ≡ None → songs_of all name ≡ Some (songs_or_none all name)
 there_from all name none = found_songs all name (not_none _ (cond_none _ _ _ (cond_none _ _ _ none).1).0)
 
 new_within : (all : Stored) (n : ℕ) → new_list_refusal all n ≡ None → (length all < MAX_LISTS) × (total all + n ≤ MAX_ENTRIES)

@@ -28,3 +28,10 @@ pub mod KeptQueue
 pub mod KeptRows
 pub mod KeptStickers
 pub mod Named
+pub mod Unchanged
+pub mod ListsUnchanged
+pub mod OpsUnchanged
+pub mod QueueUnchanged
+pub mod RowsUnchanged
+pub mod StickersUnchanged
+pub mod Told

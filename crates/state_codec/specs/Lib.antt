@@ -30,3 +30,4 @@ pub mod Answers
 pub mod Appended
 pub mod Longest
 pub mod Body
+pub mod Laws

@@ -8,8 +8,10 @@ ghost use Rattle.state_codec.specs.Reading.{ops_reading, saved_reading};
 ghost use Rattle.state_codec.specs.declared.op.Op.{Op};
 
 mod applied;
+mod unchanged;
 
 pub use applied::applied_in_turn;
+pub use unchanged::{changes_nothing_exactly, order_stands_apart, parts_that_change};
 
 /// No bytes spell two values.
 pub fn one_spelling()

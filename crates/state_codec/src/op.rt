@@ -1,6 +1,8 @@
+ghost use Rattle.std.specs.Prelude.{◌≡◌, IfOk};
 ghost use Rattle.state_codec.specs.Ops.{IsOp};
 
 use player_core::Volume;
+use std::alloc::{AllocError, Global};
 
 mod changes;
 mod list_op;
@@ -37,6 +39,21 @@ pub enum Op {
 }
 
 impl Op {
+    /// The same op once more, in memory of its own; the rows of a batch are shared.
+    pub fn try_clone(&self, alloc: Global) -> Result<Op, AllocError>
+        ensures { IfOk result (λ copy. copy ≡ self.now) }
+    {
+        match self {
+            Op::SetOption(setting) => Ok(Op::SetOption(*setting)),
+            Op::SetVolume(volume) => Ok(Op::SetVolume(*volume)),
+            Op::SetOrder(order) => Ok(Op::SetOrder(*order)),
+            Op::Queue(op) => Ok(Op::Queue(op.try_clone(alloc)?)),
+            Op::List(op) => Ok(Op::List(op.try_clone(alloc)?)),
+            Op::Sticker(op) => Ok(Op::Sticker(op.try_clone(alloc)?)),
+            Op::Batch(changes) => Ok(Op::Batch(changes.try_clone(alloc)?)),
+        }
+    }
+
     // An op of the program has its numbers in range and its texts in their form.
     pub(crate) fn keep_form(&self)
         ensures { IsOp self.now }

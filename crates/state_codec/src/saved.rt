@@ -19,6 +19,7 @@ mod parts;
 mod queue_edits;
 mod row_edits;
 mod sticker_edits;
+mod telling;
 
 pub use parts::SavedParts;
 

@@ -68,6 +68,24 @@ impl Player {
         })
     }
 
+    /// The number of the random order that `follow_removal` would begin at these entries; none where none begins. Before the removal, the
+    /// caller can so know what it is going to save.
+    pub fn order_after_removal(
+        &self,
+        entries: &[Entry],
+        settings: &PlaySettings,
+        block: Block,
+        dropped: &[Uri],
+    ) -> Option<u64>
+        ensures { result ≡ (followed entries.now settings.now block dropped.now self.now).changes.order }
+    {
+        let (at, current) = placed(entries, self.playing.current)?;
+        if !takes_at(block, dropped, entries, at) || self.playing.state != PlayState::Play {
+            return None;
+        }
+        choose(entries, settings, block, dropped, &self.played, at, current).order
+    }
+
     /// All entries leave the queue: the player stops without a current song, and nothing is played.
     pub fn follow_clear(&mut self)
         ensures { self.new ≡ emptied self.old }

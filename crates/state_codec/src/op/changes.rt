@@ -1,8 +1,9 @@
-ghost use Rattle.std.specs.Prelude.{◌≡◌, length, Some, None, if◌then◌else◌};
+ghost use Rattle.std.specs.Prelude.{◌≡◌, ◌++◌, length, Some, None, if◌then◌else◌, IfOk, OnOk};
 ghost use Rattle.std.specs.List.{All};
 ghost use Rattle.state_codec.specs.Changes.{is_count, AreChanges, IsChange, IsSavedRow};
 
 use song_db::{MAX_CHANGES, RowChange, SongRow};
+use std::alloc::{AllocError, Global};
 use std::marker::Model;
 
 /// The changes of one batch: 1 to 64.
@@ -48,6 +49,38 @@ impl Changes {
         ensures within { AreChanges self }
     {
         self.changes
+    }
+
+    /// The same changes once more, in memory of their own; the rows are shared.
+    pub fn try_clone(&self, alloc: Global) -> Result<Changes, AllocError>
+        ensures { IfOk result (λ copy. copy ≡ self.now) }
+    {
+        let mut changes = Vec::with_capacity(alloc, self.changes.len())?;
+        copy_all(alloc, &self.changes, &mut changes)?;
+        Ok(Changes { changes })
+    }
+}
+
+// Adds a copy of each change at the end.
+fn copy_all(
+    alloc: Global,
+    changes: &[RowChange],
+    copies: &mut Vec<RowChange>,
+) -> Result<(), AllocError>
+    ensures { OnOk result (copies.new.items ≡ copies.old.items ++ changes.now) }
+{
+    for change in changes {
+        copies.push(copy_of(alloc, change)?)?;
+    }
+    Ok(())
+}
+
+fn copy_of(alloc: Global, change: &RowChange) -> Result<RowChange, AllocError>
+    ensures { IfOk result (λ copy. copy ≡ change.now) }
+{
+    match change {
+        RowChange::Put(row) => Ok(RowChange::Put(row.try_clone()?)),
+        RowChange::Drop(uri) => Ok(RowChange::Drop(uri.try_clone(alloc)?)),
     }
 }
 

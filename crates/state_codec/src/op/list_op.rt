@@ -1,7 +1,9 @@
+ghost use Rattle.std.specs.Prelude.{◌≡◌, IfOk};
 ghost use Rattle.state_codec.specs.Ops.{IsListOp};
 
 use crate::op::row_numbers::RowNumbers;
 use crate::op::text::Text;
+use std::alloc::{AllocError, Global};
 
 /// A change of the stored playlists. Positions count from 0; a range goes from `start` up to, but not including, `end`.
 #[derive(Debug, Drop)]
@@ -21,6 +23,41 @@ pub enum ListOp {
 }
 
 impl ListOp {
+    /// The same op once more, in memory of its own.
+    pub fn try_clone(&self, alloc: Global) -> Result<ListOp, AllocError>
+        ensures { IfOk result (λ copy. copy ≡ self.now) }
+    {
+        match self {
+            ListOp::Save { name } => Ok(ListOp::Save {
+                name: name.try_clone(alloc)?,
+            }),
+            ListOp::Add { name, rows } => Ok(ListOp::Add {
+                name: name.try_clone(alloc)?,
+                rows: rows.try_clone(alloc)?,
+            }),
+            ListOp::Remove { name, start, end } => Ok(ListOp::Remove {
+                name: name.try_clone(alloc)?,
+                start: *start,
+                end: *end,
+            }),
+            ListOp::Move { name, from, to } => Ok(ListOp::Move {
+                name: name.try_clone(alloc)?,
+                from: *from,
+                to: *to,
+            }),
+            ListOp::Clear { name } => Ok(ListOp::Clear {
+                name: name.try_clone(alloc)?,
+            }),
+            ListOp::Rename { from, to } => Ok(ListOp::Rename {
+                from: from.try_clone(alloc)?,
+                to: to.try_clone(alloc)?,
+            }),
+            ListOp::Drop { name } => Ok(ListOp::Drop {
+                name: name.try_clone(alloc)?,
+            }),
+        }
+    }
+
     // Its numbers are in range and its texts have their form.
     pub(crate) fn keep_form(&self)
         ensures { IsListOp self.now }

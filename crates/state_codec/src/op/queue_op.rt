@@ -1,7 +1,9 @@
+ghost use Rattle.std.specs.Prelude.{◌≡◌, IfOk};
 ghost use Rattle.state_codec.specs.Ops.{IsQueueOp};
 
 use crate::op::ranges::OpRanges;
 use crate::op::row_numbers::RowNumbers;
+use std::alloc::{AllocError, Global};
 
 /// A change of the queue. Positions count from 0; a range goes from `start` up to, but not including, `end`.
 #[derive(Debug, Drop)]
@@ -19,6 +21,39 @@ pub enum QueueOp {
 }
 
 impl QueueOp {
+    /// The same op once more, in memory of its own.
+    pub fn try_clone(&self, alloc: Global) -> Result<QueueOp, AllocError>
+        ensures { IfOk result (λ copy. copy ≡ self.now) }
+    {
+        match self {
+            QueueOp::Add { at, rows } => Ok(QueueOp::Add {
+                at: *at,
+                rows: rows.try_clone(alloc)?,
+            }),
+            QueueOp::Delete { start, end } => Ok(QueueOp::Delete {
+                start: *start,
+                end: *end,
+            }),
+            QueueOp::Move { start, end, to } => Ok(QueueOp::Move {
+                start: *start,
+                end: *end,
+                to: *to,
+            }),
+            QueueOp::Swap { one, other } => Ok(QueueOp::Swap {
+                one: *one,
+                other: *other,
+            }),
+            QueueOp::Shuffle { start, end } => Ok(QueueOp::Shuffle {
+                start: *start,
+                end: *end,
+            }),
+            QueueOp::Prio { priority, ranges } => Ok(QueueOp::Prio {
+                priority: *priority,
+                ranges: ranges.try_clone(alloc)?,
+            }),
+        }
+    }
+
     // Its numbers are in range.
     pub(crate) fn keep_form(&self)
         ensures { IsQueueOp self.now }

@@ -1,9 +1,10 @@
-ghost use Rattle.std.specs.Prelude.{IsTrue};
+ghost use Rattle.std.specs.Prelude.{◌≡◌, IfOk, IsTrue};
 ghost use Rattle.state_codec.specs.Ops.{IsStickerOp};
 ghost use Rattle.state_codec.specs.Text.{is_sticker_text};
 
 use crate::op::text::{Text, keep_utf8};
 use song_db::Uri;
+use std::alloc::{AllocError, Global};
 use stickers::StickerValue;
 
 /// A change of the stickers.
@@ -26,6 +27,26 @@ pub enum StickerOp {
 }
 
 impl StickerOp {
+    /// The same op once more, in memory of its own.
+    pub fn try_clone(&self, alloc: Global) -> Result<StickerOp, AllocError>
+        ensures { IfOk result (λ copy. copy ≡ self.now) }
+    {
+        match self {
+            StickerOp::Set { uri, name, value } => Ok(StickerOp::Set {
+                uri: uri.try_clone(alloc)?,
+                name: name.try_clone(alloc)?,
+                value: value.try_clone(alloc)?,
+            }),
+            StickerOp::Delete { uri, name } => Ok(StickerOp::Delete {
+                uri: uri.try_clone(alloc)?,
+                name: name.try_clone(alloc)?,
+            }),
+            StickerOp::DeleteAll { uri } => Ok(StickerOp::DeleteAll {
+                uri: uri.try_clone(alloc)?,
+            }),
+        }
+    }
+
     // Its texts have their form.
     pub(crate) fn keep_form(&self)
         ensures { IsStickerOp self.now }

@@ -1,10 +1,12 @@
-ghost use Rattle.std.specs.Prelude.{◌≡◌, Some, OnOk, OnErr};
+ghost use Rattle.std.specs.Prelude.{◌≡◌, Some, None, OnOk, OnErr};
 ghost use Rattle.state_codec.specs.Applied.{refusal_of, after, applied};
 ghost use Rattle.state_codec.specs.Editing.{AnswersApply, IsEdit};
+ghost use Rattle.state_codec.specs.OpsQueue.{queue_refusal};
 ghost use Rattle.state_codec.specs.OpsSettings.{with_setting};
 ghost use Rattle.state_codec.specs.SavedState.{IsSavedState};
 ghost use Rattle.state_codec.specs.Stored.{state_of};
-ghost use Rattle.state_codec.specs.declared.op.Op.TheVariants.{SetOption, SetVolume, SetOrder};
+ghost use Rattle.state_codec.specs.declared.op.Op.TheVariants.{SetOption, SetVolume, SetOrder, Queue};
+ghost use Rattle.state_codec.specs.declared.op.queue_op.QueueOp.TheVariants.{Delete};
 
 use super::{Saved, SavedParts};
 use crate::op::{Op, Setting};
@@ -21,6 +23,14 @@ impl Saved {
     {
         op.keep_form();
         apply_to(&mut self.parts, alloc, op)
+    }
+
+    /// Takes the entries from `start` up to, but not including, `end` out of the queue, as the op does. It takes no memory.
+    pub fn delete_entries(&mut self, start: u32, end: u32)
+        requires { queue_refusal (Delete start end) self.old ≡ None }
+        ensures { self.new ≡ after (Queue (Delete start end)) self.old }
+    {
+        let _ = self.parts.queue.delete_range(start as usize, end as usize);
     }
 
     /// Sets an option, as the op does.
