@@ -1,0 +1,11 @@
+pub mod PendingLaws
+pub mod HistoryLaws
+pub mod ReachedLaws
+pub mod RebuildLaws
+pub mod RequestLaws
+pub mod TellLaws
+pub mod RoomLaws
+pub mod StepLaws
+pub mod RecoverLaws
+pub mod ClientLaws
+pub mod EndLaws

@@ -1,0 +1,489 @@
+-- The commands of a request, one after the other.
+use Rattle.std.proofs.Common.{◌≡◌, ℕ, suc, ◌+◌, ◌≤◌, ◌<◌, Bool, true, false, ◌||◌, List, [], ◌∷◌, ◌++◌, length, Option, Some, None, cond}
+use Rattle.std.proofs.Common.{refl, sym, ◌∙◌, ap, subst, arith, append_assoc, eq-eqb}
+use Rattle.std.specs.Prelude.{Result, Ok, Err, IfSome}
+use Rattle.std.proofs.lemmas.Bool.{le-leb, ne_eqb}
+use Rattle.std.proofs.lemmas.List.{append-nil}
+use Rattle.command_text.specs.Answer.{ok, ack}
+use Rattle.command_text.specs.Reading.{line_words, command_of, line_reading, command_in, name_of_line, want_of_memory, Gives, GivesWords}
+use Rattle.command_text.specs.declared.command.NamedCommand.{NamedCommand}
+use Rattle.command_text.specs.declared.place.Place.{Place}
+use Rattle.command_text.specs.declared.refusal.CommandRefusal.{CommandRefusal}
+use Rattle.command_text.specs.declared.refusal.CommandRefusal.TheVariants.{RequestTooLarge}
+use Rattle.command_text.specs.declared.refusal.ReadError.{ReadError}
+use Rattle.command_text.specs.declared.refusal.ReadError.TheVariants as errors
+use Rattle.command_text.specs.declared.refusal.Refusal.{Refusal}
+use Rattle.command_text.specs.declared.refusal.Refusal.TheVariants.{OfCommand}
+use Rattle.idle_masks.specs.Subsystems.{contains, none, union}
+use Rattle.idle_masks.specs.declared.subsystem.Subsystems.{Subsystems}
+use Rattle.machine_core.specs.Changed.{changed}
+use Rattle.machine_core.specs.Command.{meaning}
+use Rattle.machine_core.specs.Meaning.{Meaning, Meant}
+use Rattle.machine_core.specs.Size.{max_request_bytes, within}
+use Rattle.machine_core.specs.State.{MachineState}
+use Rattle.machine_core.specs.Work.{AddsNothing, AddsOps, AddsText, HasRoom, Went, ack_room}
+use Rattle.machine_core.specs.declared.work.Work.{Work}
+use Rattle.state_codec.specs.Spelling.{ops_bytes}
+use Rattle.state_codec.specs.declared.op.Op.{Op}
+use Rattle.event_core.specs.Handled.{Does}
+use Rattle.event_core.specs.Parts.{state_of}
+use Rattle.event_core.specs.Request.{stop_of_reading, ran_of, WentOn, IsStop, Stopped, RunsLine, HasRoomToStop, AnswersStop}
+use Rattle.event_core.specs.Request.{RunsLines}
+use Rattle.event_core.specs.Room.{KeepsRoom, HasRoomToEnd}
+use Rattle.event_core.specs.Session.{of_ran, runs}
+use Rattle.event_core.specs.State.{State}
+use Rattle.event_core.specs.Run.{Did, Goes, Refuses, Ends, ending_of, did_of, unless_it_ends, performed, read_and_performed, attempted}
+use Rattle.event_core.specs.Run.{Ran, ends, wants_memory, preceded, follow, is_refused_at, ran}
+use Rattle.event_core.specs.declared.outcome.Ending.{Ending}
+use Rattle.event_core.specs.declared.handled.Handled.{Handled}
+use Rattle.event_core.specs.declared.outcome.Ending.TheVariants.{Answered, Closed, Killed, Waits}
+use Rattle.event_core.specs.declared.parts.CoreParts.{CoreParts}
+use Rattle.event_core.specs.declared.request.RequestEnd.{RequestEnd}
+use Rattle.event_core.specs.declared.request.Stop.{Stop}
+use Rattle.event_core.specs.declared.room.Room.{Room}
+use Rattle.idle_masks.specs.declared.watch.Watched.{Watched}
+use Rattle.event_core.specs.declared.request.Stop.TheVariants as stops
+use Rattle.event_core.proofs.PendingLaws.{contains-set_of, set_ext}
+
+-- Room that was taken before changes nothing.
+adds_from : (more : List Op) (before mid after : Work) → AddsNothing before mid → AddsOps more mid after → AddsOps more before after
+adds_from more before mid after nothing adds = record {
+  ops = adds.ops ∙ ap (λ x. x ++ more) nothing.ops;
+  size = adds.size ∙ ap (λ n. n + length (ops_bytes more)) nothing.size;
+  fits = adds.fits;
+}
+
+nothing_from : (before mid after : Work) → AddsNothing before mid → AddsNothing mid after → AddsNothing before after
+nothing_from before mid after first second = record {
+  text = second.text ∙ first.text;
+  room = omega (arith, first.room, second.room);
+  ops = second.ops ∙ first.ops;
+  size = second.size ∙ first.size;
+}
+
+pub runs_from : (between : List ℕ) (did : Did) (s t : MachineState) (before mid after : Work) (r : Result Subsystems Stop) →
+    AddsNothing before mid → RunsLine between did s t mid after r → RunsLine between did s t before after r
+runs_from between did s t before mid after (Ok set) nothing h = record {
+  meaning = h.meaning;
+  means = h.means;
+  stands = h.stands;
+  text = h.text ∙ (let m = h.meaning in ap (λ x. x ++ (m.text ++ between)) nothing.text);
+  ops = let m = h.meaning in adds_from m.ops before mid after nothing h.ops;
+  changed = h.changed;
+  room = h.room;
+}
+runs_from between did s t before mid after (Err stop) nothing h =
+    record { stands = h.stands; nothing = nothing_from before mid after nothing h.nothing; why = h.why }
+
+-- a line that was read
+pub read_performed : (place : Place) (size : ℕ) (line : List ℕ) (words : List (List ℕ)) (m : MachineState) (named : NamedCommand) →
+    line_words line ≡ Ok words → command_of place words ≡ Ok named → performed size named m ≡ attempted place size line m
+unfolding attempted line_reading
+read_performed place size line words m named parted read =
+    sym (ap (λ w. read_and_performed size m (command_in place w)) parted ∙ ap (read_and_performed size m) read)
+
+-- a line whose words were refused, or that no command is read from
+pub words_refused : (place : Place) (size : ℕ) (line : List ℕ) (m : MachineState) (refusal : Refusal) → line_words line ≡ Err refusal →
+    attempted place size line m ≡ Refuses refusal
+unfolding attempted line_reading
+words_refused place size line m refusal parted = ap (λ w. read_and_performed size m (command_in place w)) parted
+
+pub command_refused : (place : Place) (size : ℕ) (line : List ℕ) (words : List (List ℕ)) (m : MachineState) (refusal : Refusal) →
+    line_words line ≡ Ok words → command_of place words ≡ Err refusal → attempted place size line m ≡ Refuses refusal
+unfolding attempted line_reading
+command_refused place size line words m refusal parted read =
+    ap (λ w. read_and_performed size m (command_in place w)) parted ∙ ap (read_and_performed size m) read
+
+-- a command that ends its request, and one that means something
+pub performed_ends : (size : ℕ) (named : NamedCommand) (m : MachineState) (ending : Ending) → ending_of named.command ≡ Some ending →
+    performed size named m ≡ Ends ending
+unfolding performed
+performed_ends size named m ending is =
+    ap (λ e. unless_it_ends e (did_of named.name (within size (meaning named.command m)))) is
+
+performed_did : (size : ℕ) (named : NamedCommand) (m : MachineState) (meant : Meant) → ending_of named.command ≡ None →
+    within size (meaning named.command m) ≡ meant → performed size named m ≡ did_of named.name meant
+unfolding performed
+performed_did size named m meant is same =
+    ap (λ e. unless_it_ends e (did_of named.name (within size (meaning named.command m)))) is ∙ ap (did_of named.name) same
+
+pub performed_refuses : (size : ℕ) (named : NamedCommand) (m : MachineState) (refusal : CommandRefusal) →
+    ending_of named.command ≡ None → within size (meaning named.command m) ≡ Err refusal →
+    performed size named m ≡ Refuses (OfCommand named.name refusal)
+performed_refuses size named m refusal is same = performed_did size named m (Err refusal) is same
+
+within_limit : (size : ℕ) (x : Meaning) → size + length (ops_bytes x.ops) ≤ max_request_bytes → within size (Ok x) ≡ Ok x
+within_limit size x fits =
+    ap (λ b. cond b (Ok x) (Err RequestTooLarge)) (le-leb (size + length (ops_bytes x.ops)) max_request_bytes fits)
+
+pub performed_goes : (named : NamedCommand) (s t : MachineState) (before after : Work)
+    (went : Went (meaning named.command s) t before after) →
+    ending_of named.command ≡ None → performed before.size named s ≡ Goes went.meaning
+performed_goes named s t before after went is =
+    let x : Meaning = went.meaning in
+    performed_did before.size named s (Ok x) is
+    (ap (within before.size) went.means ∙ within_limit before.size x (let a = went.ops in omega (arith, a.size, a.fits)))
+
+-- Sets of subsystems join in any grouping.
+or_assoc : (a b c : Bool) → ((a || b) || c) ≡ (a || (b || c))
+or_assoc true b c = refl
+or_assoc false b c = refl
+
+union_assoc : (a b c : Subsystems) → union (union a b) c ≡ union a (union b c)
+union_assoc a b c = set_ext _ _ (λ x.
+    contains-set_of (λ y. contains (union a b) y || contains c y) x
+    ∙ ap (λ v. v || contains c x) (contains-set_of (λ y. contains a y || contains b y) x)
+    ∙ or_assoc (contains a x) (contains b x) (contains c x)
+    ∙ ap (λ v. contains a x || v) (sym (contains-set_of (λ y. contains b y || contains c y) x))
+    ∙ sym (contains-set_of (λ y. contains a y || contains (union b c) y) x))
+
+union-none : (a : Subsystems) → union none a ≡ a
+union-none a = set_ext _ _ (λ x.
+    contains-set_of (λ y. contains none y || contains a y) x
+    ∙ ap (λ v. v || contains a x) (contains-set_of (λ _. false) x))
+
+or_false : (a : Bool) → (a || false) ≡ a
+or_false true = refl
+or_false false = refl
+
+union_none_right : (a : Subsystems) → union a none ≡ a
+union_none_right a = set_ext _ _ (λ x.
+    contains-set_of (λ y. contains a y || contains none y) x
+    ∙ ap (λ v. contains a x || v) (contains-set_of (λ _. false) x) ∙ or_false (contains a x))
+
+preceded_twice : (t u : List ℕ) (a b : Subsystems) (os ps : List Op) (r : Ran) →
+    preceded t a os (preceded u b ps r) ≡ preceded (t ++ u) (union a b) (os ++ ps) r
+preceded_twice t u a b os ps r = λ i. record {
+  after = r.after;
+  text = sym (append_assoc t u r.text) i;
+  changed = sym (union_assoc a b r.changed) i;
+  ops = sym (append_assoc os ps r.ops) i;
+  ending = r.ending;
+  refused_at = r.refused_at;
+}
+
+preceded_none : (r : Ran) → preceded [] none [] r ≡ r
+preceded_none r = λ i. record {
+  after = r.after;
+  text = r.text;
+  changed = union-none r.changed i;
+  ops = r.ops;
+  ending = r.ending;
+  refused_at = r.refused_at;
+}
+
+-- memory was not refused before this command
+abbrev pub NotBefore : ℕ → Option ℕ → Type 0
+NotBefore index refused = IfSome refused (λ place. index ≤ place)
+
+-- What was done so far: what is left of the request, done from here, makes it whole.
+pub record SoFar
+    (place : Place) (between : List ℕ) (lines rest : List (List ℕ)) (index : ℕ) (first m : MachineState) (before now : Work)
+    (changes : Subsystems) : Type 0 where
+  pub text : List ℕ
+  pub made : List Op
+  pub written : now.text.items ≡ before.text.items ++ text
+  pub ops : now.ops.items ≡ before.ops.items ++ made
+  pub room : HasRoom ack_room now
+  pub left : index + length rest ≡ length lines
+  pub whole : (refused : Option ℕ) → NotBefore index refused →
+      ran place between refused 0 before.size lines first ≡ preceded text changes made (ran place between refused index now.size rest m)
+
+pub so_far_begins : (place : Place) (between : List ℕ) (lines : List (List ℕ)) (first : MachineState) (before : Work) →
+    HasRoom ack_room before → SoFar place between lines lines 0 first first before before none
+so_far_begins place between lines first before room = record {
+  text = [];
+  made = [];
+  written = sym (append-nil before.text.items);
+  ops = sym (append-nil before.ops.items);
+  room = room;
+  left = omega arith;
+  whole = λ refused _. sym (preceded_none (ran place between refused 0 before.size lines first));
+}
+
+later_is_not : (index : ℕ) (refused : Option ℕ) → NotBefore (suc index) refused → is_refused_at refused index ≡ false
+later_is_not index None h = refl
+later_is_not index (Some place) h = ne_eqb place index (λ e. omega (arith, h, e))
+
+later_before : (index : ℕ) (refused : Option ℕ) → NotBefore (suc index) refused → NotBefore index refused
+later_before index None h = tt
+later_before index (Some place) h = omega (arith, h)
+
+-- the rest of a request behind its next command, which goes well
+next_goes : (place : Place) (between line : List ℕ) (rest : List (List ℕ)) (index size : ℕ) (refused : Option ℕ) (s : MachineState)
+    (x : Meaning) → is_refused_at refused index ≡ false → attempted place size line s ≡ Goes x →
+    ran place between refused index size (line ∷ rest) s
+    ≡ preceded (x.text ++ between) (changed s x.after) x.ops
+    (ran place between refused (suc index) (size + length (ops_bytes x.ops)) rest x.after)
+unfolding ran
+next_goes place between line rest index size refused s x here did =
+    ap (λ b. cond b (wants_memory s index line)
+    (follow between index size s (λ n u. ran place between refused (suc index) n rest u) (attempted place size line s))) here
+    ∙ ap (follow between index size s (λ n u. ran place between refused (suc index) n rest u)) did
+
+-- one command went well
+pub so_far_goes : (place : Place) (between : List ℕ) (lines rest : List (List ℕ)) (line : List ℕ) (index : ℕ)
+    (first s t : MachineState) (before now after : Work) (changes set : Subsystems) →
+    SoFar place between lines (line ∷ rest) index first s before now changes →
+    WentOn between (attempted place now.size line s) s t now after set →
+    SoFar place between lines rest (suc index) first t before after (union changes set)
+so_far_goes place between lines rest line index first s t before now after changes set far went =
+    let x : Meaning = went.meaning in
+    let a = went.ops in
+    record {
+      text = far.text ++ (x.text ++ between);
+      made = far.made ++ x.ops;
+      written = went.text ∙ ap (λ y. y ++ (x.text ++ between)) far.written
+          ∙ append_assoc before.text.items far.text (x.text ++ between);
+      ops = a.ops ∙ ap (λ y. y ++ x.ops) far.ops ∙ append_assoc before.ops.items far.made x.ops;
+      room = went.room;
+      left = omega (arith, far.left);
+      whole = λ refused later.
+          far.whole refused (later_before index refused later)
+          ∙ ap (preceded far.text changes far.made)
+          (next_goes place between line rest index now.size refused s x (later_is_not index refused later) went.means)
+          ∙ preceded_twice far.text (x.text ++ between) changes (changed s x.after) far.made x.ops
+          (ran place between refused (suc index) (now.size + length (ops_bytes x.ops)) rest x.after)
+          ∙ (λ i. preceded (far.text ++ (x.text ++ between)) (union changes (changed s (sym went.stands i))) (far.made ++ x.ops)
+          (ran place between refused (suc index) (sym a.size i) rest (sym went.stands i)))
+          ∙ ap (λ c. preceded (far.text ++ (x.text ++ between)) (union changes c) (far.made ++ x.ops)
+          (ran place between refused (suc index) after.size rest t)) (sym went.changed);
+    }
+
+-- what the answer to a stop makes of the rest of a request
+pub record StopsIt
+    (place : Place) (between line : List ℕ) (rest : List (List ℕ)) (index size : ℕ) (s : MachineState) (refused : Option ℕ)
+    (ending : Ending) (work done : Work) : Type 0 where
+  pub text : List ℕ
+  pub same : ran place between refused index size (line ∷ rest) s ≡ record (ends s text ending) { refused_at = refused }
+  pub adds : AddsText text work done
+  pub later : NotBefore index refused
+  pub within : IfSome refused (λ at. at ≡ index)
+
+pub stops_it : (place : Place) (between line : List ℕ) (rest : List (List ℕ)) (index size : ℕ) (s : MachineState) (stop : Stop)
+    (refused : Option ℕ) (ending : Ending) (work done : Work) → IsStop (attempted place size line s) stop →
+    AnswersStop stop index line refused ending work done → StopsIt place between line rest index size s refused ending work done
+unfolding ran
+stops_it place between line rest index size s (stops.Ends it) None ending work done did answer = record {
+  text = [];
+  same = ap (follow between index size s (λ n u. ran place between None (suc index) n rest u)) did ∙ ap (ends s []) (sym answer.0);
+  adds = answer.1;
+  later = tt;
+  within = tt;
+}
+stops_it place between line rest index size s (stops.Refused refusal) None ending work done did answer = record {
+  text = ack index refusal;
+  same = ap (follow between index size s (λ n u. ran place between None (suc index) n rest u)) did
+      ∙ ap (ends s (ack index refusal)) (sym answer.0);
+  adds = answer.1;
+  later = tt;
+  within = tt;
+}
+stops_it place between line rest index size s stops.NoMemory None ending work done did answer = absurd answer
+stops_it place between line rest index size s stop (Some at) ending work done did answer =
+    let wants = answer.1 in
+    record {
+      text = ack index (want_of_memory (name_of_line line));
+      same = ap (λ b. cond b (wants_memory s index line)
+          (follow between index size s (λ n u. ran place between (Some at) (suc index) n rest u) (attempted place size line s)))
+          (eq-eqb at index answer.0)
+          ∙ (λ i. record (ends s (ack index (want_of_memory (name_of_line line))) (sym wants.0 i)) { refused_at = Some (sym answer.0 i) });
+      adds = wants.1;
+      later = omega (arith, answer.0);
+      within = answer.0;
+    }
+
+-- the request has ended
+ran_ends : (place : Place) (between : List ℕ) (lines rest : List (List ℕ)) (index : ℕ) (first s : MachineState) (before now after : Work)
+    (changes : Subsystems) (refused : Option ℕ) (text : List ℕ) (ending : Ending) →
+    SoFar place between lines rest index first s before now changes → NotBefore index refused →
+    ran place between refused index now.size rest s ≡ record (ends s text ending) { refused_at = refused } → AddsText text now after →
+    IfSome refused (λ at. at < length lines) →
+    RunsLines place between lines first s before after (record { ending = ending; changed = changes; refused_at = refused })
+ran_ends place between lines rest index first s before now after changes refused text ending far later ended adds within =
+    let whole : ran place between refused 0 before.size lines first
+    ≡ preceded far.text changes far.made (record (ends s text ending) { refused_at = refused }) =
+    far.whole refused later ∙ ap (preceded far.text changes far.made) ended in
+    record {
+      stands = sym (ap (λ r. r.after) whole);
+      text = adds.text ∙ ap (λ x. x ++ text) far.written ∙ append_assoc before.text.items far.text text
+          ∙ sym (ap (λ r. before.text.items ++ r.text) whole);
+      ops = adds.ops ∙ far.ops
+          ∙ sym (ap (λ r. before.ops.items ++ r.ops) whole ∙ ap (λ x. before.ops.items ++ x) (append-nil far.made));
+      changed = sym (ap (λ r. r.changed) whole ∙ union_none_right changes);
+      ending = sym (ap (λ r. r.ending) whole);
+      refused_at = sym (ap (λ r. r.refused_at) whole);
+      within = within;
+    }
+
+at_within : (index count : ℕ) (refused : Option ℕ) → index < count → IfSome refused (λ at. at ≡ index) → IfSome refused (λ at. at < count)
+at_within index count None below h = tt
+at_within index count (Some at) below h = omega (arith, below, h)
+
+first_left : (place : Place) (between : List ℕ) (lines whole rest : List (List ℕ)) (bytes line : List ℕ) (index : ℕ)
+    (first s : MachineState) (before now : Work) (changes : Subsystems) → whole ≡ line ∷ rest → bytes ≡ line →
+    SoFar place between lines whole index first s before now changes →
+    SoFar place between lines (bytes ∷ rest) index first s before now changes
+first_left place between lines whole rest bytes line index first s before now changes parts same far =
+    subst (λ r. SoFar place between lines r index first s before now changes) (parts ∙ ap (λ b. b ∷ rest) (sym same)) far
+
+-- the next command stopped it
+pub ran_stops : (place : Place) (between : List ℕ) (lines whole rest : List (List ℕ)) (bytes line : List ℕ) (index : ℕ)
+    (first s t : MachineState) (before now mid after : Work) (changes : Subsystems) (stop : Stop) (refused : Option ℕ) (ending : Ending) →
+    whole ≡ line ∷ rest → bytes ≡ line → SoFar place between lines whole index first s before now changes →
+    Stopped (attempted place now.size bytes s) s t now mid stop → AnswersStop stop index bytes refused ending mid after →
+    RunsLines place between lines first t before after (record { ending = ending; changed = changes; refused_at = refused })
+ran_stops place between lines whole rest bytes line index first s t before now mid after changes stop refused ending parts same far
+    stopped answer =
+    let far : SoFar place between lines (bytes ∷ rest) index first s before now changes =
+    first_left place between lines whole rest bytes line index first s before now changes parts same far in
+    let it = stops_it place between bytes rest index now.size s stop refused ending mid after stopped.why answer in
+    let nothing = stopped.nothing in
+    let adds = it.adds in
+    subst (λ u. RunsLines place between lines first u before after (record { ending = ending; changed = changes; refused_at = refused }))
+    (sym stopped.stands)
+    (ran_ends place between lines (bytes ∷ rest) index first s before now after changes refused it.text ending far it.later it.same
+    (record {
+      text = adds.text ∙ ap (λ x. x ++ it.text) nothing.text;
+      ops = adds.ops ∙ nothing.ops;
+      size = adds.size ∙ nothing.size;
+    })
+    (at_within index (length lines) refused (omega (arith, far.left)) it.within))
+
+pub ran_goes : (place : Place) (between : List ℕ) (lines whole rest : List (List ℕ)) (bytes line : List ℕ) (index : ℕ)
+    (first s t : MachineState) (before now after : Work) (changes set : Subsystems) → whole ≡ line ∷ rest → bytes ≡ line →
+    SoFar place between lines whole index first s before now changes →
+    WentOn between (attempted place now.size bytes s) s t now after set →
+    SoFar place between lines rest (index + 1) first t before after (union changes set)
+ran_goes place between lines whole rest bytes line index first s t before now after changes set parts same far h =
+    subst (λ n. SoFar place between lines rest n first t before after (union changes set)) (omega arith)
+    (so_far_goes place between lines rest bytes index first s t before now after changes set
+    (first_left place between lines whole rest bytes line index first s before now changes parts same far) h)
+
+next_none : (place : Place) (between : List ℕ) (index size : ℕ) (s : MachineState) →
+    ran place between None index size [] s ≡ ends s ok Answered
+unfolding ran
+next_none place between index size s = refl
+
+pub ran_all : (place : Place) (between : List ℕ) (lines rest : List (List ℕ)) (index : ℕ) (first s : MachineState)
+    (before now after : Work) (changes : Subsystems) → length rest ≡ 0 →
+    SoFar place between lines rest index first s before now changes → AddsText ok now after →
+    RunsLines place between lines first s before after (record { ending = Answered; changed = changes; refused_at = None })
+ran_all place between lines [] index first s before now after changes empty far h =
+    ran_ends place between lines [] index first s before now after changes None ok Answered far tt
+    (next_none place between index now.size s) h tt
+ran_all place between lines (r ∷ rest) index first s before now after changes empty far h = absurd (omega (arith, empty))
+
+-- a command that went well, and what stands behind it
+pub went_on : (named : NamedCommand) (separator : List ℕ) (s t : MachineState) (before mid after : Work) (set : Subsystems) →
+    Went (meaning named.command s) t before mid → ending_of named.command ≡ None → AddsText separator mid after →
+    HasRoom ack_room after → set ≡ changed s t → WentOn separator (performed before.size named s) s t before after set
+went_on named separator s t before mid after set went is adds room same =
+    let x : Meaning = went.meaning in
+    let a = went.ops in
+    record {
+      meaning = x;
+      means = performed_goes named s t before mid went is;
+      stands = went.stands;
+      text = adds.text ∙ ap (λ y. y ++ separator) went.text ∙ append_assoc before.text.items x.text separator;
+      ops = record { ops = adds.ops ∙ a.ops; size = adds.size ∙ a.size; fits = omega (arith, adds.size, a.fits) };
+      changed = same;
+      room = room;
+    }
+
+-- a line of which no words, or no command, were read
+pub words_stop : (place : Place) (size : ℕ) (line : List ℕ) (m : MachineState) (error : ReadError) (stop : Stop) →
+    GivesWords (Err error) (line_words line) → stop ≡ stop_of_reading error → IsStop (attempted place size line m) stop
+words_stop place size line m (errors.Refused refusal) stop read is =
+    subst (IsStop (attempted place size line m)) (sym is) (words_refused place size line m refusal read)
+words_stop place size line m errors.NoMemory stop read is = subst (IsStop (attempted place size line m)) (sym is) tt
+
+pub command_stop : (place : Place) (size : ℕ) (line : List ℕ) (words slice : List (List ℕ)) (m : MachineState) (error : ReadError)
+    (stop : Stop) → line_words line ≡ Ok words → slice ≡ words → Gives {A = NamedCommand} (Err error) (command_of place slice) →
+    stop ≡ stop_of_reading error → IsStop (attempted place size line m) stop
+command_stop place size line words slice m (errors.Refused refusal) stop parted same read is =
+    subst (IsStop (attempted place size line m)) (sym is)
+    (command_refused place size line slice m refusal (parted ∙ ap Ok (sym same)) read)
+command_stop place size line words slice m errors.NoMemory stop parted same read is =
+    subst (IsStop (attempted place size line m)) (sym is) tt
+
+-- a command that was read runs as its line does
+pub line_runs : (place : Place) (between line : List ℕ) (words slice : List (List ℕ)) (named : NamedCommand) (s t : MachineState)
+    (before mid after : Work) (r : Result Subsystems Stop) → line_words line ≡ Ok words → slice ≡ words →
+    command_of place slice ≡ Ok named → AddsNothing before mid → RunsLine between (performed mid.size named s) s t mid after r →
+    RunsLine between (attempted place before.size line s) s t before after r
+line_runs place between line words slice named s t before mid after r parted same read nothing h =
+    runs_from between (attempted place before.size line s) s t before mid after r nothing
+    (subst (λ did. RunsLine between did s t mid after r)
+    (ap (λ n. performed n named s) nothing.size
+    ∙ read_performed place before.size line slice s named (parted ∙ ap Ok (sym same)) read) h)
+
+-- the room that a stop took is there for the request's end
+pub ends_with_room : (c : ℕ) (p : CoreParts) (stop : Stop) (index : ℕ) (line : List ℕ) (refused : Option ℕ) (ending : Ending)
+    (work done : Work) → HasRoomToStop c p stop → AnswersStop stop index line refused ending work done → HasRoomToEnd c ending p
+ends_with_room c p (stops.Ends it) index line None ending work done has answer =
+    subst (λ e. HasRoomToEnd c e p) (sym answer.0) has
+ends_with_room c p (stops.Refused refusal) index line None ending work done has answer =
+    subst (λ e. HasRoomToEnd c e p) (sym answer.0) tt
+ends_with_room c p stops.NoMemory index line None ending work done has answer = absurd answer
+ends_with_room c p stop index line (Some at) ending work done has answer =
+    let wants = answer.1 in subst (λ e. HasRoomToEnd c e p) (sym wants.0) tt
+
+pub kept_more : (a b c : Room) → KeepsRoom a b → KeepsRoom b c → KeepsRoom a c
+kept_more a b c first second = record {
+  texts = omega (arith, first.texts, second.texts);
+  outputs = omega (arith, first.outputs, second.outputs);
+  reports = omega (arith, first.reports, second.reports);
+}
+
+pub same_room : (a : Room) → KeepsRoom a a
+same_room a = record { texts = omega arith; outputs = omega arith; reports = omega arith }
+
+-- what a request that ran makes of the clients doesn't hang on the machine before it
+of_ran_same : (c : ℕ) (clients : List Watched) (m n : MachineState) (r : Ran) (ending : Ending) →
+    of_ran c (record { machine = m; clients = clients }) r ending ≡ of_ran c (record { machine = n; clients = clients }) r ending
+of_ran_same c clients m n r Answered = refl
+of_ran_same c clients m n r Closed = refl
+of_ran_same c clients m n r Killed = refl
+of_ran_same c clients m n r (Waits mask) = refl
+
+of_ran_place : (c : ℕ) (s : State) (r : Ran) (ending : Ending) → let a = of_ran c s r ending in a.refused_at ≡ r.refused_at
+of_ran_place c s r Answered = refl
+of_ran_place c s r Closed = refl
+of_ran_place c s r Killed = refl
+of_ran_place c s r (Waits mask) = refl
+
+-- the lines of a request were run, and its end was made
+pub lines_do : (c : ℕ) (place : Place) (between : List ℕ) (lines : List (List ℕ)) (before mid after : CoreParts) (fresh work : Work)
+    (end : RequestEnd) (handled : Handled) → fresh.text.items ≡ [] → fresh.ops.items ≡ [] → fresh.size ≡ 0 →
+    RunsLines place between lines before.machine mid.machine fresh work end → mid.watch ≡ before.watch →
+    Does (of_ran c (state_of mid) (ran_of mid.machine work end) end.ending) after handled →
+    Does (runs c (state_of before) (ran place between handled.refused_at 0 0 lines before.machine)) after handled
+lines_do c place between lines before mid after fresh work end handled text ops size ran_so watch does =
+    let r : Ran = ran place between end.refused_at 0 0 lines before.machine in
+    let here : ran place between end.refused_at 0 fresh.size lines before.machine ≡ r =
+    ap (λ n. ran place between end.refused_at 0 n lines before.machine) size in
+    let same : ran_of mid.machine work end ≡ r = λ i. record {
+      after = (ran_so.stands ∙ ap (λ x. x.after) here) i;
+      text = (ran_so.text ∙ ap (λ t. t ++ (ran place between end.refused_at 0 fresh.size lines before.machine).text) text
+          ∙ ap (λ x. x.text) here) i;
+      changed = (ran_so.changed ∙ ap (λ x. x.changed) here) i;
+      ops = (ran_so.ops ∙ ap (λ t. t ++ (ran place between end.refused_at 0 fresh.size lines before.machine).ops) ops
+          ∙ ap (λ x. x.ops) here) i;
+      ending = (ran_so.ending ∙ ap (λ x. x.ending) here) i;
+      refused_at = (ran_so.refused_at ∙ ap (λ x. x.refused_at) here) i;
+    } in
+    let at : handled.refused_at ≡ end.refused_at =
+    does.refused_at ∙ of_ran_place c (state_of mid) (ran_of mid.machine work end) end.ending in
+    subst (λ place_at. Does (runs c (state_of before) (ran place between place_at 0 0 lines before.machine)) after handled) (sym at)
+    (subst (λ a. Does a after handled)
+    ((λ i. of_ran c (record { machine = mid.machine; clients = watch i }) (same i) (same i).ending)
+    ∙ of_ran_same c before.watch mid.machine before.machine r r.ending) does)
+
+pub lines_place : (c : ℕ) (place : Place) (between : List ℕ) (lines : List (List ℕ)) (first t : MachineState) (mid after : CoreParts)
+    (fresh work : Work) (end : RequestEnd) (handled : Handled) → RunsLines place between lines first t fresh work end →
+    Does (of_ran c (state_of mid) (ran_of mid.machine work end) end.ending) after handled →
+    IfSome handled.refused_at (λ k. k < length lines)
+lines_place c place between lines first t mid after fresh work end handled ran_so does =
+    subst (λ at. IfSome at (λ k. k < length lines))
+    (sym (does.refused_at ∙ of_ran_place c (state_of mid) (ran_of mid.machine work end) end.ending)) ran_so.within

@@ -1,0 +1,55 @@
+-- One event, from its parts.
+use Rattle.std.proofs.Common.{◌≡◌, ◌≤◌, ◌<◌, ◌++◌, length, map, Some, sym, ◌∙◌, ap, arith}
+use Rattle.std.specs.Global.{Vec}
+use Rattle.std.specs.Prelude.{IfSome}
+use Rattle.idle_masks.specs.Watched.{marked, reports_of, after_reports}
+use Rattle.machine_core.specs.Size.{max_request_bytes}
+use Rattle.state_codec.specs.Applied.{all_applied}
+use Rattle.state_codec.specs.Spelling.{ops_bytes}
+use Rattle.event_core.specs.Handled.{Does}
+use Rattle.event_core.specs.Outcome.{IsOutcome, command_count}
+use Rattle.event_core.specs.Parts.{state_of}
+use Rattle.event_core.specs.State.{State, with_clients}
+use Rattle.event_core.specs.Step.{acted, told_to, step}
+use Rattle.event_core.specs.declared.event.Event.{Event}
+use Rattle.event_core.specs.declared.handled.Handled.{Handled}
+use Rattle.event_core.specs.declared.outcome.Outcome.{Outcome}
+use Rattle.event_core.specs.declared.outcome.Output.{Output}
+use Rattle.event_core.specs.declared.parts.CoreParts.{CoreParts}
+use Rattle.event_core.proofs.RebuildLaws.{CommandsRebuild, step_rebuilds}
+
+pub is_outcome : (s : State) (event : Event) (p q : CoreParts) (handled : Handled) (outputs : Vec Output) →
+    Does (acted s event handled.refused_at) p handled →
+    outputs.items ≡ handled.outputs.items ++ map told_to (reports_of (marked p.watch handled.changed)) →
+    q.watch ≡ after_reports (marked p.watch handled.changed) → q.machine ≡ p.machine →
+    IfSome handled.refused_at (λ k. k < command_count event) →
+    IsOutcome s event (record {
+      outputs = outputs;
+      closes = handled.closes;
+      ops = handled.ops;
+      refused_at = handled.refused_at;
+      ended = handled.ended;
+    }) (state_of q)
+unfolding step
+is_outcome s event p q handled outputs does told watch machine place = record {
+  after = (λ i. record { machine = machine i; clients = watch i })
+      ∙ (λ i. with_clients (does.state i) (after_reports (marked (let v = does.state i in v.clients) (does.changed i))));
+  outputs = told ∙ (λ i. does.answer i ++ map told_to (reports_of (marked (let v = does.state i in v.clients) (does.changed i))));
+  closes = does.closes;
+  ops = does.ops;
+  ended = does.ended;
+  refused_at = does.refused_at;
+  place = place;
+}
+
+pub rebuilt_by : (law : CommandsRebuild) (s : State) (event : Event) (o : Outcome) (t : State) → IsOutcome s event o t →
+    all_applied o.ops.items s.machine.saved ≡ Some t.machine.saved
+rebuilt_by law s event o t h =
+    let r = step_rebuilds law s event o.refused_at in
+    ap (λ ops. all_applied ops s.machine.saved) h.ops ∙ r.state ∙ sym (ap (λ u. Some u.machine.saved) h.after)
+
+pub fits_by : (law : CommandsRebuild) (s : State) (event : Event) (o : Outcome) (t : State) → IsOutcome s event o t →
+    length (ops_bytes o.ops.items) ≤ max_request_bytes
+fits_by law s event o t h =
+    let r = step_rebuilds law s event o.refused_at in
+    omega (arith, r.fits, ap (λ ops. length (ops_bytes ops)) h.ops)

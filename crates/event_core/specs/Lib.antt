@@ -1,0 +1,15 @@
+pub mod State
+pub mod Run
+pub mod Session
+pub mod Pending
+pub mod Step
+pub mod Replay
+pub mod Agreement
+pub mod Parts
+pub mod Held
+pub mod Orders
+pub mod Room
+pub mod Handled
+pub mod Request
+pub mod Recovered
+pub mod Outcome

@@ -1,0 +1,123 @@
+-- A request's commands, one after the other.
+use Rattle.std.specs.Prelude.{ℕ, suc, ◌+◌, ◌==◌, List, [], ◌∷◌, ◌++◌, length, Bool, true, false, Option, Some, None, Result, Ok, Err}
+use Rattle.std.specs.Prelude.{if◌then◌else◌}
+use Rattle.command_text.specs.Answer.{ok, list_ok, ack}
+use Rattle.command_text.specs.Reading.{line_reading, name_of_line, want_of_memory}
+use Rattle.command_text.specs.declared.command.Command.{Command}
+use Rattle.command_text.specs.declared.command.Command.TheVariants as commands
+use Rattle.command_text.specs.declared.command.NamedCommand.{NamedCommand}
+use Rattle.command_text.specs.declared.command.session.SessionCommand.{SessionCommand}
+use Rattle.command_text.specs.declared.command.session.SessionCommand.TheVariants as session
+use Rattle.command_text.specs.declared.command.settings.SettingsCommand.{SettingsCommand}
+use Rattle.command_text.specs.declared.command.settings.SettingsCommand.TheVariants as settings
+use Rattle.command_text.specs.declared.name.CommandName.{CommandName}
+use Rattle.command_text.specs.declared.place.Place.{Place}
+use Rattle.command_text.specs.declared.refusal.Refusal.{Refusal}
+use Rattle.command_text.specs.declared.refusal.Refusal.TheVariants.{OfCommand}
+use Rattle.idle_masks.specs.Subsystems.{none, union}
+use Rattle.idle_masks.specs.declared.subsystem.Subsystems.{Subsystems}
+use Rattle.machine_core.specs.Changed.{changed}
+use Rattle.machine_core.specs.Command.{meaning}
+use Rattle.machine_core.specs.Meaning.{Meaning, Meant}
+use Rattle.machine_core.specs.Size.{within}
+use Rattle.machine_core.specs.State.{MachineState}
+use Rattle.state_codec.specs.Spelling.{ops_bytes}
+use Rattle.state_codec.specs.declared.op.Op.{Op}
+use Rattle.event_core.specs.declared.outcome.Ending.{Ending}
+use Rattle.event_core.specs.declared.outcome.Ending.TheVariants.{Answered, Closed, Killed, Waits}
+
+-- what one command did: what it means, or its refusal, or the end of the request
+pub data Did : Type 0 where
+  Goes : (meaning : Meaning) → Did
+  Refuses : (refusal : Refusal) → Did
+  Ends : (ending : Ending) → Did
+
+abbrev pub settings_ending : SettingsCommand → Option Ending
+settings_ending settings.Close = Some Closed
+settings_ending settings.Kill = Some Killed
+settings_ending command = None
+
+abbrev pub session_ending : SessionCommand → Option Ending
+session_ending (session.Idle mask) = Some (Waits mask)
+session_ending command = None
+
+-- how a command ends its request, if it does
+unfoldable pub ending_of : Command → Option Ending
+ending_of (commands.Settings command) = settings_ending command
+ending_of (commands.Session command) = session_ending command
+ending_of command = None
+
+abbrev pub did_of : CommandName → Meant → Did
+did_of name (Ok x) = Goes x
+did_of name (Err refusal) = Refuses (OfCommand name refusal)
+
+abbrev pub unless_it_ends : Option Ending → Did → Did
+unless_it_ends None did = did
+unless_it_ends (Some ending) did = Ends ending
+
+-- what a command does, where the request's ops have this size before it
+unfoldable pub performed : ℕ → NamedCommand → MachineState → Did
+performed size named m = unless_it_ends (ending_of named.command) (did_of named.name (within size (meaning named.command m)))
+
+abbrev pub read_and_performed : ℕ → MachineState → Result NamedCommand Refusal → Did
+read_and_performed size m (Err refusal) = Refuses refusal
+read_and_performed size m (Ok named) = performed size named m
+
+-- what the line of one command does
+unfoldable pub attempted : Place → ℕ → List ℕ → MachineState → Did
+attempted place size line m = read_and_performed size m (line_reading place line)
+
+-- What a request did: the machine after it, its answer, the subsystems that one of its commands changed, its ops in order, how
+-- it ended, and the place of the command that it reached and that was refused memory, if there was one.
+pub record Ran : Type 0 where
+  pub after : MachineState
+  pub text : List ℕ
+  pub changed : Subsystems
+  pub ops : List Op
+  pub ending : Ending
+  pub refused_at : Option ℕ
+
+-- it ends here, with this text
+abbrev pub ends : MachineState → List ℕ → Ending → Ran
+ends m text ending = record { after = m; text = text; changed = none; ops = []; ending = ending; refused_at = None }
+
+-- it ends here, since the command of this line, in this place, was refused memory
+abbrev pub wants_memory : MachineState → ℕ → List ℕ → Ran
+wants_memory m index line = record (ends m (ack index (want_of_memory (name_of_line line))) Answered) { refused_at = Some index }
+
+-- a command that went well, before the rest of the request
+abbrev pub preceded : List ℕ → Subsystems → List Op → Ran → Ran
+preceded text changes ops rest = record {
+  after = rest.after;
+  text = text ++ rest.text;
+  changed = union changes rest.changed;
+  ops = ops ++ rest.ops;
+  ending = rest.ending;
+  refused_at = rest.refused_at;
+}
+
+-- memory was refused at this command
+abbrev pub is_refused_at : Option ℕ → ℕ → Bool
+is_refused_at None index = false
+is_refused_at (Some place) index = place == index
+
+-- what stands behind each command that went well, where the list asks for it
+abbrev pub separator : Bool → List ℕ
+separator false = []
+separator true = list_ok
+
+-- what follows a command that did this: the rest of the request if it went well
+abbrev pub follow : List ℕ → ℕ → ℕ → MachineState → (ℕ → MachineState → Ran) → Did → Ran
+follow separator index size m rest (Goes x) =
+    preceded (x.text ++ separator) (changed m x.after) x.ops (rest (size + length (ops_bytes x.ops)) x.after)
+follow separator index size m rest (Refuses refusal) = ends m (ack index refusal) Answered
+follow separator index size m rest (Ends ending) = ends m [] ending
+
+-- The commands from this index on, where the ops so far have this size, and memory is refused at one command or at none.
+-- Each command that goes well adds its lines and the separator; the first that doesn't ends the request, and what ran before it stays.
+unfoldable pub ran : Place → List ℕ → Option ℕ → ℕ → ℕ → List (List ℕ) → MachineState → Ran
+ran place separator refused index size [] m = ends m ok Answered
+ran place separator refused index size (line ∷ lines) m =
+    if is_refused_at refused index then wants_memory m index line
+    else follow separator index size m (λ size after. ran place separator refused (suc index) size lines after)
+    (attempted place size line m)

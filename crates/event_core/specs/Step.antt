@@ -1,0 +1,108 @@
+-- What an event does.
+use Rattle.std.specs.Prelude.{ℕ, List, [], ◌∷◌, ◌++◌, map, Bool, true, false, Option, Some, None}
+use Rattle.std.specs.List.{flat_map}
+use Rattle.command_text.specs.Answer.{ok, list_ok, greeting}
+use Rattle.command_text.specs.AnswerNames.{changed_line}
+use Rattle.command_text.specs.declared.place.Place.TheVariants.{Alone, InList}
+use Rattle.command_text.specs.declared.request.Request.{Request}
+use Rattle.command_text.specs.declared.request.Request.TheVariants.{Single, List as CommandList, OkList, Noidle}
+use Rattle.idle_masks.specs.Subsystems.{listed}
+use Rattle.idle_masks.specs.Watched.{watched, joined, marked, reports_of, after_reports}
+use Rattle.idle_masks.specs.declared.ready.Report.{Report}
+use Rattle.idle_masks.specs.declared.subsystem.Subsystem.{Subsystem}
+use Rattle.idle_masks.specs.declared.subsystem.Subsystems.{Subsystems}
+use Rattle.idle_masks.specs.declared.watch.Watched.{Watched}
+use Rattle.state_codec.specs.declared.op.Op.{Op}
+use Rattle.event_core.specs.Pending.{Moment}
+use Rattle.event_core.specs.Run.{ran}
+use Rattle.event_core.specs.Session.{Acted, nothing, output, without, waiting, runs}
+use Rattle.event_core.specs.State.{State, with_clients}
+use Rattle.event_core.specs.declared.event.Event.{Event}
+use Rattle.event_core.specs.declared.event.Event.TheVariants as events
+use Rattle.event_core.specs.declared.outcome.Output.{Output}
+
+-- a client that was not connected is, with nothing pending, and is greeted
+abbrev pub connects_client : ℕ → State → Option Watched → Acted
+connects_client c s (Some w) = nothing s
+connects_client c s None =
+    record (nothing (with_clients s (joined s.clients c))) { answer = output c greeting ∷ []; connected = Some c }
+
+-- A client that does not wait: `noidle` is nothing to it, a line is a request of one command, a list one of several.
+abbrev pub asked : ℕ → Option ℕ → State → Request → Acted
+asked c refused s (Single line) = runs c s (ran Alone [] refused 0 0 (line ∷ []) s.machine)
+asked c refused s (CommandList lines) = runs c s (ran InList [] refused 0 0 lines s.machine)
+asked c refused s (OkList lines) = runs c s (ran InList list_ok refused 0 0 lines s.machine)
+asked c refused s Noidle = nothing s
+
+-- A client that waits: `noidle` ends its waiting, and anything else closes it without a byte.
+abbrev pub waits_no_more : Bool → ℕ → State → Acted
+waits_no_more true c s = record (nothing (waiting c None s)) { answer = output c ok ∷ [] }
+waits_no_more false c s = record (nothing (without c s)) { closes = c ∷ [] }
+
+abbrev pub is_noidle : Request → Bool
+is_noidle (Single line) = false
+is_noidle (CommandList lines) = false
+is_noidle (OkList lines) = false
+is_noidle Noidle = true
+
+abbrev pub asked_waiting : ℕ → State → Request → Acted
+asked_waiting c s request = waits_no_more (is_noidle request) c s
+
+abbrev pub requested_by : ℕ → Option ℕ → State → Request → Option (Option Subsystems) → Acted
+requested_by c refused s request None = nothing s
+requested_by c refused s request (Some None) = asked c refused s request
+requested_by c refused s request (Some (Some mask)) = asked_waiting c s request
+
+abbrev pub waiting_of : Option Watched → Option (Option Subsystems)
+waiting_of None = None
+waiting_of (Some w) = Some w.waiting
+
+-- What an event does, where memory is refused at one of its commands or at none. The events of the player and of scans do nothing yet.
+abbrev pub acted : State → Event → Option ℕ → Acted
+acted s (events.Connect c) refused = connects_client c s (watched s.clients c)
+acted s (events.Request c request) refused = requested_by c refused s request (waiting_of (watched s.clients c))
+acted s (events.Gone c) refused = nothing (without c s)
+acted s (events.Fed ticket frames) refused = nothing s
+acted s (events.Ended ticket) refused = nothing s
+acted s (events.Broken ticket cause) refused = nothing s
+acted s (events.Batch job changes) refused = nothing s
+acted s (events.ScanDone job) refused = nothing s
+
+abbrev pub line_if : Bool → Subsystem → List ℕ
+line_if true x = changed_line x
+line_if false x = []
+
+-- the lines that tell a waiting client what has changed
+abbrev pub told : Subsystems → List ℕ
+told set = flat_map changed_line (listed set) ++ ok
+
+abbrev pub told_to : Report → Output
+told_to report = output report.client (told report.changed)
+
+-- what an event did, all told
+pub record Stepped : Type 0 where
+  pub after : State
+  pub outputs : List Output
+  pub closes : List ℕ
+  pub ops : List Op
+  pub refused_at : Option ℕ
+  pub ended : Bool
+  pub moment : Moment
+
+-- Each client's pending set grows by what changed; then each client that waits for a pending subsystem is told, and what
+-- it was told is pending no more.
+abbrev pub settles : Acted → Stepped
+settles a =
+    let clients = marked a.after.clients a.changed in
+    record {
+      after = with_clients a.after (after_reports clients);
+      outputs = a.answer ++ map told_to (reports_of clients);
+      closes = a.closes;
+      ops = a.ops;
+      refused_at = a.refused_at;
+      ended = a.ended;
+      moment = record { connected = a.connected; changed = a.changed; reports = reports_of clients };
+    }
+
+unfoldable pub step : State → Event → Option ℕ → Stepped
+step s event refused = settles (acted s event refused)

@@ -1,0 +1,76 @@
+//! One event: its own work, and then what clients that wait are told.
+ghost use Rattle.std.specs.Prelude.{◌≡◌, ◌≤◌, Some, length, IfOk, OnErr};
+ghost use Rattle.machine_core.specs.Size.{max_request_bytes};
+ghost use Rattle.state_codec.specs.Applied.{all_applied};
+ghost use Rattle.state_codec.specs.Spelling.{ops_bytes};
+ghost use Rattle.event_core.specs.Outcome.{IsOutcome};
+
+use crate::daemon::Core;
+use crate::event::Event;
+use crate::handled::Handled;
+use crate::outcome::Outcome;
+use crate::parts::CoreParts;
+use machine_core::laws;
+use no_memory::NoMemory;
+use std::alloc::Global;
+
+impl CoreParts {
+    ghost use Rattle.std.specs.Prelude.{◌<◌, IfSome};
+    ghost use Rattle.event_core.specs.Handled.{Does};
+    ghost use Rattle.event_core.specs.Outcome.{command_count};
+    ghost use Rattle.event_core.specs.Parts.{state_of};
+    ghost use Rattle.event_core.specs.Room.{IsReadyToTell};
+    ghost use Rattle.event_core.specs.Step.{acted};
+
+    // What an event does before clients that wait are told.
+    fn handle(&mut self, alloc: Global, event: Event) -> Result<Handled, NoMemory>
+        requires { IsReadyToTell self.old }
+        ensures ok { IfOk result (λ handled. Does (acted (state_of self.old) event handled.refused_at) self.new handled) }
+        ensures place { IfOk result (λ handled. IfSome handled.refused_at (λ k. k < command_count event)) }
+        ensures err { OnErr result (state_of self.new ≡ state_of self.old) }
+    {
+        match event {
+            Event::Connect(client) => self.connect(alloc, client),
+            Event::Request(client, request) => self.handle_request(alloc, client, request),
+            Event::Gone(client) => Ok(self.forget(alloc, client)),
+            Event::Fed { .. }
+            | Event::Ended { .. }
+            | Event::Broken { .. }
+            | Event::Batch { .. }
+            | Event::ScanDone { .. } => Ok(Handled::nothing(alloc)),
+        }
+    }
+}
+
+impl Core {
+    /// Handles one event whole. Where memory is refused at a command, the commands before it stand and the answer says so;
+    /// an `Err` comes only where there is no memory for such an answer, and then nothing was done.
+    pub fn step(&mut self, alloc: Global, event: Event) -> Result<Outcome, NoMemory>
+        ensures ok { IfOk result (λ outcome. IsOutcome self.old event outcome self.new) }
+
+        // The ops, applied to what was saved, give what is to be saved, and fit into one record.
+        ensures rebuilt { IfOk result (λ outcome. all_applied outcome.ops.items self.old.machine.saved ≡ Some self.new.machine.saved) }
+        ensures fits { IfOk result (λ outcome. length (ops_bytes outcome.ops.items) ≤ max_request_bytes) }
+
+        ensures err { OnErr result (self.new ≡ self.old) }
+    {
+        laws::ops_rebuild_the_state();
+        self.parts.take_room(alloc)?;
+        let Handled {
+            outputs,
+            closes,
+            ops,
+            refused_at,
+            ended,
+            changed,
+        } = self.parts.handle(alloc, event)?;
+        let outputs = self.parts.tell_waiting(alloc, changed, outputs);
+        Ok(Outcome {
+            outputs,
+            closes,
+            ops,
+            refused_at,
+            ended,
+        })
+    }
+}

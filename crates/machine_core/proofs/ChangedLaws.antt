@@ -1,0 +1,64 @@
+-- What is told by comparing values of before is what changed.
+use Rattle.std.proofs.Common.{◌≡◌, ℕ, Bool, true, false, not, ◌&&◌, ◌==◌, List, length, drop, refl, sym, ap, ◌∙◌, subst}
+use Rattle.std.proofs.Math.Seq.{drop-append_seam}
+use Rattle.std.proofs.lemmas.Bool.{eqb-true}
+use Rattle.std.specs.Option.{option_eq}
+use Rattle.std.specs.Str.{bytes_eq}
+use Rattle.command_text.specs.declared.command.Command.{Command}
+use Rattle.state_codec.specs.OpsSettings.{same_flag}
+use Rattle.state_codec.specs.SavedState.{IsSavedState}
+use Rattle.state_codec.specs.declared.op.Op.{Op}
+use Rattle.machine_core.specs.Before.{before_of, changed_since}
+use Rattle.machine_core.specs.Changed.{same_job, same_playing, same_options, changed}
+use Rattle.machine_core.specs.Command.{meaning}
+use Rattle.machine_core.specs.Meaning.{Meaning}
+use Rattle.machine_core.specs.State.{MachineState}
+use Rattle.machine_core.specs.Work.{Went}
+use Rattle.machine_core.specs.declared.changed.Before.{Before}
+use Rattle.machine_core.specs.declared.job.Job.{Job}
+use Rattle.machine_core.specs.declared.work.Work.{Work}
+use Rattle.machine_core.proofs.CommandLaws.{command_lawful}
+use Rattle.machine_core.proofs.FormLaws.{TellsChanges, IsLawful, Lawful}
+use Rattle.machine_core.proofs.SameParts.{text_itself}
+
+-- a job of the same number has the same place
+job_told : (a b : Job) (same : Bool) → (a.number == b.number) ≡ same → (b.number ≡ a.number → b.place ≡ a.place) →
+    (same && same_flag a.runs b.runs) ≡ (same && (option_eq bytes_eq a.place b.place && same_flag a.runs b.runs))
+job_told a b true is place =
+    let equal : a.place ≡ b.place = sym (place (sym (eqb-true a.number b.number is))) in
+    ap (λ t. t && same_flag a.runs b.runs) (sym (ap (λ p. option_eq bytes_eq a.place p) (sym equal) ∙ text_itself a.place))
+job_told a b false is place = refl
+
+-- so all eight are told
+pub since_is_changed : (m : MachineState) (x : Meaning) (made : ℕ) → IsLawful m x → IsSavedState m.saved →
+    changed_since (before_of m made) x.ops x.after ≡ changed m x.after
+unfolding changed
+since_is_changed m x made lawful kept =
+    let tells : TellsChanges m x = lawful.tells kept in
+    let job : (m.job.number == x.after.job.number && same_flag m.job.runs x.after.job.runs) ≡ same_job m.job x.after.job =
+    job_told m.job x.after.job _ refl lawful.place in
+    λ i. record {
+      database = false;
+      update = not (job i);
+      stored_playlist = tells.lists i;
+      playlist = not (m.saved.queue.version == x.after.saved.queue.version);
+      player = not (same_playing m.player x.after.player);
+      mixer = not (m.saved.volume == x.after.saved.volume);
+      options = not (same_options m.saved.options x.after.saved.options);
+      sticker = tells.stickers i;
+    }
+
+-- so they are of a command, told by the ops that the work has gained
+pub since_command : (command : Command) (m n : MachineState) (work done : Work) (before : Before) →
+    Went (meaning command m) n work done → IsSavedState m.saved → before ≡ before_of m (length work.ops.items) →
+    changed_since before (drop before.ops done.ops.items) n ≡ changed m n
+since_command command m n work done before went kept is =
+    let x : Meaning = went.meaning in
+    let made : ℕ = length work.ops.items in
+    let lawful : IsLawful m x = subst (Lawful m) went.means (command_lawful command m) in
+    let gained : drop made done.ops.items ≡ x.ops = ap (drop made) went.ops.ops ∙ drop-append_seam work.ops.items x.ops in
+    ap (λ (b : Before). changed_since b (drop b.ops done.ops.items) n) is
+    ∙ ap (λ (ops : List Op). changed_since (before_of m made) ops n) gained
+    ∙ ap (changed_since (before_of m made) x.ops) went.stands
+    ∙ since_is_changed m x made lawful kept
+    ∙ ap (changed m) (sym went.stands)

@@ -1,0 +1,89 @@
+-- From the parts of an edit to what it means.
+use Rattle.std.proofs.Common.{◌≡◌, ℕ, ◌≤◌, Bool, true, false, not, [], Some, None}
+use Rattle.std.proofs.Common.{refl, sym, ◌∙◌, ap, subst, arith}
+use Rattle.std.proofs.lemmas.List.{append-nil}
+use Rattle.std.specs.Prelude.{Option, Result, Ok, Err, OnOk, IfErr, if◌then◌else◌}
+use Rattle.std.specs.Result.{IsErrAnd, is_err}
+use Rattle.state_codec.specs.Applied.{refusal_of, changes_nothing, after, applied, unless_refused as unless_fit}
+use Rattle.state_codec.specs.Editing.{AnswersCheck}
+use Rattle.state_codec.specs.SavedState.{SavedState}
+use Rattle.state_codec.specs.declared.op.Op.{Op}
+use Rattle.state_codec.specs.declared.refusal.OpRefusal.{OpRefusal}
+use Rattle.machine_core.specs.Followed.{followed}
+use Rattle.machine_core.specs.Meaning.{Meant, edits, edited, made, stands, says, unless_refused}
+use Rattle.machine_core.specs.Size.{max_request_bytes, within}
+use Rattle.machine_core.specs.State.{MachineState}
+use Rattle.machine_core.specs.Told.{op_told, told}
+use Rattle.machine_core.specs.Work.{HasRoom, IsRefusalOf, Went, Performs, command_room}
+use Rattle.machine_core.specs.declared.work.Failure.{Failure}
+use Rattle.machine_core.specs.declared.work.Failure.TheVariants.{Refused}
+use Rattle.machine_core.specs.declared.work.Work.{Work}
+
+-- what a check that was refused says
+refused_by : (refusal : Option OpRefusal) (e : OpRefusal) → AnswersCheck {T = Unit {0}} refusal (Err e) → refusal ≡ Some e
+refused_by None e answer = absurd (cc)
+refused_by (Some refusal) e answer = cc
+
+-- and one that wasn't
+pub allowed_by : (refusal : Option OpRefusal) (x : Unit {0}) → AnswersCheck refusal (Ok x) → refusal ≡ None
+allowed_by None x answer = refl
+allowed_by (Some refusal) x answer = absurd (cc)
+
+-- an op that is refused refuses the command
+pub refused_edits : (op : Op) (m : MachineState) (e : OpRefusal) (r : Result Bool Failure) →
+    AnswersCheck {T = Unit {0}} (refusal_of op m.saved) (Err e) → IsErrAnd r (λ failure. failure ≡ Refused (op_told e)) →
+    (size : ℕ) → IfErr r (IsRefusalOf (edits op [] m) size)
+unfolding edits
+refused_edits op m e (Ok x) answer told_so size = tt
+refused_edits op m e (Err failure) answer told_so size =
+    subst (IsRefusalOf (edits op [] m) size) (sym told_so)
+    (ap (λ o. within size (unless_refused (told o) (made op [] m))) (refused_by (refusal_of op m.saved) e answer))
+
+-- a command that was refused has done nothing
+pub refused_failed : (meant : Meant) (m : MachineState) (work : Work) (failure : Failure) (r : Result (Unit {0}) Failure) →
+    ((size : ℕ) → IsRefusalOf meant size failure) → IsErrAnd r (λ e. e ≡ failure) → Performs meant m m work work r
+refused_failed meant m work failure (Ok x) refused is = absurd is
+refused_failed meant m work failure (Err e) refused is = record {
+  state = refl;
+  nothing = record { text = refl; room = omega arith; ops = refl; size = refl };
+  refusal = subst (IsRefusalOf meant work.size) (sym is) (refused work.size);
+}
+
+-- what holds of a call that was not refused
+pub was_ok : {E : Type 0} → (r : Result (Unit {0}) E) (P : Type 0) → is_err r ≡ false → OnOk r P → P
+was_ok (Ok x) P is h = h
+was_ok (Err e) P is h = absurd (cc)
+
+-- what an op that isn't refused means, where it changes something or not
+abbrev pub meant_if : Op → MachineState → Bool → Meant
+meant_if op m changes = Ok (if changes then edited op [] (followed op m) m else stands [] m)
+
+-- an op that isn't refused is made, unless it changes nothing
+pub looked_at : (op : Op) (m : MachineState) (nothing : Bool) → refusal_of op m.saved ≡ None → nothing ≡ changes_nothing op m.saved →
+    edits op [] m ≡ meant_if op m (not nothing)
+unfolding edits
+looked_at op m nothing fits is =
+    ap (λ o. unless_refused (told o) (made op [] m)) fits
+    ∙ ap (λ b. Ok (if b then stands [] m else edited op [] (followed op m) m)) (sym is)
+    ∙ turned nothing
+  where
+    turned : (b : Bool) → Ok (if b then stands [] m else edited op [] (followed op m) m) ≡ meant_if op m (not b)
+    turned true = refl
+    turned false = refl
+
+-- nothing was done, and nothing was to be done
+pub stood : (meant : Meant) (m : MachineState) (work : Work) → meant ≡ says [] m → HasRoom command_room work →
+    work.size ≤ max_request_bytes → Went meant m work work
+stood meant m work means room fits = record {
+  meaning = stands [] m;
+  means = means;
+  stands = refl;
+  text = sym (append-nil work.text.items);
+  ops = record { ops = sym (append-nil work.ops.items); size = omega arith; fits = fits };
+  room = room;
+}
+
+-- an op that isn't refused was applied
+pub applied_is : (op : Op) (s t : SavedState) → refusal_of op s ≡ None → applied op s ≡ Some t → after op s ≡ t
+applied_is op s t fits done =
+    let made : Some (after op s) ≡ Some t = ap (λ o. unless_fit o (after op s)) (sym fits) ∙ done in cc

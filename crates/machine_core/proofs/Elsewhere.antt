@@ -1,0 +1,49 @@
+-- Where a text lies in memory is nothing to what is found by it.
+use Rattle.std.proofs.Common.{◌≡◌, ℕ, Bool, true, false, ◌&&◌, ◌||◌, List, []}
+use Rattle.std.proofs.Common.{Option, Some, None, map, refl, ap, codes, Bor}
+use Rattle.std.proofs.lemmas.List.Elements.{filter_agree}
+use Rattle.std.specs.Str.{bytes_eq}
+use Rattle.song_db.specs.Place.{is_under, place_of}
+use Rattle.song_db.specs.Row.{Row}
+use Rattle.song_db.specs.declared.place.Place.{Place}
+use Rattle.stickers.specs.Find.{is_found, uri_and_value, passes, passing, found_in}
+use Rattle.stickers.specs.Sticker.{Sticker}
+use Rattle.stickers.specs.declared.find.ValueTest.{ValueTest}
+use Rattle.machine_core.specs.Database.{folder_info}
+use Rattle.machine_core.specs.Lent.{lent}
+use Rattle.machine_core.specs.State.{MachineState}
+use Rattle.machine_core.specs.Stickers.{found_below}
+
+pub same_folder_info : (path : Bor (List ℕ)) (songs : List Row)
+    → folder_info songs (place_of (lent path.now)) ≡ folder_info songs (place_of path)
+same_folder_info path songs = by_cases (bytes_eq path.now [] || bytes_eq path.now (codes "/")) refl where
+  by_cases : (b : Bool) → (bytes_eq path.now [] || bytes_eq path.now (codes "/")) ≡ b
+      → folder_info songs (place_of (lent path.now)) ≡ folder_info songs (place_of path)
+  by_cases true is = rw is
+  by_cases false is = rw is
+
+pub same_below : (path : Bor (List ℕ)) (name : List ℕ) (test : ValueTest) (m : MachineState)
+    → found_below (place_of (lent path.now)) name test m ≡ found_below (place_of path) name test m
+same_below path name test m = by_cases (bytes_eq path.now [] || bytes_eq path.now (codes "/")) refl where
+  by_cases : (b : Bool) → (bytes_eq path.now [] || bytes_eq path.now (codes "/")) ≡ b
+      → found_below (place_of (lent path.now)) name test m ≡ found_below (place_of path) name test m
+  by_cases true is = rw is
+  by_cases false is = rw is
+
+-- tests that agree find the same
+abbrev pub Agree : ValueTest → ValueTest → Type 0
+Agree test other = (value : List ℕ) → passes test value ≡ passes other value
+
+pub same_passing : (test other : ValueTest) (value : Option (List ℕ)) → Agree test other → passing test value ≡ passing other value
+same_passing test other None h = refl
+same_passing test other (Some value) h = rw (h value)
+
+pub same_found : (all : List Sticker) (place : Place) (name : List ℕ) (test other : ValueTest) → Agree test other
+    → found_in all place name test ≡ found_in all place name other
+same_found all place name test other h =
+    ap (map uri_and_value) (filter_agree (is_found place name test) (is_found place name other)
+    (λ s. ap (λ b. is_under place s.uri && (bytes_eq name s.name && b)) (h s.value)) all)
+
+pub same_found_below : (place : Place) (name : List ℕ) (test other : ValueTest) (m : MachineState) → Agree test other
+    → found_below place name test m ≡ found_below place name other m
+same_found_below place name test other m h = rw (same_found m.saved.stickers place name test other h)

@@ -1,0 +1,16 @@
+pub mod SameParts
+pub mod OrderSteps
+pub mod FormLaws
+pub mod CommandLaws
+pub mod ChangedLaws
+pub mod Edits
+pub mod EditCommands
+pub mod Answering
+pub mod Lines
+pub mod BadNames
+pub mod Elsewhere
+pub mod RowsFound
+pub mod StickerMeanings
+pub mod StatusShown
+pub mod FindingMeanings
+pub mod PlayingMeanings

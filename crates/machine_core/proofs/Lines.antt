@@ -1,0 +1,48 @@
+-- Writers called for each item of a list.
+use Rattle.std.proofs.Math.ListN.{drop_of_length-le}
+use Rattle.std.proofs.Math.Seq.{drop-cons}
+use Rattle.std.proofs.Common.{map, suc, ◌≤◌, add-one, ◌≡◌, ℕ, ◌+◌, ◌<◌, List, [], ◌∷◌}
+use Rattle.std.proofs.Common.{length, drop, get_or, Result, Ok, Err, IsErr, ap, sym, refl, arith}
+use Rattle.std.specs.List.{flat_map}
+use Rattle.std.specs.Global.{Vec}
+use Rattle.command_text.specs.Answer.{Adds}
+use Rattle.command_text.proofs.Adding.{adds_none, adds_stop, adds_then}
+use Rattle.no_memory.specs.declared.NoMemory.{NoMemory}
+
+-- What a loop over items has left to do: whatever writes the lines of the items that are left makes the lines of all of them.
+abbrev pub Leaves : {X : Type 0} → (X → List ℕ) → List X → List X → Vec ℕ → Vec ℕ → Type 0
+Leaves lines all left before now =
+    (result : Result (Unit {0}) NoMemory) (after : Vec ℕ) → Adds (flat_map lines left) result now after
+    → Adds (flat_map lines all) result before after
+
+pub leaves_all : {X : Type 0} (lines : X → List ℕ) (all : List X) (out : Vec ℕ) → Leaves lines all all out out
+leaves_all lines all out result after h = h
+
+pub leaves_fewer : {X : Type 0} (lines : X → List ℕ) (all : List X) (x : X) (left : List X) (before now after : Vec ℕ) (u : Unit {0})
+    → Leaves lines all (x ∷ left) before now → Adds {A = Unit {0}} {E = NoMemory} (lines x) (Ok u) now after
+    → Leaves lines all left before after
+leaves_fewer lines all x left before now after u h a result last k =
+    h result last (adds_then (lines x) (flat_map lines left) u result now after last a k)
+
+pub leaves_none : {X : Type 0} (lines : X → List ℕ) (all : List X) (before now : Vec ℕ) (u : Unit {0})
+    → Leaves lines all [] before now → Adds {A = Unit {0}} {E = NoMemory} (flat_map lines all) (Ok u) before now
+leaves_none lines all before now u h = h (Ok u) now (adds_none u now)
+
+-- a writer that was refused ends the loop
+pub leaves_off : {X B : Type 0} (lines : X → List ℕ) (all : List X) (x : X) (left : List X) (before now after : Vec ℕ) (e : NoMemory)
+    (result : Result (Unit {0}) NoMemory) → Leaves lines all (x ∷ left) before now → Adds {A = B} {E = NoMemory} (lines x) (Err e) now after
+    → IsErr result → Adds (flat_map lines all) result before after
+leaves_off lines all x left before now after e result h a failed =
+    h result after (adds_stop (lines x) (flat_map lines left) e result now after a failed)
+
+-- the items that are left behind the one at an index
+pub next_left : {X Y : Type 0} (view : X → Y) (xs : List X) (i : ℕ) (x : X) → i < length xs → x ≡ get_or xs i x
+    → map view (drop i xs) ≡ view x ∷ map view (drop (i + 1) xs)
+next_left view xs i x h is = rw (add-one, drop-cons xs i x) (ap (λ y. view y ∷ map view (drop (suc i) xs)) (sym is))
+
+pub none_left : {X Y : Type 0} (view : X → Y) (xs : List X) (i : ℕ) → length xs ≤ i → map view (drop i xs) ≡ []
+none_left view xs i h = ap (map view) (drop_of_length-le xs h)
+
+pub no_items : {X : Type 0} (xs : List X) → length xs ≡ 0 → xs ≡ []
+no_items [] h = refl
+no_items (x ∷ xs) h = absurd (omega arith)

@@ -1,0 +1,34 @@
+-- The daemon without its clients: of it alone commands speak.
+use Rattle.std.specs.Prelude.{[], false, None}
+use Rattle.player_core.specs.declared.playing.PlayState.TheVariants.{Stop}
+use Rattle.player_core.specs.declared.settings.PlaySettings.{PlaySettings}
+use Rattle.player_core.specs.declared.shown.Shown.{Shown}
+use Rattle.player_core.specs.Player.{PlayerState}
+use Rattle.player_core.specs.Shown.{shown}
+use Rattle.state_codec.specs.SavedState.{SavedState}
+use Rattle.machine_core.specs.declared.job.Job.{Job}
+
+-- the saved half; the player and the job of the database, which begin anew with each start
+pub record MachineState : Type 0 where
+  pub saved : SavedState
+  pub player : PlayerState
+  pub job : Job
+
+abbrev pub idle_player : PlayerState
+idle_player = record { state = Stop; current = None; ticket = 0; frame = 0; played = []; error = None }
+
+-- no job has begun yet
+abbrev pub no_job : Job
+no_job = record { number = 0; place = None; runs = false; has_changed_a_row = false }
+
+-- a machine that has just begun with what was kept
+abbrev pub started : SavedState → MachineState
+started saved = record { saved = saved; player = idle_player; job = no_job }
+
+-- what of the saved half the player goes by
+abbrev pub settings_of : SavedState → PlaySettings
+settings_of s = record { options = s.options; key = s.key; order = s.order }
+
+-- the current song and the next one
+abbrev pub shown_of : MachineState → Shown
+shown_of m = shown m.saved.queue.entries (settings_of m.saved) m.player

@@ -1,0 +1,90 @@
+-- What the code of one command does to the work on its request.
+use Rattle.std.specs.Prelude.{◌≡◌, ℕ, ◌+◌, ◌≤◌, ◌<◌, List, ◌++◌, length, take, vec_len, vec_capacity}
+use Rattle.std.specs.Prelude.{Result, Ok, Err, OnOk, OnErr, IsOk, IsOkUnless}
+use Rattle.state_codec.specs.Spelling.{ops_bytes}
+use Rattle.state_codec.specs.declared.op.Op.{Op}
+use Rattle.command_text.specs.declared.refusal.CommandRefusal.TheVariants.{RequestTooLarge}
+use Rattle.no_memory.specs.declared.NoMemory.{NoMemory as WantOfMemory}
+use Rattle.machine_core.specs.Meaning.{Meaning, Meant}
+use Rattle.machine_core.specs.Size.{max_request_bytes, within}
+use Rattle.machine_core.specs.State.{MachineState}
+use Rattle.machine_core.specs.declared.work.Failure.{Failure}
+use Rattle.machine_core.specs.declared.work.Failure.TheVariants.{Refused, NoMemory}
+use Rattle.machine_core.specs.declared.work.Work.{Work}
+
+-- the longest `ACK` line of want of memory, and the same with `list_OK` before it, each with its newline
+abbrev pub ack_room : ℕ
+ack_room = 64
+
+abbrev pub command_room : ℕ
+command_room = 72
+
+-- so many bytes can be added to the answer without memory
+abbrev pub HasRoom : ℕ → Work → Type 0
+HasRoom bytes work = vec_len work.text + bytes ≤ vec_capacity work.text
+
+-- so many ops of so many bytes together can be added without memory, and within the limit
+pub record Admits (count bytes : ℕ) (work : Work) : Type 0 where
+  pub room : vec_len work.ops + count ≤ vec_capacity work.ops
+  pub fits : work.size + bytes ≤ max_request_bytes
+
+-- the ops were added at the end
+pub record AddsOps (more : List Op) (before after : Work) : Type 0 where
+  pub ops : after.ops.items ≡ before.ops.items ++ more
+  pub size : after.size ≡ before.size + length (ops_bytes more)
+  pub fits : after.size ≤ max_request_bytes
+
+-- nothing was added; memory that was taken may stay
+pub record AddsNothing (before after : Work) : Type 0 where
+  pub text : after.text.items ≡ before.text.items
+  pub room : vec_capacity before.text ≤ vec_capacity after.text
+  pub ops : after.ops.items ≡ before.ops.items
+  pub size : after.size ≡ before.size
+
+-- these bytes were added to the answer, and nothing else was done
+pub record AddsText (more : List ℕ) (before after : Work) : Type 0 where
+  pub text : after.text.items ≡ before.text.items ++ more
+  pub ops : after.ops.items ≡ before.ops.items
+  pub size : after.size ≡ before.size
+
+-- the command did what it means: its lines and ops were added, and there is room for what ends a command
+pub record Went (meant : Meant) (after : MachineState) (work done : Work) : Type 0 where
+  pub meaning : Meaning
+  pub means : meant ≡ Ok meaning
+  pub stands : after ≡ meaning.after
+  pub text : done.text.items ≡ work.text.items ++ meaning.text
+  pub ops : AddsOps meaning.ops work done
+  pub room : HasRoom command_room done
+
+-- it was refused as it must be, by what it means or by the limit on a request; or it found no memory
+abbrev pub IsRefusalOf : Meant → ℕ → Failure → Type 0
+IsRefusalOf meant size (Refused refusal) = within size meant ≡ Err refusal
+IsRefusalOf meant size NoMemory = Unit {0}
+
+-- it failed, and nothing was changed
+pub record Failed (meant : Meant) (before after : MachineState) (work done : Work) (failure : Failure) : Type 0 where
+  pub state : after ≡ before
+  pub nothing : AddsNothing work done
+  pub refusal : IsRefusalOf meant work.size failure
+
+-- A method performs what this means: it takes the machine and the work from before it to after it.
+abbrev pub Performs : {T : Type 0} → Meant → MachineState → MachineState → Work → Work → Result T Failure → Type 0
+Performs meant before after work done (Ok x) = Went meant after work done
+Performs meant before after work done (Err failure) = Failed meant before after work done failure
+
+-- so many bytes are past the limit on a request, or memory was refused
+abbrev pub IsTooMuch : ℕ → Failure → Type 0
+IsTooMuch bytes (Refused refusal) = (refusal ≡ RequestTooLarge) × (max_request_bytes < bytes)
+IsTooMuch bytes NoMemory = Unit {0}
+
+-- Behind a mark of the answer something was written: it stays, with room for what ends a command; or it was cut off, since no
+-- memory was found for it or for that room.
+pub record Keeps
+    (mark : ℕ) (written : Result (Unit {0}) WantOfMemory) (before after : Work) (result : Result (Unit {0}) Failure)
+    : Type 0 where
+  pub kept : OnOk result (IsOk written × ((after.text.items ≡ before.text.items) × HasRoom command_room after))
+  pub cut : OnErr result (after.text.items ≡ take mark before.text.items)
+  pub memory : IsOkUnless result NoMemory
+  pub room : vec_capacity before.text ≤ vec_capacity after.text
+  pub ops : after.ops.items ≡ before.ops.items
+  pub size : after.size ≡ before.size

@@ -1,0 +1,62 @@
+// One method a command: it performs what the command means. Those of a topic stand in a file of its name.
+ghost use Rattle.std.specs.Prelude.{◌≡◌, IfOk};
+ghost use Rattle.machine_core.specs.Changed.{changed};
+ghost use Rattle.machine_core.specs.Command.{meaning};
+ghost use Rattle.machine_core.specs.Work.{HasRoom, Performs, command_room};
+
+use crate::machine::Machine;
+use crate::work::{Failure, Work};
+use command_text::Command;
+use idle_masks::Subsystems;
+use std::alloc::Global;
+
+mod database;
+mod finding;
+mod lists;
+mod playing;
+mod queue;
+mod settings;
+mod status;
+mod sticker;
+
+impl Machine {
+    /// Performs a command, for whose end the answer has room, and says which subsystems it changed. Refused, or without memory, it
+    /// leaves machine and answer as they were.
+    pub fn perform(
+        &mut self,
+        alloc: Global,
+        command: Command<'_>,
+        work: &mut Work,
+    ) -> Result<Subsystems, Failure>
+        requires room { HasRoom command_room work.old }
+        ensures performs { Performs (meaning command.entry self.old) self.old self.new work.old work.new result }
+        ensures changed { IfOk result (λ set. set ≡ changed self.old self.new) }
+    {
+        let before = self.before(work);
+        self.dispatch(alloc, command, work)?;
+        Ok(self.changed_since(&before, work))
+    }
+
+    // The command of each topic.
+    #[tactic(auto, unfolding(crate::specs::Command::meaning))]
+    fn dispatch(
+        &mut self,
+        alloc: Global,
+        command: Command<'_>,
+        work: &mut Work,
+    ) -> Result<(), Failure>
+        requires { HasRoom command_room work.old }
+        ensures { Performs (meaning command.entry self.old) self.old self.new work.old work.new result }
+    {
+        match command {
+            Command::Settings(command) => self.perform_settings(alloc, command, work),
+            Command::Database(command) => self.perform_database(alloc, command, work),
+            Command::Queue(command) => self.perform_queue(alloc, command, work),
+            Command::Finding(command) => self.perform_finding(alloc, command, work),
+            Command::Lists(command) => self.perform_lists(alloc, command, work),
+            Command::Stickers(command) => self.perform_stickers(alloc, command, work),
+            Command::Playing(command) => self.perform_playing(command, work),
+            Command::Session(_) => Ok(()),
+        }
+    }
+}

@@ -1,0 +1,94 @@
+// The commands of the player.
+ghost use Rattle.std.specs.Prelude.{◌≡◌, None};
+ghost use Rattle.command_text.specs.Answer.{Adds};
+ghost use Rattle.command_text.specs.declared.command.playing.PlayingCommand.TheVariants.{CurrentSong};
+ghost use Rattle.player_core.specs.Commands.{halted, paused};
+ghost use Rattle.machine_core.specs.Entries.{position_info, shown_info};
+ghost use Rattle.machine_core.specs.Playing.{playing_meaning};
+ghost use Rattle.machine_core.specs.State.{shown_of};
+ghost use Rattle.machine_core.specs.Work.{HasRoom, Performs, command_room};
+
+use crate::machine::Machine;
+use crate::work::{Failure, Work};
+use command_text::{NoMemory, PlayingCommand, write_entry};
+use player_core::Shown;
+
+impl Machine {
+    #[tactic(auto, unfolding(crate::specs::Playing::playing_meaning))]
+    pub(super) fn perform_playing(
+        &mut self,
+        command: PlayingCommand,
+        work: &mut Work,
+    ) -> Result<(), Failure>
+        requires { HasRoom command_room work.old }
+        ensures { Performs (playing_meaning command self.old) self.old self.new work.old work.new result }
+    {
+        match command {
+            PlayingCommand::ClearError => self.clear_error(),
+            PlayingCommand::CurrentSong => return self.write_current_song(work),
+            PlayingCommand::Pause(switch) => self.pause(switch),
+            PlayingCommand::Stop => self.stop(),
+            PlayingCommand::Next
+            | PlayingCommand::Play(_)
+            | PlayingCommand::Previous
+            | PlayingCommand::Seek(_, _)
+            | PlayingCommand::SeekCurrent(_) => {}
+        }
+        Ok(())
+    }
+
+    // In each of these the current song and what was played stay, so what is kept of the next song stays right.
+
+    fn clear_error(&mut self)
+        ensures { self.new ≡ record self.old { player = record self.old.player { error = None } } }
+    {
+        self.player.clear_error();
+    }
+
+    fn pause(&mut self, switch: Option<bool>)
+        ensures { self.new ≡ record self.old { player = record self.old.player { state = paused switch self.old.player.state } } }
+    {
+        self.player.pause(switch);
+    }
+
+    fn stop(&mut self)
+        ensures { self.new ≡ record self.old { player = halted self.old.player.state self.old.player } }
+    {
+        self.player.stop();
+    }
+
+    // `currentsong`: the entry that is current, if one is. What is shown of it is kept.
+    fn write_current_song(&mut self, work: &mut Work) -> Result<(), Failure>
+        ensures { Performs (playing_meaning CurrentSong self.old) self.old self.new work.old work.new result }
+    {
+        let settings = self.settings();
+        let entries = self.saved.queue().entries();
+        let shown = self.kept.look(&self.player, entries, &settings);
+        let mark = work.text.len();
+        let written = self.put_current(&mut work.text, shown);
+        work.keep(mark, written)
+    }
+
+    fn put_current(&self, out: &mut Vec<u8>, shown: Shown) -> Result<(), NoMemory>
+        requires { shown ≡ shown_of self.now }
+        ensures { Adds (shown_info self.now.saved (shown_of self.now).current) result out.old out.new }
+    {
+        match shown.current {
+            Some(position) => self.put_entry(out, position),
+            None => Ok(()),
+        }
+    }
+
+    // The lines of the entry at a position, if one stands there.
+    fn put_entry(&self, out: &mut Vec<u8>, position: usize) -> Result<(), NoMemory>
+        ensures { Adds (position_info self.now.saved position) result out.old out.new }
+    {
+        let Some(entry) = self.saved.queue().get(position) else {
+            return Ok(());
+        };
+        match self.saved.songs().get(entry.uri.as_str()) {
+            Ok(row) => write_entry(out, row, position, entry),
+            Err(_) => Ok(()),
+        }
+    }
+}

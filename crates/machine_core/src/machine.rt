@@ -1,0 +1,76 @@
+ghost use Rattle.std.specs.Prelude.{◌≡◌};
+ghost use Rattle.machine_core.specs.State.{started};
+
+use crate::job::Job;
+use player_core::{KeptNext, PlaySettings, Player};
+use state_codec::Saved;
+use std::alloc::Global;
+use std::marker::Model;
+
+/// The daemon without its clients: the half that is saved, the player, and the job of the database.
+#[derive(Drop)]
+pub struct Machine {
+    pub(crate) saved: Saved,
+    pub(crate) player: Player,
+    pub(crate) job: Job,
+    // What `status` shows of the current song and the next one, until something of it changes.
+    pub(crate) kept: KeptNext,
+}
+
+impl Model for Machine {
+    ghost use Rattle.machine_core.specs.State.{MachineState};
+    ghost use Rattle.machine_core.specs.Held.{held, IsRight};
+
+    ghost Value = { MachineState };
+
+    ghost view = { held };
+
+    ghost invariant = { IsRight };
+}
+
+impl Machine {
+    ghost use Rattle.machine_core.specs.State.{settings_of};
+
+    /// A machine that begins with what was saved: the player is stopped without a current song, and no job runs.
+    pub fn new(alloc: Global, saved: Saved) -> Machine
+        ensures { result ≡ started saved }
+    {
+        Machine {
+            saved,
+            player: Player::new(alloc),
+            job: Job::none(),
+            kept: KeptNext::new(),
+        }
+    }
+
+    /// The half that is saved.
+    pub fn saved(&self) -> &Saved
+        ensures { result.now ≡ self.now.saved }
+    {
+        &self.saved
+    }
+
+    pub fn player(&self) -> &Player
+        ensures { result.now ≡ self.now.player }
+    {
+        &self.player
+    }
+
+    /// The last job of the database.
+    pub fn job(&self) -> &Job
+        ensures { result.now ≡ self.now.job }
+    {
+        &self.job
+    }
+
+    // What of the saved half the player goes by.
+    pub(crate) fn settings(&self) -> PlaySettings
+        ensures { result ≡ settings_of self.now.saved }
+    {
+        PlaySettings {
+            options: self.saved.options(),
+            key: self.saved.key(),
+            order: self.saved.order(),
+        }
+    }
+}

@@ -1,0 +1,216 @@
+ghost use Rattle.std.specs.Prelude.{◌≤◌};
+
+use command_text::{CommandRefusal, Refusal, want_of_memory, write_ack, write_list_ok, write_ok};
+use no_memory::NoMemory;
+use state_codec::Op;
+use std::alloc::{AllocError, AllocFailed, Global};
+
+/// The ops of one request take at most so many bytes, as many as a record of the journal holds.
+pub const MAX_REQUEST_BYTES: usize = 2_097_152;
+
+/// Room for `list_OK` and the longest `ACK` line of want of memory behind it.
+const COMMAND_ROOM: usize = 72;
+
+/// What a request's commands have made so far: the answer's bytes, and the ops with their size in bytes.
+#[derive(Drop)]
+pub struct Work {
+    pub text: Vec<u8>,
+    pub ops: Vec<Op>,
+    pub size: usize,
+    ghost fits: { size ≤ 2097152 },
+}
+
+/// Why a command did nothing.
+#[derive(Debug, Drop)]
+pub enum Failure {
+    Refused(CommandRefusal),
+    NoMemory,
+}
+
+impl From<CommandRefusal> for Failure {
+    ghost use Rattle.std.specs.Prelude.{◌≡◌};
+    ghost use Rattle.machine_core.specs.declared.work.Failure.TheVariants.{Refused};
+
+    ghost from_gives = { λ refusal e. e ≡ Refused refusal };
+
+    fn from(refusal: CommandRefusal) -> Failure {
+        Failure::Refused(refusal)
+    }
+}
+
+impl From<NoMemory> for Failure {
+    ghost use Rattle.std.specs.Prelude.{◌≡◌};
+    ghost use Rattle.machine_core.specs.declared.work.Failure.TheVariants as failures;
+
+    ghost from_gives = { λ _ e. e ≡ failures.NoMemory };
+
+    fn from(_error: NoMemory) -> Failure {
+        Failure::NoMemory
+    }
+}
+
+impl From<AllocError> for Failure {
+    ghost use Rattle.std.specs.Prelude.{◌≡◌};
+    ghost use Rattle.machine_core.specs.declared.work.Failure.TheVariants as failures;
+
+    ghost from_gives = { λ _ e. e ≡ failures.NoMemory };
+
+    fn from(_error: AllocError) -> Failure {
+        Failure::NoMemory
+    }
+}
+
+impl<T: Drop> From<AllocFailed<T>> for Failure {
+    ghost use Rattle.std.specs.Prelude.{◌≡◌};
+    ghost use Rattle.machine_core.specs.declared.work.Failure.TheVariants as failures;
+
+    ghost from_gives = { λ _ e. e ≡ failures.NoMemory };
+
+    fn from(_error: AllocFailed<T>) -> Failure {
+        Failure::NoMemory
+    }
+}
+
+impl Work {
+    ghost use Rattle.std.specs.Prelude.{◌≡◌, ◌+◌, ◌∷◌, ◌++◌, [], length, vec_len, vec_capacity, IfOk, OnOk, IfErr, MatchBool};
+    ghost use Rattle.command_text.specs.Answer.{ack, list_ok, ok};
+    ghost use Rattle.command_text.specs.Reading.{name_of_line, want_of_memory};
+    ghost use Rattle.state_codec.specs.Spelling.{ops_bytes};
+    ghost use Rattle.state_codec.specs.SpellingOps.{op_bytes};
+    ghost use Rattle.machine_core.specs.Meaning.{order_ops};
+    ghost use Rattle.machine_core.specs.Work.{HasRoom, Admits, AddsOps, AddsNothing, AddsText, IsTooMuch, Keeps, ack_room, command_room};
+
+    /// Nothing is made yet. There is room for what ends the first command.
+    pub fn new(alloc: Global) -> Result<Self, AllocError>
+        ensures text { IfOk result (λ work. work.text.items ≡ []) }
+        ensures ops { IfOk result (λ work. work.ops.items ≡ []) }
+        ensures size { IfOk result (λ work. work.size ≡ 0) }
+        ensures room { IfOk result (HasRoom ack_room) }
+    {
+        Ok(Work {
+            text: Vec::with_capacity(alloc, COMMAND_ROOM)?,
+            ops: Vec::new(alloc),
+            size: 0,
+        })
+    }
+
+    /// Takes the room that a command needs from the start.
+    pub fn make_room(&mut self) -> Result<(), AllocError>
+        ensures ok { OnOk result (HasRoom command_room self.new) }
+        ensures nothing { AddsNothing self.old self.new }
+    {
+        self.text.reserve(COMMAND_ROOM)?;
+        Ok(())
+    }
+
+    // Takes the room for so many ops of so many bytes together, where the request may make them.
+    pub(crate) fn admit(&mut self, count: usize, bytes: usize) -> Result<(), Failure>
+        ensures ok { OnOk result (Admits count bytes self.new) }
+        ensures nothing { AddsNothing self.old self.new }
+        ensures same { self.new.text ≡ self.old.text }
+        ensures refused { IfErr result (IsTooMuch (self.old.size + bytes)) }
+    {
+        if bytes > MAX_REQUEST_BYTES - self.size {
+            return Err(Failure::Refused(CommandRefusal::RequestTooLarge));
+        }
+        self.ops.reserve(count)?;
+        Ok(())
+    }
+
+    // Takes the room for an op, and for the new random order before it, if one begins.
+    pub(crate) fn admit_edit(&mut self, order: Option<u64>, op: &Op) -> Result<(), Failure>
+        ensures ok { OnOk result (let ops = order_ops order ++ op.now ∷ [] in Admits (length ops) (length (ops_bytes ops)) self.new) }
+        ensures nothing { AddsNothing self.old self.new }
+        ensures same { self.new.text ≡ self.old.text }
+        ensures refused { IfErr result (IsTooMuch (self.old.size + length (ops_bytes (order_ops order ++ op.now ∷ [])))) }
+    {
+        let bytes = op.spelled_len();
+        match order {
+            Some(order) => {
+                let order_bytes = Op::SetOrder(order).spelled_len();
+                self.admit(2, bytes.saturating_add(order_bytes))
+            }
+            None => self.admit(1, bytes),
+        }
+    }
+
+    // Adds an op for which there is room.
+    pub(crate) fn push(&mut self, op: Op)
+        requires { Admits 1 (length (op_bytes op)) self.old }
+        ensures ops { AddsOps (op ∷ []) self.old self.new }
+        ensures text { self.new.text ≡ self.old.text }
+        ensures room { vec_capacity self.new.ops ≡ vec_capacity self.old.ops }
+    {
+        self.size += op.spelled_len();
+        self.ops.push_reserved(op);
+    }
+
+    // Adds an op for which there is room, behind the new random order that begins before it.
+    pub(crate) fn push_edit(&mut self, order: Option<u64>, op: Op)
+        requires { let ops = order_ops order ++ op ∷ [] in Admits (length ops) (length (ops_bytes ops)) self.old }
+        ensures ops { AddsOps (order_ops order ++ op ∷ []) self.old self.new }
+        ensures text { self.new.text ≡ self.old.text }
+    {
+        if let Some(order) = order {
+            self.push(Op::SetOrder(order));
+        }
+        self.push(op);
+    }
+
+    // Keeps the text that was written from this place on, with room for what ends a command, or cuts it off.
+    pub(crate) fn keep(&mut self, mark: usize, written: Result<(), NoMemory>) -> Result<(), Failure>
+        requires { mark ≤ vec_len self.old.text }
+        ensures { Keeps mark written self.old self.new result }
+    {
+        if written.is_ok() && self.text.reserve(COMMAND_ROOM).is_ok() {
+            return Ok(());
+        }
+        self.text.truncate(mark);
+        Err(Failure::NoMemory)
+    }
+
+    /// Ends the answer by the `ACK` line of want of memory at this command, for which there is room.
+    pub fn want_memory(&mut self, index: u32, line: &[u8])
+        requires { HasRoom ack_room self.old }
+        ensures { AddsText (ack index (want_of_memory (name_of_line line.now))) self.old self.new }
+    {
+        let refusal = want_of_memory(line);
+        match write_ack(&mut self.text, index, &refusal) {
+            Ok(()) => {}
+            Err(_) => unreachable!(),
+        }
+    }
+
+    /// Ends the answer by the `ACK` line of this refusal; `false` where there was no memory for it, and nothing was added.
+    pub fn refuse(&mut self, index: u32, refusal: &Refusal) -> bool
+        ensures { MatchBool result (AddsText (ack index refusal.now) self.old self.new) (AddsNothing self.old self.new) }
+    {
+        let mark = self.text.len();
+        if write_ack(&mut self.text, index, refusal).is_ok() {
+            return true;
+        }
+        self.text.truncate(mark);
+        false
+    }
+
+    /// Adds what stands behind each command of a list that asks for it.
+    pub fn end_command(&mut self)
+        requires { HasRoom command_room self.old }
+        ensures text { AddsText list_ok self.old self.new }
+        ensures room { HasRoom ack_room self.new }
+    {
+        if write_list_ok(&mut self.text).is_err() {
+            unreachable!();
+        }
+    }
+
+    /// Ends the answer of a request that went well.
+    pub fn end(&mut self)
+        requires { HasRoom ack_room self.old }
+        ensures { AddsText ok self.old self.new }
+    {
+        if write_ok(&mut self.text).is_err() {
+            unreachable!();
+        }
+    }
+}
