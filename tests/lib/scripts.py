@@ -6,6 +6,9 @@ Each file `tests/scripts/TOPIC/NAME.txt` is a script, run in a folder of its own
     config NAME [KEY=TEXT ..]   writes a configuration: music = "music", journal_a = "a", journal_b = "b", a key of 5a's, and what
                                 is given; KEY= alone leaves a key out, KEY:=TEXT gives it as it stands, without quotes
     file NAME [HEX ..]          writes a file of these bytes
+    wave NAME FRAMES [ID=TEXT ..]   writes a WAVE file of so many silent frames, 8,000 a second, one channel, 16 bits; with a LIST
+                                INFO of these sub-chunks behind them, as INAM=Hi; _ stands for a space
+    remove NAME                 removes a file
     patch NAME OFFSET HEX       overwrites bytes of a file
     folder NAME                 makes a folder
     holds NAME LENGTH HEX ..    a file has this length and ends with these bytes
@@ -103,6 +106,21 @@ def whole(text):
     return re.sub(r"%\{(.+?)\*(\d+)\}", lambda it: it[1] * int(it[2]), text).encode()
 
 
+def chunk(name, data):
+    return name.encode() + len(data).to_bytes(4, "little") + data + b"\0" * (len(data) % 2)
+
+
+def wave(frames, infos):
+    """The bytes of a WAVE file."""
+    numbers = [(1, 2), (1, 2), (8000, 4), (16000, 4), (2, 2), (16, 2)]
+    form = b"".join(number.to_bytes(size, "little") for number, size in numbers)
+    parts = chunk("fmt ", form) + chunk("data", bytes(2 * frames))
+    if infos:
+        texts = [info.replace("_", " ").split("=", 1) for info in infos]
+        parts += chunk("LIST", b"INFO" + b"".join(chunk(name, text.encode() + b"\0") for name, text in texts))
+    return chunk("RIFF", b"WAVE" + parts)
+
+
 def configuration(settings):
     keys = dict(DEFAULTS)
     for setting in settings:
@@ -130,6 +148,12 @@ def prepare(line, folder):
         os.makedirs(os.path.dirname(path), exist_ok=True)
         with open(path, "wb") as file:
             file.write(bytes.fromhex("".join(words[1:])))
+    elif word == "wave":
+        os.makedirs(os.path.dirname(path), exist_ok=True)
+        with open(path, "wb") as file:
+            file.write(wave(int(words[1]), words[2:]))
+    elif word == "remove":
+        os.remove(path)
     elif word == "patch":
         with open(path, "r+b") as file:
             file.seek(int(words[1]))

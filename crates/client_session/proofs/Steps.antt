@@ -6,16 +6,15 @@ use Rattle.std.specs.Result.{IsErrAnd}
 use Rattle.client_session.specs.declared.refusal.SessionError.{SessionError}
 use Rattle.client_session.specs.declared.refusal.SessionError.TheVariants.{NoMemory, LineTooLong}
 use Rattle.std.proofs.lemmas.List.{take_all, take-append-drop, drop_more, length-take-le, append-nil}
-use Rattle.console_text.specs.declared.request.Request.{Request}
-use Rattle.console_text.specs.declared.request.Request.TheVariants.{Single}
+use Rattle.command_text.specs.declared.request.Request.{Request}
 use Rattle.client_session.specs.Lines.{newline, line_limit, ended, HasNoNewline, IsLine, IsUnended, BeginsTooLong, IsLineEnd}
-use Rattle.client_session.specs.Requests.{requests_of, rest_of}
+use Rattle.client_session.specs.Requests.{request_of, requests_of, rest_of}
 use Rattle.client_session.proofs.Newlines.{HasNoNewline-append, IsUnended-append}
 use Rattle.client_session.proofs.Streams.{taken_lines-line, taken_lines-unended, rest_behind}
 
-pub requests_of-line : (line more : List ℕ) → IsLine line → requests_of (line ++ newline ∷ more) ≡ Single line ∷ requests_of more
+pub requests_of-line : (line more : List ℕ) → IsLine line → requests_of (line ++ newline ∷ more) ≡ request_of line ∷ requests_of more
 unfolding requests_of
-requests_of-line line more is = ap (map Single) (taken_lines-line line more is)
+requests_of-line line more is = ap (map request_of) (taken_lines-line line more is)
 
 pub rest_of-line : (line more : List ℕ) → IsLine line → rest_of (line ++ newline ∷ more) ≡ rest_of more
 rest_of-line line more is =
@@ -23,7 +22,7 @@ rest_of-line line more is =
 
 pub requests_of-unended : (xs : List ℕ) → IsUnended xs → requests_of xs ≡ []
 unfolding requests_of
-requests_of-unended xs h = ap (map Single) (taken_lines-unended xs h)
+requests_of-unended xs h = ap (map request_of) (taken_lines-unended xs h)
 
 pub rest_of-unended : (xs : List ℕ) → IsUnended xs → rest_of xs ≡ xs
 unfolding rest_of
@@ -44,7 +43,7 @@ split_at pending rest k lt e =
     ap (λ (t : List ℕ). pending ++ t) (sym (take-append-drop k rest) ∙ ap (λ (t : List ℕ). take k rest ++ t) (drop_more rest k 0 lt ∙ ap (λ (b : ℕ). b ∷ drop (k + 1) rest) e))
     ∙ sym (append_assoc pending (take k rest) (newline ∷ drop (k + 1) rest))
 
-pub requests_step : (pending rest : List ℕ) (k : ℕ) → IsUnended pending → IsLineEnd (length pending) rest k → requests_of (pending ++ rest) ≡ Single (pending ++ take k rest) ∷ requests_of (drop (k + 1) rest)
+pub requests_step : (pending rest : List ℕ) (k : ℕ) → IsUnended pending → IsLineEnd (length pending) rest k → requests_of (pending ++ rest) ≡ request_of (pending ++ take k rest) ∷ requests_of (drop (k + 1) rest)
 requests_step pending rest k p at = ap requests_of (split_at pending rest k at.within at.ends) ∙ requests_of-line (pending ++ take k rest) (drop (k + 1) rest) (line_at pending rest k p at)
 
 pub rest_step : (pending rest : List ℕ) (k : ℕ) → IsUnended pending → IsLineEnd (length pending) rest k → rest_of (pending ++ rest) ≡ rest_of (drop (k + 1) rest)
@@ -65,13 +64,13 @@ not_empty [] request e = cc
 not_empty (first ∷ asked) request e = cc
 
 pub cut_step : (p piece : List ℕ) (asked : List Request) (pending rest : List ℕ) (k : ℕ) → IsCut p piece asked pending rest → IsLineEnd (length pending) rest k
-    → IsCut p piece (asked ++ Single (pending ++ take k rest) ∷ []) [] (drop (k + 1) rest)
+    → IsCut p piece (asked ++ request_of (pending ++ take k rest) ∷ []) [] (drop (k + 1) rest)
 cut_step p piece asked pending rest k c at = record {
   unended = tt;
-  requests = append_assoc asked (Single (pending ++ take k rest) ∷ []) (requests_of (drop (k + 1) rest))
+  requests = append_assoc asked (request_of (pending ++ take k rest) ∷ []) (requests_of (drop (k + 1) rest))
       ∙ ap (λ (t : List Request). asked ++ t) (sym (requests_step pending rest k c.unended at)) ∙ c.requests;
   behind = sym (rest_step pending rest k c.unended at) ∙ c.behind;
-  untouched = λ e. absurd (not_empty asked (Single (pending ++ take k rest)) e);
+  untouched = λ e. absurd (not_empty asked (request_of (pending ++ take k rest)) e);
 }
 
 -- the piece is cut to its end
@@ -109,7 +108,7 @@ no_list (first ∷ asked) request more e = cc
 -- where a line within the limit ends, the bytes don't begin with one that is too long
 pub ends_in_time : (p piece : List ℕ) (asked : List Request) (pending rest : List ℕ) (k : ℕ) → IsCut p piece asked pending rest → IsLineEnd (length pending) rest k → BeginsTooLong (p ++ piece) → ⊥
 ends_in_time p piece asked pending rest k c at begins =
-    no_list asked (Single (pending ++ take k rest)) (requests_of (drop (k + 1) rest))
+    no_list asked (request_of (pending ++ take k rest)) (requests_of (drop (k + 1) rest))
     (ap (λ (t : List Request). asked ++ t) (sym (requests_step pending rest k c.unended at)) ∙ c.requests ∙ requests_of-unended (p ++ piece) begins.unended)
 
 -- a call that memory alone refused

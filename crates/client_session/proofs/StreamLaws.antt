@@ -3,7 +3,7 @@ use Rattle.std.proofs.Common.{◌≡◌, ◌≢◌, ℕ, ◌+◌, ◌<◌, ◌�
 use Rattle.std.specs.List.{AllByRecursion, flat_map, concat}
 use Rattle.std.proofs.lemmas.List.{append-nil, append_cancel_left, take-append-le}
 use Rattle.std.proofs.lemmas.Bool.{cases_lt}
-use Rattle.console_text.specs.declared.request.Request.{Request}
+use Rattle.command_text.specs.declared.request.Request.{Request}
 use Rattle.client_session.specs.Lines.{newline, line_limit, ended, taken_lines, HasNoNewline, IsLine, IsUnended, BeginsTooLong}
 use Rattle.client_session.specs.Requests.{requests_of, rest_of, Continues, requests_in_pieces, IsParted}
 use Rattle.client_session.proofs.Streams.{taken_lines-line, stream_is, each_taken, taken_behind, rest_behind, requests_of-append, rest_of-append}

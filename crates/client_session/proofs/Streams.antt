@@ -6,9 +6,8 @@ use Rattle.std.proofs.lemmas.List.{map-append}
 use Rattle.std.proofs.lemmas.List.Sums.{take_while-cons}
 use Rattle.std.proofs.lemmas.List.Concat.{flat_map-append}
 use Rattle.std.proofs.Math.Seq.{drop-append_seam, drop-append-add}
-use Rattle.console_text.specs.declared.request.Request.TheVariants.{Single}
 use Rattle.client_session.specs.Lines.{newline, line_limit, ended, onto_first, lines_of, is_short, taken_lines, HasNoNewline, IsLine, IsUnended}
-use Rattle.client_session.specs.Requests.{requests_of, rest_of}
+use Rattle.client_session.specs.Requests.{request_of, requests_of, rest_of}
 
 lines_of-other : (b : ℕ) (bytes : List ℕ) → b ≢ newline → lines_of (b ∷ bytes) ≡ onto_first b (lines_of bytes)
 lines_of-other b bytes ne = ap (λ (t : Bool). cond t ([] ∷ lines_of bytes) (onto_first b (lines_of bytes))) (ne_eqb b newline ne)
@@ -151,4 +150,4 @@ rest_of-append s more =
 
 pub requests_of-append : (s more : List ℕ) → requests_of (s ++ more) ≡ requests_of s ++ requests_of (rest_of s ++ more)
 unfolding requests_of
-requests_of-append s more = ap (map Single) (taken_lines-append s more) ∙ map-append Single (taken_lines s) (taken_lines (rest_of s ++ more))
+requests_of-append s more = ap (map request_of) (taken_lines-append s more) ∙ map-append request_of (taken_lines s) (taken_lines (rest_of s ++ more))

@@ -1,4 +1,5 @@
 pub mod Lines
+pub mod Noidle
 pub mod Requests
 pub mod Session
 pub mod Refusal

@@ -1,13 +1,18 @@
 -- The requests of a stream of bytes, and the rest that is no whole request.
-use Rattle.std.specs.Prelude.{◌≡◌, ◌≢◌, ℕ, List, [], ◌∷◌, ◌++◌, map, length, drop}
+use Rattle.std.specs.Prelude.{◌≡◌, ◌≢◌, ℕ, List, [], ◌∷◌, ◌++◌, map, length, drop, Bool, if◌then◌else◌}
 use Rattle.std.specs.List.{flat_map, AllByRecursion}
-use Rattle.console_text.specs.declared.request.Request.{Request}
-use Rattle.console_text.specs.declared.request.Request.TheVariants.{Single}
+use Rattle.command_text.specs.declared.request.Request.{Request}
+use Rattle.command_text.specs.declared.request.Request.TheVariants.{Single, Noidle}
 use Rattle.client_session.specs.Lines.{ended, taken_lines, IsLine}
+use Rattle.client_session.specs.Noidle.{is_noidle}
+
+-- the request of a line: `noidle` alone is one of its own, any other line a command
+abbrev pub request_of : List ℕ → Request
+request_of line = if is_noidle line then Noidle else Single line
 
 -- a request for each line that is taken
 unfoldable pub requests_of : List ℕ → List Request
-requests_of stream = map Single (taken_lines stream)
+requests_of stream = map request_of (taken_lines stream)
 
 -- what the stream has behind those lines
 unfoldable pub rest_of : List ℕ → List ℕ

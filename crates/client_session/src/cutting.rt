@@ -4,10 +4,11 @@ ghost use Rattle.client_session.specs.Lines.{line_limit, HasNoNewline, IsUnended
 ghost use Rattle.client_session.specs.Requests.{requests_of, rest_of};
 
 use crate::LINE_LIMIT;
+use crate::noidle::request_of;
 use crate::refusal::SessionError;
 use crate::requests::Requests;
 use bytes::BytesMut;
-use console_text::{Line, Request};
+use command_text::Line;
 use memchr::memchr;
 use std::alloc::{AllocError, Global};
 
@@ -64,7 +65,8 @@ pub(crate) fn cut_requests(
     let mut rest = piece;
     while let Some(end) = line_end(pending.len(), rest) {
         let (line, behind) = take_line(alloc, pending, rest, end)?;
-        requests.push(Request::Single(line))?;
+        let request = request_of(alloc, line)?;
+        requests.push(request)?;
         rest = behind;
     }
     let too_long = pending.len() + rest.len() > LINE_LIMIT;

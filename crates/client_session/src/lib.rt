@@ -3,6 +3,7 @@
 
 mod cutting;
 pub mod laws;
+mod noidle;
 mod output;
 pub mod refusal;
 pub mod requests;

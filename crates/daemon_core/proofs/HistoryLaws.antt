@@ -1,32 +1,34 @@
 -- Along a history the clients agree with what happened, and so the outputs are the replies.
-use Rattle.std.proofs.Common.{◌≡◌, ℕ, ◌<◌, Bool, true, false, ◌&&◌, ◌||◌, ◌==◌, List, [], ◌∷◌, ◌++◌, Option, Some, None, filter, map, cond, refl, sym, ◌∙◌, ap, subst, arith, eq-eqb}
+use Rattle.std.proofs.Common.{◌≡◌, ℕ, ◌<◌, Bool, true, false, ◌&&◌, ◌||◌, ◌==◌, List, [], ◌∷◌, ◌++◌, Option, Some, None, filter, map, cond}
+use Rattle.std.proofs.Common.{refl, sym, ◌∙◌, ap, arith, eq-eqb, ltb-true}
 use Rattle.std.specs.Prelude.{nat_lt, unwrap_or}
 use Rattle.std.specs.Option.{option_map}
 use Rattle.std.specs.List.{list_any, filter_map, AllByRecursion, cons_option}
-use Rattle.std.proofs.lemmas.Bool.{ne_eqb}
-use Rattle.std.proofs.Common.{ltb-true}
-use Rattle.console_text.specs.declared.request.Request.{Request}
-use Rattle.console_text.specs.declared.request.Request.TheVariants.{Single, List as CommandList, OkList, Noidle}
-use Rattle.console_text.specs.declared.place.Place.TheVariants.{Alone, InList}
-use Rattle.console_text.specs.Answer.{list_ok}
+use Rattle.std.proofs.lemmas.Bool.{ne_eqb, false≢true}
+use Rattle.command_text.specs.Answer.{list_ok}
+use Rattle.command_text.specs.declared.place.Place.TheVariants.{Alone, InList}
+use Rattle.command_text.specs.declared.request.Request.{Request}
+use Rattle.command_text.specs.declared.request.Request.TheVariants.{Single, List as CommandList, OkList, Noidle}
+use Rattle.idle_masks.specs.Subsystems.{contains, none, union, intersection, is_empty}
+use Rattle.idle_masks.specs.Watched.{newcomer, watched, left, told_to_wait, with_waiting, grown, marked, due, report_of, reports_of}
+use Rattle.idle_masks.specs.Watched.{reported}
+use Rattle.idle_masks.specs.Watched.{after_reports}
+use Rattle.idle_masks.specs.declared.ready.Report.{Report}
 use Rattle.idle_masks.specs.declared.subsystem.Subsystems.{Subsystems}
 use Rattle.idle_masks.specs.declared.watch.Watched.{Watched}
-use Rattle.idle_masks.specs.declared.ready.Report.{Report}
-use Rattle.idle_masks.specs.Subsystems.{contains, none, union, intersection, is_empty}
-use Rattle.idle_masks.specs.Watched.{newcomer, watched, left, told_to_wait, with_waiting, grown, marked, due, report_of, reports_of, reported, after_reports}
-use Rattle.console_codec.specs.SavedState.{SavedState}
+use Rattle.state_codec.specs.SavedState.{SavedState}
+use Rattle.daemon_core.specs.Agreement.{Rises, Agree, AgreeBut}
+use Rattle.daemon_core.specs.Pending.{Moment, connects, is_pending, pending_of}
+use Rattle.daemon_core.specs.Replay.{Entry, stepped, replay, moments, moment_of, told_waiting, reply}
+use Rattle.daemon_core.specs.Run.{Ran, ran}
+use Rattle.daemon_core.specs.Session.{Acted, nothing, of_ran, runs, output}
+use Rattle.daemon_core.specs.State.{State}
+use Rattle.daemon_core.specs.Step.{connects_client, asked, asked_waiting, requested_by, waiting_of, acted, told, told_to, step}
 use Rattle.daemon_core.specs.declared.event.Event.{Event}
 use Rattle.daemon_core.specs.declared.event.Event.TheVariants as events
 use Rattle.daemon_core.specs.declared.outcome.Ending.{Ending}
-use Rattle.daemon_core.specs.declared.outcome.Ending.TheVariants.{Answered, Closed, Killed}
-use Rattle.daemon_core.specs.State.{State}
-use Rattle.daemon_core.specs.Run.{Ran, ran}
-use Rattle.daemon_core.specs.Pending.{Moment, connects, is_pending, pending_of}
-use Rattle.daemon_core.specs.Agreement.{Rises, Agree, AgreeBut}
-use Rattle.daemon_core.specs.Step.{Acted, connects_client, of_ran, runs, asked, asked_waiting, requested_by, waiting_of, acted, told, told_to, output, step}
-use Rattle.daemon_core.specs.Replay.{Entry, stepped, replay, moments, moment_of, told_waiting, reply}
+use Rattle.daemon_core.specs.declared.outcome.Ending.TheVariants.{Answered, Closed, Killed, Waits}
 use Rattle.daemon_core.proofs.PendingLaws.{contains-set_of, set_ext, agree_after, pending_more, client-reported}
-use Rattle.daemon_core.proofs.ClientsKept.{ran_leaves}
 
 -- what an event did leaves clients that rise and agree with what happened before
 pub record Keeps (earlier : List Moment) (a : Acted) : Type 0 where
@@ -35,7 +37,8 @@ pub record Keeps (earlier : List Moment) (a : Acted) : Type 0 where
   pub quiet : (c : ℕ) → connects c (moment_of a) ≡ true → a.changed ≡ none
 
 -- Filters keep what is said of each client.
-all_one : (P : Watched → Type 0) (w : Watched) (ws : List Watched) (b : Bool) → P w → AllByRecursion P ws → AllByRecursion P (cond b (w ∷ ws) ws)
+all_one : (P : Watched → Type 0) (w : Watched) (ws : List Watched) (b : Bool) → P w → AllByRecursion P ws →
+    AllByRecursion P (cond b (w ∷ ws) ws)
 all_one P w ws true h k = (h, k)
 all_one P w ws false h k = k
 
@@ -43,7 +46,8 @@ all-filter : (P : Watched → Type 0) (p : Watched → Bool) (ws : List Watched)
 all-filter P p [] h = tt
 all-filter P p (w ∷ ws) h = all_one P w (filter p ws) (p w) h.0 (all-filter P p ws h.1)
 
-rises_one : (w : Watched) (ws : List Watched) (b : Bool) → AllByRecursion (λ v. w.client < v.client) ws → Rises ws → Rises (cond b (w ∷ ws) ws)
+rises_one : (w : Watched) (ws : List Watched) (b : Bool) → AllByRecursion (λ v. w.client < v.client) ws → Rises ws →
+    Rises (cond b (w ∷ ws) ws)
 rises_one w ws true h k = (h, k)
 rises_one w ws false h k = k
 
@@ -52,11 +56,13 @@ rises-filter p [] h = tt
 rises-filter p (w ∷ ws) h = rises_one w (filter p ws) (p w) (all-filter (λ v. w.client < v.client) p ws h.0) (rises-filter p ws h.1)
 
 -- Waiting or not changes no number and no pending set.
-told_number : (c : ℕ) (mask : Option Subsystems) (w : Watched) (b : Bool) → let v = cond b (record w { waiting = mask }) w in v.client ≡ w.client
+told_number : (c : ℕ) (mask : Option Subsystems) (w : Watched) (b : Bool) →
+    let v = cond b (record w { waiting = mask }) w in v.client ≡ w.client
 told_number c mask w true = refl
 told_number c mask w false = refl
 
-told_pending : (c : ℕ) (mask : Option Subsystems) (w : Watched) (b : Bool) → let v = cond b (record w { waiting = mask }) w in v.pending ≡ w.pending
+told_pending : (c : ℕ) (mask : Option Subsystems) (w : Watched) (b : Bool) →
+    let v = cond b (record w { waiting = mask }) w in v.pending ≡ w.pending
 told_pending c mask w true = refl
 told_pending c mask w false = refl
 
@@ -69,7 +75,8 @@ rises-with_waiting c mask (w ∷ ws) h = (above ws h.0, rises-with_waiting c mas
     above [] a = tt
     above (v ∷ vs) a = (omega (arith, a.0, told_number c mask w (w.client == c), told_number c mask v (v.client == c)), above vs a.1)
 
-agree-with_waiting : (earlier : List Moment) (c : ℕ) (mask : Option Subsystems) (ws : List Watched) → Agree earlier ws → Agree earlier (with_waiting ws c mask)
+agree-with_waiting : (earlier : List Moment) (c : ℕ) (mask : Option Subsystems) (ws : List Watched) → Agree earlier ws →
+    Agree earlier (with_waiting ws c mask)
 agree-with_waiting earlier c mask [] h = tt
 agree-with_waiting earlier c mask (w ∷ ws) h = (
   told_pending c mask w (w.client == c) ∙ h.0 ∙ ap (pending_of earlier) (sym (told_number c mask w (w.client == c))),
@@ -77,7 +84,8 @@ agree-with_waiting earlier c mask (w ∷ ws) h = (
 )
 
 -- a client that joins stands in its place
-rises_between : (c : ℕ) (xs ys : List Watched) → Rises xs → AllByRecursion (λ w. w.client < c) xs → Rises ys → AllByRecursion (λ w. c < w.client) ys →
+rises_between : (c : ℕ) (xs ys : List Watched) → Rises xs → AllByRecursion (λ w. w.client < c) xs → Rises ys →
+    AllByRecursion (λ w. c < w.client) ys →
     Rises (xs ++ newcomer c ∷ ys)
 rises_between c [] ys rx below ry above = (above, ry)
 rises_between c (x ∷ xs) ys rx below ry above = (front xs rx.0, rises_between c xs ys rx.1 below.1 ry above)
@@ -86,15 +94,18 @@ rises_between c (x ∷ xs) ys rx below ry above = (front xs rx.0, rises_between 
     back [] h = tt
     back (z ∷ zs) h = (omega (arith, h.0, below.0), back zs h.1)
 
-    front : (zs : List Watched) → AllByRecursion (λ w. x.client < w.client) zs → AllByRecursion (λ w. x.client < w.client) (zs ++ newcomer c ∷ ys)
+    front : (zs : List Watched) → AllByRecursion (λ w. x.client < w.client) zs →
+        AllByRecursion (λ w. x.client < w.client) (zs ++ newcomer c ∷ ys)
     front [] h = (below.0, back ys above)
     front (z ∷ zs) h = (h.0, front zs h.1)
 
-one_tested : (P : Watched → Type 0) (w : Watched) (ws : List Watched) (b : Bool) → (b ≡ true → P w) → AllByRecursion P ws → AllByRecursion P (cond b (w ∷ ws) ws)
+one_tested : (P : Watched → Type 0) (w : Watched) (ws : List Watched) (b : Bool) → (b ≡ true → P w) → AllByRecursion P ws →
+    AllByRecursion P (cond b (w ∷ ws) ws)
 one_tested P w ws true h k = (h refl, k)
 one_tested P w ws false h k = k
 
-all_tested : (P : Watched → Type 0) (p : Watched → Bool) → ((w : Watched) → p w ≡ true → P w) → (ws : List Watched) → AllByRecursion P (filter p ws)
+all_tested : (P : Watched → Type 0) (p : Watched → Bool) → ((w : Watched) → p w ≡ true → P w) → (ws : List Watched) →
+    AllByRecursion P (filter p ws)
 all_tested P p passes [] = tt
 all_tested P p passes (w ∷ ws) = one_tested P w (filter p ws) (p w) (passes w) (all_tested P p passes ws)
 
@@ -108,11 +119,13 @@ agree_others : (c : ℕ) (earlier : List Moment) (m : Moment) (ws : List Watched
     AllByRecursion (λ w. (c == w.client) ≡ false) ws → AgreeBut m earlier ws
 agree_others c earlier m [] is agree others = tt
 agree_others c earlier m (w ∷ ws) is agree others = (
-  agree.0 ∙ sym (ap (λ b. cond b none (pending_of earlier w.client)) (ap (λ o. elim o [ None ↦ false | Some d ↦ d == w.client ]) is ∙ others.0)),
+  agree.0 ∙ sym (ap (λ b. cond b none (pending_of earlier w.client))
+      (ap (λ o. elim o [ None ↦ false | Some d ↦ d == w.client ]) is ∙ others.0)),
   agree_others c earlier m ws is agree.1 others.1,
 )
 
-agree-append : (m : Moment) (earlier : List Moment) (xs ys : List Watched) → AgreeBut m earlier xs → AgreeBut m earlier ys → AgreeBut m earlier (xs ++ ys)
+agree-append : (m : Moment) (earlier : List Moment) (xs ys : List Watched) → AgreeBut m earlier xs → AgreeBut m earlier ys →
+    AgreeBut m earlier (xs ++ ys)
 agree-append m earlier [] ys h k = k
 agree-append m earlier (x ∷ xs) ys h k = (h.0, agree-append m earlier xs ys h.1 k)
 
@@ -125,55 +138,86 @@ different_above c [] h = tt
 different_above c (w ∷ ws) h = (ne_eqb c w.client (λ e. omega (arith, h.0, e)), different_above c ws h.1)
 
 -- The kinds of event.
-keeps_connect : (earlier : List Moment) (c : ℕ) (s : State) (found : Option Watched) → Rises s.clients → Agree earlier s.clients → Keeps earlier (connects_client c s found)
+keeps_connect : (earlier : List Moment) (c : ℕ) (s : State) (found : Option Watched) → Rises s.clients → Agree earlier s.clients →
+    Keeps earlier (connects_client c s found)
 keeps_connect earlier c s (Some w) rises agree = record { rises = rises; agree = agree; quiet = λ _ _. refl }
 keeps_connect earlier c s None rises agree = let m : Moment = moment_of (connects_client c s None) in record {
-  rises = rises_between c _ _ (rises-filter _ s.clients rises) (below_filtered c s.clients) (rises-filter _ s.clients rises) (above_filtered c s.clients);
+  rises = rises_between c _ _ (rises-filter _ s.clients rises) (below_filtered c s.clients) (rises-filter _ s.clients rises)
+      (above_filtered c s.clients);
   agree = agree-append m earlier _ (newcomer c ∷ filter (λ w. nat_lt c w.client) s.clients)
-      (agree_others c earlier m _ refl (all-filter _ _ s.clients agree) (different_below c _ (below_filtered c s.clients)))
-      (ap (λ b. cond b none (pending_of earlier c)) (sym (eq-eqb c c refl)), agree_others c earlier m _ refl (all-filter _ _ s.clients agree) (different_above c _ (above_filtered c s.clients)));
+      (agree_others c earlier m _ refl (all-filter _ _ s.clients agree) (different_below c _ (below_filtered c s.clients))) (
+        ap (λ b. cond b none (pending_of earlier c)) (sym (eq-eqb c c refl)),
+        agree_others c earlier m _ refl (all-filter _ _ s.clients agree) (different_above c _ (above_filtered c s.clients)),
+      );
   quiet = λ _ _. refl;
 }
 
-keeps_left : (earlier : List Moment) (c : ℕ) (ws : List Watched) → Rises ws → Agree earlier ws → Rises (left ws c) × Agree earlier (left ws c)
+keeps_left : (earlier : List Moment) (c : ℕ) (ws : List Watched) → Rises ws → Agree earlier ws →
+    Rises (left ws c) × Agree earlier (left ws c)
 keeps_left earlier c ws rises agree = (rises-filter _ ws rises, all-filter _ _ ws agree)
 
-keeps_ran : (earlier : List Moment) (c : ℕ) (r : Ran) (ending : Ending) → Rises r.after.clients → Agree earlier r.after.clients → Keeps earlier (of_ran c r ending)
-keeps_ran earlier c r Answered rises agree = record { rises = rises; agree = agree; quiet = λ d e. absurd (Rattle.std.proofs.lemmas.Bool.false≢true e) }
-keeps_ran earlier c r Closed rises agree = let k = keeps_left earlier c r.after.clients rises agree in
-    record { rises = k.0; agree = k.1; quiet = λ d e. absurd (Rattle.std.proofs.lemmas.Bool.false≢true e) }
-keeps_ran earlier c r Killed rises agree = record { rises = tt; agree = tt; quiet = λ d e. absurd (Rattle.std.proofs.lemmas.Bool.false≢true e) }
+keeps_ran : (earlier : List Moment) (c : ℕ) (s : State) (r : Ran) (ending : Ending) → Rises s.clients → Agree earlier s.clients →
+    Keeps earlier (of_ran c s r ending)
+keeps_ran earlier c s r Answered rises agree = record { rises = rises; agree = agree; quiet = λ d e. absurd (false≢true e) }
+keeps_ran earlier c s r Closed rises agree =
+    let k = keeps_left earlier c s.clients rises agree in
+    record { rises = k.0; agree = k.1; quiet = λ d e. absurd (false≢true e) }
+keeps_ran earlier c s r Killed rises agree = record { rises = tt; agree = tt; quiet = λ d e. absurd (false≢true e) }
+keeps_ran earlier c s r (Waits mask) rises agree = record {
+  rises = rises-with_waiting c (Some mask) s.clients rises;
+  agree = agree-with_waiting earlier c (Some mask) s.clients agree;
+  quiet = λ d e. absurd (false≢true e);
+}
 
-keeps_runs : (earlier : List Moment) (c : ℕ) (s : State) (r : Ran) → r.after.clients ≡ s.clients → Rises s.clients → Agree earlier s.clients → Keeps earlier (runs c r)
-keeps_runs earlier c s r same rises agree =
-    keeps_ran earlier c r r.ending (subst Rises (sym same) rises) (subst (Agree earlier) (sym same) agree)
+keeps_runs : (earlier : List Moment) (c : ℕ) (s : State) (r : Ran) → Rises s.clients → Agree earlier s.clients → Keeps earlier (runs c s r)
+keeps_runs earlier c s r rises agree = keeps_ran earlier c s r r.ending rises agree
 
-keeps_asked : (earlier : List Moment) (c : ℕ) (refused : Option ℕ) (s : State) (request : Request) → Rises s.clients → Agree earlier s.clients → Keeps earlier (asked c refused s request)
-keeps_asked earlier c refused s (Single line) rises agree = keeps_runs earlier c s (ran Alone [] refused 0 0 (line ∷ []) s) (ran_leaves Alone [] refused 0 0 (line ∷ []) s) rises agree
-keeps_asked earlier c refused s (CommandList lines) rises agree = keeps_runs earlier c s (ran InList [] refused 0 0 lines s) (ran_leaves InList [] refused 0 0 lines s) rises agree
-keeps_asked earlier c refused s (OkList lines) rises agree = keeps_runs earlier c s (ran InList list_ok refused 0 0 lines s) (ran_leaves InList list_ok refused 0 0 lines s) rises agree
+keeps_asked : (earlier : List Moment) (c : ℕ) (refused : Option ℕ) (s : State) (request : Request) → Rises s.clients →
+    Agree earlier s.clients → Keeps earlier (asked c refused s request)
+keeps_asked earlier c refused s (Single line) rises agree =
+    keeps_runs earlier c s (ran Alone [] refused 0 0 (line ∷ []) s.machine) rises agree
+keeps_asked earlier c refused s (CommandList lines) rises agree =
+    keeps_runs earlier c s (ran InList [] refused 0 0 lines s.machine) rises agree
+keeps_asked earlier c refused s (OkList lines) rises agree =
+    keeps_runs earlier c s (ran InList list_ok refused 0 0 lines s.machine) rises agree
 keeps_asked earlier c refused s Noidle rises agree = record { rises = rises; agree = agree; quiet = λ _ _. refl }
 
-keeps_waiting : (earlier : List Moment) (c : ℕ) (s : State) (request : Request) → Rises s.clients → Agree earlier s.clients → Keeps earlier (asked_waiting c s request)
-keeps_waiting earlier c s (Single line) rises agree = let k = keeps_left earlier c s.clients rises agree in record { rises = k.0; agree = k.1; quiet = λ _ _. refl }
-keeps_waiting earlier c s (CommandList lines) rises agree = let k = keeps_left earlier c s.clients rises agree in record { rises = k.0; agree = k.1; quiet = λ _ _. refl }
-keeps_waiting earlier c s (OkList lines) rises agree = let k = keeps_left earlier c s.clients rises agree in record { rises = k.0; agree = k.1; quiet = λ _ _. refl }
+keeps_waiting : (earlier : List Moment) (c : ℕ) (s : State) (request : Request) → Rises s.clients → Agree earlier s.clients →
+    Keeps earlier (asked_waiting c s request)
+keeps_waiting earlier c s (Single line) rises agree = let k =
+    keeps_left earlier c s.clients rises agree in record { rises = k.0; agree = k.1; quiet = λ _ _. refl }
+keeps_waiting earlier c s (CommandList lines) rises agree = let k =
+    keeps_left earlier c s.clients rises agree in record { rises = k.0; agree = k.1; quiet = λ _ _. refl }
+keeps_waiting earlier c s (OkList lines) rises agree = let k =
+    keeps_left earlier c s.clients rises agree in record { rises = k.0; agree = k.1; quiet = λ _ _. refl }
 keeps_waiting earlier c s Noidle rises agree = record {
   rises = rises-with_waiting c None s.clients rises;
   agree = agree-with_waiting earlier c None s.clients agree;
   quiet = λ _ _. refl;
 }
 
-keeps_requested : (earlier : List Moment) (c : ℕ) (refused : Option ℕ) (s : State) (request : Request) (found : Option (Option Subsystems)) → Rises s.clients → Agree earlier s.clients →
+keeps_requested : (earlier : List Moment) (c : ℕ) (refused : Option ℕ) (s : State) (request : Request)
+    (found : Option (Option Subsystems)) → Rises s.clients → Agree earlier s.clients →
     Keeps earlier (requested_by c refused s request found)
 keeps_requested earlier c refused s request None rises agree = record { rises = rises; agree = agree; quiet = λ _ _. refl }
 keeps_requested earlier c refused s request (Some None) rises agree = keeps_asked earlier c refused s request rises agree
 keeps_requested earlier c refused s request (Some (Some mask)) rises agree = keeps_waiting earlier c s request rises agree
 
-pub keeps_acted : (earlier : List Moment) (s : State) (event : Event) (refused : Option ℕ) → Rises s.clients → Agree earlier s.clients → Keeps earlier (acted s event refused)
+keeps_nothing : (earlier : List Moment) (s : State) → Rises s.clients → Agree earlier s.clients → Keeps earlier (nothing s)
+keeps_nothing earlier s rises agree = record { rises = rises; agree = agree; quiet = λ _ _. refl }
+
+pub keeps_acted : (earlier : List Moment) (s : State) (event : Event) (refused : Option ℕ) → Rises s.clients → Agree earlier s.clients →
+    Keeps earlier (acted s event refused)
 keeps_acted earlier s (events.Connect c) refused rises agree = keeps_connect earlier c s (watched s.clients c) rises agree
-keeps_acted earlier s (events.Request c request) refused rises agree = keeps_requested earlier c refused s request (waiting_of (watched s.clients c)) rises agree
-keeps_acted earlier s (events.Gone c) refused rises agree = let k = keeps_left earlier c s.clients rises agree in record { rises = k.0; agree = k.1; quiet = λ _ _. refl }
+keeps_acted earlier s (events.Request c request) refused rises agree =
+    keeps_requested earlier c refused s request (waiting_of (watched s.clients c)) rises agree
+keeps_acted earlier s (events.Gone c) refused rises agree =
+    let k = keeps_left earlier c s.clients rises agree in record { rises = k.0; agree = k.1; quiet = λ _ _. refl }
+keeps_acted earlier s (events.Fed ticket frames) refused rises agree = keeps_nothing earlier s rises agree
+keeps_acted earlier s (events.Ended ticket) refused rises agree = keeps_nothing earlier s rises agree
+keeps_acted earlier s (events.Broken ticket cause) refused rises agree = keeps_nothing earlier s rises agree
+keeps_acted earlier s (events.Batch job changes) refused rises agree = keeps_nothing earlier s rises agree
+keeps_acted earlier s (events.ScanDone job) refused rises agree = keeps_nothing earlier s rises agree
 
 reported_number : (changed : Subsystems) (w : Watched) → let v = reported (grown changed w) in v.client ≡ w.client
 reported_number changed w = client-reported (grown changed w) (is_empty (due (grown changed w)))
@@ -236,7 +280,8 @@ intersection-none s = set_ext _ _ (λ x.
     contains-set_of (λ y. contains s y && contains none y) x
     ∙ ap (λ b. contains s x && b) (contains-set_of (λ _. false) x) ∙ and_none (contains s x) ∙ sym (contains-set_of (λ _. false) x))
 
-map_cons_option : (o : Option Report) (rest : List Report) → map told_to (cons_option o rest) ≡ cons_option (option_map told_to o) (map told_to rest)
+map_cons_option : (o : Option Report) (rest : List Report) →
+    map told_to (cons_option o rest) ≡ cons_option (option_map told_to o) (map told_to rest)
 map_cons_option None rest = refl
 map_cons_option (Some r) rest = refl
 
@@ -267,7 +312,8 @@ all_told a earlier (w ∷ ws) agree quiet =
     (grown_by_history (moment_of a) earlier w (connects w.client (moment_of a)) refl refl agree.0 (quiet w.client)))
     ∙ ap (cons_option (told_waiting (moment_of a ∷ earlier) w.client w.waiting)) (all_told a earlier ws agree.1 quiet)
 
-pub outputs_are_replies : (kept : SavedState) (earlier : List Entry) (entry : Entry) → (stepped (replay kept earlier) entry).outputs ≡ reply kept earlier entry
+pub outputs_are_replies : (kept : SavedState) (earlier : List Entry) (entry : Entry) →
+    (stepped (replay kept earlier) entry).outputs ≡ reply kept earlier entry
 unfolding step reply
 outputs_are_replies kept earlier entry =
     let before = holds kept earlier in

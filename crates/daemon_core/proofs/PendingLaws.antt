@@ -1,10 +1,12 @@
 -- What the watch holds pending is what the history says.
-use Rattle.std.proofs.Common.{◌≡◌, ℕ, ◌<◌, Bool, true, false, ◌||◌, ◌&&◌, not, ◌==◌, List, [], ◌∷◌, Some, None, cond, refl, sym, ◌∙◌, ap, arith, eq-eqb}
+use Rattle.std.proofs.Common.{◌≡◌, ℕ, ◌<◌, Bool, true, false, ◌||◌, ◌&&◌, not, ◌==◌, List, [], ◌∷◌, Some, None, cond, refl, sym, ◌∙◌, ap}
+use Rattle.std.proofs.Common.{arith, eq-eqb}
 use Rattle.std.specs.List.{list_any, AllByRecursion, cons_option}
 use Rattle.std.proofs.lemmas.Bool.{ne_eqb}
 use Rattle.std.proofs.Math.Bool.{or-false}
 use Rattle.idle_masks.specs.declared.subsystem.Subsystem.{Subsystem}
-use Rattle.idle_masks.specs.declared.subsystem.Subsystem.TheVariants.{Database, Update, StoredPlaylist, Playlist, Player, Mixer, Options, Sticker}
+use Rattle.idle_masks.specs.declared.subsystem.Subsystem.TheVariants.{Database, Update, StoredPlaylist, Playlist, Player, Mixer, Options}
+use Rattle.idle_masks.specs.declared.subsystem.Subsystem.TheVariants.{Sticker}
 use Rattle.idle_masks.specs.declared.subsystem.Subsystems.{Subsystems}
 use Rattle.idle_masks.specs.declared.watch.Watched.{Watched}
 use Rattle.idle_masks.specs.declared.ready.Report.{Report}
@@ -72,9 +74,11 @@ eqb_same : (n : ℕ) → (n == n) ≡ true
 eqb_same n = eq-eqb n n refl
 
 one_report : (c : ℕ) (x : Subsystem) (w : Watched) (rest : List Report) (empty : Bool) → is_empty (due w) ≡ empty →
-    list_any (λ r. (r.client == c) && contains r.changed x) (cons_option (cond empty None (Some (record { client = w.client; changed = due w }))) rest)
+    list_any (λ r. (r.client == c) && contains r.changed x)
+    (cons_option (cond empty None (Some (record { client = w.client; changed = due w }))) rest)
     ≡ (((w.client == c) && contains (due w) x) || list_any (λ r. (r.client == c) && contains r.changed x) rest)
-one_report c x w rest true h = sym (ap (λ v. ((w.client == c) && v) || list_any (λ r. (r.client == c) && contains r.changed x) rest) (contains-empty (due w) x h) ∙ and_false_or (w.client == c) _)
+one_report c x w rest true h = sym (ap (λ v. ((w.client == c) && v) || list_any (λ r. (r.client == c) && contains r.changed x) rest)
+    (contains-empty (due w) x h) ∙ and_false_or (w.client == c) _)
 one_report c x w rest false h = refl
 
 -- no later client is this one
@@ -83,7 +87,8 @@ reports_none : (c : ℕ) (x : Subsystem) (ws : List Watched) → AllByRecursion 
 reports_none c x [] h = refl
 reports_none c x (v ∷ vs) h =
     one_report c x v (reports_of vs) (is_empty (due v)) refl
-    ∙ ap (λ b. (b && contains (due v) x) || list_any (λ r. (r.client == c) && contains r.changed x) (reports_of vs)) (ne_eqb v.client c (λ e. omega (arith, h.0, e)))
+    ∙ ap (λ b. (b && contains (due v) x) || list_any (λ r. (r.client == c) && contains r.changed x) (reports_of vs))
+    (ne_eqb v.client c (λ e. omega (arith, h.0, e)))
     ∙ reports_none c x vs h.1
 
 -- where the numbers rise, what is reported to a client is what is due to it
@@ -92,7 +97,8 @@ pub reports_are_due : (x : Subsystem) (ws : List Watched) → Rises ws →
 reports_are_due x [] h = tt
 reports_are_due x (w ∷ ws) h = (
   one_report w.client x w (reports_of ws) (is_empty (due w)) refl
-      ∙ ap (λ b. (b && contains (due w) x) || list_any (λ r. (r.client == w.client) && contains r.changed x) (reports_of ws)) (eqb_same w.client)
+      ∙ ap (λ b. (b && contains (due w) x) || list_any (λ r. (r.client == w.client) && contains r.changed x) (reports_of ws))
+      (eqb_same w.client)
       ∙ ap (λ b. contains (due w) x || b) (reports_none w.client x ws h.0) ∙ or-false (contains (due w) x),
   later ws h.0 (reports_are_due x ws h.1),
 )
@@ -103,7 +109,8 @@ reports_are_due x (w ∷ ws) h = (
     later [] above same = tt
     later (v ∷ vs) above same = (
       one_report v.client x w (reports_of ws) (is_empty (due w)) refl
-          ∙ ap (λ b. (b && contains (due w) x) || list_any (λ r. (r.client == v.client) && contains r.changed x) (reports_of ws)) (ne_eqb w.client v.client (λ e. omega (arith, above.0, e)))
+          ∙ ap (λ b. (b && contains (due w) x) || list_any (λ r. (r.client == v.client) && contains r.changed x) (reports_of ws))
+          (ne_eqb w.client v.client (λ e. omega (arith, above.0, e)))
           ∙ same.0,
       later vs above.1 same.1,
     )
@@ -149,11 +156,13 @@ one_after : (m : Moment) (earlier : List Moment) (w : Watched) (x : Subsystem) (
     reports_to w.client x m ≡ contains (due (grown m.changed w)) x →
     ((contains w.pending x || contains m.changed x) && not (contains (due (grown m.changed w)) x)) ≡ is_pending (m ∷ earlier) w.client x
 one_after m earlier w x true f was quiet reports =
-    ap (λ b. (b || contains m.changed x) && not (contains (due (grown m.changed w)) x)) (ap (λ s. contains s x) was ∙ contains-set_of (λ _. false) x)
+    ap (λ b. (b || contains m.changed x) && not (contains (due (grown m.changed w)) x))
+    (ap (λ s. contains s x) was ∙ contains-set_of (λ _. false) x)
     ∙ ap (λ b. b && not (contains (due (grown m.changed w)) x)) (ap (λ s. contains s x) (quiet refl) ∙ contains-set_of (λ _. false) x)
     ∙ sym (pending_more m earlier w.client x true _ f refl)
 one_after m earlier w x false f was quiet reports =
-    ap (λ b. (b || contains m.changed x) && not (contains (due (grown m.changed w)) x)) (ap (λ s. contains s x) was ∙ contains-set_of (is_pending earlier w.client) x)
+    ap (λ b. (b || contains m.changed x) && not (contains (due (grown m.changed w)) x))
+    (ap (λ s. contains s x) was ∙ contains-set_of (is_pending earlier w.client) x)
     ∙ grown_is_pending (is_pending earlier w.client x) (contains m.changed x) (contains (due (grown m.changed w)) x)
     ∙ sym (pending_more m earlier w.client x false _ f reports)
 
@@ -180,7 +189,8 @@ rises-marked : (ws : List Watched) (changed : Subsystems) → Rises ws → Rises
 rises-marked [] changed h = tt
 rises-marked (w ∷ ws) changed h = (above ws h.0, rises-marked ws changed h.1)
   where
-    above : (vs : List Watched) → AllByRecursion (λ v. w.client < v.client) vs → AllByRecursion (λ v. w.client < v.client) (marked vs changed)
+    above : (vs : List Watched) → AllByRecursion (λ v. w.client < v.client) vs →
+        AllByRecursion (λ v. w.client < v.client) (marked vs changed)
     above [] a = tt
     above (v ∷ vs) a = (a.0, above vs a.1)
 
@@ -188,14 +198,17 @@ rises-marked (w ∷ ws) changed h = (above ws h.0, rises-marked ws changed h.1)
 pub agree_after : (m : Moment) (earlier : List Moment) (ws : List Watched) → Rises ws → AgreeBut m earlier ws →
     ((c : ℕ) → connects c m ≡ true → m.changed ≡ none) →
     m.reports ≡ reports_of (marked ws m.changed) → Agree (m ∷ earlier) (after_reports (marked ws m.changed))
-agree_after m earlier ws rises agree quiet reports = each ws agree (λ x. reports_are_due x (marked ws m.changed) (rises-marked ws m.changed rises))
+agree_after m earlier ws rises agree quiet reports =
+    each ws agree (λ x. reports_are_due x (marked ws m.changed) (rises-marked ws m.changed rises))
   where
     each : (vs : List Watched) → AgreeBut m earlier vs →
-        ((x : Subsystem) → AllByRecursion (λ w. list_any (λ r. (r.client == w.client) && contains r.changed x) (reports_of (marked ws m.changed)) ≡ contains (due w) x) (marked vs m.changed)) →
+        ((x : Subsystem) → AllByRecursion (λ w. list_any (λ r. (r.client == w.client) && contains r.changed x)
+        (reports_of (marked ws m.changed)) ≡ contains (due w) x) (marked vs m.changed)) →
         Agree (m ∷ earlier) (after_reports (marked vs m.changed))
     each [] a told = tt
     each (v ∷ vs) a told = (
-      set_after m earlier v a.0 (quiet v.client) (λ x. ap (list_any (λ r. (r.client == v.client) && contains r.changed x)) reports ∙ let t = told x in t.0)
+      set_after m earlier v a.0 (quiet v.client) (λ x. ap (list_any (λ r. (r.client == v.client) && contains r.changed x)) reports
+          ∙ let t = told x in t.0)
           ∙ ap (pending_of (m ∷ earlier)) (sym (client-reported (grown m.changed v) (is_empty (due (grown m.changed v))))),
       each vs a.1 (λ x. let t = told x in t.1),
     )

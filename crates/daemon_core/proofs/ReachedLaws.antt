@@ -1,24 +1,27 @@
 -- Which place of refused memory a step names: that of a command that it came to, and otherwise none.
-use Rattle.std.proofs.Common.{◌≡◌, ◌⊎◌, inl, inr, ℕ, suc, ◌+◌, Bool, true, false, List, [], ◌∷◌, length, Option, Some, None, cond, refl, sym, ◌∙◌, ap}
+use Rattle.std.proofs.Common.{◌≡◌, ◌⊎◌, inl, inr, ℕ, suc, ◌+◌, Bool, true, false, List, [], ◌∷◌, length, Option, Some, None, cond}
+use Rattle.std.proofs.Common.{refl, sym, ◌∙◌, ap}
 use Rattle.std.proofs.lemmas.Bool.{eqb-true, false≢true}
-use Rattle.console_text.specs.declared.place.Place.{Place}
-use Rattle.console_text.specs.declared.place.Place.TheVariants.{Alone, InList}
-use Rattle.console_text.specs.declared.request.Request.{Request}
-use Rattle.console_text.specs.declared.request.Request.TheVariants.{Single, List as CommandList, OkList, Noidle}
-use Rattle.console_text.specs.Answer.{list_ok}
+use Rattle.command_text.specs.Answer.{list_ok}
+use Rattle.command_text.specs.declared.place.Place.{Place}
+use Rattle.command_text.specs.declared.place.Place.TheVariants.{Alone, InList}
+use Rattle.command_text.specs.declared.request.Request.{Request}
+use Rattle.command_text.specs.declared.request.Request.TheVariants.{Single, List as CommandList, OkList, Noidle}
+use Rattle.idle_masks.specs.Watched.{watched}
 use Rattle.idle_masks.specs.declared.subsystem.Subsystems.{Subsystems}
 use Rattle.idle_masks.specs.declared.watch.Watched.{Watched}
-use Rattle.idle_masks.specs.Watched.{watched}
-use Rattle.console_codec.specs.declared.op.Op.{Op}
-use Rattle.console_codec.specs.Spelling.{ops_bytes}
+use Rattle.machine_core.specs.Changed.{changed}
+use Rattle.machine_core.specs.State.{MachineState}
+use Rattle.state_codec.specs.Spelling.{ops_bytes}
+use Rattle.state_codec.specs.declared.op.Op.{Op}
+use Rattle.daemon_core.specs.Run.{Did, Goes, Refuses, Ends, attempted, Ran, wants_memory, preceded, follow, is_refused_at, ran}
+use Rattle.daemon_core.specs.Session.{Acted, of_ran, runs}
+use Rattle.daemon_core.specs.State.{State}
+use Rattle.daemon_core.specs.Step.{connects_client, asked, waits_no_more, is_noidle, requested_by, waiting_of, acted, settles, step}
 use Rattle.daemon_core.specs.declared.event.Event.{Event}
 use Rattle.daemon_core.specs.declared.event.Event.TheVariants as events
 use Rattle.daemon_core.specs.declared.outcome.Ending.{Ending}
-use Rattle.daemon_core.specs.declared.outcome.Ending.TheVariants.{Answered, Closed, Killed}
-use Rattle.daemon_core.specs.State.{State}
-use Rattle.daemon_core.specs.Changed.{changed}
-use Rattle.daemon_core.specs.Run.{Did, Goes, Refuses, Closes, Kills, attempted, Ran, wants_memory, preceded, follow, is_refused_at, ran}
-use Rattle.daemon_core.specs.Step.{Acted, connects_client, of_ran, runs, asked, waits_no_more, is_noidle, requested_by, waiting_of, acted, settles, step}
+use Rattle.daemon_core.specs.declared.outcome.Ending.TheVariants.{Answered, Closed, Killed, Waits}
 
 -- a request came to the command that was to be refused memory, or it did what it does where none is refused it
 abbrev pub Reaches : Option ℕ → Ran → Ran → Type 0
@@ -28,65 +31,75 @@ place_is : (refused : Option ℕ) (index : ℕ) → is_refused_at refused index 
 place_is None index h = absurd (false≢true h)
 place_is (Some place) index h = ap Some (sym (eqb-true place index h))
 
-here_reaches : (refused : Option ℕ) (s : State) (index : ℕ) (line : List ℕ) (r free : Ran) (here : Bool) → is_refused_at refused index ≡ here → Reaches refused r free →
-    Reaches refused (cond here (wants_memory s index line) r) free
-here_reaches refused s index line r free true h later = inl (place_is refused index h)
-here_reaches refused s index line r free false h later = later
+here_reaches : (refused : Option ℕ) (m : MachineState) (index : ℕ) (line : List ℕ) (r free : Ran) (here : Bool) →
+    is_refused_at refused index ≡ here → Reaches refused r free → Reaches refused (cond here (wants_memory m index line) r) free
+here_reaches refused m index line r free true h later = inl (place_is refused index h)
+here_reaches refused m index line r free false h later = later
 
-behind_reaches : (text : List ℕ) (s after : State) (ops : List Op) (refused : Option ℕ) (r free : Ran) → Reaches refused r free →
-    Reaches refused (preceded text (changed s after) ops r) (preceded text (changed s after) ops free)
-behind_reaches text s after ops refused r free (inl e) = inl e
-behind_reaches text s after ops refused r free (inr e) = inr (ap (preceded text (changed s after) ops) e)
+behind_reaches : (text : List ℕ) (changes : Subsystems) (ops : List Op) (refused : Option ℕ) (r free : Ran) → Reaches refused r free →
+    Reaches refused (preceded text changes ops r) (preceded text changes ops free)
+behind_reaches text changes ops refused r free (inl e) = inl e
+behind_reaches text changes ops refused r free (inr e) = inr (ap (preceded text changes ops) e)
 
-follow_reaches : (separator : List ℕ) (index size : ℕ) (s : State) (refused : Option ℕ) (rest free : ℕ → State → Ran) (d : Did) →
-    ((n : ℕ) (t : State) → Reaches refused (rest n t) (free n t)) → Reaches refused (follow separator index size s rest d) (follow separator index size s free d)
-follow_reaches separator index size s refused rest free (Goes text after ops) later =
-    behind_reaches _ s after ops refused (rest (size + length (ops_bytes ops)) after) (free (size + length (ops_bytes ops)) after) (later (size + length (ops_bytes ops)) after)
-follow_reaches separator index size s refused rest free (Refuses refusal) later = inr refl
-follow_reaches separator index size s refused rest free Closes later = inr refl
-follow_reaches separator index size s refused rest free Kills later = inr refl
+-- the rest of a request behind a command, where memory is refused at one command, reaches it beside the rest where none is refused it
+abbrev pub RestReaches : Option ℕ → (ℕ → MachineState → Ran) → (ℕ → MachineState → Ran) → Type 0
+RestReaches refused rest free = (n : ℕ) (m : MachineState) → Reaches refused (rest n m) (free n m)
 
-ran_reaches : (place : Place) (separator : List ℕ) (refused : Option ℕ) (index size : ℕ) (lines : List (List ℕ)) (s : State) →
-    Reaches refused (ran place separator refused index size lines s) (ran place separator None index size lines s)
+follow_reaches : (separator : List ℕ) (index size : ℕ) (m : MachineState) (refused : Option ℕ) (rest free : ℕ → MachineState → Ran)
+    (d : Did) → RestReaches refused rest free →
+    Reaches refused (follow separator index size m rest d) (follow separator index size m free d)
+follow_reaches separator index size m refused rest free (Goes x) later =
+    behind_reaches _ (changed m x.after) x.ops refused (rest (size + length (ops_bytes x.ops)) x.after)
+    (free (size + length (ops_bytes x.ops)) x.after) (later (size + length (ops_bytes x.ops)) x.after)
+follow_reaches separator index size m refused rest free (Refuses refusal) later = inr refl
+follow_reaches separator index size m refused rest free (Ends ending) later = inr refl
+
+ran_reaches : (place : Place) (separator : List ℕ) (refused : Option ℕ) (index size : ℕ) (lines : List (List ℕ)) (m : MachineState) →
+    Reaches refused (ran place separator refused index size lines m) (ran place separator None index size lines m)
 unfolding ran
-ran_reaches place separator refused index size [] s = inr refl
-ran_reaches place separator refused index size (line ∷ lines) s =
-    here_reaches refused s index line _ _ (is_refused_at refused index) refl
-    (follow_reaches separator index size s refused (λ n t. ran place separator refused (suc index) n lines t) (λ n t. ran place separator None (suc index) n lines t) (attempted place size line s)
+ran_reaches place separator refused index size [] m = inr refl
+ran_reaches place separator refused index size (line ∷ lines) m =
+    here_reaches refused m index line _ _ (is_refused_at refused index) refl
+    (follow_reaches separator index size m refused (λ n t. ran place separator refused (suc index) n lines t)
+    (λ n t. ran place separator None (suc index) n lines t) (attempted place size line m)
     (λ n t. ran_reaches place separator refused (suc index) n lines t))
 
 -- where no memory is refused, a request names no place
-follow_names_none : (separator : List ℕ) (index size : ℕ) (s : State) (rest : ℕ → State → Ran) (d : Did) → ((n : ℕ) (t : State) → let r = rest n t in r.refused_at ≡ None) →
-    let r = follow separator index size s rest d in r.refused_at ≡ None
-follow_names_none separator index size s rest (Goes text after ops) later = later (size + length (ops_bytes ops)) after
-follow_names_none separator index size s rest (Refuses refusal) later = refl
-follow_names_none separator index size s rest Closes later = refl
-follow_names_none separator index size s rest Kills later = refl
+follow_names_none : (separator : List ℕ) (index size : ℕ) (m : MachineState) (rest : ℕ → MachineState → Ran) (d : Did) →
+    ((n : ℕ) (t : MachineState) → let r = rest n t in r.refused_at ≡ None) →
+    let r = follow separator index size m rest d in r.refused_at ≡ None
+follow_names_none separator index size m rest (Goes x) later = later (size + length (ops_bytes x.ops)) x.after
+follow_names_none separator index size m rest (Refuses refusal) later = refl
+follow_names_none separator index size m rest (Ends ending) later = refl
 
-ran_names_none : (place : Place) (separator : List ℕ) (index size : ℕ) (lines : List (List ℕ)) (s : State) → let r = ran place separator None index size lines s in r.refused_at ≡ None
+ran_names_none : (place : Place) (separator : List ℕ) (index size : ℕ) (lines : List (List ℕ)) (m : MachineState) →
+    let r = ran place separator None index size lines m in r.refused_at ≡ None
 unfolding ran
-ran_names_none place separator index size [] s = refl
-ran_names_none place separator index size (line ∷ lines) s =
-    follow_names_none separator index size s (λ n t. ran place separator None (suc index) n lines t) (attempted place size line s)
+ran_names_none place separator index size [] m = refl
+ran_names_none place separator index size (line ∷ lines) m =
+    follow_names_none separator index size m (λ n t. ran place separator None (suc index) n lines t) (attempted place size line m)
     (λ n t. ran_names_none place separator (suc index) n lines t)
 
 -- so it is with an event
-of_ran_place : (c : ℕ) (r : Ran) (ending : Ending) → let a = of_ran c r ending in a.refused_at ≡ r.refused_at
-of_ran_place c r Answered = refl
-of_ran_place c r Closed = refl
-of_ran_place c r Killed = refl
+of_ran_place : (c : ℕ) (s : State) (r : Ran) (ending : Ending) → let a = of_ran c s r ending in a.refused_at ≡ r.refused_at
+of_ran_place c s r Answered = refl
+of_ran_place c s r Closed = refl
+of_ran_place c s r Killed = refl
+of_ran_place c s r (Waits mask) = refl
 
 abbrev pub ActReaches : Option ℕ → Acted → Acted → Type 0
 ActReaches refused a free = (a.refused_at ≡ refused) ⊎ (a ≡ free)
 
-runs_reaches : (c : ℕ) (refused : Option ℕ) (r free : Ran) → Reaches refused r free → ActReaches refused (runs c r) (runs c free)
-runs_reaches c refused r free (inl e) = inl (of_ran_place c r r.ending ∙ e)
-runs_reaches c refused r free (inr e) = inr (ap (runs c) e)
+runs_reaches : (c : ℕ) (s : State) (refused : Option ℕ) (r free : Ran) → Reaches refused r free →
+    ActReaches refused (runs c s r) (runs c s free)
+runs_reaches c s refused r free (inl e) = inl (of_ran_place c s r r.ending ∙ e)
+runs_reaches c s refused r free (inr e) = inr (ap (runs c s) e)
 
-asked_reaches : (c : ℕ) (refused : Option ℕ) (s : State) (request : Request) → ActReaches refused (asked c refused s request) (asked c None s request)
-asked_reaches c refused s (Single line) = runs_reaches c refused _ _ (ran_reaches Alone [] refused 0 0 (line ∷ []) s)
-asked_reaches c refused s (CommandList lines) = runs_reaches c refused _ _ (ran_reaches InList [] refused 0 0 lines s)
-asked_reaches c refused s (OkList lines) = runs_reaches c refused _ _ (ran_reaches InList list_ok refused 0 0 lines s)
+asked_reaches : (c : ℕ) (refused : Option ℕ) (s : State) (request : Request) →
+    ActReaches refused (asked c refused s request) (asked c None s request)
+asked_reaches c refused s (Single line) = runs_reaches c s refused _ _ (ran_reaches Alone [] refused 0 0 (line ∷ []) s.machine)
+asked_reaches c refused s (CommandList lines) = runs_reaches c s refused _ _ (ran_reaches InList [] refused 0 0 lines s.machine)
+asked_reaches c refused s (OkList lines) = runs_reaches c s refused _ _ (ran_reaches InList list_ok refused 0 0 lines s.machine)
 asked_reaches c refused s Noidle = inr refl
 
 requested_reaches : (c : ℕ) (refused : Option ℕ) (s : State) (request : Request) (found : Option (Option Subsystems)) →
@@ -99,26 +112,37 @@ acted_reaches : (s : State) (event : Event) (refused : Option ℕ) → ActReache
 acted_reaches s (events.Connect c) refused = inr refl
 acted_reaches s (events.Request c request) refused = requested_reaches c refused s request (waiting_of (watched s.clients c))
 acted_reaches s (events.Gone c) refused = inr refl
+acted_reaches s (events.Fed ticket frames) refused = inr refl
+acted_reaches s (events.Ended ticket) refused = inr refl
+acted_reaches s (events.Broken ticket cause) refused = inr refl
+acted_reaches s (events.Batch job changes) refused = inr refl
+acted_reaches s (events.ScanDone job) refused = inr refl
 
-settles_reaches : (refused : Option ℕ) (a free : Acted) → ActReaches refused a free → (let now = settles a in now.refused_at ≡ refused) ⊎ (settles a ≡ settles free)
+settles_reaches : (refused : Option ℕ) (a free : Acted) → ActReaches refused a free →
+    (let now = settles a in now.refused_at ≡ refused) ⊎ (settles a ≡ settles free)
 settles_reaches refused a free (inl e) = inl e
 settles_reaches refused a free (inr e) = inr (ap settles e)
 
-pub step_reaches : (s : State) (event : Event) (refused : Option ℕ) → ((step s event refused).refused_at ≡ refused) ⊎ (step s event refused ≡ step s event None)
+pub step_reaches : (s : State) (event : Event) (refused : Option ℕ) →
+    ((step s event refused).refused_at ≡ refused) ⊎ (step s event refused ≡ step s event None)
 unfolding step
 step_reaches s event refused = settles_reaches refused (acted s event refused) (acted s event None) (acted_reaches s event refused)
 
+ran_place : (c : ℕ) (s : State) (r : Ran) → r.refused_at ≡ None → let a = runs c s r in a.refused_at ≡ None
+ran_place c s r none = of_ran_place c s r r.ending ∙ none
+
 asked_names_none : (c : ℕ) (s : State) (request : Request) → let a = asked c None s request in a.refused_at ≡ None
-asked_names_none c s (Single line) = let r : Ran = ran Alone [] None 0 0 (line ∷ []) s in of_ran_place c r r.ending ∙ ran_names_none Alone [] 0 0 (line ∷ []) s
-asked_names_none c s (CommandList lines) = let r : Ran = ran InList [] None 0 0 lines s in of_ran_place c r r.ending ∙ ran_names_none InList [] 0 0 lines s
-asked_names_none c s (OkList lines) = let r : Ran = ran InList list_ok None 0 0 lines s in of_ran_place c r r.ending ∙ ran_names_none InList list_ok 0 0 lines s
+asked_names_none c s (Single line) = ran_place c s _ (ran_names_none Alone [] 0 0 (line ∷ []) s.machine)
+asked_names_none c s (CommandList lines) = ran_place c s _ (ran_names_none InList [] 0 0 lines s.machine)
+asked_names_none c s (OkList lines) = ran_place c s _ (ran_names_none InList list_ok 0 0 lines s.machine)
 asked_names_none c s Noidle = refl
 
 waiting_names_none : (noidle : Bool) (c : ℕ) (s : State) → let a = waits_no_more noidle c s in a.refused_at ≡ None
 waiting_names_none true c s = refl
 waiting_names_none false c s = refl
 
-requested_names_none : (c : ℕ) (s : State) (request : Request) (found : Option (Option Subsystems)) → let a = requested_by c None s request found in a.refused_at ≡ None
+requested_names_none : (c : ℕ) (s : State) (request : Request) (found : Option (Option Subsystems)) →
+    let a = requested_by c None s request found in a.refused_at ≡ None
 requested_names_none c s request None = refl
 requested_names_none c s request (Some None) = asked_names_none c s request
 requested_names_none c s request (Some (Some mask)) = waiting_names_none (is_noidle request) c s
@@ -131,6 +155,11 @@ acted_names_none : (s : State) (event : Event) → let a = acted s event None in
 acted_names_none s (events.Connect c) = connect_names_none c s (watched s.clients c)
 acted_names_none s (events.Request c request) = requested_names_none c s request (waiting_of (watched s.clients c))
 acted_names_none s (events.Gone c) = refl
+acted_names_none s (events.Fed ticket frames) = refl
+acted_names_none s (events.Ended ticket) = refl
+acted_names_none s (events.Broken ticket cause) = refl
+acted_names_none s (events.Batch job changes) = refl
+acted_names_none s (events.ScanDone job) = refl
 
 pub step_names_none : (s : State) (event : Event) → (step s event None).refused_at ≡ None
 unfolding step

@@ -1,139 +1,186 @@
--- The ops of an event rebuild the saved half, and fit into a record.
-use Rattle.std.proofs.Common.{◌≡◌, ℕ, suc, ◌+◌, ◌≤◌, Bool, true, false, not, ◌==◌, List, [], ◌∷◌, ◌++◌, length, Option, Some, cond, refl, sym, ◌∙◌, ap, arith, length-append}
+-- The ops of an event rebuild the saved half, where those of a command do, and fit into a record.
+use Rattle.std.proofs.Common.{◌≡◌, ℕ, suc, ◌+◌, ◌≤◌, Bool, true, false, List, [], ◌∷◌, ◌++◌, length, Option, Some, None, cond}
+use Rattle.std.proofs.Common.{refl, ◌∙◌, ap, arith, length-append}
 use Rattle.std.specs.Prelude.{Result, Ok, Err, nat_le}
 use Rattle.std.specs.Option.{option_and_then}
-use Rattle.std.proofs.lemmas.Bool.{leb-true, eqb-true}
-use Rattle.player_core.specs.declared.options.Single.{Single as SingleMode}
-use Rattle.player_core.specs.declared.options.Single.TheVariants.{Off, On, Oneshot}
-use Rattle.console_text.specs.declared.command.Command.{Command}
-use Rattle.console_text.specs.declared.command.Command.TheVariants.{Close, Consume, Kill, Ping, Random, Repeat, SetVolume, Single, Status}
-use Rattle.console_text.specs.declared.name.CommandName.{CommandName}
-use Rattle.console_text.specs.declared.name.CommandName.TheVariants as names
-use Rattle.console_text.specs.declared.place.Place.{Place}
-use Rattle.console_text.specs.declared.refusal.Refusal.{Refusal}
-use Rattle.console_text.specs.declared.refusal.Refusal.TheVariants.{OfCommand}
-use Rattle.console_text.specs.declared.refusal.CommandRefusal.TheVariants.{RequestTooLarge}
-use Rattle.console_text.specs.Reading.{line_reading}
-use Rattle.console_codec.specs.declared.op.Op.{Op}
-use Rattle.console_codec.specs.declared.op.Op.TheVariants as ops
-use Rattle.console_codec.specs.declared.op.Setting.TheVariants as settings
-use Rattle.console_codec.specs.SavedState.{SavedState}
-use Rattle.console_codec.specs.Spelling.{op_bytes, ops_bytes}
-use Rattle.console_codec.specs.Applied.{all_applied}
-use Rattle.console_codec.proofs.AppliedLaws.{all_applied-append}
+use Rattle.std.proofs.lemmas.Bool.{leb-true}
+use Rattle.command_text.specs.Answer.{list_ok}
+use Rattle.command_text.specs.Reading.{line_reading}
+use Rattle.command_text.specs.declared.command.Command.{Command}
+use Rattle.command_text.specs.declared.command.NamedCommand.{NamedCommand}
+use Rattle.command_text.specs.declared.name.CommandName.{CommandName}
+use Rattle.command_text.specs.declared.place.Place.{Place}
+use Rattle.command_text.specs.declared.place.Place.TheVariants.{Alone, InList}
+use Rattle.command_text.specs.declared.refusal.CommandRefusal.TheVariants.{RequestTooLarge}
+use Rattle.command_text.specs.declared.refusal.Refusal.{Refusal}
+use Rattle.command_text.specs.declared.request.Request.{Request}
+use Rattle.command_text.specs.declared.request.Request.TheVariants.{Single, List as CommandList, OkList, Noidle}
+use Rattle.idle_masks.specs.Watched.{watched}
+use Rattle.idle_masks.specs.declared.subsystem.Subsystems.{Subsystems}
+use Rattle.idle_masks.specs.declared.watch.Watched.{Watched}
+use Rattle.machine_core.specs.Command.{meaning}
+use Rattle.machine_core.specs.Meaning.{Meaning, Meant}
+use Rattle.machine_core.specs.Size.{max_request_bytes, within}
+use Rattle.machine_core.specs.State.{MachineState}
+use Rattle.state_codec.proofs.AppliedLaws.{all_applied-append}
+use Rattle.state_codec.specs.Applied.{all_applied}
+use Rattle.state_codec.specs.Spelling.{ops_bytes}
+use Rattle.state_codec.specs.SpellingOps.{op_bytes}
+use Rattle.state_codec.specs.declared.op.Op.{Op}
+use Rattle.daemon_core.specs.Run.{Did, Goes, Refuses, Ends, ending_of, did_of, unless_it_ends, performed, read_and_performed, attempted}
+use Rattle.daemon_core.specs.Run.{Ran, wants_memory, follow, is_refused_at, ran}
+use Rattle.daemon_core.specs.Session.{of_ran, runs}
 use Rattle.daemon_core.specs.State.{State}
-use Rattle.daemon_core.specs.Status.{status_lines}
-use Rattle.daemon_core.specs.Changed.{same_switch, same_single}
-use Rattle.daemon_core.specs.Meaning.{meaning, ops_of, unless_same, next_order}
-use Rattle.daemon_core.specs.Run.{Did, Goes, Refuses, Closes, Kills, within, performed, read_and_performed, attempted, Ran, wants_memory, follow, is_refused_at, ran, max_request_bytes}
+use Rattle.daemon_core.specs.Step.{connects_client, asked, waits_no_more, is_noidle, requested_by, waiting_of, acted, step}
+use Rattle.daemon_core.specs.declared.event.Event.{Event}
+use Rattle.daemon_core.specs.declared.event.Event.TheVariants as events
+use Rattle.daemon_core.specs.declared.outcome.Ending.{Ending}
+use Rattle.daemon_core.specs.declared.outcome.Ending.TheVariants.{Answered, Closed, Killed, Waits}
 
--- settings that are the same
-same_switch_so : (a b : Bool) → same_switch a b ≡ true → a ≡ b
-same_switch_so true b h = sym h
-same_switch_so false true h = absurd (Rattle.std.proofs.lemmas.Bool.false≢true h)
-same_switch_so false false h = refl
+-- the ops of each command rebuild the saved half
+abbrev pub CommandsRebuild : Type 0
+CommandsRebuild = (command : Command) (m : MachineState) (x : Meaning) → meaning command m ≡ Ok x →
+    all_applied x.ops m.saved ≡ Some x.after.saved
 
-same_single_so : (a b : SingleMode) → same_single a b ≡ true → a ≡ b
-same_single_so Off Off h = refl
-same_single_so On On h = refl
-same_single_so Oneshot Oneshot h = refl
-same_single_so Off On h = absurd (Rattle.std.proofs.lemmas.Bool.false≢true h)
-same_single_so Off Oneshot h = absurd (Rattle.std.proofs.lemmas.Bool.false≢true h)
-same_single_so On Off h = absurd (Rattle.std.proofs.lemmas.Bool.false≢true h)
-same_single_so On Oneshot h = absurd (Rattle.std.proofs.lemmas.Bool.false≢true h)
-same_single_so Oneshot Off h = absurd (Rattle.std.proofs.lemmas.Bool.false≢true h)
-same_single_so Oneshot On h = absurd (Rattle.std.proofs.lemmas.Bool.false≢true h)
-
--- no ops where the state stays, and else these
-unless_rebuilds : (same : Bool) (more : List Op) (s t : SavedState) → (same ≡ true → s ≡ t) → all_applied more s ≡ Some t → all_applied (unless_same same more) s ≡ Some t
-unless_rebuilds true more s t stays made = ap Some (stays refl)
-unless_rebuilds false more s t stays made = made
-
--- what a command did is rebuilt by its ops, which fit
-pub record Rebuilt (size : ℕ) (s after : State) (ops : List Op) : Type 0 where
-  pub state : all_applied ops s.saved ≡ Some after.saved
+-- what was done is rebuilt by its ops, which fit
+pub record Rebuilt (size : ℕ) (m after : MachineState) (ops : List Op) : Type 0 where
+  pub state : all_applied ops m.saved ≡ Some after.saved
   pub fits : size + length (ops_bytes ops) ≤ max_request_bytes
 
-abbrev pub Rebuilds : ℕ → State → Did → Type 0
-Rebuilds size s (Goes text after ops) = Rebuilt size s after ops
-Rebuilds size s (Refuses refusal) = Unit {0}
-Rebuilds size s Closes = Unit {0}
-Rebuilds size s Kills = Unit {0}
+abbrev pub Rebuilds : ℕ → MachineState → Did → Type 0
+Rebuilds size m (Goes x) = Rebuilt size m x.after x.ops
+Rebuilds size m (Refuses refusal) = Unit {0}
+Rebuilds size m (Ends ending) = Unit {0}
 
-choice_rebuilds : (size : ℕ) (s t : State) (name : CommandName) (text : List ℕ) (made : List Op) (b : Bool) → nat_le (size + length (ops_bytes made)) max_request_bytes ≡ b →
-    all_applied made s.saved ≡ Some t.saved → Rebuilds size s (cond b (Goes text t made) (Refuses (OfCommand name RequestTooLarge)))
-choice_rebuilds size s t name text made true h same = record { state = same; fits = leb-true _ _ h }
-choice_rebuilds size s t name text made false h same = tt
+within_rebuilds : (size : ℕ) (m : MachineState) (name : CommandName) (x : Meaning) (fits : Bool) →
+    nat_le (size + length (ops_bytes x.ops)) max_request_bytes ≡ fits → all_applied x.ops m.saved ≡ Some x.after.saved →
+    Rebuilds size m (did_of name (cond fits (Ok x) (Err RequestTooLarge)))
+within_rebuilds size m name x true h same = record { state = same; fits = leb-true _ _ h }
+within_rebuilds size m name x false h same = tt
 
-within_rebuilds : (size : ℕ) (s t : State) (name : CommandName) (text : List ℕ) (made : List Op) → all_applied made s.saved ≡ Some t.saved →
-    Rebuilds size s (within size name (Ok (record { text = text; after = t })) made)
-within_rebuilds size s t name text made same = choice_rebuilds size s t name text made (nat_le (size + length (ops_bytes made)) max_request_bytes) refl same
+did_rebuilds : (law : CommandsRebuild) (size : ℕ) (m : MachineState) (name : CommandName) (command : Command) (meant : Meant) →
+    meaning command m ≡ meant → Rebuilds size m (did_of name (within size meant))
+did_rebuilds law size m name command (Err refusal) is = tt
+did_rebuilds law size m name command (Ok x) is =
+    within_rebuilds size m name x (nat_le (size + length (ops_bytes x.ops)) max_request_bytes) refl (law command m x is)
 
-not_so : (b : Bool) → not b ≡ true → b ≡ false
-not_so true h = sym h
-not_so false h = refl
+unless_rebuilds : (size : ℕ) (m : MachineState) (ending : Option Ending) (did : Did) → Rebuilds size m did →
+    Rebuilds size m (unless_it_ends ending did)
+unless_rebuilds size m None did h = h
+unless_rebuilds size m (Some ending) did h = tt
 
-random_rebuilds : (s : SavedState) (on : Bool) → s.options.random ≡ on →
-    all_applied (unless_same on (ops.SetOrder (next_order s.order) ∷ ops.SetOption (settings.Random true) ∷ [])) s
-    ≡ Some (record s { order = cond (not on) (next_order s.order) s.order; options = record s.options { random = true } })
-random_rebuilds s true is = λ i. Some (record s { options = record s.options { random = is i } })
-random_rebuilds s false is = refl
+performed_rebuilds : (law : CommandsRebuild) (size : ℕ) (named : NamedCommand) (m : MachineState) →
+    Rebuilds size m (performed size named m)
+unfolding performed
+performed_rebuilds law size named m =
+    unless_rebuilds size m (ending_of named.command) _
+    (did_rebuilds law size m named.name named.command (meaning named.command m) refl)
 
-performed_rebuilds : (size : ℕ) (command : Command) (s : State) → Rebuilds size s (performed size command s)
-unfolding meaning ops_of
-performed_rebuilds size Close s = tt
-performed_rebuilds size (Consume on) s = within_rebuilds size s _ _ _ _ (unless_rebuilds (same_switch s.saved.options.consume on) (ops.SetOption (settings.Consume on) ∷ []) s.saved
-    (record s.saved { options = record s.saved.options { consume = on } }) (λ h i. record s.saved { options = record s.saved.options { consume = same_switch_so s.saved.options.consume on h i } }) refl)
-performed_rebuilds size Kill s = tt
-performed_rebuilds size Ping s = within_rebuilds size s s names.Ping [] [] refl
-performed_rebuilds size (Random true) s = within_rebuilds size s _ _ _ _ (random_rebuilds s.saved s.saved.options.random refl)
-performed_rebuilds size (Random false) s = within_rebuilds size s _ _ _ _ (unless_rebuilds (not s.saved.options.random) (ops.SetOption (settings.Random false) ∷ []) s.saved
-    (record s.saved { options = record s.saved.options { random = false } }) (λ h i. record s.saved { options = record s.saved.options { random = not_so s.saved.options.random h i } }) refl)
-performed_rebuilds size (Repeat on) s = within_rebuilds size s _ _ _ _ (unless_rebuilds (same_switch s.saved.options.repeat on) (ops.SetOption (settings.Repeat on) ∷ []) s.saved
-    (record s.saved { options = record s.saved.options { repeat = on } }) (λ h i. record s.saved { options = record s.saved.options { repeat = same_switch_so s.saved.options.repeat on h i } }) refl)
-performed_rebuilds size (SetVolume volume) s = within_rebuilds size s _ _ _ _ (unless_rebuilds (s.saved.volume == volume) (ops.SetVolume volume ∷ []) s.saved
-    (record s.saved { volume = volume }) (λ h i. record s.saved { volume = eqb-true s.saved.volume volume h i }) refl)
-performed_rebuilds size (Single single) s = within_rebuilds size s _ _ _ _ (unless_rebuilds (same_single s.saved.options.single single) (ops.SetOption (settings.Single single) ∷ []) s.saved
-    (record s.saved { options = record s.saved.options { single = single } }) (λ h i. record s.saved { options = record s.saved.options { single = same_single_so s.saved.options.single single h i } }) refl)
-performed_rebuilds size Status s = within_rebuilds size s s names.Status (status_lines s.saved) [] refl
+read_rebuilds : (law : CommandsRebuild) (size : ℕ) (m : MachineState) (read : Result NamedCommand Refusal) →
+    Rebuilds size m (read_and_performed size m read)
+read_rebuilds law size m (Ok named) = performed_rebuilds law size named m
+read_rebuilds law size m (Err refusal) = tt
 
-read_rebuilds : (size : ℕ) (s : State) (read : Result Command Refusal) → Rebuilds size s (read_and_performed size s read)
-read_rebuilds size s (Ok command) = performed_rebuilds size command s
-read_rebuilds size s (Err refusal) = tt
-
-attempted_rebuilds : (place : Place) (size : ℕ) (line : List ℕ) (s : State) → Rebuilds size s (attempted place size line s)
+attempted_rebuilds : (law : CommandsRebuild) (place : Place) (size : ℕ) (line : List ℕ) (m : MachineState) →
+    Rebuilds size m (attempted place size line m)
 unfolding attempted
-attempted_rebuilds place size line s = read_rebuilds size s (line_reading place line)
+attempted_rebuilds law place size line m = read_rebuilds law size m (line_reading place line)
 
 ops_bytes-append : (a b : List Op) → length (ops_bytes (a ++ b)) ≡ length (ops_bytes a) + length (ops_bytes b)
 ops_bytes-append [] b = omega arith
-ops_bytes-append (op ∷ a) b = omega (arith, length-append (op_bytes op) (ops_bytes (a ++ b)), length-append (op_bytes op) (ops_bytes a), ops_bytes-append a b)
+ops_bytes-append (op ∷ a) b =
+    omega (
+      arith,
+      length-append (op_bytes op) (ops_bytes (a ++ b)),
+      length-append (op_bytes op) (ops_bytes a),
+      ops_bytes-append a b,
+    )
 
 -- so is what a request did
-follow_rebuilds : (separator : List ℕ) (index size : ℕ) (s : State) (rest : ℕ → State → Ran) (d : Did) → size ≤ max_request_bytes → Rebuilds size s d →
-    ((n : ℕ) (t : State) → n ≤ max_request_bytes → let r = rest n t in Rebuilt n t r.after r.ops) →
-    let r = follow separator index size s rest d in Rebuilt size s r.after r.ops
-follow_rebuilds separator index size s rest (Goes text t made) within same later =
-    let r : Ran = rest (size + length (ops_bytes made)) t in
-    let l = later (size + length (ops_bytes made)) t same.fits in
+follow_rebuilds : (separator : List ℕ) (index size : ℕ) (m : MachineState) (rest : ℕ → MachineState → Ran) (d : Did) →
+    size ≤ max_request_bytes → Rebuilds size m d →
+    ((n : ℕ) (t : MachineState) → n ≤ max_request_bytes → let r = rest n t in Rebuilt n t r.after r.ops) →
+    let r = follow separator index size m rest d in Rebuilt size m r.after r.ops
+follow_rebuilds separator index size m rest (Goes x) within same later =
+    let r : Ran = rest (size + length (ops_bytes x.ops)) x.after in
+    let l = later (size + length (ops_bytes x.ops)) x.after same.fits in
     record {
-      state = all_applied-append made r.ops s.saved ∙ ap (option_and_then (all_applied r.ops)) same.state ∙ l.state;
-      fits = omega (arith, l.fits, ops_bytes-append made r.ops);
+      state = all_applied-append x.ops r.ops m.saved ∙ ap (option_and_then (all_applied r.ops)) same.state ∙ l.state;
+      fits = omega (arith, l.fits, ops_bytes-append x.ops r.ops);
     }
-follow_rebuilds separator index size s rest (Refuses refusal) within same later = record { state = refl; fits = omega (arith, within) }
-follow_rebuilds separator index size s rest Closes within same later = record { state = refl; fits = omega (arith, within) }
-follow_rebuilds separator index size s rest Kills within same later = record { state = refl; fits = omega (arith, within) }
+follow_rebuilds separator index size m rest (Refuses refusal) within same later = record { state = refl; fits = omega (arith, within) }
+follow_rebuilds separator index size m rest (Ends ending) within same later = record { state = refl; fits = omega (arith, within) }
 
-here_rebuilds : (size : ℕ) (s : State) (index : ℕ) (line : List ℕ) (r : Ran) (here : Bool) → size ≤ max_request_bytes → Rebuilt size s r.after r.ops →
-    let either = cond here (wants_memory s index line) r in Rebuilt size s either.after either.ops
-here_rebuilds size s index line r true within same = record { state = refl; fits = omega (arith, within) }
-here_rebuilds size s index line r false within same = same
+here_rebuilds : (size : ℕ) (m : MachineState) (index : ℕ) (line : List ℕ) (r : Ran) (here : Bool) → size ≤ max_request_bytes →
+    Rebuilt size m r.after r.ops → let either = cond here (wants_memory m index line) r in Rebuilt size m either.after either.ops
+here_rebuilds size m index line r true within same = record { state = refl; fits = omega (arith, within) }
+here_rebuilds size m index line r false within same = same
 
-pub ran_rebuilds : (place : Place) (separator : List ℕ) (refused : Option ℕ) (index size : ℕ) (lines : List (List ℕ)) (s : State) → size ≤ max_request_bytes →
-    let r = ran place separator refused index size lines s in Rebuilt size s r.after r.ops
+ran_rebuilds : (law : CommandsRebuild) (place : Place) (separator : List ℕ) (refused : Option ℕ) (index size : ℕ)
+    (lines : List (List ℕ)) (m : MachineState) → size ≤ max_request_bytes →
+    let r = ran place separator refused index size lines m in Rebuilt size m r.after r.ops
 unfolding ran
-ran_rebuilds place separator refused index size [] s within = record { state = refl; fits = omega (arith, within) }
-ran_rebuilds place separator refused index size (line ∷ lines) s within =
-    here_rebuilds size s index line _ (is_refused_at refused index) within
-    (follow_rebuilds separator index size s (λ n t. ran place separator refused (suc index) n lines t) (attempted place size line s) within (attempted_rebuilds place size line s)
-    (λ n t fits. ran_rebuilds place separator refused (suc index) n lines t fits))
+ran_rebuilds law place separator refused index size [] m within = record { state = refl; fits = omega (arith, within) }
+ran_rebuilds law place separator refused index size (line ∷ lines) m within =
+    here_rebuilds size m index line _ (is_refused_at refused index) within
+    (follow_rebuilds separator index size m (λ n t. ran place separator refused (suc index) n lines t) (attempted place size line m)
+    within (attempted_rebuilds law place size line m)
+    (λ n t fits. ran_rebuilds law place separator refused (suc index) n lines t fits))
+
+-- so is what any event does
+same : (s : State) → Rebuilt 0 s.machine s.machine []
+same s = record { state = refl; fits = omega arith }
+
+of_ran_rebuilds : (c : ℕ) (s : State) (r : Ran) (ending : Ending) → Rebuilt 0 s.machine r.after r.ops →
+    let a = of_ran c s r ending in Rebuilt 0 s.machine a.after.machine a.ops
+of_ran_rebuilds c s r Answered h = record { state = h.state; fits = h.fits }
+of_ran_rebuilds c s r Closed h = record { state = h.state; fits = h.fits }
+of_ran_rebuilds c s r Killed h = record { state = h.state; fits = h.fits }
+of_ran_rebuilds c s r (Waits mask) h = record { state = h.state; fits = h.fits }
+
+runs_rebuilds : (c : ℕ) (s : State) (r : Ran) → Rebuilt 0 s.machine r.after r.ops →
+    let a = runs c s r in Rebuilt 0 s.machine a.after.machine a.ops
+runs_rebuilds c s r h = of_ran_rebuilds c s r r.ending h
+
+asked_rebuilds : (law : CommandsRebuild) (c : ℕ) (refused : Option ℕ) (s : State) (request : Request) →
+    let a = asked c refused s request in Rebuilt 0 s.machine a.after.machine a.ops
+asked_rebuilds law c refused s (Single line) =
+    runs_rebuilds c s _ (ran_rebuilds law Alone [] refused 0 0 (line ∷ []) s.machine (omega arith))
+asked_rebuilds law c refused s (CommandList lines) =
+    runs_rebuilds c s _ (ran_rebuilds law InList [] refused 0 0 lines s.machine (omega arith))
+asked_rebuilds law c refused s (OkList lines) =
+    runs_rebuilds c s _ (ran_rebuilds law InList list_ok refused 0 0 lines s.machine (omega arith))
+asked_rebuilds law c refused s Noidle = same s
+
+waiting_rebuilds : (noidle : Bool) (c : ℕ) (s : State) → let a = waits_no_more noidle c s in Rebuilt 0 s.machine a.after.machine a.ops
+waiting_rebuilds true c s = record { state = refl; fits = omega arith }
+waiting_rebuilds false c s = record { state = refl; fits = omega arith }
+
+requested_rebuilds : (law : CommandsRebuild) (c : ℕ) (refused : Option ℕ) (s : State) (request : Request)
+    (found : Option (Option Subsystems)) → let a = requested_by c refused s request found in Rebuilt 0 s.machine a.after.machine a.ops
+requested_rebuilds law c refused s request None = same s
+requested_rebuilds law c refused s request (Some None) = asked_rebuilds law c refused s request
+requested_rebuilds law c refused s request (Some (Some mask)) = waiting_rebuilds (is_noidle request) c s
+
+connect_rebuilds : (c : ℕ) (s : State) (found : Option Watched) →
+    let a = connects_client c s found in Rebuilt 0 s.machine a.after.machine a.ops
+connect_rebuilds c s None = record { state = refl; fits = omega arith }
+connect_rebuilds c s (Some w) = same s
+
+acted_rebuilds : (law : CommandsRebuild) (s : State) (event : Event) (refused : Option ℕ) →
+    let a = acted s event refused in Rebuilt 0 s.machine a.after.machine a.ops
+acted_rebuilds law s (events.Connect c) refused = connect_rebuilds c s (watched s.clients c)
+acted_rebuilds law s (events.Request c request) refused =
+    requested_rebuilds law c refused s request (waiting_of (watched s.clients c))
+acted_rebuilds law s (events.Gone c) refused = record { state = refl; fits = omega arith }
+acted_rebuilds law s (events.Fed ticket frames) refused = same s
+acted_rebuilds law s (events.Ended ticket) refused = same s
+acted_rebuilds law s (events.Broken ticket cause) refused = same s
+acted_rebuilds law s (events.Batch job changes) refused = same s
+acted_rebuilds law s (events.ScanDone job) refused = same s
+
+pub step_rebuilds : (law : CommandsRebuild) (s : State) (event : Event) (refused : Option ℕ) →
+    let r = step s event refused in Rebuilt 0 s.machine r.after.machine r.ops
+unfolding step
+step_rebuilds law s event refused =
+    let h = acted_rebuilds law s event refused in record { state = h.state; fits = h.fits }

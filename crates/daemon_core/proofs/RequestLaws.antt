@@ -1,45 +1,51 @@
 -- The commands of a request, one after the other.
-use Rattle.std.proofs.Common.{◌≡◌, ℕ, suc, ◌+◌, ◌≤◌, ◌<◌, Bool, true, false, ◌||◌, List, [], ◌∷◌, ◌++◌, length, Option, Some, None, refl, sym, ◌∙◌, ap, subst, arith, cond, append_assoc, eq-eqb}
-use Rattle.std.specs.Prelude.{Ok, Err, IfSome}
-use Rattle.std.proofs.lemmas.List.{append-nil}
+use Rattle.std.proofs.Common.{◌≡◌, ℕ, suc, ◌+◌, ◌≤◌, ◌<◌, Bool, true, false, ◌||◌, List, [], ◌∷◌, ◌++◌, length, Option, Some, None, cond}
+use Rattle.std.proofs.Common.{refl, sym, ◌∙◌, ap, subst, arith, append_assoc, eq-eqb}
+use Rattle.std.specs.Prelude.{Result, Ok, Err, IfSome}
 use Rattle.std.proofs.lemmas.Bool.{le-leb, ne_eqb}
-use Rattle.console_text.specs.declared.command.Command.{Command}
-use Rattle.console_text.specs.declared.command.Command.TheVariants.{Close, Consume, Kill, Ping, Random, Repeat, SetVolume, Single, Status}
-use Rattle.console_text.specs.declared.name.CommandName.{CommandName}
-use Rattle.console_text.specs.declared.place.Place.{Place}
-use Rattle.console_text.specs.declared.refusal.CommandRefusal.{CommandRefusal}
-use Rattle.console_text.specs.declared.refusal.CommandRefusal.TheVariants as refusals
-use Rattle.console_text.specs.declared.refusal.Refusal.{Refusal}
-use Rattle.console_text.specs.declared.refusal.Refusal.TheVariants.{OfCommand}
-use Rattle.console_text.specs.Reading.{line_reading, name_of, name_of_line, want_of_memory}
-use Rattle.console_text.specs.Answer.{ok, ack}
-use Rattle.idle_masks.specs.declared.subsystem.Subsystems.{Subsystems}
+use Rattle.std.proofs.lemmas.List.{append-nil}
+use Rattle.command_text.specs.Answer.{ok, ack}
+use Rattle.command_text.specs.Reading.{line_words, command_of, line_reading, command_in, name_of_line, want_of_memory, Gives, GivesWords}
+use Rattle.command_text.specs.declared.command.NamedCommand.{NamedCommand}
+use Rattle.command_text.specs.declared.place.Place.{Place}
+use Rattle.command_text.specs.declared.refusal.CommandRefusal.{CommandRefusal}
+use Rattle.command_text.specs.declared.refusal.CommandRefusal.TheVariants.{RequestTooLarge}
+use Rattle.command_text.specs.declared.refusal.ReadError.{ReadError}
+use Rattle.command_text.specs.declared.refusal.ReadError.TheVariants as errors
+use Rattle.command_text.specs.declared.refusal.Refusal.{Refusal}
+use Rattle.command_text.specs.declared.refusal.Refusal.TheVariants.{OfCommand}
 use Rattle.idle_masks.specs.Subsystems.{contains, none, union}
-use Rattle.console_codec.specs.declared.op.Op.{Op}
-use Rattle.console_codec.specs.Spelling.{ops_bytes}
-use Rattle.daemon_core.specs.declared.outcome.Ending.{Ending}
-use Rattle.daemon_core.specs.declared.outcome.Ending.TheVariants.{Answered, Closed, Killed}
-use Rattle.daemon_core.specs.declared.work.Work.{Work}
-use Rattle.daemon_core.specs.declared.work.Failure.TheVariants.{Refused}
-use Rattle.daemon_core.specs.declared.request.Attempt.{Attempt}
-use Rattle.daemon_core.specs.declared.request.Attempt.TheVariants as attempt
+use Rattle.idle_masks.specs.declared.subsystem.Subsystems.{Subsystems}
+use Rattle.machine_core.specs.Changed.{changed}
+use Rattle.machine_core.specs.Command.{meaning}
+use Rattle.machine_core.specs.Meaning.{Meaning, Meant}
+use Rattle.machine_core.specs.Size.{max_request_bytes, within}
+use Rattle.machine_core.specs.State.{MachineState}
+use Rattle.machine_core.specs.Work.{AddsNothing, AddsOps, AddsText, HasRoom, Went, ack_room}
+use Rattle.machine_core.specs.declared.work.Work.{Work}
+use Rattle.state_codec.specs.Spelling.{ops_bytes}
+use Rattle.state_codec.specs.declared.op.Op.{Op}
+use Rattle.daemon_core.specs.Handled.{Does}
+use Rattle.daemon_core.specs.Parts.{state_of}
+use Rattle.daemon_core.specs.Request.{stop_of_reading, ran_of, WentOn, IsStop, Stopped, RunsLine, HasRoomToStop, AnswersStop}
+use Rattle.daemon_core.specs.Request.{RunsLines}
+use Rattle.daemon_core.specs.Room.{KeepsRoom, HasRoomToEnd}
+use Rattle.daemon_core.specs.Session.{of_ran, runs}
 use Rattle.daemon_core.specs.State.{State}
-use Rattle.daemon_core.specs.Changed.{changed}
-use Rattle.daemon_core.specs.Meaning.{meaning, ops_of}
-use Rattle.daemon_core.specs.Run.{Did, Goes, Refuses, Closes, Kills, within, performed, read_and_performed, attempted, Ran, ends, wants_memory, preceded, follow, is_refused_at, ran, max_request_bytes}
-use Rattle.daemon_core.specs.declared.request.RunEnd.{RunEnd}
-use Rattle.daemon_core.specs.Work.{Ran as IsRan, AddsOps, AddsNothing, AddsText, IsRefusalOf, EndsWith, Went, WentOn, Attempts, HasRoom, want_room}
+use Rattle.daemon_core.specs.Run.{Did, Goes, Refuses, Ends, ending_of, did_of, unless_it_ends, performed, read_and_performed, attempted}
+use Rattle.daemon_core.specs.Run.{Ran, ends, wants_memory, preceded, follow, is_refused_at, ran}
+use Rattle.daemon_core.specs.declared.outcome.Ending.{Ending}
+use Rattle.daemon_core.specs.declared.handled.Handled.{Handled}
+use Rattle.daemon_core.specs.declared.outcome.Ending.TheVariants.{Answered, Closed, Killed, Waits}
+use Rattle.daemon_core.specs.declared.parts.CoreParts.{CoreParts}
+use Rattle.daemon_core.specs.declared.request.RequestEnd.{RequestEnd}
+use Rattle.daemon_core.specs.declared.request.Stop.{Stop}
+use Rattle.daemon_core.specs.declared.room.Room.{Room}
+use Rattle.idle_masks.specs.declared.watch.Watched.{Watched}
+use Rattle.daemon_core.specs.declared.request.Stop.TheVariants as stops
 use Rattle.daemon_core.proofs.PendingLaws.{contains-set_of, set_ext}
 
 -- Room that was taken before changes nothing.
-ends_from : (line : List ℕ) (s t : State) (before mid after : Work) → AddsNothing before mid → EndsWith line s t mid after → EndsWith line s t before after
-ends_from line s t before mid after nothing done = record {
-  state = done.state;
-  written = done.written ∙ ap (λ x. x ++ line) nothing.text;
-  ops = done.ops ∙ nothing.ops;
-  size = done.size ∙ nothing.size;
-}
-
 adds_from : (more : List Op) (before mid after : Work) → AddsNothing before mid → AddsOps more mid after → AddsOps more before after
 adds_from more before mid after nothing adds = record {
   ops = adds.ops ∙ ap (λ x. x ++ more) nothing.ops;
@@ -47,67 +53,76 @@ adds_from more before mid after nothing adds = record {
   fits = adds.fits;
 }
 
-pub attempts_from : (index : ℕ) (between line : List ℕ) (did : Did) (s t : State) (before mid after : Work) (r : Attempt) → AddsNothing before mid →
-    Attempts index between line did s t mid after r → Attempts index between line did s t before after r
-attempts_from index between line did s t before mid after (attempt.Goes set) nothing h = record {
-  text = h.text;
-  ops = h.ops;
-  did = h.did;
-  written = h.written ∙ ap (λ x. x ++ (h.text ++ between)) nothing.text;
-  added = adds_from h.ops before mid after nothing h.added;
+nothing_from : (before mid after : Work) → AddsNothing before mid → AddsNothing mid after → AddsNothing before after
+nothing_from before mid after first second = record {
+  text = second.text ∙ first.text;
+  room = omega (arith, first.room, second.room);
+  ops = second.ops ∙ first.ops;
+  size = second.size ∙ first.size;
+}
+
+pub runs_from : (between : List ℕ) (did : Did) (s t : MachineState) (before mid after : Work) (r : Result Subsystems Stop) →
+    AddsNothing before mid → RunsLine between did s t mid after r → RunsLine between did s t before after r
+runs_from between did s t before mid after (Ok set) nothing h = record {
+  meaning = h.meaning;
+  means = h.means;
+  stands = h.stands;
+  text = h.text ∙ (let m = h.meaning in ap (λ x. x ++ (m.text ++ between)) nothing.text);
+  ops = let m = h.meaning in adds_from m.ops before mid after nothing h.ops;
   changed = h.changed;
   room = h.room;
 }
-attempts_from index between line did s t before mid after attempt.Refused nothing h = (h.0, h.1, ends_from _ s t before mid after nothing h.2)
-attempts_from index between line did s t before mid after attempt.NoMemory nothing h = ends_from _ s t before mid after nothing h
-attempts_from index between line did s t before mid after attempt.Closes nothing h = (h.0, ends_from _ s t before mid after nothing h.1)
-attempts_from index between line did s t before mid after attempt.Kills nothing h = (h.0, ends_from _ s t before mid after nothing h.1)
+runs_from between did s t before mid after (Err stop) nothing h =
+    record { stands = h.stands; nothing = nothing_from before mid after nothing h.nothing; why = h.why }
 
--- a line that was read, or refused
-pub read_performed : (place : Place) (size : ℕ) (line : List ℕ) (s : State) (command : Command) → line_reading place line ≡ Ok command →
-    performed size command s ≡ attempted place size line s
-unfolding attempted
-read_performed place size line s command read = ap (read_and_performed size s) (sym read)
+-- a line that was read
+pub read_performed : (place : Place) (size : ℕ) (line : List ℕ) (words : List (List ℕ)) (m : MachineState) (named : NamedCommand) →
+    line_words line ≡ Ok words → command_of place words ≡ Ok named → performed size named m ≡ attempted place size line m
+unfolding attempted line_reading
+read_performed place size line words m named parted read =
+    sym (ap (λ w. read_and_performed size m (command_in place w)) parted ∙ ap (read_and_performed size m) read)
 
-pub read_refused : (place : Place) (size : ℕ) (line : List ℕ) (s : State) (refusal : Refusal) → line_reading place line ≡ Err refusal →
-    Refuses refusal ≡ attempted place size line s
-unfolding attempted
-read_refused place size line s refusal read = ap (read_and_performed size s) (sym read)
+-- a line whose words were refused, or that no command is read from
+pub words_refused : (place : Place) (size : ℕ) (line : List ℕ) (m : MachineState) (refusal : Refusal) → line_words line ≡ Err refusal →
+    attempted place size line m ≡ Refuses refusal
+unfolding attempted line_reading
+words_refused place size line m refusal parted = ap (λ w. read_and_performed size m (command_in place w)) parted
 
--- any command but `close` and `kill` does what it means
-pub performed_other : (size : ℕ) (command : Command) (s : State) → (command ≡ Close → ⊥) → (command ≡ Kill → ⊥) →
-    performed size command s ≡ within size (name_of command) (meaning command s) (ops_of command s)
-performed_other size Close s close kill = absurd (close refl)
-performed_other size (Consume on) s close kill = refl
-performed_other size Kill s close kill = absurd (kill refl)
-performed_other size Ping s close kill = refl
-performed_other size (Random on) s close kill = refl
-performed_other size (Repeat on) s close kill = refl
-performed_other size (SetVolume volume) s close kill = refl
-performed_other size (Single single) s close kill = refl
-performed_other size Status s close kill = refl
+pub command_refused : (place : Place) (size : ℕ) (line : List ℕ) (words : List (List ℕ)) (m : MachineState) (refusal : Refusal) →
+    line_words line ≡ Ok words → command_of place words ≡ Err refusal → attempted place size line m ≡ Refuses refusal
+unfolding attempted line_reading
+command_refused place size line words m refusal parted read =
+    ap (λ w. read_and_performed size m (command_in place w)) parted ∙ ap (read_and_performed size m) read
 
--- a command that went well within the request's size
-pub goes : (command : Command) (s t : State) (before after : Work) (lines : List ℕ) (set : Subsystems) → Went command s t before after lines set →
-    within before.size (name_of command) (meaning command s) (ops_of command s) ≡ Goes lines t (ops_of command s)
-goes command s t before after lines set h =
-    ap (λ m. within before.size (name_of command) m (ops_of command s)) h.meant
-    ∙ ap (λ b. cond b (Goes lines t (ops_of command s)) (Refuses (OfCommand (name_of command) refusals.RequestTooLarge)))
-    (le-leb (before.size + length (ops_bytes (ops_of command s))) max_request_bytes (let a = h.ops in omega (arith, a.size, a.fits)))
+-- a command that ends its request, and one that means something
+pub performed_ends : (size : ℕ) (named : NamedCommand) (m : MachineState) (ending : Ending) → ending_of named.command ≡ Some ending →
+    performed size named m ≡ Ends ending
+unfolding performed
+performed_ends size named m ending is =
+    ap (λ e. unless_it_ends e (did_of named.name (within size (meaning named.command m)))) is
 
--- a refused command ends the request
-pub refused_so : (index : ℕ) (between line : List ℕ) (did : Did) (refusal : Refusal) (s t : State) (before mid after : Work) (r : Attempt) →
-    did ≡ Refuses refusal → t ≡ s → AddsNothing before mid → Attempts index between line (Refuses refusal) s s mid after r →
-    Attempts index between line did s t before after r
-refused_so index between line did refusal s t before mid after r is same nothing h =
-    subst (λ u. Attempts index between line did s u before after r) (sym same)
-    (attempts_from index between line did s s before mid after r nothing
-    (subst (λ d. Attempts index between line d s s mid after r) (sym is) h))
+performed_did : (size : ℕ) (named : NamedCommand) (m : MachineState) (meant : Meant) → ending_of named.command ≡ None →
+    within size (meaning named.command m) ≡ meant → performed size named m ≡ did_of named.name meant
+unfolding performed
+performed_did size named m meant is same =
+    ap (λ e. unless_it_ends e (did_of named.name (within size (meaning named.command m)))) is ∙ ap (did_of named.name) same
 
-pub refused_command : (size : ℕ) (command : Command) (s : State) (name : CommandName) (refusal : CommandRefusal) → (command ≡ Close → ⊥) → (command ≡ Kill → ⊥) →
-    name ≡ name_of command → IsRefusalOf command s size (Refused refusal) → performed size command s ≡ Refuses (OfCommand name refusal)
-refused_command size command s name refusal close kill named h =
-    performed_other size command s close kill ∙ h ∙ ap (λ n. Refuses (OfCommand n refusal)) (sym named)
+pub performed_refuses : (size : ℕ) (named : NamedCommand) (m : MachineState) (refusal : CommandRefusal) →
+    ending_of named.command ≡ None → within size (meaning named.command m) ≡ Err refusal →
+    performed size named m ≡ Refuses (OfCommand named.name refusal)
+performed_refuses size named m refusal is same = performed_did size named m (Err refusal) is same
+
+within_limit : (size : ℕ) (x : Meaning) → size + length (ops_bytes x.ops) ≤ max_request_bytes → within size (Ok x) ≡ Ok x
+within_limit size x fits =
+    ap (λ b. cond b (Ok x) (Err RequestTooLarge)) (le-leb (size + length (ops_bytes x.ops)) max_request_bytes fits)
+
+pub performed_goes : (named : NamedCommand) (s t : MachineState) (before after : Work)
+    (went : Went (meaning named.command s) t before after) →
+    ending_of named.command ≡ None → performed before.size named s ≡ Goes went.meaning
+performed_goes named s t before after went is =
+    let x : Meaning = went.meaning in
+    performed_did before.size named s (Ok x) is
+    (ap (within before.size) went.means ∙ within_limit before.size x (let a = went.ops in omega (arith, a.size, a.fits)))
 
 -- Sets of subsystems join in any grouping.
 or_assoc : (a b c : Bool) → ((a || b) || c) ≡ (a || (b || c))
@@ -148,25 +163,34 @@ preceded_twice t u a b os ps r = λ i. record {
 }
 
 preceded_none : (r : Ran) → preceded [] none [] r ≡ r
-preceded_none r = λ i. record { after = r.after; text = r.text; changed = union-none r.changed i; ops = r.ops; ending = r.ending; refused_at = r.refused_at }
+preceded_none r = λ i. record {
+  after = r.after;
+  text = r.text;
+  changed = union-none r.changed i;
+  ops = r.ops;
+  ending = r.ending;
+  refused_at = r.refused_at;
+}
 
 -- memory was not refused before this command
 abbrev pub NotBefore : ℕ → Option ℕ → Type 0
 NotBefore index refused = IfSome refused (λ place. index ≤ place)
 
 -- What was done so far: what is left of the request, done from here, makes it whole.
-pub record SoFar (place : Place) (between : List ℕ) (lines rest : List (List ℕ)) (index : ℕ) (first s : State) (before now : Work) (changes : Subsystems) : Type 0 where
+pub record SoFar
+    (place : Place) (between : List ℕ) (lines rest : List (List ℕ)) (index : ℕ) (first m : MachineState) (before now : Work)
+    (changes : Subsystems) : Type 0 where
   pub text : List ℕ
   pub made : List Op
   pub written : now.text.items ≡ before.text.items ++ text
   pub ops : now.ops.items ≡ before.ops.items ++ made
-  pub room : HasRoom want_room now
+  pub room : HasRoom ack_room now
   pub left : index + length rest ≡ length lines
   pub whole : (refused : Option ℕ) → NotBefore index refused →
-      ran place between refused 0 before.size lines first ≡ preceded text changes made (ran place between refused index now.size rest s)
+      ran place between refused 0 before.size lines first ≡ preceded text changes made (ran place between refused index now.size rest m)
 
-pub so_far_begins : (place : Place) (between : List ℕ) (lines : List (List ℕ)) (first : State) (before : Work) → HasRoom want_room before →
-    SoFar place between lines lines 0 first first before before none
+pub so_far_begins : (place : Place) (between : List ℕ) (lines : List (List ℕ)) (first : MachineState) (before : Work) →
+    HasRoom ack_room before → SoFar place between lines lines 0 first first before before none
 so_far_begins place between lines first before room = record {
   text = [];
   made = [];
@@ -185,131 +209,281 @@ later_before : (index : ℕ) (refused : Option ℕ) → NotBefore (suc index) re
 later_before index None h = tt
 later_before index (Some place) h = omega (arith, h)
 
--- one command went well
-pub so_far_goes : (place : Place) (between : List ℕ) (lines rest : List (List ℕ)) (line : List ℕ) (index : ℕ) (first s t : State) (before now after : Work) (changes set : Subsystems) →
-    SoFar place between lines (line ∷ rest) index first s before now changes → WentOn index between (attempted place now.size line s) s t now after set →
-    SoFar place between lines rest (suc index) first t before after (union changes set)
+-- the rest of a request behind its next command, which goes well
+next_goes : (place : Place) (between line : List ℕ) (rest : List (List ℕ)) (index size : ℕ) (refused : Option ℕ) (s : MachineState)
+    (x : Meaning) → is_refused_at refused index ≡ false → attempted place size line s ≡ Goes x →
+    ran place between refused index size (line ∷ rest) s
+    ≡ preceded (x.text ++ between) (changed s x.after) x.ops
+    (ran place between refused (suc index) (size + length (ops_bytes x.ops)) rest x.after)
 unfolding ran
-so_far_goes place between lines rest line index first s t before now after changes set far went = record {
-  text = far.text ++ (went.text ++ between);
-  made = far.made ++ went.ops;
-  written = went.written ∙ ap (λ x. x ++ (went.text ++ between)) far.written ∙ append_assoc before.text.items far.text (went.text ++ between);
-  ops = let a = went.added in a.ops ∙ ap (λ x. x ++ went.ops) far.ops ∙ append_assoc before.ops.items far.made went.ops;
-  room = went.room;
-  left = omega (arith, far.left);
-  whole = λ refused later.
-      let a = went.added in
-      far.whole refused (later_before index refused later)
-      ∙ ap (λ b. preceded far.text changes far.made (cond b (wants_memory s index line)
-      (follow between index now.size s (λ n u. ran place between refused (suc index) n rest u) (attempted place now.size line s)))) (later_is_not index refused later)
-      ∙ ap (λ d. preceded far.text changes far.made (follow between index now.size s (λ n u. ran place between refused (suc index) n rest u) d)) went.did
-      ∙ preceded_twice far.text (went.text ++ between) changes (changed s t) far.made went.ops (ran place between refused (suc index) (now.size + length (ops_bytes went.ops)) rest t)
-      ∙ ap (λ n. preceded (far.text ++ (went.text ++ between)) (union changes (changed s t)) (far.made ++ went.ops) (ran place between refused (suc index) n rest t)) (sym a.size)
-      ∙ ap (λ c. preceded (far.text ++ (went.text ++ between)) (union changes c) (far.made ++ went.ops) (ran place between refused (suc index) after.size rest t)) (sym went.changed);
-}
-
--- how a request ends at its next command: refused, at want of memory, by `close`, by `kill`, or behind its last one
-pub next_refused : (place : Place) (between : List ℕ) (line : List ℕ) (rest : List (List ℕ)) (index size : ℕ) (s : State) (refusal : Refusal) →
-    attempted place size line s ≡ Refuses refusal → ran place between None index size (line ∷ rest) s ≡ ends s (ack index refusal) Answered
-unfolding ran
-next_refused place between line rest index size s refusal did = ap (follow between index size s (λ n u. ran place between None (suc index) n rest u)) did
-
-pub next_wants : (place : Place) (between : List ℕ) (line : List ℕ) (rest : List (List ℕ)) (index size : ℕ) (s : State) →
-    ran place between (Some index) index size (line ∷ rest) s ≡ wants_memory s index line
-unfolding ran
-next_wants place between line rest index size s =
+next_goes place between line rest index size refused s x here did =
     ap (λ b. cond b (wants_memory s index line)
-    (follow between index size s (λ n u. ran place between (Some index) (suc index) n rest u) (attempted place size line s))) (eq-eqb index index refl)
+    (follow between index size s (λ n u. ran place between refused (suc index) n rest u) (attempted place size line s))) here
+    ∙ ap (follow between index size s (λ n u. ran place between refused (suc index) n rest u)) did
 
-pub next_closes : (place : Place) (between : List ℕ) (line : List ℕ) (rest : List (List ℕ)) (index size : ℕ) (s : State) →
-    attempted place size line s ≡ Closes → ran place between None index size (line ∷ rest) s ≡ ends s [] Closed
+-- one command went well
+pub so_far_goes : (place : Place) (between : List ℕ) (lines rest : List (List ℕ)) (line : List ℕ) (index : ℕ)
+    (first s t : MachineState) (before now after : Work) (changes set : Subsystems) →
+    SoFar place between lines (line ∷ rest) index first s before now changes →
+    WentOn between (attempted place now.size line s) s t now after set →
+    SoFar place between lines rest (suc index) first t before after (union changes set)
+so_far_goes place between lines rest line index first s t before now after changes set far went =
+    let x : Meaning = went.meaning in
+    let a = went.ops in
+    record {
+      text = far.text ++ (x.text ++ between);
+      made = far.made ++ x.ops;
+      written = went.text ∙ ap (λ y. y ++ (x.text ++ between)) far.written
+          ∙ append_assoc before.text.items far.text (x.text ++ between);
+      ops = a.ops ∙ ap (λ y. y ++ x.ops) far.ops ∙ append_assoc before.ops.items far.made x.ops;
+      room = went.room;
+      left = omega (arith, far.left);
+      whole = λ refused later.
+          far.whole refused (later_before index refused later)
+          ∙ ap (preceded far.text changes far.made)
+          (next_goes place between line rest index now.size refused s x (later_is_not index refused later) went.means)
+          ∙ preceded_twice far.text (x.text ++ between) changes (changed s x.after) far.made x.ops
+          (ran place between refused (suc index) (now.size + length (ops_bytes x.ops)) rest x.after)
+          ∙ (λ i. preceded (far.text ++ (x.text ++ between)) (union changes (changed s (sym went.stands i))) (far.made ++ x.ops)
+          (ran place between refused (suc index) (sym a.size i) rest (sym went.stands i)))
+          ∙ ap (λ c. preceded (far.text ++ (x.text ++ between)) (union changes c) (far.made ++ x.ops)
+          (ran place between refused (suc index) after.size rest t)) (sym went.changed);
+    }
+
+-- what the answer to a stop makes of the rest of a request
+pub record StopsIt
+    (place : Place) (between line : List ℕ) (rest : List (List ℕ)) (index size : ℕ) (s : MachineState) (refused : Option ℕ)
+    (ending : Ending) (work done : Work) : Type 0 where
+  pub text : List ℕ
+  pub same : ran place between refused index size (line ∷ rest) s ≡ record (ends s text ending) { refused_at = refused }
+  pub adds : AddsText text work done
+  pub later : NotBefore index refused
+  pub within : IfSome refused (λ at. at ≡ index)
+
+pub stops_it : (place : Place) (between line : List ℕ) (rest : List (List ℕ)) (index size : ℕ) (s : MachineState) (stop : Stop)
+    (refused : Option ℕ) (ending : Ending) (work done : Work) → IsStop (attempted place size line s) stop →
+    AnswersStop stop index line refused ending work done → StopsIt place between line rest index size s refused ending work done
 unfolding ran
-next_closes place between line rest index size s did = ap (follow between index size s (λ n u. ran place between None (suc index) n rest u)) did
+stops_it place between line rest index size s (stops.Ends it) None ending work done did answer = record {
+  text = [];
+  same = ap (follow between index size s (λ n u. ran place between None (suc index) n rest u)) did ∙ ap (ends s []) (sym answer.0);
+  adds = answer.1;
+  later = tt;
+  within = tt;
+}
+stops_it place between line rest index size s (stops.Refused refusal) None ending work done did answer = record {
+  text = ack index refusal;
+  same = ap (follow between index size s (λ n u. ran place between None (suc index) n rest u)) did
+      ∙ ap (ends s (ack index refusal)) (sym answer.0);
+  adds = answer.1;
+  later = tt;
+  within = tt;
+}
+stops_it place between line rest index size s stops.NoMemory None ending work done did answer = absurd answer
+stops_it place between line rest index size s stop (Some at) ending work done did answer =
+    let wants = answer.1 in
+    record {
+      text = ack index (want_of_memory (name_of_line line));
+      same = ap (λ b. cond b (wants_memory s index line)
+          (follow between index size s (λ n u. ran place between (Some at) (suc index) n rest u) (attempted place size line s)))
+          (eq-eqb at index answer.0)
+          ∙ (λ i. record (ends s (ack index (want_of_memory (name_of_line line))) (sym wants.0 i)) { refused_at = Some (sym answer.0 i) });
+      adds = wants.1;
+      later = omega (arith, answer.0);
+      within = answer.0;
+    }
 
-pub next_kills : (place : Place) (between : List ℕ) (line : List ℕ) (rest : List (List ℕ)) (index size : ℕ) (s : State) →
-    attempted place size line s ≡ Kills → ran place between None index size (line ∷ rest) s ≡ ends s [] Killed
-unfolding ran
-next_kills place between line rest index size s did = ap (follow between index size s (λ n u. ran place between None (suc index) n rest u)) did
+-- the request has ended
+ran_ends : (place : Place) (between : List ℕ) (lines rest : List (List ℕ)) (index : ℕ) (first s : MachineState) (before now after : Work)
+    (changes : Subsystems) (refused : Option ℕ) (text : List ℕ) (ending : Ending) →
+    SoFar place between lines rest index first s before now changes → NotBefore index refused →
+    ran place between refused index now.size rest s ≡ record (ends s text ending) { refused_at = refused } → AddsText text now after →
+    IfSome refused (λ at. at < length lines) →
+    RunsLines place between lines first s before after (record { ending = ending; changed = changes; refused_at = refused })
+ran_ends place between lines rest index first s before now after changes refused text ending far later ended adds within =
+    let whole : ran place between refused 0 before.size lines first
+    ≡ preceded far.text changes far.made (record (ends s text ending) { refused_at = refused }) =
+    far.whole refused later ∙ ap (preceded far.text changes far.made) ended in
+    record {
+      stands = sym (ap (λ r. r.after) whole);
+      text = adds.text ∙ ap (λ x. x ++ text) far.written ∙ append_assoc before.text.items far.text text
+          ∙ sym (ap (λ r. before.text.items ++ r.text) whole);
+      ops = adds.ops ∙ far.ops
+          ∙ sym (ap (λ r. before.ops.items ++ r.ops) whole ∙ ap (λ x. before.ops.items ++ x) (append-nil far.made));
+      changed = sym (ap (λ r. r.changed) whole ∙ union_none_right changes);
+      ending = sym (ap (λ r. r.ending) whole);
+      refused_at = sym (ap (λ r. r.refused_at) whole);
+      within = within;
+    }
 
-pub next_none : (place : Place) (between : List ℕ) (index size : ℕ) (s : State) → ran place between None index size [] s ≡ ends s ok Answered
+at_within : (index count : ℕ) (refused : Option ℕ) → index < count → IfSome refused (λ at. at ≡ index) → IfSome refused (λ at. at < count)
+at_within index count None below h = tt
+at_within index count (Some at) below h = omega (arith, below, h)
+
+first_left : (place : Place) (between : List ℕ) (lines whole rest : List (List ℕ)) (bytes line : List ℕ) (index : ℕ)
+    (first s : MachineState) (before now : Work) (changes : Subsystems) → whole ≡ line ∷ rest → bytes ≡ line →
+    SoFar place between lines whole index first s before now changes →
+    SoFar place between lines (bytes ∷ rest) index first s before now changes
+first_left place between lines whole rest bytes line index first s before now changes parts same far =
+    subst (λ r. SoFar place between lines r index first s before now changes) (parts ∙ ap (λ b. b ∷ rest) (sym same)) far
+
+-- the next command stopped it
+pub ran_stops : (place : Place) (between : List ℕ) (lines whole rest : List (List ℕ)) (bytes line : List ℕ) (index : ℕ)
+    (first s t : MachineState) (before now mid after : Work) (changes : Subsystems) (stop : Stop) (refused : Option ℕ) (ending : Ending) →
+    whole ≡ line ∷ rest → bytes ≡ line → SoFar place between lines whole index first s before now changes →
+    Stopped (attempted place now.size bytes s) s t now mid stop → AnswersStop stop index bytes refused ending mid after →
+    RunsLines place between lines first t before after (record { ending = ending; changed = changes; refused_at = refused })
+ran_stops place between lines whole rest bytes line index first s t before now mid after changes stop refused ending parts same far
+    stopped answer =
+    let far : SoFar place between lines (bytes ∷ rest) index first s before now changes =
+    first_left place between lines whole rest bytes line index first s before now changes parts same far in
+    let it = stops_it place between bytes rest index now.size s stop refused ending mid after stopped.why answer in
+    let nothing = stopped.nothing in
+    let adds = it.adds in
+    subst (λ u. RunsLines place between lines first u before after (record { ending = ending; changed = changes; refused_at = refused }))
+    (sym stopped.stands)
+    (ran_ends place between lines (bytes ∷ rest) index first s before now after changes refused it.text ending far it.later it.same
+    (record {
+      text = adds.text ∙ ap (λ x. x ++ it.text) nothing.text;
+      ops = adds.ops ∙ nothing.ops;
+      size = adds.size ∙ nothing.size;
+    })
+    (at_within index (length lines) refused (omega (arith, far.left)) it.within))
+
+pub ran_goes : (place : Place) (between : List ℕ) (lines whole rest : List (List ℕ)) (bytes line : List ℕ) (index : ℕ)
+    (first s t : MachineState) (before now after : Work) (changes set : Subsystems) → whole ≡ line ∷ rest → bytes ≡ line →
+    SoFar place between lines whole index first s before now changes →
+    WentOn between (attempted place now.size bytes s) s t now after set →
+    SoFar place between lines rest (index + 1) first t before after (union changes set)
+ran_goes place between lines whole rest bytes line index first s t before now after changes set parts same far h =
+    subst (λ n. SoFar place between lines rest n first t before after (union changes set)) (omega arith)
+    (so_far_goes place between lines rest bytes index first s t before now after changes set
+    (first_left place between lines whole rest bytes line index first s before now changes parts same far) h)
+
+next_none : (place : Place) (between : List ℕ) (index size : ℕ) (s : MachineState) →
+    ran place between None index size [] s ≡ ends s ok Answered
 unfolding ran
 next_none place between index size s = refl
 
--- the request has ended
-pub ran_ends : (place : Place) (between : List ℕ) (lines rest : List (List ℕ)) (index : ℕ) (first s t : State) (before now after : Work) (changes : Subsystems) (refused : Option ℕ) (line : List ℕ) (ending : Ending) (done : RunEnd) →
-    SoFar place between lines rest index first s before now changes → NotBefore index refused →
-    ran place between refused index now.size rest s ≡ record (ends s line ending) { refused_at = refused } → EndsWith line s t now after →
-    done.refused_at ≡ refused → done.changed ≡ changes → done.ending ≡ ending → IfSome refused (λ n. n < length lines) →
-    IsRan place between lines first t before after done
-ran_ends place between lines rest index first s t before now after changes refused line ending done far not_before ended ends_with at changed_is ending_is within =
-    let whole : ran place between done.refused_at 0 before.size lines first ≡ preceded far.text changes far.made (record (ends s line ending) { refused_at = refused }) =
-    ap (λ r. ran place between r 0 before.size lines first) at ∙ far.whole refused not_before ∙ ap (preceded far.text changes far.made) ended in
+pub ran_all : (place : Place) (between : List ℕ) (lines rest : List (List ℕ)) (index : ℕ) (first s : MachineState)
+    (before now after : Work) (changes : Subsystems) → length rest ≡ 0 →
+    SoFar place between lines rest index first s before now changes → AddsText ok now after →
+    RunsLines place between lines first s before after (record { ending = Answered; changed = changes; refused_at = None })
+ran_all place between lines [] index first s before now after changes empty far h =
+    ran_ends place between lines [] index first s before now after changes None ok Answered far tt
+    (next_none place between index now.size s) h tt
+ran_all place between lines (r ∷ rest) index first s before now after changes empty far h = absurd (omega (arith, empty))
+
+-- a command that went well, and what stands behind it
+pub went_on : (named : NamedCommand) (separator : List ℕ) (s t : MachineState) (before mid after : Work) (set : Subsystems) →
+    Went (meaning named.command s) t before mid → ending_of named.command ≡ None → AddsText separator mid after →
+    HasRoom ack_room after → set ≡ changed s t → WentOn separator (performed before.size named s) s t before after set
+went_on named separator s t before mid after set went is adds room same =
+    let x : Meaning = went.meaning in
+    let a = went.ops in
     record {
-      state = ends_with.state ∙ sym (ap (λ r. r.after) whole);
-      written = ends_with.written ∙ ap (λ x. x ++ line) far.written ∙ append_assoc before.text.items far.text line ∙ sym (ap (λ r. before.text.items ++ r.text) whole);
-      made = ends_with.ops ∙ far.ops ∙ sym (ap (λ r. before.ops.items ++ r.ops) whole ∙ ap (λ x. before.ops.items ++ x) (append-nil far.made));
-      changed = changed_is ∙ sym (ap (λ r. r.changed) whole ∙ union_none_right changes);
-      ending = ending_is ∙ sym (ap (λ r. r.ending) whole);
-      reached = at ∙ sym (ap (λ r. r.refused_at) whole);
-      refused = subst (λ r. IfSome r (λ n. n < length lines)) (sym at) within;
+      meaning = x;
+      means = performed_goes named s t before mid went is;
+      stands = went.stands;
+      text = adds.text ∙ ap (λ y. y ++ separator) went.text ∙ append_assoc before.text.items x.text separator;
+      ops = record { ops = adds.ops ∙ a.ops; size = adds.size ∙ a.size; fits = omega (arith, adds.size, a.fits) };
+      changed = same;
+      room = room;
     }
 
--- The same from what one attempt answered, where the line is the first of those that are left.
-first_left : (place : Place) (between : List ℕ) (lines whole_rest rest : List (List ℕ)) (bytes line : List ℕ) (index : ℕ) (first s : State) (before now : Work) (changes : Subsystems) →
-    whole_rest ≡ line ∷ rest → bytes ≡ line → SoFar place between lines whole_rest index first s before now changes → SoFar place between lines (bytes ∷ rest) index first s before now changes
-first_left place between lines whole_rest rest bytes line index first s before now changes parts same far =
-    subst (λ r. SoFar place between lines r index first s before now changes) (parts ∙ ap (λ b. b ∷ rest) (sym same)) far
+-- a line of which no words, or no command, were read
+pub words_stop : (place : Place) (size : ℕ) (line : List ℕ) (m : MachineState) (error : ReadError) (stop : Stop) →
+    GivesWords (Err error) (line_words line) → stop ≡ stop_of_reading error → IsStop (attempted place size line m) stop
+words_stop place size line m (errors.Refused refusal) stop read is =
+    subst (IsStop (attempted place size line m)) (sym is) (words_refused place size line m refusal read)
+words_stop place size line m errors.NoMemory stop read is = subst (IsStop (attempted place size line m)) (sym is) tt
 
-pub ran_refused : (place : Place) (between : List ℕ) (lines whole_rest rest : List (List ℕ)) (bytes line : List ℕ) (index : ℕ) (first s t : State) (before now after : Work) (changes : Subsystems) →
-    whole_rest ≡ line ∷ rest → bytes ≡ line → SoFar place between lines whole_rest index first s before now changes →
-    Attempts index between bytes (attempted place now.size bytes s) s t now after attempt.Refused →
-    IsRan place between lines first t before after (record { ending = Answered; changed = changes; refused_at = None })
-ran_refused place between lines whole_rest rest bytes line index first s t before now after changes parts same far h =
-    ran_ends place between lines (bytes ∷ rest) index first s t before now after changes None (ack index h.0) Answered _
-    (first_left place between lines whole_rest rest bytes line index first s before now changes parts same far) tt
-    (next_refused place between bytes rest index now.size s h.0 h.1) h.2 refl refl refl tt
+pub command_stop : (place : Place) (size : ℕ) (line : List ℕ) (words slice : List (List ℕ)) (m : MachineState) (error : ReadError)
+    (stop : Stop) → line_words line ≡ Ok words → slice ≡ words → Gives {A = NamedCommand} (Err error) (command_of place slice) →
+    stop ≡ stop_of_reading error → IsStop (attempted place size line m) stop
+command_stop place size line words slice m (errors.Refused refusal) stop parted same read is =
+    subst (IsStop (attempted place size line m)) (sym is)
+    (command_refused place size line slice m refusal (parted ∙ ap Ok (sym same)) read)
+command_stop place size line words slice m errors.NoMemory stop parted same read is =
+    subst (IsStop (attempted place size line m)) (sym is) tt
 
-pub ran_wants : (place : Place) (between : List ℕ) (lines whole_rest rest : List (List ℕ)) (bytes line : List ℕ) (index : ℕ) (first s t : State) (before now after : Work) (changes : Subsystems) →
-    whole_rest ≡ line ∷ rest → bytes ≡ line → SoFar place between lines whole_rest index first s before now changes →
-    Attempts index between bytes (attempted place now.size bytes s) s t now after attempt.NoMemory →
-    IsRan place between lines first t before after (record { ending = Answered; changed = changes; refused_at = Some index })
-ran_wants place between lines whole_rest rest bytes line index first s t before now after changes parts same far h =
-    ran_ends place between lines (bytes ∷ rest) index first s t before now after changes (Some index) (ack index (want_of_memory (name_of_line bytes))) Answered _
-    (first_left place between lines whole_rest rest bytes line index first s before now changes parts same far) (omega arith)
-    (next_wants place between bytes rest index now.size s) h refl refl refl
-    (let f = first_left place between lines whole_rest rest bytes line index first s before now changes parts same far in omega (arith, f.left))
+-- a command that was read runs as its line does
+pub line_runs : (place : Place) (between line : List ℕ) (words slice : List (List ℕ)) (named : NamedCommand) (s t : MachineState)
+    (before mid after : Work) (r : Result Subsystems Stop) → line_words line ≡ Ok words → slice ≡ words →
+    command_of place slice ≡ Ok named → AddsNothing before mid → RunsLine between (performed mid.size named s) s t mid after r →
+    RunsLine between (attempted place before.size line s) s t before after r
+line_runs place between line words slice named s t before mid after r parted same read nothing h =
+    runs_from between (attempted place before.size line s) s t before mid after r nothing
+    (subst (λ did. RunsLine between did s t mid after r)
+    (ap (λ n. performed n named s) nothing.size
+    ∙ read_performed place before.size line slice s named (parted ∙ ap Ok (sym same)) read) h)
 
-pub ran_closes : (place : Place) (between : List ℕ) (lines whole_rest rest : List (List ℕ)) (bytes line : List ℕ) (index : ℕ) (first s t : State) (before now after : Work) (changes : Subsystems) →
-    whole_rest ≡ line ∷ rest → bytes ≡ line → SoFar place between lines whole_rest index first s before now changes →
-    Attempts index between bytes (attempted place now.size bytes s) s t now after attempt.Closes →
-    IsRan place between lines first t before after (record { ending = Closed; changed = changes; refused_at = None })
-ran_closes place between lines whole_rest rest bytes line index first s t before now after changes parts same far h =
-    ran_ends place between lines (bytes ∷ rest) index first s t before now after changes None [] Closed _
-    (first_left place between lines whole_rest rest bytes line index first s before now changes parts same far) tt
-    (next_closes place between bytes rest index now.size s h.0) h.1 refl refl refl tt
+-- the room that a stop took is there for the request's end
+pub ends_with_room : (c : ℕ) (p : CoreParts) (stop : Stop) (index : ℕ) (line : List ℕ) (refused : Option ℕ) (ending : Ending)
+    (work done : Work) → HasRoomToStop c p stop → AnswersStop stop index line refused ending work done → HasRoomToEnd c ending p
+ends_with_room c p (stops.Ends it) index line None ending work done has answer =
+    subst (λ e. HasRoomToEnd c e p) (sym answer.0) has
+ends_with_room c p (stops.Refused refusal) index line None ending work done has answer =
+    subst (λ e. HasRoomToEnd c e p) (sym answer.0) tt
+ends_with_room c p stops.NoMemory index line None ending work done has answer = absurd answer
+ends_with_room c p stop index line (Some at) ending work done has answer =
+    let wants = answer.1 in subst (λ e. HasRoomToEnd c e p) (sym wants.0) tt
 
-pub ran_kills : (place : Place) (between : List ℕ) (lines whole_rest rest : List (List ℕ)) (bytes line : List ℕ) (index : ℕ) (first s t : State) (before now after : Work) (changes : Subsystems) →
-    whole_rest ≡ line ∷ rest → bytes ≡ line → SoFar place between lines whole_rest index first s before now changes →
-    Attempts index between bytes (attempted place now.size bytes s) s t now after attempt.Kills →
-    IsRan place between lines first t before after (record { ending = Killed; changed = changes; refused_at = None })
-ran_kills place between lines whole_rest rest bytes line index first s t before now after changes parts same far h =
-    ran_ends place between lines (bytes ∷ rest) index first s t before now after changes None [] Killed _
-    (first_left place between lines whole_rest rest bytes line index first s before now changes parts same far) tt
-    (next_kills place between bytes rest index now.size s h.0) h.1 refl refl refl tt
+pub kept_more : (a b c : Room) → KeepsRoom a b → KeepsRoom b c → KeepsRoom a c
+kept_more a b c first second = record {
+  texts = omega (arith, first.texts, second.texts);
+  outputs = omega (arith, first.outputs, second.outputs);
+  reports = omega (arith, first.reports, second.reports);
+}
 
-pub ran_goes : (place : Place) (between : List ℕ) (lines whole_rest rest : List (List ℕ)) (bytes line : List ℕ) (index : ℕ) (first s t : State) (before now after : Work) (changes set : Subsystems) →
-    whole_rest ≡ line ∷ rest → bytes ≡ line → SoFar place between lines whole_rest index first s before now changes →
-    Attempts index between bytes (attempted place now.size bytes s) s t now after (attempt.Goes set) →
-    SoFar place between lines rest (index + 1) first t before after (union changes set)
-ran_goes place between lines whole_rest rest bytes line index first s t before now after changes set parts same far h =
-    subst (λ n. SoFar place between lines rest n first t before after (union changes set)) (omega arith)
-    (so_far_goes place between lines rest bytes index first s t before now after changes set
-    (first_left place between lines whole_rest rest bytes line index first s before now changes parts same far) h)
+pub same_room : (a : Room) → KeepsRoom a a
+same_room a = record { texts = omega arith; outputs = omega arith; reports = omega arith }
 
-pub ran_all : (place : Place) (between : List ℕ) (lines rest : List (List ℕ)) (index : ℕ) (first s : State) (before now after : Work) (changes : Subsystems) →
-    length rest ≡ 0 → SoFar place between lines rest index first s before now changes → AddsText ok now after →
-    IsRan place between lines first s before after (record { ending = Answered; changed = changes; refused_at = None })
-ran_all place between lines [] index first s before now after changes empty far h =
-    ran_ends place between lines [] index first s s before now after changes None ok Answered _ far tt
-    (next_none place between index now.size s) (record { state = refl; written = h.text; ops = h.ops; size = h.size }) refl refl refl tt
-ran_all place between lines (r ∷ rest) index first s before now after changes empty far h = absurd (omega (arith, empty))
+-- what a request that ran makes of the clients doesn't hang on the machine before it
+of_ran_same : (c : ℕ) (clients : List Watched) (m n : MachineState) (r : Ran) (ending : Ending) →
+    of_ran c (record { machine = m; clients = clients }) r ending ≡ of_ran c (record { machine = n; clients = clients }) r ending
+of_ran_same c clients m n r Answered = refl
+of_ran_same c clients m n r Closed = refl
+of_ran_same c clients m n r Killed = refl
+of_ran_same c clients m n r (Waits mask) = refl
+
+of_ran_place : (c : ℕ) (s : State) (r : Ran) (ending : Ending) → let a = of_ran c s r ending in a.refused_at ≡ r.refused_at
+of_ran_place c s r Answered = refl
+of_ran_place c s r Closed = refl
+of_ran_place c s r Killed = refl
+of_ran_place c s r (Waits mask) = refl
+
+-- the lines of a request were run, and its end was made
+pub lines_do : (c : ℕ) (place : Place) (between : List ℕ) (lines : List (List ℕ)) (before mid after : CoreParts) (fresh work : Work)
+    (end : RequestEnd) (handled : Handled) → fresh.text.items ≡ [] → fresh.ops.items ≡ [] → fresh.size ≡ 0 →
+    RunsLines place between lines before.machine mid.machine fresh work end → mid.watch ≡ before.watch →
+    Does (of_ran c (state_of mid) (ran_of mid.machine work end) end.ending) after handled →
+    Does (runs c (state_of before) (ran place between handled.refused_at 0 0 lines before.machine)) after handled
+lines_do c place between lines before mid after fresh work end handled text ops size ran_so watch does =
+    let r : Ran = ran place between end.refused_at 0 0 lines before.machine in
+    let here : ran place between end.refused_at 0 fresh.size lines before.machine ≡ r =
+    ap (λ n. ran place between end.refused_at 0 n lines before.machine) size in
+    let same : ran_of mid.machine work end ≡ r = λ i. record {
+      after = (ran_so.stands ∙ ap (λ x. x.after) here) i;
+      text = (ran_so.text ∙ ap (λ t. t ++ (ran place between end.refused_at 0 fresh.size lines before.machine).text) text
+          ∙ ap (λ x. x.text) here) i;
+      changed = (ran_so.changed ∙ ap (λ x. x.changed) here) i;
+      ops = (ran_so.ops ∙ ap (λ t. t ++ (ran place between end.refused_at 0 fresh.size lines before.machine).ops) ops
+          ∙ ap (λ x. x.ops) here) i;
+      ending = (ran_so.ending ∙ ap (λ x. x.ending) here) i;
+      refused_at = (ran_so.refused_at ∙ ap (λ x. x.refused_at) here) i;
+    } in
+    let at : handled.refused_at ≡ end.refused_at =
+    does.refused_at ∙ of_ran_place c (state_of mid) (ran_of mid.machine work end) end.ending in
+    subst (λ place_at. Does (runs c (state_of before) (ran place between place_at 0 0 lines before.machine)) after handled) (sym at)
+    (subst (λ a. Does a after handled)
+    ((λ i. of_ran c (record { machine = mid.machine; clients = watch i }) (same i) (same i).ending)
+    ∙ of_ran_same c before.watch mid.machine before.machine r r.ending) does)
+
+pub lines_place : (c : ℕ) (place : Place) (between : List ℕ) (lines : List (List ℕ)) (first t : MachineState) (mid after : CoreParts)
+    (fresh work : Work) (end : RequestEnd) (handled : Handled) → RunsLines place between lines first t fresh work end →
+    Does (of_ran c (state_of mid) (ran_of mid.machine work end) end.ending) after handled →
+    IfSome handled.refused_at (λ k. k < length lines)
+lines_place c place between lines first t mid after fresh work end handled ran_so does =
+    subst (λ at. IfSome at (λ k. k < length lines))
+    (sym (does.refused_at ∙ of_ran_place c (state_of mid) (ran_of mid.machine work end) end.ending)) ran_so.within

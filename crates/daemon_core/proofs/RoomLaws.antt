@@ -1,182 +1,158 @@
 -- The memory that was taken before an event is enough for what it gives out.
-use Rattle.std.proofs.Common.{◌≡◌, ℕ, suc, ◌+◌, ◌≤◌, Bool, true, false, ◌==◌, not, List, [], ◌∷◌, ◌++◌, length, filter, cond, Option, Some, None, refl, sym, ◌∙◌, ap, subst, arith, ltb-true}
-use Rattle.std.specs.Prelude.{nat_lt, is_some, IsSome, IsOk, OnOk, OnErr, Result, Ok, Err, ◌↔◌}
-use Rattle.std.specs.List.{cons_option}
+use Rattle.std.proofs.Common.{◌≡◌, ℕ, zero, suc, ◌≤◌, ◌<◌, Bool, true, false, ◌==◌, ◌||◌, ◌&&◌, not, List, [], ◌∷◌, length}
+use Rattle.std.proofs.Common.{filter}
+use Rattle.std.proofs.Common.{cond, Option, Some, None, refl, sym, ◌∙◌, ap, arith}
+use Rattle.std.specs.List.{cons_option, list_all}
+use Rattle.std.specs.Prelude.{is_some, unwrap_or, IsSome, IsOk, OnOk, OnErr, Result, Ok, Err, ◌↔◌}
+use Rattle.std.proofs.lemmas.Bool.{false≢true}
+use Rattle.idle_masks.specs.Subsystems.{none, intersection, difference, is_empty}
+use Rattle.idle_masks.specs.Watched.{watched, left, with_waiting, grown, marked, due, report_of, reports_of, reported}
+use Rattle.idle_masks.specs.Watched.{after_reports}
+use Rattle.idle_masks.specs.declared.ready.Report.{Report}
+use Rattle.idle_masks.specs.declared.refusal.WatchError.{WatchError}
 use Rattle.idle_masks.specs.declared.subsystem.Subsystems.{Subsystems}
 use Rattle.idle_masks.specs.declared.watch.Watched.{Watched}
-use Rattle.idle_masks.specs.declared.refusal.WatchError.{WatchError}
-use Rattle.idle_masks.specs.declared.ready.Report.{Report}
-use Rattle.idle_masks.specs.Subsystems.{none, union, intersection, is_empty}
-use Rattle.idle_masks.specs.Watched.{newcomer, watched, joined, left, with_waiting, grown, marked, due, report_of, reports_of}
-use Rattle.console_text.specs.declared.request.Request.{Request}
-use Rattle.console_text.specs.declared.request.Request.TheVariants.{Single, List as CommandList, OkList, Noidle}
-use Rattle.console_text.specs.declared.place.Place.TheVariants.{Alone, InList}
-use Rattle.console_text.specs.Answer.{list_ok}
-use Rattle.daemon_core.specs.declared.event.Event.{Event}
-use Rattle.daemon_core.specs.declared.event.Event.TheVariants as events
-use Rattle.daemon_core.specs.declared.outcome.Ending.{Ending}
-use Rattle.daemon_core.specs.declared.outcome.Ending.TheVariants.{Answered, Closed, Killed}
-use Rattle.daemon_core.specs.State.{State}
-use Rattle.daemon_core.specs.Run.{Ran, ran}
-use Rattle.daemon_core.specs.Step.{connects_client, of_ran, runs, asked, asked_waiting, requested_by, waiting_of, acted}
-use Rattle.daemon_core.specs.Room.{waiting_count}
-use Rattle.daemon_core.proofs.ClientsKept.{ran_leaves}
+use Rattle.daemon_core.specs.Room.{waiting_count, waiting_count_with, IsRoomFor, KeepsRoom}
+use Rattle.daemon_core.specs.declared.room.Room.{Room}
 use Rattle.daemon_core.proofs.HistoryLaws.{intersection-none}
+
+-- nothing is due to a client that doesn't wait
+no_due : (w : Watched) → w.waiting ≡ None → due w ≡ none
+no_due w waits = ap (λ m. intersection w.pending (unwrap_or m none)) waits ∙ intersection-none w.pending
 
 -- a client gets at most one report, and none where it doesn't wait
 one_at_most : (r : Report) (rest : List Report) (empty : Bool) → length (cons_option (cond empty None (Some r)) rest) ≤ suc (length rest)
 one_at_most r rest true = omega arith
 one_at_most r rest false = omega arith
 
-no_report : (w : Watched) (changed : Subsystems) → w.waiting ≡ None → report_of (grown changed w) ≡ None
-no_report w changed waits =
-    ap (λ d. cond (is_empty d) None (Some (record { client = w.client; changed = d })))
-    (ap (λ m. intersection (union w.pending changed) (Rattle.std.specs.Prelude.unwrap_or m none)) waits ∙ intersection-none (union w.pending changed))
+no_report : (w : Watched) → w.waiting ≡ None → report_of w ≡ None
+no_report w waits = ap (λ d. cond (is_empty d) None (Some (record { client = w.client; changed = d }))) (no_due w waits)
 
-report_fits : (w : Watched) (changed : Subsystems) (rest : List Report) (fewer : List Watched) (o : Option Subsystems) → w.waiting ≡ o → length rest ≤ length fewer →
-    length (cons_option (report_of (grown changed w)) rest) ≤ length (cond (is_some o) (w ∷ fewer) fewer)
-report_fits w changed rest fewer None waits h = rw (no_report w changed waits) h
-report_fits w changed rest fewer (Some mask) waits h =
-    let one = one_at_most (record { client = w.client; changed = due (grown changed w) }) rest (is_empty (due (grown changed w))) in omega (arith, one, h)
+report_fits : (w : Watched) (rest : List Report) (fewer : List Watched) (o : Option Subsystems) → w.waiting ≡ o →
+    length rest ≤ length fewer →
+    length (cons_option (report_of w) rest) ≤ length (cond (is_some o) (w ∷ fewer) fewer)
+report_fits w rest fewer None waits h = rw (no_report w waits) h
+report_fits w rest fewer (Some mask) waits h =
+    let one = one_at_most (record { client = w.client; changed = due w }) rest (is_empty (due w)) in omega (arith, one, h)
 
-pub reports_fit : (ws : List Watched) (changed : Subsystems) → length (reports_of (marked ws changed)) ≤ waiting_count ws
-reports_fit [] changed = omega arith
-reports_fit (w ∷ ws) changed = report_fits w changed (reports_of (marked ws changed)) (filter (λ v. is_some v.waiting) ws) w.waiting refl (reports_fit ws changed)
+pub reports_fit : (ws : List Watched) → length (reports_of ws) ≤ waiting_count ws
+reports_fit [] = omega arith
+reports_fit (w ∷ ws) = report_fits w (reports_of ws) (filter (λ v. is_some v.waiting) ws) w.waiting refl (reports_fit ws)
 
--- fewer clients, fewer that wait
-fits_one : (p : Watched → Bool) (w : Watched) (fewer more : List Watched) (b : Bool) → length (filter p fewer) ≤ length (filter p more) →
-    length (filter p (cond b (w ∷ fewer) fewer)) ≤ length (cond (p w) (w ∷ filter p more) (filter p more))
-fits_one p w fewer more true h =
-    elim (p w) as (λ a. length (cond a (w ∷ filter p fewer) (filter p fewer)) ≤ length (cond a (w ∷ filter p more) (filter p more))) [ true ↦ omega (arith, h) | false ↦ h ]
-fits_one p w fewer more false h =
-    elim (p w) as (λ a. length (filter p fewer) ≤ length (cond a (w ∷ filter p more) (filter p more))) [ true ↦ omega (arith, h) | false ↦ h ]
-
-filter_fits : (p q : Watched → Bool) (ws : List Watched) → length (filter p (filter q ws)) ≤ length (filter p ws)
-filter_fits p q [] = omega arith
-filter_fits p q (w ∷ ws) = fits_one p w (filter q ws) ws (q w) (filter_fits p q ws)
-
-pub left_waits : (ws : List Watched) (c : ℕ) → waiting_count (left ws c) ≤ waiting_count ws
-left_waits ws c = filter_fits (λ w. is_some w.waiting) (λ w. not (w.client == c)) ws
-
-length_one : (w : Watched) (fewer more : List Watched) (b : Bool) → length fewer ≤ length more → length (cond b (w ∷ fewer) fewer) ≤ suc (length more)
-length_one w fewer more true h = omega (arith, h)
-length_one w fewer more false h = omega (arith, h)
-
-length_filter : (q : Watched → Bool) (ws : List Watched) → length (filter q ws) ≤ length ws
-length_filter q [] = omega arith
-length_filter q (w ∷ ws) = length_one w (filter q ws) ws (q w) (length_filter q ws)
-
-pub left_fits : (ws : List Watched) (c : ℕ) → length (left ws c) ≤ length ws
-left_fits ws c = length_filter (λ w. not (w.client == c)) ws
-
--- a client that joins
-waits_append : (p : Watched → Bool) (xs ys : List Watched) → length (filter p (xs ++ ys)) ≡ length (filter p xs) + length (filter p ys)
-waits_append p [] ys = omega arith
-waits_append p (x ∷ xs) ys =
-    elim (p x) as (λ b. length (cond b (x ∷ filter p (xs ++ ys)) (filter p (xs ++ ys))) ≡ length (cond b (x ∷ filter p xs) (filter p xs)) + length (filter p ys)) [
-      | true ↦ omega (arith, waits_append p xs ys)
-      | false ↦ waits_append p xs ys
+-- marking makes nobody wait
+pub marked_waits : (ws : List Watched) (changed : Subsystems) → waiting_count (marked ws changed) ≡ waiting_count ws
+marked_waits [] changed = refl
+marked_waits (w ∷ ws) changed =
+    elim (is_some w.waiting) as (λ b. length (cond b (grown changed w ∷ filter (λ v. is_some v.waiting) (marked ws changed))
+    (filter (λ v. is_some v.waiting) (marked ws changed))) ≡ length (cond b (w ∷ filter (λ v. is_some v.waiting) ws)
+    (filter (λ v. is_some v.waiting) ws))) [
+      | true ↦ ap suc (marked_waits ws changed)
+      | false ↦ marked_waits ws changed
     ]
 
-split_one : (p : Watched → Bool) (w : Watched) (low high all : List Watched) (a b : Bool) → (a ≡ true → b ≡ true → ⊥) →
-    length (filter p low) + length (filter p high) ≤ length (filter p all) →
-    length (filter p (cond a (w ∷ low) low)) + length (filter p (cond b (w ∷ high) high)) ≤ length (cond (p w) (w ∷ filter p all) (filter p all))
-split_one p w low high all true true both h = absurd (both refl refl)
-split_one p w low high all true false both h =
-    elim (p w) as (λ v. length (cond v (w ∷ filter p low) (filter p low)) + length (filter p high) ≤ length (cond v (w ∷ filter p all) (filter p all))) [ true ↦ omega (arith, h) | false ↦ h ]
-split_one p w low high all false true both h =
-    elim (p w) as (λ v. length (filter p low) + length (cond v (w ∷ filter p high) (filter p high)) ≤ length (cond v (w ∷ filter p all) (filter p all))) [ true ↦ omega (arith, h) | false ↦ h ]
-split_one p w low high all false false both h =
-    elim (p w) as (λ v. length (filter p low) + length (filter p high) ≤ length (cond v (w ∷ filter p all) (filter p all))) [ true ↦ omega (arith, h) | false ↦ h ]
+pub marked_length : (ws : List Watched) (changed : Subsystems) → length (marked ws changed) ≡ length ws
+marked_length [] changed = refl
+marked_length (w ∷ ws) changed = ap suc (marked_length ws changed)
 
-not_both : (c n : ℕ) → nat_lt n c ≡ true → nat_lt c n ≡ true → ⊥
-not_both c n a b = omega (arith, ltb-true n c a, ltb-true c n b)
+-- where nothing is due, nothing is reported
+both_true : (a b : Bool) → (a && b) ≡ true → (a ≡ true) × (b ≡ true)
+both_true true b h = (refl, h)
+both_true false b h = absurd (false≢true h)
 
-split_fits : (p : Watched → Bool) (c : ℕ) (ws : List Watched) → length (filter p (filter (λ w. nat_lt w.client c) ws)) + length (filter p (filter (λ w. nat_lt c w.client) ws)) ≤ length (filter p ws)
-split_fits p c [] = omega arith
-split_fits p c (w ∷ ws) = split_one p w (filter (λ v. nat_lt v.client c) ws) (filter (λ v. nat_lt c v.client) ws) ws (nat_lt w.client c) (nat_lt c w.client) (not_both c w.client) (split_fits p c ws)
+pub none_reported : (ws : List Watched) → list_all (λ w. is_empty (due w)) ws ≡ true → reports_of ws ≡ []
+none_reported [] h = refl
+none_reported (w ∷ ws) h =
+    let both = both_true (is_empty (due w)) (list_all (λ v. is_empty (due v)) ws) h in
+    ap (λ b. cons_option (cond b None (Some (record { client = w.client; changed = due w }))) (reports_of ws)) both.0
+    ∙ none_reported ws both.1
 
-pub joined_waits : (ws : List Watched) (c : ℕ) → waiting_count (joined ws c) ≤ waiting_count ws
-joined_waits ws c = let p : Watched → Bool = λ w. is_some w.waiting in
-    omega (arith, waits_append p (filter (λ w. nat_lt w.client c) ws) (newcomer c ∷ filter (λ w. nat_lt c w.client) ws), split_fits p c ws)
+reported_nothing : (w : Watched) → is_empty (due w) ≡ true → reported w ≡ w
+reported_nothing w h = ap (λ b. cond b w (record w { pending = difference w.pending (due w); waiting = None })) h
 
-filter_all : (ws : List Watched) → filter (λ _. true) ws ≡ ws
-filter_all [] = refl
-filter_all (w ∷ ws) = ap (λ r. w ∷ r) (filter_all ws)
+pub none_taken : (ws : List Watched) → list_all (λ w. is_empty (due w)) ws ≡ true → after_reports ws ≡ ws
+none_taken [] h = refl
+none_taken (w ∷ ws) h =
+    let both = both_true (is_empty (due w)) (list_all (λ v. is_empty (due v)) ws) h in
+    λ i. reported_nothing w both.0 i ∷ none_taken ws both.1 i
 
-pub joined_fits : (ws : List Watched) (c : ℕ) → length (joined ws c) ≤ length ws + 1
-joined_fits ws c = let p : Watched → Bool = λ _. true in
-    omega (
-      arith,
-      waits_append p (filter (λ w. nat_lt w.client c) ws) (newcomer c ∷ filter (λ w. nat_lt c w.client) ws),
-      split_fits p c ws,
-      ap length (filter_all ws),
-      ap length (filter_all (joined ws c)),
-    )
+-- where nobody waits, nothing is due
+none_waits_one : (w : Watched) (o : Option Subsystems) (rest : List Watched) → w.waiting ≡ o →
+    length (cond (is_some o) (w ∷ rest) rest) ≡ 0 →
+    (is_empty (due w) ≡ true) × (length rest ≡ 0)
+none_waits_one w None rest waits h = (ap is_empty (no_due w waits), h)
+none_waits_one w (Some mask) rest waits h = absurd (omega (arith, h))
+
+pub none_due : (ws : List Watched) → waiting_count ws ≡ 0 → list_all (λ w. is_empty (due w)) ws ≡ true
+none_due [] h = refl
+none_due (w ∷ ws) h =
+    let one = none_waits_one w w.waiting (filter (λ v. is_some v.waiting) ws) refl h in
+    ap (λ b. b && list_all (λ v. is_empty (due v)) ws) one.0 ∙ none_due ws one.1
+
+positive : (n : ℕ) → (n ≡ 0 → ⊥) → 0 < n
+positive zero h = absurd (h refl)
+positive (suc n) h = omega arith
+
+pub some_wait : (ws : List Watched) → list_all (λ w. is_empty (due w)) ws ≡ false → 0 < waiting_count ws
+some_wait ws h = positive (waiting_count ws) (λ e. false≢true (sym h ∙ none_due ws e))
+
+-- the clients that would wait if one more did
+-- one more may wait
+with_one : (w : Watched) (mask : Subsystems) (rest later : List Watched) (is_it waits : Bool) → is_some w.waiting ≡ waits →
+    length rest ≡ length later →
+    length (cond (waits || is_it) (w ∷ rest) rest)
+    ≡ (let v = cond is_it (record w { waiting = Some mask }) w in length (cond (is_some v.waiting) (v ∷ later) later))
+with_one w mask rest later true true is same = ap suc same
+with_one w mask rest later true false is same = ap suc same
+with_one w mask rest later false true is same = ap suc same ∙ ap (λ a. length (cond a (w ∷ later) later)) (sym is)
+with_one w mask rest later false false is same = same ∙ ap (λ a. length (cond a (w ∷ later) later)) (sym is)
+
+pub waits_with : (ws : List Watched) (c : ℕ) (mask : Subsystems) →
+    waiting_count_with c ws ≡ waiting_count (with_waiting ws c (Some mask))
+waits_with [] c mask = refl
+waits_with (w ∷ ws) c mask =
+    with_one w mask (filter (λ v. is_some v.waiting || (v.client == c)) ws)
+    (filter (λ v. is_some v.waiting) (with_waiting ws c (Some mask)))
+    (w.client == c) (is_some w.waiting) refl (waits_with ws c mask)
 
 -- a client that waits no more
 stops_one : (w : Watched) (mask : Option Subsystems) (fewer more : List Watched) (b : Bool) → length fewer ≤ length more → mask ≡ None →
-    let v = cond b (record w { waiting = mask }) w in length (cond (is_some v.waiting) (v ∷ fewer) fewer) ≤ length (cond (is_some w.waiting) (w ∷ more) more)
+    let v = cond b (record w { waiting = mask }) w in length (cond (is_some v.waiting) (v ∷ fewer) fewer) ≤ length
+    (cond (is_some w.waiting) (w ∷ more) more)
 stops_one w mask fewer more true h none = rw none
     (elim (is_some w.waiting) as (λ b. length fewer ≤ length (cond b (w ∷ more) more)) [ true ↦ omega (arith, h) | false ↦ h ])
 stops_one w mask fewer more false h none =
-    elim (is_some w.waiting) as (λ b. length (cond b (w ∷ fewer) fewer) ≤ length (cond b (w ∷ more) more)) [ true ↦ omega (arith, h) | false ↦ h ]
+    elim (is_some w.waiting) as (λ b. length (cond b (w ∷ fewer) fewer) ≤ length (cond b (w ∷ more) more))
+    [ true ↦ omega (arith, h) | false ↦ h ]
 
 pub stops_waiting : (ws : List Watched) (c : ℕ) → waiting_count (with_waiting ws c None) ≤ waiting_count ws
 stops_waiting [] c = omega arith
-stops_waiting (w ∷ ws) c = stops_one w None (filter (λ v. is_some v.waiting) (with_waiting ws c None)) (filter (λ v. is_some v.waiting) ws) (w.client == c) (stops_waiting ws c) refl
+stops_waiting (w ∷ ws) c = stops_one w None (filter (λ v. is_some v.waiting) (with_waiting ws c None))
+    (filter (λ v. is_some v.waiting) ws) (w.client == c) (stops_waiting ws c) refl
 
--- What an event leaves needs no more room than was taken.
-pub record Fits (before after : List Watched) : Type 0 where
-  pub waits : waiting_count after ≤ waiting_count before
-  pub clients : length after ≤ length before + 1
+pub length_with : (ws : List Watched) (c : ℕ) (mask : Option Subsystems) → length (with_waiting ws c mask) ≡ length ws
+length_with [] c mask = refl
+length_with (w ∷ ws) c mask = ap suc (length_with ws c mask)
 
-fits_same : (ws : List Watched) → Fits ws ws
-fits_same ws = record { waits = omega arith; clients = omega arith }
+-- room for more is room for less, and room that was kept is still there
+pub fewer_fit : (waiting clients fewer less : ℕ) (room : Room) → IsRoomFor waiting clients room → fewer ≤ waiting → less ≤ clients →
+    IsRoomFor fewer less room
+fewer_fit waiting clients fewer less room has h k = record {
+  texts = omega (arith, has.texts, h);
+  outputs = λ some. let o = has.outputs (omega (arith, some, h)) in omega (arith, o, h);
+  reports = λ some. let r = has.reports (omega (arith, some, h)) in omega (arith, r, k);
+}
 
-fits_left : (ws : List Watched) (c : ℕ) → Fits ws (left ws c)
-fits_left ws c = record { waits = left_waits ws c; clients = let h = left_fits ws c in omega (arith, h) }
-
-fits_connect : (c : ℕ) (s : State) (found : Option Watched) → let a = connects_client c s found in Fits s.clients a.after.clients
-fits_connect c s None = record { waits = joined_waits s.clients c; clients = joined_fits s.clients c }
-fits_connect c s (Some w) = fits_same s.clients
-
-fits_ran : (c : ℕ) (ws : List Watched) (r : Ran) (ending : Ending) → Fits ws r.after.clients → let a = of_ran c r ending in Fits ws a.after.clients
-fits_ran c ws r Answered h = h
-fits_ran c ws r Closed h = record { waits = let k = left_waits r.after.clients c in omega (arith, h.waits, k); clients = let k = left_fits r.after.clients c in omega (arith, h.clients, k) }
-fits_ran c ws r Killed h = record { waits = omega arith; clients = omega arith }
-
-fits_runs : (c : ℕ) (s : State) (r : Ran) → r.after.clients ≡ s.clients → let a = runs c r in Fits s.clients a.after.clients
-fits_runs c s r same = fits_ran c s.clients r r.ending (subst (λ ws. Fits s.clients ws) (sym same) (fits_same s.clients))
-
-fits_asked : (c : ℕ) (refused : Option ℕ) (s : State) (request : Request) → let a = asked c refused s request in Fits s.clients a.after.clients
-fits_asked c refused s (Single line) = fits_runs c s (ran Alone [] refused 0 0 (line ∷ []) s) (ran_leaves Alone [] refused 0 0 (line ∷ []) s)
-fits_asked c refused s (CommandList lines) = fits_runs c s (ran InList [] refused 0 0 lines s) (ran_leaves InList [] refused 0 0 lines s)
-fits_asked c refused s (OkList lines) = fits_runs c s (ran InList list_ok refused 0 0 lines s) (ran_leaves InList list_ok refused 0 0 lines s)
-fits_asked c refused s Noidle = fits_same s.clients
-
-length_map : (ws : List Watched) (c : ℕ) (mask : Option Subsystems) → length (with_waiting ws c mask) ≡ length ws
-length_map [] c mask = refl
-length_map (w ∷ ws) c mask = ap suc (length_map ws c mask)
-
-fits_waiting : (c : ℕ) (s : State) (request : Request) → let a = asked_waiting c s request in Fits s.clients a.after.clients
-fits_waiting c s (Single line) = fits_left s.clients c
-fits_waiting c s (CommandList lines) = fits_left s.clients c
-fits_waiting c s (OkList lines) = fits_left s.clients c
-fits_waiting c s Noidle = record { waits = stops_waiting s.clients c; clients = let h = length_map s.clients c None in omega (arith, h) }
-
-fits_requested : (c : ℕ) (refused : Option ℕ) (s : State) (request : Request) (found : Option (Option Subsystems)) → let a = requested_by c refused s request found in Fits s.clients a.after.clients
-fits_requested c refused s request None = fits_same s.clients
-fits_requested c refused s request (Some None) = fits_asked c refused s request
-fits_requested c refused s request (Some (Some mask)) = fits_waiting c s request
-
-pub acted_fits : (s : State) (event : Event) (refused : Option ℕ) → let a = acted s event refused in Fits s.clients a.after.clients
-acted_fits s (events.Connect c) refused = fits_connect c s (watched s.clients c)
-acted_fits s (events.Request c request) refused = fits_requested c refused s request (waiting_of (watched s.clients c))
-acted_fits s (events.Gone c) refused = fits_left s.clients c
+pub still_fits : (waiting clients : ℕ) (before after : Room) → IsRoomFor waiting clients before → KeepsRoom before after →
+    IsRoomFor waiting clients after
+still_fits waiting clients before after has kept = record {
+  texts = omega (arith, has.texts, kept.texts);
+  outputs = λ some. let o = has.outputs some in omega (arith, o, kept.outputs);
+  reports = λ some. let r = has.reports some in omega (arith, r, kept.reports);
+}
 
 -- a client that isn't watched leaves nothing behind
-absent_one : (w : Watched) (ws kept : List Watched) (rest : Option Watched) (b : Bool) → (IsSome (cond b (Some w) rest) → ⊥) → ((IsSome rest → ⊥) → kept ≡ ws) →
+absent_one : (w : Watched) (ws kept : List Watched) (rest : Option Watched) (b : Bool) → (IsSome (cond b (Some w) rest) → ⊥) →
+    ((IsSome rest → ⊥) → kept ≡ ws) →
     cond (not b) (w ∷ kept) kept ≡ w ∷ ws
 absent_one w ws kept rest true h same = absurd (h refl)
 absent_one w ws kept rest false h same = ap (λ k. w ∷ k) (same h)
@@ -185,6 +161,7 @@ pub left_absent : (ws : List Watched) (c : ℕ) → (IsSome (watched ws c) → �
 left_absent [] c h = refl
 left_absent (w ∷ ws) c h = absent_one w ws (left ws c) (watched ws c) (w.client == c) h (left_absent ws c)
 
-pub left_so : (r : Result (Unit {0}) WatchError) (old new : List Watched) (c : ℕ) → OnOk r (new ≡ left old c) → OnErr r (new ≡ old) → (IsOk r ↔ IsSome (watched old c)) → new ≡ left old c
+pub left_so : (r : Result (Unit {0}) WatchError) (old new : List Watched) (c : ℕ) → OnOk r (new ≡ left old c) → OnErr r (new ≡ old) →
+    (IsOk r ↔ IsSome (watched old c)) → new ≡ left old c
 left_so (Ok u) old new c went stayed found = went
-left_so (Err e) old new c went stayed found = stayed ∙ sym (left_absent old c (λ s. Rattle.std.proofs.lemmas.Bool.false≢true (found.1 s)))
+left_so (Err e) old new c went stayed found = stayed ∙ sym (left_absent old c (λ s. false≢true (found.1 s)))

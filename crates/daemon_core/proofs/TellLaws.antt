@@ -1,26 +1,29 @@
 -- What a client is told, line by line.
-use Rattle.std.proofs.Common.{◌≡◌, ℕ, ◌+◌, ◌≤◌, Bool, true, false, List, [], ◌∷◌, ◌++◌, length, drop, filter, map, refl, sym, ◌∙◌, ap, arith, append_assoc, length-append}
+use Rattle.std.proofs.Common.{◌≡◌, ℕ, ◌+◌, ◌≤◌, Bool, true, false, List, [], ◌∷◌, ◌++◌, length, filter, map, cond, refl, sym, ◌∙◌, ap}
+use Rattle.std.proofs.Common.{arith, append_assoc, length-append}
+use Rattle.std.specs.Global.{Vec}
 use Rattle.std.specs.List.{flat_map}
 use Rattle.std.specs.Prelude.{vec_len, vec_capacity}
-use Rattle.std.specs.Global.{Vec}
-use Rattle.console_text.specs.Answer.{ok}
 use Rattle.std.proofs.lemmas.List.{append-nil}
-use Rattle.idle_masks.specs.declared.subsystem.Subsystem.{Subsystem}
-use Rattle.idle_masks.specs.declared.subsystem.Subsystems.{Subsystems}
+use Rattle.command_text.specs.Answer.{ok}
+use Rattle.command_text.specs.AnswerNames.{changed_line}
 use Rattle.idle_masks.specs.Subsystem.{in_printed_order}
 use Rattle.idle_masks.specs.Subsystems.{contains}
 use Rattle.idle_masks.specs.declared.ready.Report.{Report}
+use Rattle.idle_masks.specs.declared.subsystem.Subsystem.{Subsystem}
+use Rattle.idle_masks.specs.declared.subsystem.Subsystems.{Subsystems}
+use Rattle.daemon_core.specs.Step.{line_if, told, told_to}
 use Rattle.daemon_core.specs.declared.outcome.Output.{Output}
 use Rattle.daemon_core.specs.declared.tell.TellRoom.{TellRoom}
-use Rattle.daemon_core.specs.Step.{changed_line, line_if, told, told_to}
 
 -- the lines of those that are listed are the lines of all, where the others have none
-pub lines_of_listed : (p : Subsystem → Bool) (xs : List Subsystem) → flat_map changed_line (filter p xs) ≡ flat_map (λ x. line_if (p x) x) xs
+pub lines_of_listed : (p : Subsystem → Bool) (xs : List Subsystem) →
+    flat_map changed_line (filter p xs) ≡ flat_map (λ x. line_if (p x) x) xs
 lines_of_listed p [] = refl
 lines_of_listed p (x ∷ xs) = one (p x) (lines_of_listed p xs)
   where
     one : (b : Bool) → flat_map changed_line (filter p xs) ≡ flat_map (λ y. line_if (p y) y) xs →
-        flat_map changed_line (Rattle.std.proofs.Common.cond b (x ∷ filter p xs) (filter p xs)) ≡ line_if b x ++ flat_map (λ y. line_if (p y) y) xs
+        flat_map changed_line (cond b (x ∷ filter p xs) (filter p xs)) ≡ line_if b x ++ flat_map (λ y. line_if (p y) y) xs
     one true h = ap (λ r. changed_line x ++ r) h
     one false h = h
 
@@ -31,64 +34,60 @@ line_if_fits false x = omega arith
 
 -- What stands in the text, and what is left to be added, make the lines of all; and there is room for what is left.
 pub record SoTold (changed : Subsystems) (all rest : List Subsystem) (before now : Vec ℕ) : Type 0 where
-  pub lines : now.items ++ flat_map (λ x. line_if (contains changed x) x) rest ≡ before.items ++ flat_map (λ x. line_if (contains changed x) x) all
+  pub lines : now.items ++ flat_map (λ x. line_if (contains changed x) x) rest ≡ before.items ++ flat_map
+      (λ x. line_if (contains changed x) x) all
   pub room : vec_len now + length (flat_map changed_line rest) ≤ vec_capacity now
   pub kept : vec_capacity before ≤ vec_capacity now
 
-pub so_told_begins : (changed : Subsystems) (all : List Subsystem) (before : Vec ℕ) → vec_len before + length (flat_map changed_line all) ≤ vec_capacity before →
+pub so_told_begins : (changed : Subsystems) (all : List Subsystem) (before : Vec ℕ) →
+    vec_len before + length (flat_map changed_line all) ≤ vec_capacity before →
     SoTold changed all all before before
 so_told_begins changed all before room = record { lines = refl; room = room; kept = omega arith }
 
 -- there is room for the next line
-pub room_for_next : (changed : Subsystems) (all whole rest : List Subsystem) (x : Subsystem) (before now : Vec ℕ) → whole ≡ x ∷ rest → SoTold changed all whole before now →
+pub room_for_next : (changed : Subsystems) (all whole rest : List Subsystem) (x : Subsystem) (before now : Vec ℕ) → whole ≡ x ∷ rest →
+    SoTold changed all whole before now →
     vec_len now + length (changed_line x) ≤ vec_capacity now
 room_for_next changed all whole rest x before now parts far =
     let room = rw parts at far.room in
     omega (arith, room, length-append (changed_line x) (flat_map changed_line rest))
 
-pub so_told_more : (changed : Subsystems) (all whole rest : List Subsystem) (x : Subsystem) (b : Bool) (before now after : Vec ℕ) → whole ≡ x ∷ rest → b ≡ contains changed x →
-    SoTold changed all whole before now → after.items ≡ now.items ++ line_if b x → vec_capacity now ≤ vec_capacity after → SoTold changed all rest before after
+pub so_told_more : (changed : Subsystems) (all whole rest : List Subsystem) (x : Subsystem) (b : Bool) (before now after : Vec ℕ) →
+    whole ≡ x ∷ rest → b ≡ contains changed x →
+    SoTold changed all whole before now → after.items ≡ now.items ++ line_if b x → vec_capacity now ≤ vec_capacity after →
+    SoTold changed all rest before after
 so_told_more changed all whole rest x b before now after parts is far adds room =
     let lines = rw parts at far.lines in
     let fits = rw parts at far.room in
     record {
       lines = ap (λ i. i ++ flat_map (λ y. line_if (contains changed y) y) rest) (adds ∙ ap (λ c. now.items ++ line_if c x) is)
           ∙ append_assoc now.items (line_if (contains changed x) x) (flat_map (λ y. line_if (contains changed y) y) rest) ∙ lines;
-      room = omega (arith, fits, room, ap length adds, length-append now.items (line_if b x), line_if_fits b x, length-append (changed_line x) (flat_map changed_line rest));
+      room = omega (
+        arith,
+        fits,
+        room,
+        ap length adds,
+        length-append now.items (line_if b x),
+        line_if_fits b x,
+        length-append (changed_line x) (flat_map changed_line rest),
+      );
       kept = omega (arith, far.kept, room);
     }
 
-pub so_told_ends : (changed : Subsystems) (all rest : List Subsystem) (before now : Vec ℕ) → length rest ≡ 0 → SoTold changed all rest before now →
+pub so_told_ends : (changed : Subsystems) (all rest : List Subsystem) (before now : Vec ℕ) → length rest ≡ 0 →
+    SoTold changed all rest before now →
     now.items ≡ before.items ++ flat_map (λ x. line_if (contains changed x) x) all
 so_told_ends changed all [] before now empty far = sym (append-nil now.items) ∙ far.lines
 so_told_ends changed all (x ∷ rest) before now empty far = absurd (omega (arith, empty))
 
 -- the lines of all eight
-pub all_told : (changed : Subsystems) (text : List ℕ) → text ≡ flat_map (λ x. line_if (contains changed x) x) in_printed_order → text ++ ok ≡ told changed
+pub all_told : (changed : Subsystems) (text : List ℕ) → text ≡ flat_map (λ x. line_if (contains changed x) x) in_printed_order →
+    text ++ ok ≡ told changed
 all_told changed text h = ap (λ t. t ++ ok) (h ∙ sym (lines_of_listed (contains changed) in_printed_order))
 
 -- The outputs that stand, and the reports that are left, make the outputs of all; and there is room for what is left.
-pub record AllSoFar (all rest : List Report) (rooms : Vec TellRoom) (before now : Vec Output) : Type 0 where
+pub record AllSoFar (all rest : List Report) (first rooms : Vec TellRoom) (before now : Vec Output) : Type 0 where
   pub outputs : now.items ++ map told_to rest ≡ before.items ++ map told_to all
   pub many : length rest ≤ vec_len rooms
+  pub left : vec_len rooms + length all ≡ vec_len first + length rest
   pub room : vec_len now + length rest ≤ vec_capacity now
-
-pub all_begins : (all : List Report) (rooms : Vec TellRoom) (before : Vec Output) → length all ≤ vec_len rooms → vec_len before + length all ≤ vec_capacity before → AllSoFar all all rooms before before
-all_begins all rooms before many room = record { outputs = refl; many = many; room = room }
-
-pub all_more : (all whole rest : List Report) (r : Report) (rooms fewer : Vec TellRoom) (before now after : Vec Output) → whole ≡ r ∷ rest →
-    AllSoFar all whole rooms before now → vec_len fewer + 1 ≡ vec_len rooms → after.items ≡ now.items ++ told_to r ∷ [] → vec_len after ≡ vec_len now + 1 → vec_capacity after ≡ vec_capacity now →
-    AllSoFar all rest fewer before after
-all_more all whole rest r rooms fewer before now after parts far taken adds len room =
-    let outputs = rw parts at far.outputs in
-    let many = rw parts at far.many in
-    let fits = rw parts at far.room in
-    record {
-      outputs = ap (λ i. i ++ map told_to rest) adds ∙ append_assoc now.items (told_to r ∷ []) (map told_to rest) ∙ outputs;
-      many = omega (arith, many, taken);
-      room = omega (arith, fits, len, room);
-    }
-
-pub all_ends : (all rest : List Report) (rooms : Vec TellRoom) (before now : Vec Output) → length rest ≡ 0 → AllSoFar all rest rooms before now → now.items ≡ before.items ++ map told_to all
-all_ends all [] rooms before now empty far = sym (append-nil now.items) ∙ far.outputs
-all_ends all (r ∷ rest) rooms before now empty far = absurd (omega (arith, empty))

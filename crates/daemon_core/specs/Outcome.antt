@@ -1,7 +1,7 @@
 -- What a step answers.
 use Rattle.std.specs.Prelude.{◌≡◌, ℕ, ◌<◌, length, IfSome}
-use Rattle.console_text.specs.declared.request.Request.{Request}
-use Rattle.console_text.specs.declared.request.Request.TheVariants.{Single, List as CommandList, OkList, Noidle}
+use Rattle.command_text.specs.declared.request.Request.{Request}
+use Rattle.command_text.specs.declared.request.Request.TheVariants.{Single, List as CommandList, OkList, Noidle}
 use Rattle.daemon_core.specs.declared.event.Event.{Event}
 use Rattle.daemon_core.specs.declared.event.Event.TheVariants as events
 use Rattle.daemon_core.specs.declared.outcome.Outcome.{Outcome}
@@ -19,6 +19,11 @@ abbrev pub command_count : Event → ℕ
 command_count (events.Connect c) = 0
 command_count (events.Request c request) = commands_in request
 command_count (events.Gone c) = 0
+command_count (events.Fed ticket frames) = 0
+command_count (events.Ended ticket) = 0
+command_count (events.Broken ticket cause) = 0
+command_count (events.Batch job changes) = 0
+command_count (events.ScanDone job) = 0
 
 -- The answer and the state after are those of the step, with memory refused at the command that the answer names, or at none.
 -- That command is one of the event's, and the step reached it: where it ended earlier the answer names none.

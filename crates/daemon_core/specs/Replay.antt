@@ -3,12 +3,13 @@ use Rattle.std.specs.Prelude.{ℕ, List, [], ◌∷◌, ◌++◌, Option, Some, 
 use Rattle.std.specs.List.{filter_map}
 use Rattle.idle_masks.specs.declared.subsystem.Subsystems.{Subsystems}
 use Rattle.idle_masks.specs.Subsystems.{intersection, is_empty}
-use Rattle.console_codec.specs.SavedState.{SavedState}
+use Rattle.state_codec.specs.SavedState.{SavedState}
 use Rattle.daemon_core.specs.declared.event.Event.{Event}
 use Rattle.daemon_core.specs.declared.outcome.Output.{Output}
 use Rattle.daemon_core.specs.State.{State, start}
 use Rattle.daemon_core.specs.Pending.{Moment, pending_of}
-use Rattle.daemon_core.specs.Step.{Acted, acted, Stepped, step, output, told}
+use Rattle.daemon_core.specs.Session.{Acted, output}
+use Rattle.daemon_core.specs.Step.{acted, Stepped, step, told}
 
 -- an event, and the command at which memory was refused, if it was
 pub record Entry : Type 0 where

@@ -1,42 +1,39 @@
--- The memory that is taken before an event.
-use Rattle.std.specs.Prelude.{◌≡◌, ℕ, ◌+◌, ◌≤◌, List, [], length, is_some, vec_len, vec_capacity, filter}
+-- The memory for what an event gives out beside its answer, which a core keeps from event to event.
+use Rattle.std.specs.Prelude.{ℕ, ◌<◌, ◌≤◌, ◌==◌, ◌||◌, List, length, Some, is_some, filter, vec_len, vec_capacity}
+use Rattle.idle_masks.specs.Watched.{with_waiting}
 use Rattle.idle_masks.specs.declared.watch.Watched.{Watched}
-use Rattle.daemon_core.specs.declared.step.StepRoom.{StepRoom}
-use Rattle.daemon_core.specs.declared.step.Acts.{Acts}
-use Rattle.daemon_core.specs.declared.outcome.Output.{Output}
-use Rattle.daemon_core.specs.State.{State}
-use Rattle.daemon_core.specs.Step.{Acted}
-use Rattle.std.specs.Global.{Vec}
+use Rattle.daemon_core.specs.declared.outcome.Ending.{Ending}
+use Rattle.daemon_core.specs.declared.outcome.Ending.TheVariants.{Answered, Closed, Killed, Waits}
+use Rattle.daemon_core.specs.declared.parts.CoreParts.{CoreParts}
+use Rattle.daemon_core.specs.declared.room.Room.{Room}
 
+-- how many clients wait
 abbrev pub waiting_count : List Watched → ℕ
 waiting_count ws = length (filter (λ w. is_some w.waiting) ws)
 
-abbrev pub with_clients : State → List Watched → State
-with_clients s ws = record s { clients = ws }
+-- and how many would if this one did too
+abbrev pub waiting_count_with : ℕ → List Watched → ℕ
+waiting_count_with c ws = length (filter (λ w. is_some w.waiting || (w.client == c)) ws)
 
--- for these clients, and one that joins them
-pub record IsRoomFor (ws : List Watched) (room : StepRoom) : Type 0 where
-  pub no_outputs : room.outputs.items ≡ []
-  pub outputs : waiting_count ws + 1 ≤ vec_capacity room.outputs
-  pub tells : waiting_count ws ≤ vec_len room.tells
-  pub ready : length ws + 1 ≤ room.ready
-  pub no_closes : room.closes.items ≡ []
-  pub closes : length ws + 1 ≤ vec_capacity room.closes
+-- enough to tell so many clients that wait, of so many that are connected; where none waits, nobody is told
+pub record IsRoomFor (waiting clients : ℕ) (room : Room) : Type 0 where
+  pub texts : waiting ≤ vec_len room.texts
+  pub outputs : 0 < waiting → waiting < vec_capacity room.outputs
+  pub reports : 0 < waiting → clients ≤ room.reports_for
 
--- room for the event's own output and for one client that is closed, and nothing in it yet
-pub record IsEmptyRoom (outputs : Vec Output) (closes : Vec ℕ) : Type 0 where
-  pub no_outputs : outputs.items ≡ []
-  pub output : 1 ≤ vec_capacity outputs
-  pub no_closes : closes.items ≡ []
+-- enough to tell the clients that wait now
+abbrev pub IsReadyToTell : CoreParts → Type 0
+IsReadyToTell p = IsRoomFor (waiting_count p.watch) (length p.watch) p.room
 
--- the code did what the event does before clients that wait are told
-pub record DoesAct (a : Acted) (t : State) (outputs : Vec Output) (acts : Acts) : Type 0 where
-  pub state : t ≡ a.after
-  pub answer : acts.outputs.items ≡ a.answer
-  pub closes : acts.closes.items ≡ a.closes
-  pub ops : acts.ops.items ≡ a.ops
-  pub refused_at : acts.refused_at ≡ a.refused_at
-  pub ended : acts.ended ≡ a.ended
-  pub changed : acts.changed ≡ a.changed
-  pub room : vec_capacity acts.outputs ≡ vec_capacity outputs
-  pub one : vec_len acts.outputs ≤ 1
+-- nothing of it was given away
+pub record KeepsRoom (before after : Room) : Type 0 where
+  pub texts : vec_len before.texts ≤ vec_len after.texts
+  pub outputs : vec_capacity before.outputs ≤ vec_capacity after.outputs
+  pub reports : before.reports_for ≤ after.reports_for
+
+-- enough for a request of this client that ends so
+abbrev pub HasRoomToEnd : ℕ → Ending → CoreParts → Type 0
+HasRoomToEnd c Answered p = Unit {0}
+HasRoomToEnd c Closed p = 0 < vec_capacity p.room.closes
+HasRoomToEnd c Killed p = length p.watch ≤ vec_capacity p.room.closes
+HasRoomToEnd c (Waits mask) p = IsRoomFor (waiting_count (with_waiting p.watch c (Some mask))) (length p.watch) p.room

@@ -1,68 +1,76 @@
 -- A request's commands, one after the other.
-use Rattle.std.specs.Prelude.{ℕ, suc, ◌+◌, ◌==◌, List, [], ◌∷◌, ◌++◌, length, Bool, true, false, Option, Some, None, Result, Ok, Err, nat_le, if◌then◌else◌}
-use Rattle.console_text.specs.declared.command.Command.{Command}
-use Rattle.console_text.specs.declared.command.Command.TheVariants.{Close, Consume, Kill, Ping, Random, Repeat, SetVolume, Single, Status}
-use Rattle.console_text.specs.declared.name.CommandName.{CommandName}
-use Rattle.console_text.specs.declared.name.CommandName.TheVariants as names
-use Rattle.console_text.specs.declared.place.Place.{Place}
-use Rattle.console_text.specs.declared.refusal.CommandRefusal.{CommandRefusal}
-use Rattle.console_text.specs.declared.refusal.CommandRefusal.TheVariants as refusals
-use Rattle.console_text.specs.declared.refusal.Refusal.{Refusal}
-use Rattle.console_text.specs.declared.refusal.Refusal.TheVariants.{OfCommand}
-use Rattle.console_text.specs.Reading.{line_reading, name_of_line, want_of_memory}
-use Rattle.console_text.specs.Answer.{ok, list_ok, ack}
-use Rattle.idle_masks.specs.declared.subsystem.Subsystems.{Subsystems}
+use Rattle.std.specs.Prelude.{ℕ, suc, ◌+◌, ◌==◌, List, [], ◌∷◌, ◌++◌, length, Bool, true, false, Option, Some, None, Result, Ok, Err}
+use Rattle.std.specs.Prelude.{if◌then◌else◌}
+use Rattle.command_text.specs.Answer.{ok, list_ok, ack}
+use Rattle.command_text.specs.Reading.{line_reading, name_of_line, want_of_memory}
+use Rattle.command_text.specs.declared.command.Command.{Command}
+use Rattle.command_text.specs.declared.command.Command.TheVariants as commands
+use Rattle.command_text.specs.declared.command.NamedCommand.{NamedCommand}
+use Rattle.command_text.specs.declared.command.session.SessionCommand.{SessionCommand}
+use Rattle.command_text.specs.declared.command.session.SessionCommand.TheVariants as session
+use Rattle.command_text.specs.declared.command.settings.SettingsCommand.{SettingsCommand}
+use Rattle.command_text.specs.declared.command.settings.SettingsCommand.TheVariants as settings
+use Rattle.command_text.specs.declared.name.CommandName.{CommandName}
+use Rattle.command_text.specs.declared.place.Place.{Place}
+use Rattle.command_text.specs.declared.refusal.Refusal.{Refusal}
+use Rattle.command_text.specs.declared.refusal.Refusal.TheVariants.{OfCommand}
 use Rattle.idle_masks.specs.Subsystems.{none, union}
-use Rattle.console_codec.specs.declared.op.Op.{Op}
-use Rattle.console_codec.specs.Spelling.{ops_bytes}
+use Rattle.idle_masks.specs.declared.subsystem.Subsystems.{Subsystems}
+use Rattle.machine_core.specs.Changed.{changed}
+use Rattle.machine_core.specs.Command.{meaning}
+use Rattle.machine_core.specs.Meaning.{Meaning, Meant}
+use Rattle.machine_core.specs.Size.{within}
+use Rattle.machine_core.specs.State.{MachineState}
+use Rattle.state_codec.specs.Spelling.{ops_bytes}
+use Rattle.state_codec.specs.declared.op.Op.{Op}
 use Rattle.daemon_core.specs.declared.outcome.Ending.{Ending}
-use Rattle.daemon_core.specs.declared.outcome.Ending.TheVariants.{Answered, Closed, Killed}
-use Rattle.daemon_core.specs.State.{State}
-use Rattle.daemon_core.specs.Changed.{changed}
-use Rattle.daemon_core.specs.Meaning.{Meaning, meaning, ops_of}
+use Rattle.daemon_core.specs.declared.outcome.Ending.TheVariants.{Answered, Closed, Killed, Waits}
 
--- the ops of one request take at most so many bytes
-abbrev pub max_request_bytes : ℕ
-max_request_bytes = 2097152
-
--- what one command did: it answered lines, or was refused, or ends the request
+-- what one command did: what it means, or its refusal, or the end of the request
 pub data Did : Type 0 where
-  Goes : (text : List ℕ) (after : State) (ops : List Op) → Did
+  Goes : (meaning : Meaning) → Did
   Refuses : (refusal : Refusal) → Did
-  Closes : Did
-  Kills : Did
+  Ends : (ending : Ending) → Did
 
--- a command that means this, where the request's ops have this size before it
-abbrev pub within : ℕ → CommandName → Result Meaning CommandRefusal → List Op → Did
-within size name (Err refusal) ops = Refuses (OfCommand name refusal)
-within size name (Ok m) ops =
-    if nat_le (size + length (ops_bytes ops)) max_request_bytes then Goes m.text m.after ops
-    else Refuses (OfCommand name refusals.RequestTooLarge)
+abbrev pub settings_ending : SettingsCommand → Option Ending
+settings_ending settings.Close = Some Closed
+settings_ending settings.Kill = Some Killed
+settings_ending command = None
 
--- `close` and `kill` end the request; any other command does what it means
-abbrev pub performed : ℕ → Command → State → Did
-performed size Close s = Closes
-performed size (Consume on) s = within size names.Consume (meaning (Consume on) s) (ops_of (Consume on) s)
-performed size Kill s = Kills
-performed size Ping s = within size names.Ping (meaning Ping s) (ops_of Ping s)
-performed size (Random on) s = within size names.Random (meaning (Random on) s) (ops_of (Random on) s)
-performed size (Repeat on) s = within size names.Repeat (meaning (Repeat on) s) (ops_of (Repeat on) s)
-performed size (SetVolume volume) s = within size names.SetVolume (meaning (SetVolume volume) s) (ops_of (SetVolume volume) s)
-performed size (Single single) s = within size names.Single (meaning (Single single) s) (ops_of (Single single) s)
-performed size Status s = within size names.Status (meaning Status s) (ops_of Status s)
+abbrev pub session_ending : SessionCommand → Option Ending
+session_ending (session.Idle mask) = Some (Waits mask)
+session_ending command = None
 
-abbrev pub read_and_performed : ℕ → State → Result Command Refusal → Did
-read_and_performed size s (Err refusal) = Refuses refusal
-read_and_performed size s (Ok command) = performed size command s
+-- how a command ends its request, if it does
+unfoldable pub ending_of : Command → Option Ending
+ending_of (commands.Settings command) = settings_ending command
+ending_of (commands.Session command) = session_ending command
+ending_of command = None
+
+abbrev pub did_of : CommandName → Meant → Did
+did_of name (Ok x) = Goes x
+did_of name (Err refusal) = Refuses (OfCommand name refusal)
+
+abbrev pub unless_it_ends : Option Ending → Did → Did
+unless_it_ends None did = did
+unless_it_ends (Some ending) did = Ends ending
+
+-- what a command does, where the request's ops have this size before it
+unfoldable pub performed : ℕ → NamedCommand → MachineState → Did
+performed size named m = unless_it_ends (ending_of named.command) (did_of named.name (within size (meaning named.command m)))
+
+abbrev pub read_and_performed : ℕ → MachineState → Result NamedCommand Refusal → Did
+read_and_performed size m (Err refusal) = Refuses refusal
+read_and_performed size m (Ok named) = performed size named m
 
 -- what the line of one command does
-unfoldable pub attempted : Place → ℕ → List ℕ → State → Did
-attempted place size line s = read_and_performed size s (line_reading place line)
+unfoldable pub attempted : Place → ℕ → List ℕ → MachineState → Did
+attempted place size line m = read_and_performed size m (line_reading place line)
 
--- What a request did: the state after it, its answer, the subsystems that one of its commands changed, its ops in order, how
+-- What a request did: the machine after it, its answer, the subsystems that one of its commands changed, its ops in order, how
 -- it ended, and the place of the command that it reached and that was refused memory, if there was one.
 pub record Ran : Type 0 where
-  pub after : State
+  pub after : MachineState
   pub text : List ℕ
   pub changed : Subsystems
   pub ops : List Op
@@ -70,16 +78,23 @@ pub record Ran : Type 0 where
   pub refused_at : Option ℕ
 
 -- it ends here, with this text
-abbrev pub ends : State → List ℕ → Ending → Ran
-ends s text ending = record { after = s; text = text; changed = none; ops = []; ending = ending; refused_at = None }
+abbrev pub ends : MachineState → List ℕ → Ending → Ran
+ends m text ending = record { after = m; text = text; changed = none; ops = []; ending = ending; refused_at = None }
 
 -- it ends here, since the command of this line, in this place, was refused memory
-abbrev pub wants_memory : State → ℕ → List ℕ → Ran
-wants_memory s index line = record (ends s (ack index (want_of_memory (name_of_line line))) Answered) { refused_at = Some index }
+abbrev pub wants_memory : MachineState → ℕ → List ℕ → Ran
+wants_memory m index line = record (ends m (ack index (want_of_memory (name_of_line line))) Answered) { refused_at = Some index }
 
 -- a command that went well, before the rest of the request
 abbrev pub preceded : List ℕ → Subsystems → List Op → Ran → Ran
-preceded text changes ops rest = record { after = rest.after; text = text ++ rest.text; changed = union changes rest.changed; ops = ops ++ rest.ops; ending = rest.ending; refused_at = rest.refused_at }
+preceded text changes ops rest = record {
+  after = rest.after;
+  text = text ++ rest.text;
+  changed = union changes rest.changed;
+  ops = ops ++ rest.ops;
+  ending = rest.ending;
+  refused_at = rest.refused_at;
+}
 
 -- memory was refused at this command
 abbrev pub is_refused_at : Option ℕ → ℕ → Bool
@@ -92,16 +107,17 @@ separator false = []
 separator true = list_ok
 
 -- what follows a command that did this: the rest of the request if it went well
-abbrev pub follow : List ℕ → ℕ → ℕ → State → (ℕ → State → Ran) → Did → Ran
-follow separator index size s rest (Goes text after ops) = preceded (text ++ separator) (changed s after) ops (rest (size + length (ops_bytes ops)) after)
-follow separator index size s rest (Refuses refusal) = ends s (ack index refusal) Answered
-follow separator index size s rest Closes = ends s [] Closed
-follow separator index size s rest Kills = ends s [] Killed
+abbrev pub follow : List ℕ → ℕ → ℕ → MachineState → (ℕ → MachineState → Ran) → Did → Ran
+follow separator index size m rest (Goes x) =
+    preceded (x.text ++ separator) (changed m x.after) x.ops (rest (size + length (ops_bytes x.ops)) x.after)
+follow separator index size m rest (Refuses refusal) = ends m (ack index refusal) Answered
+follow separator index size m rest (Ends ending) = ends m [] ending
 
 -- The commands from this index on, where the ops so far have this size, and memory is refused at one command or at none.
 -- Each command that goes well adds its lines and the separator; the first that doesn't ends the request, and what ran before it stays.
-unfoldable pub ran : Place → List ℕ → Option ℕ → ℕ → ℕ → List (List ℕ) → State → Ran
-ran place separator refused index size [] s = ends s ok Answered
-ran place separator refused index size (line ∷ lines) s =
-    if is_refused_at refused index then wants_memory s index line
-    else follow separator index size s (λ size after. ran place separator refused (suc index) size lines after) (attempted place size line s)
+unfoldable pub ran : Place → List ℕ → Option ℕ → ℕ → ℕ → List (List ℕ) → MachineState → Ran
+ran place separator refused index size [] m = ends m ok Answered
+ran place separator refused index size (line ∷ lines) m =
+    if is_refused_at refused index then wants_memory m index line
+    else follow separator index size m (λ size after. ran place separator refused (suc index) size lines after)
+    (attempted place size line m)

@@ -1,14 +1,20 @@
--- The daemon's state: the half that is kept on disk, and the half that runs.
+-- The daemon's state: a machine, of which commands speak, and the clients that are connected.
 use Rattle.std.specs.Prelude.{List, []}
 use Rattle.idle_masks.specs.declared.watch.Watched.{Watched}
-use Rattle.console_codec.specs.SavedState.{SavedState}
+use Rattle.machine_core.specs.State.{MachineState, started}
+use Rattle.state_codec.specs.SavedState.{SavedState}
 
--- Of the running half there are, so far, the connected clients, by rising number: for each what is pending and, if it
--- waits, for what.
+-- the connected clients, by rising number: for each what is pending and, if it waits, for what
 pub record State : Type 0 where
-  pub saved : SavedState
+  pub machine : MachineState
   pub clients : List Watched
 
 -- the state of a daemon that has just begun with what was kept
 abbrev pub start : SavedState → State
-start saved = record { saved = saved; clients = [] }
+start saved = record { machine = started saved; clients = [] }
+
+abbrev pub with_machine : State → MachineState → State
+with_machine s machine = record s { machine = machine }
+
+abbrev pub with_clients : State → List Watched → State
+with_clients s clients = record s { clients = clients }

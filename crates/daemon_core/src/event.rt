@@ -1,7 +1,9 @@
-use console_text::Request;
+use command_text::Request;
 use idle_masks::ClientId;
+use player_core::BrokenCause;
+use state_codec::Changes;
 
-/// What happens to the daemon: each event is handled whole before the next one.
+/// What happens to the daemon: each event is handled whole before the next one. Those of the player and of scans do nothing yet.
 #[derive(Debug, Drop)]
 pub enum Event {
     /// A client has connected. Numbers of clients rise and are never used again.
@@ -10,4 +12,14 @@ pub enum Event {
     Request(ClientId, Request),
     /// A client's connection has ended.
     Gone(ClientId),
+    /// The output took so many frames of the song that was started with this ticket.
+    Fed { ticket: u64, frames: u64 },
+    /// The song of this ticket has been played to its end.
+    Ended { ticket: u64 },
+    /// The song of this ticket can't be played on.
+    Broken { ticket: u64, cause: BrokenCause },
+    /// What a scan found, for the job of this number.
+    Batch { job: u32, changes: Changes },
+    /// The scan of this job is over.
+    ScanDone { job: u32 },
 }

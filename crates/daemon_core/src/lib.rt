@@ -1,20 +1,21 @@
 //! The daemon as a state machine: what each event does to its state, and what the clients get.
 #![tactic(auto)]
 
-mod commands;
+mod clients;
+pub mod daemon;
 pub mod event;
+mod handled;
 pub mod laws;
-pub mod machine;
 pub mod outcome;
+mod parts;
+pub mod recover;
 mod request;
-mod status;
+mod room;
 mod step;
 mod tell;
-mod work;
 
+pub use daemon::Core;
 pub use event::Event;
-pub use machine::{Core, RecoverError};
-pub use outcome::{Bytes, NoMemory, Outcome, Output};
-
-#[cfg(test)]
-mod tests;
+pub use no_memory::NoMemory;
+pub use outcome::{Bytes, Outcome, Output};
+pub use recover::RecoverError;

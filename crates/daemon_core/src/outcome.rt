@@ -1,36 +1,8 @@
 ghost use Rattle.std.specs.Prelude.{◌≡◌};
 
-use console_codec::Op;
-use idle_masks::ClientId;
-use std::alloc::{AllocError, AllocFailed};
+use idle_masks::{ClientId, Subsystems};
+use state_codec::Op;
 use std::marker::Model;
-use thiserror::Error;
-
-/// Memory was refused, and nothing was changed.
-#[derive(Clone, Copy, Debug, PartialEq, Eq, Error)]
-#[error("out of memory")]
-pub struct NoMemory;
-
-impl NoMemory {
-    /// The number of the refusal.
-    pub fn number(self) -> u32
-        ensures { result ≡ 7 }
-    {
-        7
-    }
-}
-
-impl From<AllocError> for NoMemory {
-    fn from(_error: AllocError) -> NoMemory {
-        NoMemory
-    }
-}
-
-impl<T: Drop> From<AllocFailed<T>> for NoMemory {
-    fn from(_error: AllocFailed<T>) -> NoMemory {
-        NoMemory
-    }
-}
 
 /// Bytes that a client gets.
 #[derive(Debug, Drop)]
@@ -83,7 +55,7 @@ pub struct Outcome {
 }
 
 /// How the work on a request ended.
-#[derive(Clone, Copy, Debug, PartialEq, Eq)]
+#[derive(Clone, Copy, Debug)]
 pub enum Ending {
     /// The client has its answer.
     Answered,
@@ -91,4 +63,6 @@ pub enum Ending {
     Closed,
     /// The client asked that the daemon ends.
     Killed,
+    /// The client waits for a change of one of these.
+    Waits(Subsystems),
 }

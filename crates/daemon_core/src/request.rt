@@ -1,155 +1,392 @@
-//! The commands of a request, one after the other.
-ghost use Rattle.std.specs.Prelude.{◌≡◌, ◌+◌, ◌<◌, ◌^◌, length, List, ℕ, []};
-ghost use Rattle.daemon_core.specs.State.{State};
-ghost use Rattle.daemon_core.specs.Run.{Refuses};
-ghost use Rattle.daemon_core.specs.Work.{HasRoom, Attempts, want_room};
+// The commands of a request, one after the other, and how it ends.
+ghost use Rattle.std.specs.Prelude.{◌≡◌, ◌<◌, ◌^◌, length};
+ghost use Rattle.daemon_core.specs.Request.{stop_of_reading, RunsLine, RunsLines, AnswersStop, HasRoomToStop};
+ghost use Rattle.daemon_core.specs.Run.{ending_of, separator};
+ghost use Rattle.daemon_core.specs.Step.{is_noidle};
+ghost use Rattle.machine_core.specs.Work.{AddsText, HasRoom, ack_room, command_room};
 
-use crate::machine::Core;
-use crate::outcome::Ending;
-use crate::work::{Failure, Work};
-use console_text::{Command, Line, Place, ReadError, Refusal, read_line};
-use idle_masks::Subsystems;
+use crate::handled::Handled;
+use crate::outcome::{Bytes, Ending, Output};
+use crate::parts::CoreParts;
+use command_text::{
+    Command, Line, NamedCommand, Place, ReadError, Refusal, Request, SessionCommand,
+    SettingsCommand, read_words,
+};
+use idle_masks::{ClientId, Subsystems};
+use machine_core::{Failure, Work};
+use no_memory::NoMemory;
 use std::alloc::Global;
 
-/// How a command of a request ended.
+// A request has at most so many commands.
+const MOST_COMMANDS: usize = 4_294_967_295;
+
+// Why a command is the last one of its request.
 #[derive(Drop)]
-pub enum Attempt {
-    /// It went well, and changed these subsystems.
-    Goes(Subsystems),
-    Refused,
+pub enum Stop {
+    Ends(Ending),
+    Refused(Refusal),
     NoMemory,
-    Closes,
-    Kills,
 }
 
-/// What came of a request.
+impl From<NoMemory> for Stop {
+    ghost use Rattle.std.specs.Prelude.{◌≡◌};
+    ghost use Rattle.daemon_core.specs.declared.request.Stop.TheVariants as stops;
+
+    ghost from_gives = { λ _ stop. stop ≡ stops.NoMemory };
+
+    fn from(_error: NoMemory) -> Stop {
+        Stop::NoMemory
+    }
+}
+
+// How a request ended.
 #[derive(Drop)]
-pub struct RunEnd {
-    pub ending: Ending,
-    /// The subsystems that one of its commands changed.
-    pub changed: Subsystems,
-    /// The place of the command at which memory was refused.
-    pub refused_at: Option<u32>,
+pub struct RequestEnd {
+    pub(crate) ending: Ending,
+    // The subsystems that one of its commands changed.
+    pub(crate) changed: Subsystems,
+    // The place of the command at which memory was refused.
+    pub(crate) refused_at: Option<u32>,
 }
 
-impl RunEnd {
-    fn new(ending: Ending, changed: Subsystems, refused_at: Option<u32>) -> Self
-        ensures { result ≡ record { ending = ending; changed = changed; refused_at = refused_at } }
+// Why a line that wasn't read stops its request.
+fn stop_of_reading(error: ReadError) -> Stop
+    ensures { result ≡ stop_of_reading error }
+{
+    match error {
+        ReadError::Refused(refusal) => Stop::Refused(refusal),
+        ReadError::NoMemory => Stop::NoMemory,
+    }
+}
+
+// How a command ends its request, if it does.
+#[tactic(auto, unfolding(crate::specs::Run::ending_of))]
+fn ending_of(command: &Command<'_>) -> Option<Ending>
+    ensures { result ≡ ending_of command.now }
+{
+    match command {
+        Command::Settings(SettingsCommand::Close) => Some(Ending::Closed),
+        Command::Settings(SettingsCommand::Kill) => Some(Ending::Killed),
+        Command::Session(SessionCommand::Idle(mask)) => Some(Ending::Waits(*mask)),
+        _ => None,
+    }
+}
+
+// Ends the answer of a request that stops at this line: its ending, and its place where memory was refused.
+fn answer_stop(index: u32, line: &[u8], stop: Stop, work: &mut Work) -> (Ending, Option<u32>)
+    requires { HasRoom ack_room work.old }
+    ensures { AnswersStop stop index line.now result.1 result.0 work.old work.new }
+{
+    match stop {
+        Stop::Ends(ending) => return (ending, None),
+        Stop::Refused(refusal) => {
+            if work.refuse(index, &refusal) {
+                return (Ending::Answered, None);
+            }
+        }
+        Stop::NoMemory => {}
+    }
+    work.want_memory(index, line);
+    (Ending::Answered, Some(index))
+}
+
+// Adds what stands behind each command of a list that asks for it.
+fn separate(separated: bool, work: &mut Work)
+    requires { HasRoom command_room work.old }
+    ensures text { AddsText (separator separated) work.old work.new }
+    ensures room { HasRoom ack_room work.new }
+{
+    if separated {
+        work.end_command();
+    }
+}
+
+impl CoreParts {
+    ghost use Rattle.std.specs.Prelude.{[], IfErr, IfOk, IfSome, IsSome, OnErr, OnOk, vec_capacity};
+    ghost use Rattle.idle_masks.specs.Watched.{watched};
+    ghost use Rattle.daemon_core.specs.Handled.{Does};
+    ghost use Rattle.daemon_core.specs.Outcome.{commands_in};
+    ghost use Rattle.daemon_core.specs.Request.{ran_of};
+    ghost use Rattle.daemon_core.specs.Session.{of_ran, runs};
+    ghost use Rattle.daemon_core.specs.Step.{requested_by, waiting_of};
+    ghost use Rattle.daemon_core.specs.Parts.{state_of};
+    ghost use Rattle.daemon_core.specs.Room.{IsReadyToTell, KeepsRoom, HasRoomToEnd};
+    ghost use Rattle.daemon_core.specs.Run.{ran, performed, attempted};
+
+    // A client's request.
+    pub(crate) fn handle_request(
+        &mut self,
+        alloc: Global,
+        client: ClientId,
+        request: Request,
+    ) -> Result<Handled, NoMemory>
+        requires { IsReadyToTell self.old }
+        ensures ok { IfOk result (λ handled. Does (requested_by client handled.refused_at (state_of self.old) request
+            (waiting_of (watched self.old.watch client))) self.new handled) }
+        ensures place { IfOk result (λ handled. IfSome handled.refused_at (λ k. k < commands_in request)) }
+        ensures err { OnErr result (state_of self.new ≡ state_of self.old) }
     {
-        RunEnd {
+        let waiting = match self.watch.get(client) {
+            Some(watched) => watched.waiting,
+            None => return Ok(Handled::nothing(alloc)),
+        };
+        match waiting {
+            Some(_) => return self.end_waiting(alloc, client, is_noidle(&request)),
+            None => {}
+        }
+        match request {
+            Request::Single(line) => {
+                self.answer_lines(alloc, client, Place::Alone, false, &[line])
+            }
+            Request::List(lines) => {
+                self.answer_lines(alloc, client, Place::InList, false, lines.as_slice())
+            }
+            Request::OkList(lines) => {
+                self.answer_lines(alloc, client, Place::InList, true, lines.as_slice())
+            }
+            Request::Noidle => Ok(Handled::nothing(alloc)),
+        }
+    }
+
+    // A request of a client that does not wait. The room for its answer is taken before its first command.
+    fn answer_lines(
+        &mut self,
+        alloc: Global,
+        client: ClientId,
+        place: Place,
+        separated: bool,
+        lines: &[Line],
+    ) -> Result<Handled, NoMemory>
+        requires ready { IsReadyToTell self.old }
+        requires known { IsSome (watched self.old.watch client) }
+        ensures ok { IfOk result (λ handled. Does (runs client (state_of self.old)
+            (ran place (separator separated) handled.refused_at 0 0 lines.now self.old.machine)) self.new handled) }
+        ensures place { IfOk result (λ handled. IfSome handled.refused_at (λ k. k < length lines.now)) }
+        ensures err { OnErr result (state_of self.new ≡ state_of self.old) }
+    {
+        if lines.len() > MOST_COMMANDS {
+            return Err(NoMemory);
+        }
+        let outputs = Vec::with_capacity(alloc, 1)?;
+        let mut work = Work::new(alloc)?;
+        let end = self.run_lines(alloc, client, place, separated, lines, &mut work);
+        Ok(self.end_request(alloc, client, work, end, outputs))
+    }
+
+    // What a request that ran makes of its client, and of all clients.
+    fn end_request(
+        &mut self,
+        alloc: Global,
+        client: ClientId,
+        work: Work,
+        end: RequestEnd,
+        mut outputs: Vec<Output>,
+    ) -> Handled
+        requires ready { IsReadyToTell self.old }
+        requires known { IsSome (watched self.old.watch client) }
+        requires room { HasRoomToEnd client end.ending self.old }
+        requires empty { outputs.items ≡ [] }
+        requires one { 0 < vec_capacity outputs }
+        ensures { Does (of_ran client (state_of self.old) (ran_of self.old.machine work end) end.ending) self.new result }
+    {
+        let RequestEnd {
             ending,
             changed,
             refused_at,
-        }
-    }
-}
-
-/// Ends the answer by the refusal of a command.
-fn refuse(index: u32, line: &[u8], refusal: &Refusal, work: &mut Work) -> Attempt
-    requires { HasRoom want_room work.old }
-    ensures { (s : State) (separator : List ℕ) → Attempts index separator line.now (Refuses refusal.now) s s work.old work.new result }
-{
-    if work.refuse(index, refusal) {
-        return Attempt::Refused;
-    }
-    work.want_memory(index, line);
-    Attempt::NoMemory
-}
-
-impl Core {
-    ghost use Rattle.daemon_core.specs.Run.{attempted, performed, separator};
-    ghost use Rattle.daemon_core.specs.Work.{Ran, command_room};
-
-    /// One command of a request, from its line.
-    fn attempt(
-        &mut self,
-        alloc: Global,
-        place: Place,
-        separated: bool,
-        index: u32,
-        line: &[u8],
-        work: &mut Work,
-    ) -> Attempt
-        requires { HasRoom want_room work.old }
-        ensures { Attempts index (separator separated) line.now (attempted place work.old.size line.now self.old) self.old self.new work.old work.new result }
-    {
-        if work.make_room().is_err() {
-            work.want_memory(index, line);
-            return Attempt::NoMemory;
-        }
-        match read_line(alloc, place, line) {
-            Ok(command) => self.attempt_command(command, separated, index, line, work),
-            Err(ReadError::Refused(refusal)) => refuse(index, line, &refusal, work),
-            Err(ReadError::NoMemory) => {
-                work.want_memory(index, line);
-                Attempt::NoMemory
-            }
-        }
-    }
-
-    fn attempt_command(
-        &mut self,
-        command: Command,
-        separated: bool,
-        index: u32,
-        line: &[u8],
-        work: &mut Work,
-    ) -> Attempt
-        requires { HasRoom command_room work.old }
-        ensures { Attempts index (separator separated) line.now (performed work.old.size command self.old) self.old self.new work.old work.new result }
-    {
-        let name = command.name();
-        match command {
-            Command::Close => return Attempt::Closes,
-            Command::Kill => return Attempt::Kills,
-            _ => {}
-        }
-        match self.perform(command, work) {
-            Ok(changed) => {
-                if separated {
-                    work.end_command();
+        } = end;
+        let Work { text, ops, .. } = work;
+        match ending {
+            Ending::Answered => {
+                let bytes = Bytes::new(text);
+                outputs.push_reserved(Output { client, bytes });
+                Handled {
+                    outputs,
+                    closes: Vec::new(alloc),
+                    ops,
+                    refused_at,
+                    ended: false,
+                    changed,
                 }
-                Attempt::Goes(changed)
             }
-            Err(Failure::Refused(refusal)) => {
-                let refusal = Refusal::OfCommand(name, refusal);
-                refuse(index, line, &refusal, work)
+            Ending::Closed => {
+                let mut closes = self.room.give_closes(alloc);
+                closes.push_reserved(client);
+                self.leave(client);
+                Handled {
+                    outputs,
+                    closes,
+                    ops,
+                    refused_at,
+                    ended: false,
+                    changed,
+                }
             }
-            Err(Failure::NoMemory) => {
-                work.want_memory(index, line);
-                Attempt::NoMemory
+            Ending::Killed => {
+                let mut closes = self.room.give_closes(alloc);
+                self.close_all(&mut closes);
+                Handled {
+                    outputs,
+                    closes,
+                    ops,
+                    refused_at,
+                    ended: true,
+                    changed,
+                }
+            }
+            Ending::Waits(mask) => {
+                self.wait(client, mask);
+                Handled {
+                    outputs,
+                    closes: Vec::new(alloc),
+                    ops,
+                    refused_at,
+                    ended: false,
+                    changed,
+                }
             }
         }
     }
 
-    /// The commands of these lines, until one does not go well. A request has fewer than 2^32 commands.
-    pub(crate) fn run(
+    // The commands of these lines, until one stops the request. A request has fewer than 2^32 commands.
+    fn run_lines(
         &mut self,
         alloc: Global,
+        client: ClientId,
         place: Place,
         separated: bool,
         lines: &[Line],
         work: &mut Work,
-    ) -> RunEnd
-        requires room { HasRoom want_room work.old }
+    ) -> RequestEnd
+        requires room { HasRoom ack_room work.old }
         requires count { length lines.now < 2 ^ 32 }
-        ensures { Ran place (separator separated) lines.now self.old self.new work.old work.new result }
+        ensures ran { RunsLines place (separator separated) lines.now self.old.machine self.new.machine work.old work.new result }
+        ensures watch { self.new.watch ≡ self.old.watch }
+        ensures kept { KeepsRoom self.old.room self.new.room }
+        ensures ending { HasRoomToEnd client result.ending self.new }
     {
         let mut changed = Subsystems::none();
         let mut index = 0;
         let mut rest = lines;
         while let Some((line, after)) = rest.split_first() {
-            match self.attempt(alloc, place, separated, index, line.bytes(), work) {
-                Attempt::Goes(set) => changed = changed.union(set),
-                Attempt::Refused => return RunEnd::new(Ending::Answered, changed, None),
-                Attempt::NoMemory => return RunEnd::new(Ending::Answered, changed, Some(index)),
-                Attempt::Closes => return RunEnd::new(Ending::Closed, changed, None),
-                Attempt::Kills => return RunEnd::new(Ending::Killed, changed, None),
+            let bytes = line.bytes();
+            match self.run_line(alloc, client, place, separated, bytes, work) {
+                Ok(set) => changed = changed.union(set),
+                Err(stop) => {
+                    let (ending, refused_at) = answer_stop(index, bytes, stop, work);
+                    return RequestEnd {
+                        ending,
+                        changed,
+                        refused_at,
+                    };
+                }
             }
             index += 1;
             rest = after;
         }
         work.end();
-        RunEnd::new(Ending::Answered, changed, None)
+        RequestEnd {
+            ending: Ending::Answered,
+            changed,
+            refused_at: None,
+        }
+    }
+
+    // One command of a request, from its line.
+    fn run_line(
+        &mut self,
+        alloc: Global,
+        client: ClientId,
+        place: Place,
+        separated: bool,
+        line: &[u8],
+        work: &mut Work,
+    ) -> Result<Subsystems, Stop>
+        requires { HasRoom ack_room work.old }
+        ensures ran { RunsLine (separator separated) (attempted place work.old.size line.now self.old.machine)
+            self.old.machine self.new.machine work.old work.new result }
+        ensures watch { self.new.watch ≡ self.old.watch }
+        ensures kept { KeepsRoom self.old.room self.new.room }
+        ensures stop { IfErr result (HasRoomToStop client self.new) }
+    {
+        if work.make_room().is_err() {
+            return Err(Stop::NoMemory);
+        }
+        let words = match read_words(alloc, line) {
+            Ok(words) => words,
+            Err(error) => return Err(stop_of_reading(error)),
+        };
+        match Command::read(alloc, place, words.as_slice()) {
+            Ok(command) => self.run_command(alloc, client, separated, command, work),
+            Err(error) => Err(stop_of_reading(error)),
+        }
+    }
+
+    fn run_command(
+        &mut self,
+        alloc: Global,
+        client: ClientId,
+        separated: bool,
+        command: NamedCommand<'_>,
+        work: &mut Work,
+    ) -> Result<Subsystems, Stop>
+        requires { HasRoom command_room work.old }
+        ensures ran { RunsLine (separator separated) (performed work.old.size command.entry self.old.machine)
+            self.old.machine self.new.machine work.old work.new result }
+        ensures watch { self.new.watch ≡ self.old.watch }
+        ensures kept { KeepsRoom self.old.room self.new.room }
+        ensures stop { IfErr result (HasRoomToStop client self.new) }
+    {
+        let NamedCommand { name, command } = command;
+        match ending_of(&command) {
+            Some(ending) => {
+                drop(command);
+                self.take_room_to_end(alloc, client, ending)?;
+                return Err(Stop::Ends(ending));
+            }
+            None => {}
+        }
+        match self.machine.perform(alloc, command, work) {
+            Ok(changed) => {
+                separate(separated, work);
+                Ok(changed)
+            }
+            Err(Failure::Refused(refusal)) => {
+                Err(Stop::Refused(Refusal::OfCommand(name, refusal)))
+            }
+            Err(Failure::NoMemory) => Err(Stop::NoMemory),
+        }
+    }
+
+    // Takes the room for a request of this client that ends so.
+    fn take_room_to_end(
+        &mut self,
+        alloc: Global,
+        client: ClientId,
+        ending: Ending,
+    ) -> Result<(), NoMemory>
+        ensures ok { OnOk result (HasRoomToEnd client ending self.new) }
+        ensures machine { self.new.machine ≡ self.old.machine }
+        ensures watch { self.new.watch ≡ self.old.watch }
+        ensures kept { KeepsRoom self.old.room self.new.room }
+    {
+        match ending {
+            Ending::Answered => Ok(()),
+            Ending::Closed => self.room.take_closes(1),
+            Ending::Killed => self.room.take_closes(self.watch.len()),
+            Ending::Waits(_) => {
+                let waiting = self.waiting_with(client);
+                self.room.take(alloc, waiting, self.watch.len())
+            }
+        }
+    }
+}
+
+// Whether the request ends waiting.
+fn is_noidle(request: &Request) -> bool
+    ensures { result ≡ is_noidle request.now }
+{
+    match request {
+        Request::Single(_) | Request::List(_) | Request::OkList(_) => false,
+        Request::Noidle => true,
     }
 }

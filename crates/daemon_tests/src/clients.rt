@@ -1,6 +1,6 @@
 // Clients that come, wait, are told and go.
 use crate::given::{Happens, connect_both, events_give, filled, fresh, gives};
-use event_core::{Core, Event};
+use daemon_core::{Core, Event};
 use player_core::BrokenCause;
 use std::alloc::Global;
 use std::process::Abort;

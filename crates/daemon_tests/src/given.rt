@@ -1,7 +1,7 @@
 // Daemons, what happens to them, and what that gives out, as text.
 use crate::assertions::same_given;
 use command_text::{Line, Lines, Request};
-use event_core::{Core, Event, NoMemory, Outcome, Output};
+use daemon_core::{Core, Event, NoMemory, Outcome, Output};
 use idle_masks::ClientId;
 use state_codec::{Op, Saved, put_op};
 use std::alloc::{AllocError, Global};

@@ -2,7 +2,7 @@
 use crate::assertions::equal;
 use crate::given::{connect_both, fresh, gives, lines_give, list_of};
 use command_text::Request;
-use event_core::{Core, Event};
+use daemon_core::{Core, Event};
 use std::alloc::Global;
 use std::process::Abort;
 use std::test::Fail;

@@ -2,7 +2,7 @@
 // what ran before. Without a refusal each event is seen to go well.
 use crate::assertions::{equal, same_given};
 use crate::given::{Happens, connect_both, event, filled, given, stepped};
-use event_core::{Core, NoMemory};
+use daemon_core::{Core, NoMemory};
 use state_codec::put_saved;
 use std::alloc::{AllocError, Global};
 use std::process::Abort;

@@ -1,7 +1,7 @@
 // Recovering, and how refusals are numbered and printed.
 use crate::assertions::{equal, prints};
 use crate::given::{connect, gives, line_of};
-use event_core::{Core, NoMemory, RecoverError};
+use daemon_core::{Core, NoMemory, RecoverError};
 use player_core::{Single, Volume};
 use state_codec::{Op, Saved, Setting};
 use std::alloc::Global;

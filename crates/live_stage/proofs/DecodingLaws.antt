@@ -1,12 +1,12 @@
 -- Records decoded one after the other.
 use Rattle.std.proofs.Common.{◌≡◌, ℕ, ◌+◌, ◌-◌, ◌^◌, min, List, [], ◌∷◌, length, Some, None, Result, Ok, Err, refl, sym, subst, ◌∙◌, arith}
-use Rattle.console_codec.specs.SavedState.{SavedState}
-use Rattle.console_codec.specs.Answers.{GivesSaved}
-use Rattle.console_codec.specs.declared.refusal.CodecError.{CodecError}
-use Rattle.console_codec.specs.declared.refusal.CodecError.TheVariants.{NoMemory, BadOp, BadSnapshot}
+use Rattle.state_codec.specs.SavedState.{SavedState}
+use Rattle.state_codec.specs.Answers.{GivesSaved}
+use Rattle.state_codec.specs.declared.refusal.CodecError.{CodecError}
+use Rattle.state_codec.specs.declared.refusal.CodecError.TheVariants.{NoMemory, BadOp, BadSnapshot}
 use Rattle.live_stage.specs.declared.refusal.StartError.TheVariants.{Damaged}
-use Rattle.live_stage.specs.Decoding.{GivesState}
-use Rattle.console_codec.specs.Reading.{saved_reading}
+use Rattle.live_stage.specs.Decoding.{GivesState, snapshot_error}
+use Rattle.state_codec.specs.Reading.{saved_reading}
 use Rattle.live_stage.specs.Found.{after_record, records_reading, stored_reading}
 
 -- these records are left, the state is the one before them, and the first one's gate has this offset, as far as offsets are counted
@@ -41,8 +41,8 @@ pub is_done : (counted : ℕ) (s : SavedState) (all : Result SavedState ℕ) →
 is_done counted s all h = h.is
 
 -- what reading a snapshot answers, where it is refused
-pub refused_snapshot : (snapshot : List ℕ) (records : List (List ℕ)) (e : CodecError) → GivesSaved (Err e) (saved_reading snapshot) → GivesState (Err (Damaged 32)) (stored_reading snapshot records)
-refused_snapshot snapshot records NoMemory gives = elim gives [ ]
+pub refused_snapshot : (snapshot : List ℕ) (records : List (List ℕ)) (e : CodecError) → GivesSaved (Err e) (saved_reading snapshot) → GivesState (Err (snapshot_error e)) (stored_reading snapshot records)
+refused_snapshot snapshot records NoMemory gives = tt
 refused_snapshot snapshot records (BadOp at) gives = elim gives [ ]
 refused_snapshot snapshot records (BadSnapshot at) gives =
     subst (λ r. GivesState (Err (Damaged 32)) r) (sym (bad_snapshot snapshot records at gives)) refl

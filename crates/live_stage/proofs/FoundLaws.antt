@@ -9,14 +9,14 @@ use Rattle.disk_model.specs.Moments.{LeftSince}
 use Rattle.disk_model.proofs.MomentLaws.{now_only}
 use Rattle.play_journal.specs.Content.{Content, with_record, IsBeforeOrAfter}
 use Rattle.play_journal.specs.Pair.{AllPairsNow, AllPairsSince}
-use Rattle.console_codec.specs.declared.op.Op.{Op}
-use Rattle.console_codec.specs.SavedState.{SavedState}
-use Rattle.console_codec.specs.Ops.{IsOp}
-use Rattle.console_codec.specs.Applied.{all_applied}
-use Rattle.console_codec.specs.Spelling.{ops_bytes}
-use Rattle.console_codec.specs.Reading.{ops_reading, saved_reading}
-use Rattle.console_codec.specs.Steps.{◌>>=◌}
-use Rattle.console_codec.proofs.OpLaws.{body_again}
+use Rattle.state_codec.specs.declared.op.Op.{Op}
+use Rattle.state_codec.specs.SavedState.{SavedState}
+use Rattle.state_codec.specs.Ops.{IsOp}
+use Rattle.state_codec.specs.Applied.{all_applied}
+use Rattle.state_codec.specs.Spelling.{ops_bytes}
+use Rattle.state_codec.specs.Reading.{ops_reading, saved_reading}
+use Rattle.state_codec.specs.Steps.{◌>>=◌}
+use Rattle.state_codec.proofs.BodyLaws.{body_again}
 use Rattle.live_stage.specs.Found.{after_record, records_reading, stored_reading, content_reading, state_of, AllFindNow, AllFindSince}
 
 result_is_ok : {A : Type 0} (r : Result A ℕ) (x : A) → result_ok r ≡ Some x → r ≡ Ok x

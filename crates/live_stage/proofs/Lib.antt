@@ -1,3 +1,4 @@
+pub mod RecordLaws
 pub mod DecodingLaws
 pub mod FoundLaws
 pub mod StartLaws

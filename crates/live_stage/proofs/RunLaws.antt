@@ -7,7 +7,7 @@ use Rattle.disk_model.specs.History.{Change}
 use Rattle.disk_model.specs.Moments.{LeftSince, Continues}
 use Rattle.disk_model.proofs.MomentLaws.{now_only, counts_now, left_split, continues_join, continues_same}
 use Rattle.daemon_core.specs.declared.event.Event.{Event}
-use Rattle.console_codec.specs.SavedState.{SavedState}
+use Rattle.state_codec.specs.SavedState.{SavedState}
 use Rattle.daemon_core.specs.State.{State, start}
 use Rattle.daemon_core.specs.Step.{Stepped, step}
 use Rattle.daemon_core.specs.Replay.{Entry, stepped, replay}
@@ -16,7 +16,7 @@ use Rattle.live_stage.specs.declared.refusal.LiveError.{LiveError}
 use Rattle.live_stage.specs.declared.refusal.LiveError.TheVariants.{Broken, NoMemory, NumbersSpent}
 use Rattle.live_stage.specs.Answer.{Answer, IsTurn, IsNumbered}
 use Rattle.live_stage.specs.Numbers.{Numbers, next_numbers, AreSpent}
-use Rattle.console_codec.specs.declared.op.Op.{Op}
+use Rattle.state_codec.specs.declared.op.Op.{Op}
 use Rattle.live_stage.specs.LiveState.{LiveState}
 use Rattle.live_stage.specs.Found.{found_state, AllFindNow, AllFindSince}
 use Rattle.live_stage.specs.Transcript.{entry_of, history_of, replayed, numbers_after, IsTranscript, broken_by, broken_after, SpendsNumbers, AreReplies, StaysBroken, first_broken, IsWhole, FindsWhole, FindsPrefix}
@@ -82,8 +82,8 @@ first_more (e ∷ events) (Err NumbersSpent ∷ answers) event answer same is = 
 pub record IsTurnMade {D : Type 0} (honest : D → Type 0) (history : D → List Change) (old new : LiveState D) (event : Event) (answer : Reply) : Type 0 where
   pub made : IfOk answer (λ t. IsTurn old event t new)
   pub any_moment : honest old.a → honest old.b → old.is_broken ≡ false
-      → (k : Option ℕ) × IfOk answer (λ t. t.refused_at ≡ k) × AllFindSince (λ f. (f ≡ Some old.state.saved) ⊎ (let now = step old.state event k in f ≡ Some now.after.saved)) (history new.a) (length (history old.a)) (history new.b) (length (history old.b))
-  pub kept : honest old.a → honest old.b → new.is_broken ≡ false → AllFindNow (λ f. f ≡ Some new.state.saved) (history new.a) (history new.b)
+      → (k : Option ℕ) × IfOk answer (λ t. t.refused_at ≡ k) × AllFindSince (λ f. (f ≡ Some old.state.machine.saved) ⊎ (let now = step old.state event k in f ≡ Some now.after.machine.saved)) (history new.a) (length (history old.a)) (history new.b) (length (history old.b))
+  pub kept : honest old.a → honest old.b → new.is_broken ≡ false → AllFindNow (λ f. f ≡ Some new.state.machine.saved) (history new.a) (history new.b)
   pub usable : OnOk answer (new.is_broken ≡ false)
   pub other_file : MatchBool old.is_in_b (new.a ≡ old.a) (new.b ≡ old.b)
   pub same_file : new.is_in_b ≡ old.is_in_b
@@ -131,7 +131,7 @@ pub record IsRunSoFar {D : Type 0} (honest : D → Type 0) (history : D → List
   pub numbers : now.is_broken ≡ false → now.numbers ≡ numbers_after first.state first.numbers (history_of [] events answers)
   pub other_file : MatchBool first.is_in_b (now.a ≡ first.a) (now.b ≡ first.b)
   pub same_file : now.is_in_b ≡ first.is_in_b
-  pub kept : honest first.a → honest first.b → now.is_broken ≡ false → AllFindNow (λ f. f ≡ Some now.state.saved) (history now.a) (history now.b)
+  pub kept : honest first.a → honest first.b → now.is_broken ≡ false → AllFindNow (λ f. f ≡ Some now.state.machine.saved) (history now.a) (history now.b)
   pub given_out : honest first.a → honest first.b → first.is_broken ≡ false → now.is_broken ≡ true → AllFindNow (FindsWhole first.state events answers) (history now.a) (history now.b)
   pub any_moment : honest first.a → honest first.b → first.is_broken ≡ false → OneFile (history first.a) (history first.b) (history now.a) (history now.b)
       → AllFindSince (FindsPrefix first.state events answers) (history now.a) (length (history first.a)) (history now.b) (length (history first.b))
@@ -148,7 +148,7 @@ finds_prefix_of_whole s events answers f w = record { whole = w.whole; is_whole 
 
 -- nothing has happened yet
 pub begins : {D : Type 0} (honest : D → Type 0) (history : D → List Change) (first : LiveState D)
-    → (honest first.a → honest first.b → first.is_broken ≡ false → AllFindNow (λ f. f ≡ Some first.state.saved) (history first.a) (history first.b))
+    → (honest first.a → honest first.b → first.is_broken ≡ false → AllFindNow (λ f. f ≡ Some first.state.machine.saved) (history first.a) (history first.b))
     → IsRunSoFar honest history first first [] []
 begins honest history first kept = record {
   counted = refl;
@@ -226,7 +226,7 @@ prefix_answered s events answers event t f same none h = elim h.is_whole [
 ]
 
 -- the state before an event that was answered or broke the stage, and the state after it
-prefix_before : (s : State) (events : List Event) (answers : List Reply) (f : Option SavedState) → (let now = replayed s (whole_of events answers) in f ≡ Some now.saved) → FindsPrefix s events answers f
+prefix_before : (s : State) (events : List Event) (answers : List Reply) (f : Option SavedState) → (let now = replayed s (whole_of events answers) in f ≡ Some now.machine.saved) → FindsPrefix s events answers f
 prefix_before s events answers f is = record { whole = whole_of events answers; is_whole = inl refl; later = []; prefix = whole_of events answers; parts = refl; finds = is }
 
 -- ---- pairs of images, over one run after another
@@ -322,12 +322,12 @@ spends_now honest history first old new events answers event answer r m =
     )
 
 -- the state before an event, as the history has it, is that from before or after it
-found_before : {D : Type 0} (first old : LiveState D) (whole : List Entry) (f : Option SavedState) → old.state ≡ replayed first.state whole → f ≡ Some old.state.saved → (let now = replayed first.state whole in f ≡ Some now.saved)
-found_before first old whole f is found = found ∙ ap (λ (s : State). Some s.saved) is
+found_before : {D : Type 0} (first old : LiveState D) (whole : List Entry) (f : Option SavedState) → old.state ≡ replayed first.state whole → f ≡ Some old.state.machine.saved → (let now = replayed first.state whole in f ≡ Some now.machine.saved)
+found_before first old whole f is found = found ∙ ap (λ (s : State). Some s.machine.saved) is
 
-found_after : {D : Type 0} (first old : LiveState D) (whole : List Entry) (event : Event) (k : Option ℕ) (f : Option SavedState) → old.state ≡ replayed first.state whole → (let now = step old.state event k in f ≡ Some now.after.saved)
-    → (let now = stepped (replayed first.state whole) (record { event = event; refused = k }) in f ≡ Some now.after.saved)
-found_after first old whole event k f is found = found ∙ ap (λ (s : State). let now : Stepped = step s event k in Some now.after.saved) is
+found_after : {D : Type 0} (first old : LiveState D) (whole : List Entry) (event : Event) (k : Option ℕ) (f : Option SavedState) → old.state ≡ replayed first.state whole → (let now = step old.state event k in f ≡ Some now.after.machine.saved)
+    → (let now = stepped (replayed first.state whole) (record { event = event; refused = k }) in f ≡ Some now.after.machine.saved)
+found_after first old whole event k f is found = found ∙ ap (λ (s : State). let now : Stepped = step s event k in Some now.after.machine.saved) is
 
 -- a disk fault came in an event
 broke : {D : Type 0} (honest : D → Type 0) (history : D → List Change) (first old new : LiveState D) (events : List Event) (answers : List Reply) (event : Event)
@@ -337,7 +337,7 @@ broke {D} honest history first old new events answers event usable r m =
     let now_broken : new.is_broken ≡ true = m.breaks refl in
     let longer = sym (history_more [] events answers event (Err Broken) r.counted) in
     let whole : List Entry = whole_of events answers in
-    let finds : (k : Option ℕ) (f : Option SavedState) → ((f ≡ Some old.state.saved) ⊎ (let now = step old.state event k in f ≡ Some now.after.saved)) → FindsWhole first.state (events ++ event ∷ []) (answers ++ Err Broken ∷ []) f =
+    let finds : (k : Option ℕ) (f : Option SavedState) → ((f ≡ Some old.state.machine.saved) ⊎ (let now = step old.state event k in f ≡ Some now.after.machine.saved)) → FindsWhole first.state (events ++ event ∷ []) (answers ++ Err Broken ∷ []) f =
     λ k f either. elim either [
       | inl before ↦ record { whole = whole; is_whole = inl longer; finds = found_before first old whole f (r.state usable) before }
       | inr after ↦ record {
@@ -387,7 +387,7 @@ answered {D} honest history first old new events answers event t usable r m =
     let whole : List Entry = whole_of events answers in
     let same : step old.state event t.refused_at ≡ stepped (replayed first.state whole) (entry_of event t) = ap (λ (s : State). step s event t.refused_at) (r.state usable) in
     let made = m.made in
-    let finds : (k : Option ℕ) (f : Option SavedState) → t.refused_at ≡ k → ((f ≡ Some old.state.saved) ⊎ (let now = step old.state event k in f ≡ Some now.after.saved)) → FindsPrefix first.state (events ++ event ∷ []) (answers ++ Ok t ∷ []) f =
+    let finds : (k : Option ℕ) (f : Option SavedState) → t.refused_at ≡ k → ((f ≡ Some old.state.machine.saved) ⊎ (let now = step old.state event k in f ≡ Some now.after.machine.saved)) → FindsPrefix first.state (events ++ event ∷ []) (answers ++ Ok t ∷ []) f =
     λ k f place either. elim either [
       | inl before ↦ record {
         whole = entry_of event t ∷ whole;
@@ -403,7 +403,7 @@ answered {D} honest history first old new events answers event t usable r m =
         later = [];
         prefix = entry_of event t ∷ whole;
         parts = refl;
-        finds = found_after first old whole event t.refused_at f (r.state usable) (after ∙ ap (λ (p : Option ℕ). let now : Stepped = step old.state event p in Some now.after.saved) (sym place));
+        finds = found_after first old whole event t.refused_at f (r.state usable) (after ∙ ap (λ (p : Option ℕ). let now : Stepped = step old.state event p in Some now.after.machine.saved) (sym place));
       }
     ] in
     record {
@@ -513,7 +513,7 @@ pub run_finds : {D : Type 0} (honest : D → Type 0) (history : D → List Chang
 run_finds honest history first now events answers r ha hb usable x y at_x at_y =
     elim (broken_or_not now.is_broken) [
       | inl broken ↦ r.given_out ha hb usable broken x y at_x at_y
-      | inr fine ↦ record { whole = whole_of events answers; is_whole = inl refl; finds = r.kept ha hb fine x y at_x at_y ∙ ap (λ (s : State). Some s.saved) (r.state fine) }
+      | inr fine ↦ record { whole = whole_of events answers; is_whole = inl refl; finds = r.kept ha hb fine x y at_x at_y ∙ ap (λ (s : State). Some s.machine.saved) (r.state fine) }
     ]
 
 -- ---- from the start of a life

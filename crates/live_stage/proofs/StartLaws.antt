@@ -14,12 +14,12 @@ use Rattle.play_journal.specs.Pair.{reading, found, IsPair, KeepsFound}
 use Rattle.play_journal.proofs.FileLaws.{length-spelling}
 use Rattle.play_journal.proofs.PairLaws.{pair-found}
 use Rattle.play_journal.proofs.RecordLaws.{IsBytes}
-use Rattle.console_codec.specs.SavedState.{SavedState, IsSavedState}
-use Rattle.console_codec.specs.SavedState as state
-use Rattle.console_codec.specs.Spelling.{saved_bytes}
-use Rattle.console_codec.specs.Reading.{saved_reading}
-use Rattle.console_codec.specs.Steps.{◌>>=◌}
-use Rattle.console_codec.proofs.SavedLaws.{snapshot_again}
+use Rattle.state_codec.specs.SavedState.{SavedState, IsSavedState}
+use Rattle.state_codec.specs.Spelling.{saved_bytes}
+use Rattle.state_codec.specs.Reading.{saved_reading}
+use Rattle.state_codec.specs.Steps.{◌>>=◌}
+use Rattle.state_codec.proofs.LengthLaws.{snapshot_len}
+use Rattle.state_codec.proofs.SavedLaws.{snapshot_again}
 use Rattle.live_stage.specs.declared.refusal.StartError.{StartError}
 use Rattle.live_stage.specs.declared.refusal.StartError.TheVariants.{NotEmpty, NoJournal, Damaged, NoMemory, Broken}
 use Rattle.live_stage.specs.Decoding.{GivesState}
@@ -131,9 +131,6 @@ refused_good a b content snapshot records Broken was some gives = elim gives [ ]
 
 -- ---- a snapshot is never too long
 
-fresh_length : (key : List ℕ) → length key ≡ 32 → length (saved_bytes (state.fresh key)) ≡ 69
-fresh_length key long = simp length-append (omega (arith, long))
-
 fault_of_create : (e : JournalError) → IsRefusalOfCreate e → (e ≡ journal.TooLong → ⊥) → start_error e ≡ Broken → e ≡ journal.DiskFault
 fault_of_create journal.NotEmpty one short is = cc
 fault_of_create journal.NoJournal one short is = cc
@@ -143,11 +140,12 @@ fault_of_create journal.NoMemory one short is = cc
 fault_of_create journal.TooLong one short is = absurd (short refl)
 fault_of_create journal.NumbersSpent one short is = elim one [ ]
 
--- a fresh journal that was not made for want of a disk
-pub only_a_fault : (e : JournalError) (snapshot key : List ℕ) → snapshot ≡ saved_bytes (state.fresh key) → length key ≡ 32
+-- a journal that was not made for want of a disk
+pub only_a_fault : (e : JournalError) (snapshot : List ℕ) (s : SavedState) → snapshot ≡ saved_bytes s → IsSavedState s
     → IsRefusalOfCreate e → (e ≡ journal.TooLong → 4294967295 < length snapshot) → start_error e ≡ Broken → e ≡ journal.DiskFault
-only_a_fault e snapshot key spelled long one too_long is =
-    fault_of_create e one (λ t. let too = too_long t in omega (arith, too, ap length spelled, fresh_length key long)) is
+only_a_fault e snapshot s spelled good one too_long is =
+    let short : length (saved_bytes s) ≤ 691357253 = snapshot_len s good in
+    fault_of_create e one (λ t. let too = too_long t in omega (arith, too, ap length spelled, short)) is
 
 -- ---- the phases of an opening
 

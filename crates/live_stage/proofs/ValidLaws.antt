@@ -3,8 +3,8 @@ use Rattle.std.proofs.Common.{◌≡◌, ℕ, ◌+◌, ◌<◌, List, [], ◌∷
 use Rattle.std.specs.List.{AllByRecursion}
 use Rattle.std.proofs.lemmas.List.{take_more}
 use Rattle.std.proofs.Math.Seq.{take-length}
-use Rattle.console_codec.specs.declared.op.Op.{Op}
-use Rattle.console_codec.specs.Ops.{IsOp}
+use Rattle.state_codec.specs.declared.op.Op.{Op}
+use Rattle.state_codec.specs.Ops.{IsOp}
 
 all_added : (ops : List Op) (op : Op) → AllByRecursion IsOp ops → IsOp op → AllByRecursion IsOp (ops ++ op ∷ [])
 all_added [] op all one = (one, tt)

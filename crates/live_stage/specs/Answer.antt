@@ -1,7 +1,7 @@
 -- What a turn answers.
 use Rattle.std.specs.Prelude.{◌≡◌, ◌⊎◌, ℕ, ◌+◌, List, [], Option, Some, Bool}
-use Rattle.console_codec.specs.declared.op.Op.{Op}
-use Rattle.console_codec.specs.SavedState.{SavedState}
+use Rattle.state_codec.specs.declared.op.Op.{Op}
+use Rattle.state_codec.specs.SavedState.{SavedState}
 use Rattle.daemon_core.specs.declared.event.Event.{Event}
 use Rattle.daemon_core.specs.declared.outcome.Output.{Output}
 use Rattle.daemon_core.specs.State.{State}
@@ -47,7 +47,7 @@ IsTurn before event t after = IsTurnOf (step before.state event t.refused_at) be
 
 -- a restart finds the saved state from before an event, or from after it, where memory was refused at this place
 abbrev pub IsBeforeOrAfter : State → Event → Option ℕ → Option SavedState → Type 0
-IsBeforeOrAfter s event k found = (found ≡ Some s.saved) ⊎ (let now = step s event k in found ≡ Some now.after.saved)
+IsBeforeOrAfter s event k found = (found ≡ Some s.machine.saved) ⊎ (let now = step s event k in found ≡ Some now.after.machine.saved)
 
 -- the step of an event, refused at the place that its answer names, makes no op
 abbrev pub HasNoOps : {D : Type 0} → LiveState D → Event → Answer → Type 0

@@ -1,6 +1,11 @@
 -- What decoding answers.
 use Rattle.std.specs.Prelude.{◌≡◌, ⊤, ℕ, ◌-◌, ◌^◌, min, Option, Some, None, Result, Ok, Err}
-use Rattle.console_codec.specs.SavedState.{SavedState}
+use Rattle.state_codec.specs.SavedState.{SavedState}
+use Rattle.state_codec.specs.declared.refusal.BodyError.{BodyError}
+use Rattle.state_codec.specs.declared.refusal.BodyError.TheVariants as body
+use Rattle.state_codec.specs.declared.refusal.CodecError.{CodecError}
+use Rattle.state_codec.specs.declared.refusal.CodecError.TheVariants as codec
+use Rattle.live_stage.specs.Found.{snapshot_at}
 use Rattle.live_stage.specs.declared.refusal.StartError.{StartError}
 use Rattle.live_stage.specs.declared.refusal.StartError.TheVariants.{NotEmpty, NoJournal, Damaged, NoMemory, Broken}
 
@@ -14,11 +19,23 @@ GivesState (Err (Damaged offset)) (Err at) = offset ≡ min at (2 ^ 64 - 1)
 GivesState (Err NoMemory) read = ⊤
 GivesState (Err Broken) read = ⊥
 
+-- why a snapshot gives no state
+abbrev pub snapshot_error : CodecError → StartError
+snapshot_error codec.NoMemory = NoMemory
+snapshot_error (codec.BadOp offset) = Damaged snapshot_at
+snapshot_error (codec.BadSnapshot offset) = Damaged snapshot_at
+
+-- why a record gives no state, whose gate has this offset
+abbrev pub record_error : ℕ → BodyError → StartError
+record_error gate body.NoMemory = NoMemory
+record_error gate (body.BadOp offset) = Damaged gate
+record_error gate (body.DoesNotApply place) = Damaged gate
+
 -- the state after one record, or the offset of its gate, unless memory ran out
-abbrev pub GivesAfter : ℕ → Result SavedState StartError → Option SavedState → Type 0
-GivesAfter gate (Ok s) after = after ≡ Some s
-GivesAfter gate (Err NotEmpty) after = ⊥
-GivesAfter gate (Err NoJournal) after = ⊥
-GivesAfter gate (Err (Damaged offset)) after = (offset ≡ gate) × (after ≡ None)
-GivesAfter gate (Err NoMemory) after = ⊤
-GivesAfter gate (Err Broken) after = ⊥
+abbrev pub GivesAfter : ℕ → Result (Unit {0}) StartError → SavedState → Option SavedState → Type 0
+GivesAfter gate (Ok done) s after = after ≡ Some s
+GivesAfter gate (Err NotEmpty) s after = ⊥
+GivesAfter gate (Err NoJournal) s after = ⊥
+GivesAfter gate (Err (Damaged offset)) s after = (offset ≡ gate) × (after ≡ None)
+GivesAfter gate (Err NoMemory) s after = ⊤
+GivesAfter gate (Err Broken) s after = ⊥

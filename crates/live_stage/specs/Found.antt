@@ -7,10 +7,10 @@ use Rattle.disk_model.specs.Images.{window, IsImage}
 use Rattle.disk_model.specs.Moments.{LeftSince}
 use Rattle.play_journal.specs.Content.{Content}
 use Rattle.play_journal.specs.Pair.{found}
-use Rattle.console_codec.specs.SavedState.{SavedState}
-use Rattle.console_codec.specs.Applied.{all_applied}
-use Rattle.console_codec.specs.Reading.{ops_reading, saved_reading}
-use Rattle.console_codec.specs.Steps.{◌>>=◌}
+use Rattle.state_codec.specs.SavedState.{SavedState}
+use Rattle.state_codec.specs.Applied.{all_applied}
+use Rattle.state_codec.specs.Reading.{ops_reading, saved_reading}
+use Rattle.state_codec.specs.Steps.{◌>>=◌}
 
 -- the state after the ops that a record's body spells, where it spells ops and all of them apply
 abbrev pub after_record : List ℕ → SavedState → Option SavedState

@@ -1,6 +1,6 @@
 -- The numbers by which a stage counts, and which can be spent.
 use Rattle.std.specs.Prelude.{◌≡◌, ◌⊎◌, ℕ, ◌+◌, ◌-◌, ◌^◌, List, [], ◌∷◌, Option, Some, None}
-use Rattle.console_codec.specs.declared.op.Op.{Op}
+use Rattle.state_codec.specs.declared.op.Op.{Op}
 use Rattle.play_journal.specs.Content.{Content, last_record}
 
 -- How many events there were since the stage was made or opened, the number of the last record in file and snapshot, and the

@@ -2,7 +2,7 @@
 use Rattle.std.specs.Prelude.{◌≡◌, ◌⊎◌, ◌↔◌, ℕ, ◌+◌, List, [], ◌∷◌, ◌++◌, length, Bool, true, false, Option, Some, None, Result}
 use Rattle.std.specs.Prelude.{Ok, Err}
 use Rattle.daemon_core.specs.declared.event.Event.{Event}
-use Rattle.console_codec.specs.SavedState.{SavedState}
+use Rattle.state_codec.specs.SavedState.{SavedState}
 use Rattle.daemon_core.specs.State.{State}
 use Rattle.daemon_core.specs.Step.{Stepped}
 use Rattle.daemon_core.specs.Replay.{Entry, stepped, reply, replay}
@@ -117,7 +117,7 @@ pub record FindsWhole (s : State) (events : List Event) (answers : List (Result 
     : Type 0 where
   pub whole : List Entry
   pub is_whole : IsWhole events answers whole
-  pub finds : let now = replayed s whole in found ≡ Some now.saved
+  pub finds : let now = replayed s whole in found ≡ Some now.machine.saved
 
 -- a restart finds the state after a prefix of the history of the run, from this state on: the oldest entries, in order, and none in part
 pub record FindsPrefix (s : State) (events : List Event) (answers : List (Result Answer LiveError)) (found : Option SavedState)
@@ -127,7 +127,7 @@ pub record FindsPrefix (s : State) (events : List Event) (answers : List (Result
   pub later : List Entry
   pub prefix : List Entry
   pub parts : whole ≡ later ++ prefix
-  pub finds : let now = replayed s prefix in found ≡ Some now.saved
+  pub finds : let now = replayed s prefix in found ≡ Some now.machine.saved
 
 -- The answers of a run are those of the steps of its one history, in order, of the events that were answered; and the stage at its end
 -- has counted these, and has the state after them.

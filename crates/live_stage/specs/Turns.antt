@@ -1,9 +1,9 @@
 -- How a stage goes on from one call to the next.
-use Rattle.std.specs.Prelude.{◌≡◌, ◌≢◌, ◌↔◌, true, false, Result, Err, MatchBool, OnOk, OnErr}
-use Rattle.console_codec.specs.SavedState.{SavedState}
+use Rattle.std.specs.Prelude.{◌≡◌, ◌≢◌, ◌⊎◌, ◌↔◌, true, false, Result, Err, MatchBool, OnOk, OnErr, IfErr}
+use Rattle.state_codec.specs.SavedState.{SavedState}
 use Rattle.daemon_core.specs.State.{start}
 use Rattle.live_stage.specs.declared.refusal.LiveError.{LiveError}
-use Rattle.live_stage.specs.declared.refusal.LiveError.TheVariants.{Broken, NumbersSpent}
+use Rattle.live_stage.specs.declared.refusal.LiveError.TheVariants.{Broken, NoMemory, NumbersSpent}
 use Rattle.live_stage.specs.LiveState.{LiveState}
 use Rattle.live_stage.specs.Numbers.{AreSpent}
 
@@ -41,3 +41,8 @@ pub record RefusesInOrder {D T : Type 0} (old new : LiveState D) (result : Resul
   pub breaks : result ≡ Err Broken → new.is_broken ≡ true
   pub stays : OnErr result (result ≢ Err Broken → IsReady old new)
   pub not_counted : OnErr result (new.numbers.event ≡ old.numbers.event)
+
+-- What is only told is refused where the stage is broken, and else for want of memory alone.
+pub record RefusesToTell {D T : Type 0} (live : LiveState D) (result : Result T LiveError) : Type 0 where
+  pub broken : (result ≡ Err Broken) ↔ (live.is_broken ≡ true)
+  pub nothing_else : IfErr result (λ e. (e ≡ Broken) ⊎ (e ≡ NoMemory))

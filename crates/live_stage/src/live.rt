@@ -2,25 +2,28 @@
 ghost use Rattle.std.specs.Prelude.{◌≡◌, ◌≢◌, ◌⊎◌, ◌↔◌, ◌+◌, ◌-◌, ◌^◌, ◌<◌, ◌≤◌, ℕ, true, false, [], length, Ok, Err, Some, None, Option};
 ghost use Rattle.std.specs.Prelude.{IsSome, IsTrue, IfOk, IfErr, OnOk, OnErr, IsErrAnd, MatchResult, MatchBool, vec_capacity};
 ghost use Rattle.disk_model.specs.Later.{AreLater, HasFailed};
-ghost use Rattle.console_codec.specs.SavedState.{IsSavedState, fresh};
-ghost use Rattle.console_codec.specs.Spelling.{saved_bytes};
+ghost use Rattle.state_codec.specs.SavedState.{IsSavedState, fresh};
+ghost use Rattle.state_codec.specs.Spelling.{saved_bytes};
 ghost use Rattle.play_journal.specs.Content.{Content};
 ghost use Rattle.play_journal.specs.Pair.{found};
+ghost use Rattle.daemon_core.specs.Orders.{play_order, scan_order};
 ghost use Rattle.daemon_core.specs.State.{start};
 ghost use Rattle.live_stage.specs.Answer.{IsTurn, IsBeforeOrAfter, HasNoOps};
 ghost use Rattle.live_stage.specs.Errors.{IsRefusalOfCreate, IsRefusalOfOpen, IsCause, start_error};
 ghost use Rattle.live_stage.specs.Numbers.{first_numbers, numbers_found, AreSpent};
-ghost use Rattle.live_stage.specs.Turns.{IsBegun, StaysInFile, MakesNoCall, RefusesInOrder};
+ghost use Rattle.live_stage.specs.Turns.{IsBegun, StaysInFile, MakesNoCall, RefusesInOrder, RefusesToTell};
 ghost use Rattle.live_stage.specs.Found.{found_state, AllFindNow, AllFindSince, KeepsFoundState};
 
 use crate::decoding::take_state;
 use crate::recording::{LONGEST_BODY, record_ops};
 use crate::turn::Turn;
 use crate::{LiveError, Refused, StartError};
-use console_codec::{Saved, put_saved};
 use daemon_core::{Core, Event};
 use disk_model::Disk;
 use play_journal::{Journal, JournalError};
+use player_core::Order;
+use song_db::ScanOrder;
+use state_codec::{Saved, put_saved};
 use std::alloc::Global;
 use std::marker::Model;
 use std::snapshot::Snapshot;
@@ -28,7 +31,7 @@ use std::snapshot::Snapshot;
 /// The daemon's state, and the journal that keeps it: what an event changes is on the disk when its answer is given out.
 ///
 /// All that is said of bytes is said of two honest disks.
-#[derive(Debug, Drop)]
+#[derive(Drop)]
 pub struct Live<D: Disk> {
     core: Core,
     journal: Journal<D>,
@@ -58,7 +61,7 @@ impl<D: Disk> Model for Live<D> {
 
     ghost invariant = { λ v. (2097152 ≤ vec_capacity v.room)
         × (v.journal.is_spent ≡ false → D.honest v.journal.a → D.honest v.journal.b
-        → state_of (Some v.journal.content) ≡ Some v.core.saved) };
+        → state_of (Some v.journal.content) ≡ Some v.core.machine.saved) };
 }
 
 impl<D: Disk> Live<D> {
@@ -91,7 +94,7 @@ impl<D: Disk> Live<D> {
                 b,
             });
         }
-        let saved = Saved::fresh(key);
+        let saved = Saved::fresh(alloc, key);
         let (room, snapshot) = match rooms_for(alloc, &saved) {
             Ok(rooms) => rooms,
             Err(error) => return Err(Refused { error, a, b }),
@@ -112,8 +115,9 @@ impl<D: Disk> Live<D> {
     /// A refusal hands both disks back.
     pub fn open(alloc: Global, a: D, b: D) -> Result<Live<D>, Refused<D>>
         // It answers the state that the files give, and names what is wrong with them.
-        ensures found { D.honest a → D.honest b → IfOk result (λ live. found_state (D.content a) (D.content b) ≡ Some live.state.saved) }
-        ensures begun { IfOk result (λ live. IsBegun live.state.saved live) }
+        ensures found { D.honest a → D.honest b
+            → IfOk result (λ live. found_state (D.content a) (D.content b) ≡ Some live.state.machine.saved) }
+        ensures begun { IfOk result (λ live. IsBegun live.state.machine.saved live) }
         ensures cause { D.honest a → D.honest b → IfErr result (λ e. IsCause (D.content a) (D.content b) e.error) }
 
         // Stopped at any moment, a restart finds what it might have found before, and from `Ok` on what is answered.
@@ -121,7 +125,7 @@ impl<D: Disk> Live<D> {
             (λ live. KeepsFoundState (D.history a) (D.history b) (D.history live.a) (D.history live.b))
             (λ e. KeepsFoundState (D.history a) (D.history b) (D.history e.a) (D.history e.b)) }
         ensures kept { D.honest a → D.honest b
-            → IfOk result (λ live. AllFindNow (λ f. f ≡ Some live.state.saved) (D.history live.a) (D.history live.b)) }
+            → IfOk result (λ live. AllFindNow (λ f. f ≡ Some live.state.machine.saved) (D.history live.a) (D.history live.b)) }
 
         // Where each pair that a crash may have left gives a state, it opens, unless memory is wanting or a disk fails.
         ensures opens { D.honest a → D.honest b → AllFindNow (λ f. IsSome f) (D.history a) (D.history b)
@@ -181,7 +185,7 @@ impl<D: Disk> Live<D> {
 
         // From then on it finds the state after, and after a refusal without a fault the state from before, which stays.
         ensures kept { D.honest self.old.a → D.honest self.old.b → self.new.is_broken ≡ false
-            → AllFindNow (λ f. f ≡ Some self.new.state.saved) (D.history self.new.a) (D.history self.new.b) }
+            → AllFindNow (λ f. f ≡ Some self.new.state.machine.saved) (D.history self.new.a) (D.history self.new.b) }
         ensures no_call { IfOk result (λ t. HasNoOps self.old event t → MakesNoCall self.old self.new) }
         ensures file { StaysInFile self.old self.new }
 
@@ -205,6 +209,30 @@ impl<D: Disk> Live<D> {
         let number = record_ops(&mut self.journal, &mut self.room, &outcome.ops)?;
         self.event += 1;
         Ok(Turn::new(outcome, self.event, number, asked, before))
+    }
+
+    /// What the output is to do: to play a song from a frame on, or to wait. It refuses `Broken` where a disk failed, and else
+    /// want of memory alone.
+    pub fn order(&self, alloc: Global) -> Result<Order, LiveError>
+        ensures order { IfOk result (λ order. order ≡ play_order self.now.state.machine) }
+        ensures refuses { RefusesToTell self.now result }
+    {
+        if self.is_broken() {
+            return Err(LiveError::Broken);
+        }
+        self.core.order(alloc).map_err(|_| LiveError::NoMemory)
+    }
+
+    /// What a scan is to read for the job that runs, if one does. It refuses `Broken` where a disk failed, and else want of
+    /// memory alone.
+    pub fn scan_order(&self, alloc: Global) -> Result<Option<ScanOrder>, LiveError>
+        ensures order { IfOk result (λ order. order ≡ scan_order self.now.state.machine) }
+        ensures refuses { RefusesToTell self.now result }
+    {
+        if self.is_broken() {
+            return Err(LiveError::Broken);
+        }
+        self.core.scan_order(alloc).map_err(|_| LiveError::NoMemory)
     }
 
     /// How many events there were since the stage was made or opened.
@@ -235,7 +263,7 @@ impl<D: Disk> Live<D> {
     pub fn is_broken(&self) -> bool
         ensures value { result ≡ self.now.is_broken }
         ensures kept { D.honest self.now.a → D.honest self.now.b → self.now.is_broken ≡ false
-            → AllFindNow (λ f. f ≡ Some self.now.state.saved) (D.history self.now.a) (D.history self.now.b) }
+            → AllFindNow (λ f. f ≡ Some self.now.state.machine.saved) (D.history self.now.a) (D.history self.now.b) }
     {
         self.journal.is_spent()
     }

@@ -6,14 +6,14 @@ ghost use Rattle.play_journal.specs.Calls.{Holds, StaysInFile};
 ghost use Rattle.play_journal.specs.Content.{with_record, IsBeforeOrAfter};
 ghost use Rattle.play_journal.specs.Pair.{AllPairsSince};
 ghost use Rattle.std.specs.List.{AllByRecursion};
-ghost use Rattle.console_codec.specs.Ops.{IsOp};
-ghost use Rattle.console_codec.specs.Spelling.{ops_bytes};
+ghost use Rattle.state_codec.specs.Ops.{IsOp};
+ghost use Rattle.state_codec.specs.Spelling.{ops_bytes};
 ghost use Rattle.live_stage.specs.Numbers.{record_number};
 
 use crate::LiveError;
-use console_codec::{Op, put_op};
 use disk_model::Disk;
 use play_journal::Journal;
+use state_codec::{Op, put_op};
 
 /// The greatest length of a record's body in bytes.
 pub(crate) const LONGEST_BODY: usize = 2_097_152;

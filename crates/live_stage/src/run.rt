@@ -1,7 +1,7 @@
 // Many events in order.
 ghost use Rattle.std.specs.Prelude.{◌≡◌, ◌↔◌, ◌⊎◌, ◌+◌, ◌≤◌, true, false, [], length, Err, IfOk, OnErr, MatchBool};
 ghost use Rattle.disk_model.specs.Later.{AreLater, HasFailed};
-ghost use Rattle.console_codec.specs.SavedState.{SavedState};
+ghost use Rattle.state_codec.specs.SavedState.{SavedState};
 ghost use Rattle.daemon_core.specs.State.{start};
 ghost use Rattle.live_stage.specs.Found.{AllFindNow, AllFindSince};
 ghost use Rattle.live_stage.specs.Transcript.{IsRun, RunRefuses, IsOfOneLife, FindsWhole, FindsPrefix};

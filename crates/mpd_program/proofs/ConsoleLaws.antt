@@ -3,7 +3,7 @@ use Rattle.std.proofs.Common.{◌≡◌, ◌≢◌, ◌⊎◌, inl, inr, ◌≤�
 use Rattle.std.specs.Prelude.{IsSome}
 use Rattle.disk_model.specs.Moments.{LeftSince}
 use Rattle.disk_model.proofs.MomentLaws.{counts_now}
-use Rattle.console_codec.specs.SavedState.{SavedState}
+use Rattle.state_codec.specs.SavedState.{SavedState}
 use Rattle.live_stage.specs.declared.refusal.StartError.{StartError}
 use Rattle.live_stage.specs.declared.refusal.StartError.TheVariants.{NotEmpty, NoJournal, Damaged, NoMemory, Broken}
 use Rattle.live_stage.specs.Errors.{IsRefusalOfOpen, start_number_of}

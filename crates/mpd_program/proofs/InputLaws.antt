@@ -1,13 +1,15 @@
 -- The input of a client, a piece at a time.
-use Rattle.std.proofs.Common.{◌≡◌, false, inl, inr, ℕ, ◌-◌, ◌^◌, ◌≤◌, ◌+◌, length, length-append, arith, List, [], ◌∷◌, ◌++◌, Option, Ok, Err, sym, subst, ◌∙◌, ap}
+use Rattle.std.proofs.Common.{◌≡◌, ◌⊎◌, Result, false, inl, inr, ℕ, ◌-◌, ◌^◌, ◌≤◌, ◌+◌, length, length-append, arith, List, [], ◌∷◌, ◌++◌, Option, Ok, Err, sym, subst, ◌∙◌, ap}
+use Rattle.std.specs.Prelude.{OnOk, IfErr}
 use Rattle.std.specs.Io.KnownBytes.{Consumes, IsAtEnd, Keeps}
 use Rattle.std.proofs.lemmas.List.{append-nil}
 use Rattle.disk_model.specs.History.{Change}
-use Rattle.console_text.specs.declared.request.Request.{Request}
+use Rattle.command_text.specs.declared.request.Request.{Request}
 use Rattle.daemon_core.specs.declared.event.Event.{Event}
 use Rattle.daemon_core.specs.declared.event.Event.TheVariants as events
 use Rattle.daemon_core.specs.State.{State}
 use Rattle.live_stage.specs.LiveState.{LiveState}
+use Rattle.client_session.specs.Lines.{BeginsTooLong}
 use Rattle.client_session.specs.Requests.{requests_of, rest_of}
 use Rattle.client_session.specs.Session.{SessionState}
 use Rattle.client_session.proofs.Streams.{requests_of-append, rest_of-append}
@@ -83,25 +85,46 @@ reads_cut honest history faults c first now session a b start input later before
       (subst (λ (v : List Event). ServesFront c v first.state now.state before after) (append-nil _) (cut_behind c (asked_by c (requests_of far.read)) [] first.state now.state before after far.so_far.served));
 }
 
--- the input is at its end
-pub reads_all : {D : Type 0} {n : ℕ} (honest : D → Type 0) (history : D → List Change) (faults : D → ℕ) (c : ℕ) (first now : LiveState D) (session : SessionState) (a b : List Change) (start input later before after : Option (List ℕ)) (none : List ℕ)
-    → Consumes input later none → none ≡ [] → IsAtEnd later → ReadsSoFar honest history faults c first now session start input before after n
-    → ServesInput (honest first.a × honest first.b) c start later first.state now.state a b before after (Ok tt)
-reads_all honest history faults c first now session a b start input later before after none taken is at_end far = record {
-  read = far.read ++ none;
-  consumed = consumes_twice start input later far.read none far.consumed taken;
-  served = (subst (λ (v : List ℕ). ServesAll c (asked_by c (requests_of v)) first.state now.state before after) (sym (ap (λ (v : List ℕ). far.read ++ v) is ∙ append-nil far.read)) far.so_far.served, inl at_end);
-}
+pub both : {E : Type 0} (A B : Type 0) (result : Result (Unit {0}) E) → OnOk result A → OnOk result B → OnOk result (A × B)
+both A B (Ok done) a b = (a, b)
+both A B (Err e) a b = tt
 
--- it was read so often that this is taken for its end
-pub reads_out : {D : Type 0} {n : ℕ} (honest : D → Type 0) (history : D → List Change) (faults : D → ℕ) (c : ℕ) (first now : LiveState D) (session : SessionState) (a b : List Change) (start input before after : Option (List ℕ))
-    → ReadsSoFar honest history faults c first now session start input before after n → 2 ^ 64 - 1 ≤ n
-    → ServesInput (honest first.a × honest first.b) c start input first.state now.state a b before after (Ok tt)
-reads_out honest history faults c first now session a b start input before after far often = record {
-  read = far.read;
-  consumed = far.consumed;
-  served = (far.so_far.served, inr (omega (arith, far.often, often)));
-}
+-- What was read is all, and an empty piece was fed behind it: its requests, of which there are none, were served or not.
+pub reads_all : {D : Type 0} {n : ℕ} (honest : D → Type 0) (history : D → List Change) (faults : D → ℕ) (c : ℕ) (first old new : LiveState D) (session : SessionState) (a b : List Change) (start input later before now after : Option (List ℕ)) (none piece : List ℕ) (result : Result (Unit {0}) Ending)
+    → Consumes input later none → none ≡ [] → piece ≡ [] → IsAtEnd later ⊎ (2 ^ 64 - 1 ≤ n) → ReadsSoFar honest history faults c first old session start input before now n
+    → OnOk result (ServesAll c (asked_by c (requests_of (session.pending ++ piece))) old.state new.state now after × (BeginsTooLong (session.pending ++ piece) → ⊥))
+    → IfErr result (λ e. Stops (honest old.a × honest old.b) c (asked_by c (requests_of (session.pending ++ piece))) old.state new.state a b now after e)
+    → ServesInput (honest first.a × honest first.b) c start later first.state new.state a b before after result
+reads_all {n = n} honest history faults c first old new session a b start input later before now after none piece (Ok done) taken is_none is_empty ended far served stops =
+    let joined : asked_by c (requests_of far.read) ++ asked_by c (requests_of (session.pending ++ piece)) ≡ asked_by c (requests_of (far.read ++ none)) =
+    asked_more c far.read session.pending piece far.pending ∙ ap (λ (v : List ℕ). asked_by c (requests_of (far.read ++ v))) (is_empty ∙ sym is_none) in
+    let left : session.pending ++ piece ≡ rest_of (far.read ++ none) =
+    ap (λ (v : List ℕ). session.pending ++ v) is_empty ∙ append-nil session.pending ∙ sym far.pending
+    ∙ ap rest_of (sym (append-nil far.read) ∙ ap (λ (v : List ℕ). far.read ++ v) (sym is_none)) in
+    record {
+      read = far.read ++ none;
+      consumed = consumes_twice start input later far.read none far.consumed taken;
+      served = (
+        subst (λ (v : List Event). ServesAll c v first.state new.state before after) joined
+            (serves_on c (asked_by c (requests_of far.read)) (asked_by c (requests_of (session.pending ++ piece))) first.state old.state new.state before now after far.so_far.served served.0),
+        record {
+          ended = read_to_end far.read none n later ended far.often;
+          short = λ long. served.1 (subst BeginsTooLong (sym left) long);
+        },
+      );
+    } where
+      read_to_end : (read more : List ℕ) (n : ℕ) (later : Option (List ℕ)) → IsAtEnd later ⊎ (2 ^ 64 - 1 ≤ n) → n ≤ length read → IsAtEnd later ⊎ (2 ^ 64 - 1 ≤ length (read ++ more))
+      read_to_end read more n later (inl at_end) often = inl at_end
+      read_to_end read more n later (inr enough) often = inr (omega (arith, enough, often, length-append read more))
+reads_all honest history faults c first old new session a b start input later before now after none piece (Err ending) taken is_none is_empty ended far served stops =
+    let joined : asked_by c (requests_of far.read) ++ asked_by c (requests_of (session.pending ++ piece)) ≡ asked_by c (requests_of (far.read ++ none)) =
+    asked_more c far.read session.pending piece far.pending ∙ ap (λ (v : List ℕ). asked_by c (requests_of (far.read ++ v))) (is_empty ∙ sym is_none) in
+    record {
+      read = far.read ++ none;
+      consumed = consumes_twice start input later far.read none far.consumed taken;
+      served = stops_so_far honest history faults c (asked_by c (requests_of far.read)) (asked_by c (requests_of (session.pending ++ piece))) [] (asked_by c (requests_of (far.read ++ none))) first old new a b before now after ending
+          (append-nil _ ∙ joined) far.so_far stops;
+    }
 
 -- ---- from the connect on
 

@@ -1,9 +1,9 @@
 -- The lives of a console.
-use Rattle.std.proofs.Common.{◌≡◌, ◌≢◌, ◌⊎◌, inl, inr, ℕ, List, [], ◌∷◌, ◌++◌, Option, Some, Result, Ok, Err, refl, subst, ◌∙◌, ap}
+use Rattle.std.proofs.Common.{◌≡◌, ◌≢◌, ◌⊎◌, inl, inr, ℕ, List, [], ◌∷◌, ◌++◌, Option, Some, None, Result, Ok, Err, refl, subst, ◌∙◌, ap}
 use Rattle.std.specs.Prelude.{IsSome}
 use Rattle.std.specs.Io.KnownBytes.{Appends, Consumes, Keeps}
 use Rattle.disk_model.specs.History.{Change}
-use Rattle.console_codec.specs.SavedState.{SavedState}
+use Rattle.state_codec.specs.SavedState.{SavedState}
 use Rattle.daemon_core.specs.declared.event.Event.{Event}
 use Rattle.daemon_core.specs.State.{State, start}
 use Rattle.daemon_core.specs.Step.{Stepped}
@@ -16,9 +16,9 @@ use Rattle.live_stage.specs.Found.{found_state, AllFindNow, KeepsFoundState}
 use Rattle.live_stage.specs.Transcript.{replayed}
 use Rattle.live_stage.proofs.RunLaws.{replayed_from_start}
 use Rattle.client_session.specs.Requests.{requests_of}
-use Rattle.mpd_program.specs.Console.{bytes_to, given, events_of, ClosesNone, ClosesAtLast, ClosesNoneBefore}
+use Rattle.mpd_program.specs.Console.{bytes_to, given, events_of, ClosesNone, ClosesAtLast, ClosesNoneBefore, ComesInTurn, JobsInTurn}
 use Rattle.mpd_program.specs.Lives.{Moment, HasFailed, IsWhole, IsCut, FailsInEvent, IsFaulted, IsRefused, IsLife, refusal_of}
-use Rattle.mpd_program.specs.Serving.{given_from, KeepsOpen, KeepsOpenBefore, ClosesLast, ServesAll, ServesToClose, ServesFront, ServesToFault, ServesClient, IsAllRead}
+use Rattle.mpd_program.specs.Serving.{given_from, KeepsOpen, KeepsTurns, KeepsOpenBefore, ClosesLast, ServesAll, ServesToClose, ServesFront, ServesToFault, ServesClient, IsAllRead}
 use Rattle.mpd_program.specs.declared.console.Ending.{Ending}
 use Rattle.mpd_program.specs.declared.console.Ending.TheVariants.{Whole, Cut, Faulted}
 
@@ -49,27 +49,35 @@ before_at_start : (kept : SavedState) (history : List Entry) → KeepsOpenBefore
 before_at_start kept [] h = tt
 before_at_start kept (entry ∷ earlier) h = open_at_start kept earlier h
 
+turns_at_start : (kept : SavedState) (history : List Entry) → KeepsTurns (start kept) history → JobsInTurn kept history
+turns_at_start kept [] h = tt
+turns_at_start kept (entry ∷ earlier) h = (
+  subst (λ (t : State). ComesInTurn t.machine.job entry.event) (replayed_from_start kept earlier) h.0,
+  turns_at_start kept earlier h.1,
+)
+
 -- a restart finds this state
 Holds : State → List Change → List Change → Type 0
-Holds t a b = AllFindNow (λ f. f ≡ Some t.saved) a b
+Holds t a b = AllFindNow (λ f. f ≡ Some t.machine.saved) a b
 
 -- or the one after this event
 HoldsEither : State → Event → List Change → List Change → Type 0
 HoldsEither x event a b =
-    (refused : Option ℕ) × AllFindNow (λ f. (f ≡ Some x.saved) ⊎ (let now = stepped x (record { event = event; refused = refused }) in f ≡ Some now.after.saved)) a b
+    (refused : Option ℕ) × AllFindNow (λ f. (f ≡ Some x.machine.saved) ⊎ (let now = stepped x (record { event = event; refused = refused }) in f ≡ Some now.after.machine.saved)) a b
 
 -- ---- a life whose journal was opened
 
 whole_by_end : (Honest : Type 0) (c : ℕ) (first last : Moment) (kept : SavedState) (t : State) (read : List ℕ)
     → (Honest → found_state first.content_a first.content_b ≡ Some kept) → Consumes first.input last.input read
     → ServesAll c (events_of c (requests_of read)) (start kept) t first.output last.output → IsAllRead read last.input
-    → (Honest → AllFindNow (λ f. f ≡ Some t.saved) last.history_a last.history_b) → IsWhole Honest c first last
+    → (Honest → AllFindNow (λ f. f ≡ Some t.machine.saved) last.history_a last.history_b) → IsWhole Honest c first last
 unfolding Holds
 whole_by_end Honest c first last kept t read found consumed p at_end holds = record {
   kept = kept;
   read = read;
   history = p.history;
   consumed = consumed;
+  in_turn = turns_at_start kept p.history p.in_turn;
   served = inl (record { all = p.all; stays_open = open_at_start kept p.history p.stays_open; at_end = at_end });
   written = subst (Appends first.output last.output) (given_at_start c kept p.history) p.written;
   found = found;
@@ -79,13 +87,14 @@ whole_by_end Honest c first last kept t read found consumed p at_end holds = rec
 whole_by_close : (Honest : Type 0) (c : ℕ) (first last : Moment) (kept : SavedState) (t : State) (read : List ℕ)
     → (Honest → found_state first.content_a first.content_b ≡ Some kept) → Consumes first.input last.input read
     → ServesToClose c (events_of c (requests_of read)) (start kept) t first.output last.output
-    → (Honest → AllFindNow (λ f. f ≡ Some t.saved) last.history_a last.history_b) → IsWhole Honest c first last
+    → (Honest → AllFindNow (λ f. f ≡ Some t.machine.saved) last.history_a last.history_b) → IsWhole Honest c first last
 unfolding Holds
 whole_by_close Honest c first last kept t read found consumed p holds = record {
   kept = kept;
   read = read;
   history = p.history;
   consumed = consumed;
+  in_turn = turns_at_start kept p.history p.in_turn;
   served = inr (record { behind = p.behind; front = p.front; closed = closed_at_start kept p.history p.closed });
   written = subst (Appends first.output last.output) (given_at_start c kept p.history) p.written;
   found = found;
@@ -95,7 +104,7 @@ whole_by_close Honest c first last kept t read found consumed p holds = record {
 cut_life : (Honest : Type 0) (c : ℕ) (first last : Moment) (kept : SavedState) (t : State) (read : List ℕ)
     → (Honest → found_state first.content_a first.content_b ≡ Some kept) → Consumes first.input last.input read
     → ServesFront c (events_of c (requests_of read)) (start kept) t first.output last.output
-    → (Honest → AllFindNow (λ f. f ≡ Some t.saved) last.history_a last.history_b) → IsCut Honest c first last
+    → (Honest → AllFindNow (λ f. f ≡ Some t.machine.saved) last.history_a last.history_b) → IsCut Honest c first last
 unfolding Holds
 cut_life Honest c first last kept t read found consumed p holds = record {
   kept = kept;
@@ -107,6 +116,7 @@ cut_life Honest c first last kept t read found consumed p holds = record {
   consumed = consumed;
   front = p.front;
   stays_open = before_at_start kept p.history p.stays_open;
+  in_turn = turns_at_start kept p.history p.in_turn;
   parts = p.written.parts ∙ given_at_start c kept p.history;
   appended = p.written.appended;
   found = found;
@@ -127,6 +137,7 @@ fault_in_event Honest c first last kept read found consumed p = record {
   consumed = consumed;
   front = p.front;
   stays_open = open_at_start kept p.history p.stays_open;
+  in_turn = turns_at_start kept (record { event = p.event; refused = None } ∷ p.history) p.in_turn;
   written = subst (Appends first.output last.output) (given_at_start c kept p.history) p.written;
   found = found;
   holds = λ honest. subst (λ (v : State). HoldsEither v p.event last.history_a last.history_b) (replayed_from_start kept p.history) (p.holds honest);
@@ -135,7 +146,7 @@ fault_in_event Honest c first last kept read found consumed p = record {
 served_life : (Honest : Type 0) (c : ℕ) (first last : Moment) (kept : SavedState) (t : State) (ending : Ending)
     → (Honest → found_state first.content_a first.content_b ≡ Some kept)
     → ServesClient Honest c first.input last.input (start kept) t last.history_a last.history_b first.output last.output ending
-    → (ending ≢ Faulted → Honest → AllFindNow (λ f. f ≡ Some t.saved) last.history_a last.history_b)
+    → (ending ≢ Faulted → Honest → AllFindNow (λ f. f ≡ Some t.machine.saved) last.history_a last.history_b)
     → (ending ≡ Faulted → Honest → HasFailed first last)
     → IsLife Honest c (Ok ending) first last
 served_life Honest c first last kept t Whole found p holds failed =
@@ -150,13 +161,13 @@ served_life Honest c first last kept t Faulted found p holds failed = record {
 }
 
 pub opened_life : (Honest : Type 0) (c : ℕ) (first last : Moment) (s t : State) (ending : Ending)
-    → s ≡ start s.saved → (Honest → found_state first.content_a first.content_b ≡ Some s.saved)
+    → s ≡ start s.machine.saved → (Honest → found_state first.content_a first.content_b ≡ Some s.machine.saved)
     → ServesClient Honest c first.input last.input s t last.history_a last.history_b first.output last.output ending
-    → (ending ≢ Faulted → Honest → AllFindNow (λ f. f ≡ Some t.saved) last.history_a last.history_b)
+    → (ending ≢ Faulted → Honest → AllFindNow (λ f. f ≡ Some t.machine.saved) last.history_a last.history_b)
     → (ending ≡ Faulted → Honest → HasFailed first last)
     → IsLife Honest c (Ok ending) first last
 opened_life Honest c first last s t ending begun found p holds failed =
-    served_life Honest c first last s.saved t ending found
+    served_life Honest c first last s.machine.saved t ending found
     (subst (λ (v : State). ServesClient Honest c first.input last.input v t last.history_a last.history_b first.output last.output ending) begun p) holds failed
 
 -- ---- a life whose journal was not opened
@@ -210,6 +221,7 @@ faulted_under Strong Weak c first last given h = record {
       consumed = event.consumed;
       front = event.front;
       stays_open = event.stays_open;
+      in_turn = event.in_turn;
       written = event.written;
       found = λ strong. event.found (given strong);
       holds = λ strong. event.holds (given strong);
@@ -225,6 +237,7 @@ life_under Strong Weak c (Ok Whole) first last given h = record {
   history = h.history;
   consumed = h.consumed;
   served = h.served;
+  in_turn = h.in_turn;
   written = h.written;
   found = λ strong. h.found (given strong);
   holds = λ strong. h.holds (given strong);
@@ -239,6 +252,7 @@ life_under Strong Weak c (Ok Cut) first last given h = record {
   consumed = h.consumed;
   front = h.front;
   stays_open = h.stays_open;
+  in_turn = h.in_turn;
   parts = h.parts;
   appended = h.appended;
   found = λ strong. h.found (given strong);

@@ -1,5 +1,5 @@
 -- Serving events one after the other.
-use Rattle.std.proofs.Common.{◌≤◌, ◌↔◌, arith, true, false, length, ◌==◌, ◌≡◌, ◌≢◌, ◌⊎◌, inl, inr, ℕ, List, [], ◌∷◌, ◌++◌, Option, Some, refl, sym, subst, ◌∙◌, ap, append_assoc}
+use Rattle.std.proofs.Common.{◌≤◌, ◌↔◌, arith, true, false, length, ◌==◌, ◌≡◌, ◌≢◌, ◌⊎◌, inl, inr, ℕ, List, [], ◌∷◌, ◌++◌, Option, Some, None, refl, sym, subst, ◌∙◌, ap, append_assoc}
 use Rattle.std.specs.Io.KnownBytes.{Appends, Keeps}
 use Rattle.std.proofs.lemmas.List.{append-nil, nil_from_length, map-append}
 use Rattle.std.proofs.lemmas.Bool.{eqb-true}
@@ -8,7 +8,7 @@ use Rattle.disk_model.specs.History.{Change}
 use Rattle.disk_model.specs.Later.{AreLater}
 use Rattle.disk_model.proofs.LaterLaws.{pair_begin, pair_on}
 use Rattle.disk_model.proofs.MomentLaws.{counts_now}
-use Rattle.console_text.specs.declared.request.Request.{Request}
+use Rattle.command_text.specs.declared.request.Request.{Request}
 use Rattle.daemon_core.specs.declared.event.Event.{Event}
 use Rattle.daemon_core.specs.declared.event.Event.TheVariants as events
 use Rattle.daemon_core.specs.State.{State}
@@ -20,8 +20,8 @@ use Rattle.live_stage.specs.declared.refusal.LiveError.TheVariants.{Broken, NoMe
 use Rattle.live_stage.specs.LiveState.{LiveState}
 use Rattle.live_stage.specs.Found.{AllFindNow, AllFindSince}
 use Rattle.live_stage.specs.Transcript.{replayed}
-use Rattle.mpd_program.specs.Console.{bytes_to, asked_by, events_in}
-use Rattle.mpd_program.specs.Serving.{given_from, KeepsOpen, KeepsOpenBefore, ClosesLast, WritesFront, ServesAll, ServesToClose, ServesFront, ServesToFault, ending_of, Stops}
+use Rattle.mpd_program.specs.Console.{bytes_to, asked, asked_by, asked_in, ComesInTurn}
+use Rattle.mpd_program.specs.Serving.{given_from, KeepsOpen, KeepsTurns, KeepsOpenBefore, ClosesLast, WritesFront, ServesAll, ServesToClose, ServesFront, ServesToFault, ending_of, Stops}
 use Rattle.mpd_program.specs.declared.console.Ending.{Ending}
 use Rattle.mpd_program.specs.declared.console.Ending.TheVariants.{Whole, Cut, Faulted}
 use Rattle.mpd_program.proofs.ByteLaws.{appends_nothing, appends_twice, appends_kept, keeps_itself, front_none, front_behind}
@@ -40,9 +40,16 @@ given_from-append c s (entry ∷ later) earlier =
     ∙ ap (λ (t : State). (given_from c s earlier ++ given_from c (replayed s earlier) later) ++ last t) (replayed-append s later earlier)
     ∙ append_assoc (given_from c s earlier) (given_from c (replayed s earlier) later) (last (replayed (replayed s earlier) later))
 
-events_in-append : (later earlier : List Entry) → events_in (later ++ earlier) ≡ events_in earlier ++ events_in later
-events_in-append [] earlier = sym (append-nil (events_in earlier))
-events_in-append (entry ∷ later) earlier = ap (λ (v : List Event). v ++ entry.event ∷ []) (events_in-append later earlier) ∙ append_assoc (events_in earlier) (events_in later) (entry.event ∷ [])
+asked_in-append : (later earlier : List Entry) → asked_in (later ++ earlier) ≡ asked_in earlier ++ asked_in later
+asked_in-append [] earlier = sym (append-nil (asked_in earlier))
+asked_in-append (entry ∷ later) earlier = ap (λ (v : List Event). v ++ asked entry.event) (asked_in-append later earlier) ∙ append_assoc (asked_in earlier) (asked_in later) (asked entry.event)
+
+keeps_turns-append : (s : State) (later earlier : List Entry) → KeepsTurns s earlier → KeepsTurns (replayed s earlier) later → KeepsTurns s (later ++ earlier)
+keeps_turns-append s [] earlier h k = h
+keeps_turns-append s (entry ∷ later) earlier h k = (
+  subst (λ (t : State). ComesInTurn t.machine.job entry.event) (sym (replayed-append s later earlier)) k.0,
+  keeps_turns-append s later earlier h k.1,
+)
 
 keeps_open-append : (s : State) (later earlier : List Entry) → KeepsOpen s earlier → KeepsOpen (replayed s earlier) later → KeepsOpen s (later ++ earlier)
 keeps_open-append s [] earlier h k = h
@@ -67,17 +74,17 @@ keeps_open_before-append s [] earlier h k = open_before s earlier h
 keeps_open_before-append s (entry ∷ later) earlier h k = keeps_open-append s later earlier h k
 
 -- a front of later events, behind all of earlier ones
-behind_all : (later earlier : List Entry) (first second behind : List Event) → events_in earlier ≡ first → events_in later ++ behind ≡ second → events_in (later ++ earlier) ++ behind ≡ first ++ second
+behind_all : (later earlier : List Entry) (first second behind : List Event) → asked_in earlier ≡ first → asked_in later ++ behind ≡ second → asked_in (later ++ earlier) ++ behind ≡ first ++ second
 behind_all later earlier first second behind all front =
-    ap (λ (v : List Event). v ++ behind) (events_in-append later earlier)
-    ∙ append_assoc (events_in earlier) (events_in later) behind
-    ∙ ap (λ (v : List Event). v ++ (events_in later ++ behind)) all
+    ap (λ (v : List Event). v ++ behind) (asked_in-append later earlier)
+    ∙ append_assoc (asked_in earlier) (asked_in later) behind
+    ∙ ap (λ (v : List Event). v ++ (asked_in later ++ behind)) all
     ∙ ap (λ (v : List Event). first ++ v) front
 
 -- ---- serving on
 
 pub serves_none : (c : ℕ) (s : State) (before : Option (List ℕ)) → ServesAll c [] s s before before
-serves_none c s before = record { history = []; all = refl; stays_open = tt; state = refl; written = appends_nothing before }
+serves_none c s before = record { history = []; all = refl; stays_open = tt; in_turn = tt; state = refl; written = appends_nothing before }
 
 pub serves_on : (c : ℕ) (first second : List Event) (s t u : State) (before now after : Option (List ℕ))
     → ServesAll c first s t before now → ServesAll c second t u now after → ServesAll c (first ++ second) s u before after
@@ -85,8 +92,9 @@ serves_on c first second s t u before now after p more =
     let q : ServesAll c second (replayed s p.history) u now after = subst (λ (x : State). ServesAll c second x u now after) p.state more in
     record {
       history = q.history ++ p.history;
-      all = events_in-append q.history p.history ∙ ap (λ (v : List Event). v ++ events_in q.history) p.all ∙ ap (λ (v : List Event). first ++ v) q.all;
+      all = asked_in-append q.history p.history ∙ ap (λ (v : List Event). v ++ asked_in q.history) p.all ∙ ap (λ (v : List Event). first ++ v) q.all;
       stays_open = keeps_open-append s q.history p.history p.stays_open q.stays_open;
+      in_turn = keeps_turns-append s q.history p.history p.in_turn q.in_turn;
       state = q.state ∙ sym (replayed-append s q.history p.history);
       written = subst (Appends before after) (sym (given_from-append c s q.history p.history)) (appends_twice before now after _ _ p.written q.written);
     }
@@ -100,6 +108,7 @@ closes_on c first second s t u before now after p more =
       behind = q.behind;
       front = behind_all q.history p.history first second q.behind p.all q.front;
       closed = closes_last-append s q.history p.history p.stays_open q.closed;
+      in_turn = keeps_turns-append s q.history p.history p.in_turn q.in_turn;
       state = q.state ∙ sym (replayed-append s q.history p.history);
       written = subst (Appends before after) (sym (given_from-append c s q.history p.history)) (appends_twice before now after _ _ p.written q.written);
     }
@@ -113,6 +122,7 @@ cut_on c first second s t u before now after p more =
       behind = q.behind;
       front = behind_all q.history p.history first second q.behind p.all q.front;
       stays_open = keeps_open_before-append s q.history p.history p.stays_open q.stays_open;
+      in_turn = keeps_turns-append s q.history p.history p.in_turn q.in_turn;
       state = q.state ∙ sym (replayed-append s q.history p.history);
       written = subst (λ (v : List ℕ). WritesFront v before after) (sym (given_from-append c s q.history p.history)) (front_behind _ _ before now after p.written q.written);
     }
@@ -120,7 +130,7 @@ cut_on c first second s t u before now after p more =
 -- a restart finds this state or the one after this event
 HoldsEither : Type 0 → State → Event → List Change → List Change → Type 0
 HoldsEither Honest x event a b =
-    Honest → (refused : Option ℕ) × AllFindNow (λ f. (f ≡ Some x.saved) ⊎ (let now = stepped x (record { event = event; refused = refused }) in f ≡ Some now.after.saved)) a b
+    Honest → (refused : Option ℕ) × AllFindNow (λ f. (f ≡ Some x.machine.saved) ⊎ (let now = stepped x (record { event = event; refused = refused }) in f ≡ Some now.after.machine.saved)) a b
 
 fault_on : (Honest : Type 0) (c : ℕ) (first second : List Event) (s t : State) (a b : List Change) (before now after : Option (List ℕ))
     → ServesAll c first s t before now → ServesToFault Honest c second t a b now after → ServesToFault Honest c (first ++ second) s a b before after
@@ -131,8 +141,9 @@ fault_on Honest c first second s t a b before now after p more =
       history = q.history ++ p.history;
       event = q.event;
       behind = q.behind;
-      front = behind_all q.history p.history first second (q.event ∷ q.behind) p.all q.front;
+      front = behind_all q.history p.history first second (asked q.event ++ q.behind) p.all q.front;
       stays_open = keeps_open-append s q.history p.history p.stays_open q.stays_open;
+      in_turn = keeps_turns-append s (record { event = q.event; refused = None } ∷ q.history) p.history p.in_turn q.in_turn;
       written = subst (Appends before after) (sym (given_from-append c s q.history p.history)) (appends_twice before now after _ _ p.written q.written);
       holds = subst (λ (x : State). HoldsEither Honest x q.event a b) (sym (replayed-append s q.history p.history)) q.holds;
     }
@@ -153,16 +164,18 @@ pub stops_before : (Honest : Type 0) (c : ℕ) (first more : List Event) (s u : 
 stops_before Honest c first more s u a b before after Whole q = record {
   history = q.history;
   behind = q.behind ++ more;
-  front = more_behind (events_in q.history) q.behind first more q.front;
+  front = more_behind (asked_in q.history) q.behind first more q.front;
   closed = q.closed;
+  in_turn = q.in_turn;
   state = q.state;
   written = q.written;
 }
 stops_before Honest c first more s u a b before after Cut q = record {
   history = q.history;
   behind = q.behind ++ more;
-  front = more_behind (events_in q.history) q.behind first more q.front;
+  front = more_behind (asked_in q.history) q.behind first more q.front;
   stays_open = q.stays_open;
+  in_turn = q.in_turn;
   state = q.state;
   written = q.written;
 }
@@ -170,8 +183,9 @@ stops_before Honest c first more s u a b before after Faulted q = record {
   history = q.history;
   event = q.event;
   behind = q.behind ++ more;
-  front = more_behind (events_in q.history) (q.event ∷ q.behind) first more q.front;
+  front = ap (λ (v : List Event). asked_in q.history ++ v) (sym (append_assoc (asked q.event) q.behind more)) ∙ more_behind (asked_in q.history) (asked q.event ++ q.behind) first more q.front;
   stays_open = q.stays_open;
+  in_turn = q.in_turn;
   written = q.written;
   holds = q.holds;
 }
@@ -187,6 +201,7 @@ stops_under Strong Weak c events s u a b before after Faulted given q = record {
   behind = q.behind;
   front = q.front;
   stays_open = q.stays_open;
+  in_turn = q.in_turn;
   written = q.written;
   holds = λ strong. q.holds (given strong);
 }
@@ -198,6 +213,7 @@ cut_behind c first more s t before after p = record {
   behind = more;
   front = ap (λ (v : List Event). v ++ more) p.all;
   stays_open = open_before s p.history p.stays_open;
+  in_turn = p.in_turn;
   state = p.state;
   written = record { written = given_from c s p.history; unwritten = []; parts = append-nil _; appended = p.written };
 }
@@ -213,35 +229,38 @@ some_where (c ∷ closes) is = λ none. cc
 
 pub one_answered : (c : ℕ) (event : Event) (k : Option ℕ) (s t : State) (outputs : List Output) (closes : List ℕ) (before after : Option (List ℕ))
     → (let now = step s event k in t ≡ now.after) → (let now = step s event k in outputs ≡ now.outputs) → (let now = step s event k in closes ≡ now.closes)
-    → closes ≡ [] → Appends before after (bytes_to c outputs) → ServesAll c (event ∷ []) s t before after
-one_answered c event k s t outputs closes before after state given closed none written = record {
+    → ComesInTurn s.machine.job event → closes ≡ [] → Appends before after (bytes_to c outputs) → ServesAll c (asked event) s t before after
+one_answered c event k s t outputs closes before after state given closed turn none written = record {
   history = record { event = event; refused = k } ∷ [];
   all = refl;
   stays_open = (sym closed ∙ none, tt);
+  in_turn = (turn, tt);
   state = state;
   written = subst (λ (v : List Output). Appends before after (bytes_to c v)) given written;
 }
 
 pub one_closed : (c : ℕ) (event : Event) (k : Option ℕ) (s t : State) (outputs : List Output) (closes : List ℕ) (before after : Option (List ℕ))
     → (let now = step s event k in t ≡ now.after) → (let now = step s event k in outputs ≡ now.outputs) → (let now = step s event k in closes ≡ now.closes)
-    → closes ≢ [] → Appends before after (bytes_to c outputs) → ServesToClose c (event ∷ []) s t before after
-one_closed c event k s t outputs closes before after state given closed some written = record {
+    → ComesInTurn s.machine.job event → closes ≢ [] → Appends before after (bytes_to c outputs) → ServesToClose c (asked event) s t before after
+one_closed c event k s t outputs closes before after state given closed turn some written = record {
   history = record { event = event; refused = k } ∷ [];
   behind = [];
-  front = refl;
+  front = append-nil (asked event);
   closed = (λ none. some (closed ∙ none), tt);
+  in_turn = (turn, tt);
   state = state;
   written = subst (λ (v : List Output). Appends before after (bytes_to c v)) given written;
 }
 
 pub one_cut : (c : ℕ) (event : Event) (k : Option ℕ) (s t : State) (outputs : List Output) (before after : Option (List ℕ))
     → (let now = step s event k in t ≡ now.after) → (let now = step s event k in outputs ≡ now.outputs)
-    → WritesFront (bytes_to c outputs) before after → ServesFront c (event ∷ []) s t before after
-one_cut c event k s t outputs before after state given written = record {
+    → ComesInTurn s.machine.job event → WritesFront (bytes_to c outputs) before after → ServesFront c (asked event) s t before after
+one_cut c event k s t outputs before after state given turn written = record {
   history = record { event = event; refused = k } ∷ [];
   behind = [];
-  front = refl;
+  front = append-nil (asked event);
   stays_open = tt;
+  in_turn = (turn, tt);
   state = state;
   written = subst (λ (v : List Output). WritesFront (bytes_to c v) before after) given written;
 }
@@ -253,31 +272,33 @@ none_served c events s t before after same kept = record {
   behind = events;
   front = refl;
   stays_open = tt;
+  in_turn = tt;
   state = same;
   written = front_none [] before after kept;
 }
 
 pub one_failed : (Honest : Type 0) (c : ℕ) (event : Event) (s : State) (a b : List Change) (t u : ℕ) (before after : Option (List ℕ))
-    → (Honest → (k : Option ℕ) × AllFindSince (λ f. (f ≡ Some s.saved) ⊎ (let now = step s event k in f ≡ Some now.after.saved)) a t b u)
-    → Keeps before after → ServesToFault Honest c (event ∷ []) s a b before after
-one_failed Honest c event s a b t u before after found kept = record {
+    → (Honest → (k : Option ℕ) × AllFindSince (λ f. (f ≡ Some s.machine.saved) ⊎ (let now = step s event k in f ≡ Some now.after.machine.saved)) a t b u)
+    → ComesInTurn s.machine.job event → Keeps before after → ServesToFault Honest c (asked event) s a b before after
+one_failed Honest c event s a b t u before after found turn kept = record {
   history = [];
   event = event;
   behind = [];
-  front = refl;
+  front = append-nil (asked event);
   stays_open = tt;
+  in_turn = (turn, tt);
   written = appends_kept before before after [] (appends_nothing before) kept;
   holds = λ honest. let either = found honest in (either.0, λ x y at_x at_y. either.1 x y (counts_now a t x at_x) (counts_now b u y at_y));
 }
 
 -- an event was refused
 pub one_refused : {D : Type 0} (Honest : Type 0) (c : ℕ) (event : Event) (old new : LiveState D) (e : LiveError) (a b : List Change) (t u : ℕ) (before : Option (List ℕ))
-    → (Honest → (k : Option ℕ) × AllFindSince (λ f. (f ≡ Some old.state.saved) ⊎ (let now = step old.state event k in f ≡ Some now.after.saved)) a t b u)
-    → (e ≢ Broken → new ≡ old)
-    → Stops Honest c (event ∷ []) old.state new.state a b before before (ending_of e)
-one_refused Honest c event old new Broken a b t u before found stays = one_failed Honest c event old.state a b t u before before found (keeps_itself before)
-one_refused Honest c event old new NoMemory a b t u before found stays = none_served c (event ∷ []) old.state new.state before before (ap (λ v. v.state) (stays (λ is. cc))) (keeps_itself before)
-one_refused Honest c event old new NumbersSpent a b t u before found stays = none_served c (event ∷ []) old.state new.state before before (ap (λ v. v.state) (stays (λ is. cc))) (keeps_itself before)
+    → (Honest → (k : Option ℕ) × AllFindSince (λ f. (f ≡ Some old.state.machine.saved) ⊎ (let now = step old.state event k in f ≡ Some now.after.machine.saved)) a t b u)
+    → ComesInTurn old.state.machine.job event → (e ≢ Broken → new ≡ old)
+    → Stops Honest c (asked event) old.state new.state a b before before (ending_of e)
+one_refused Honest c event old new Broken a b t u before found turn stays = one_failed Honest c event old.state a b t u before before found turn (keeps_itself before)
+one_refused Honest c event old new NoMemory a b t u before found turn stays = none_served c (asked event) old.state new.state before before (ap (λ v. v.state) (stays (λ is. cc))) (keeps_itself before)
+one_refused Honest c event old new NumbersSpent a b t u before found turn stays = none_served c (asked event) old.state new.state before before (ap (λ v. v.state) (stays (λ is. cc))) (keeps_itself before)
 
 pub still_usable : {D : Type 0} (old new : LiveState D) (e : LiveError) → old.is_broken ≡ false → (e ≢ Broken → new ≡ old) → ending_of e ≢ Faulted → new.is_broken ≡ false
 still_usable old new Broken usable stays other = absurd (other refl)

@@ -1,11 +1,12 @@
 -- What a console's client is given, along one history.
-use Rattle.std.specs.Prelude.{◌≡◌, ◌≢◌, ℕ, ◌==◌, List, [], ◌∷◌, ◌++◌, map, if◌then◌else◌}
-use Rattle.console_text.specs.declared.request.Request.{Request}
-use Rattle.console_codec.specs.SavedState.{SavedState}
+use Rattle.std.specs.Prelude.{◌≡◌, ◌≢◌, ℕ, ◌==◌, List, [], ◌∷◌, ◌++◌, map, true, if◌then◌else◌}
+use Rattle.command_text.specs.declared.request.Request.{Request}
+use Rattle.state_codec.specs.SavedState.{SavedState}
 use Rattle.daemon_core.specs.declared.event.Event.{Event}
 use Rattle.daemon_core.specs.declared.event.Event.TheVariants as events
 use Rattle.daemon_core.specs.declared.outcome.Output.{Output}
 use Rattle.daemon_core.specs.Replay.{Entry, stepped, replay, reply}
+use Rattle.machine_core.specs.declared.job.Job.{Job}
 
 -- the bytes of these outputs that are for this client
 abbrev pub bytes_to : ℕ → List Output → List ℕ
@@ -25,10 +26,43 @@ asked_by c requests = map (λ r. events.Request c r) requests
 abbrev pub events_of : ℕ → List Request → List Event
 events_of c requests = events.Connect c ∷ asked_by c requests
 
--- the events of a history, the oldest first
-abbrev pub events_in : List Entry → List Event
-events_in [] = []
-events_in (entry ∷ earlier) = events_in earlier ++ entry.event ∷ []
+-- What of an event the client asked for: the event itself, and nothing of those of a job, which a request of before started.
+abbrev pub asked : Event → List Event
+asked (events.Connect c) = events.Connect c ∷ []
+asked (events.Request c request) = events.Request c request ∷ []
+asked (events.Gone c) = events.Gone c ∷ []
+asked (events.Fed ticket frames) = events.Fed ticket frames ∷ []
+asked (events.Ended ticket) = events.Ended ticket ∷ []
+asked (events.Broken ticket cause) = events.Broken ticket cause ∷ []
+asked (events.Batch number changes) = []
+asked (events.ScanDone number) = []
+
+-- what the client asked for in a history, the oldest first
+abbrev pub asked_in : List Entry → List Event
+asked_in [] = []
+asked_in (entry ∷ earlier) = asked_in earlier ++ asked entry.event
+
+-- the job of this number runs
+pub record IsRunning (number : ℕ) (job : Job) : Type 0 where
+  pub same : job.number ≡ number
+  pub runs : job.runs ≡ true
+
+-- A request may be followed by the events of the job that it started: these come while that job runs.
+abbrev pub ComesInTurn : Job → Event → Type 0
+ComesInTurn job (events.Connect c) = Unit {0}
+ComesInTurn job (events.Request c request) = Unit {0}
+ComesInTurn job (events.Gone c) = Unit {0}
+ComesInTurn job (events.Fed ticket frames) = Unit {0}
+ComesInTurn job (events.Ended ticket) = Unit {0}
+ComesInTurn job (events.Broken ticket cause) = Unit {0}
+ComesInTurn job (events.Batch number changes) = IsRunning number job
+ComesInTurn job (events.ScanDone number) = IsRunning number job
+
+-- each event of a job came while that job ran
+abbrev pub JobsInTurn : SavedState → List Entry → Type 0
+JobsInTurn kept [] = Unit {0}
+JobsInTurn kept (entry ∷ earlier) =
+    (let before = replay kept earlier in ComesInTurn before.machine.job entry.event) × JobsInTurn kept earlier
 
 -- no event of the history closed a client
 abbrev pub ClosesNone : SavedState → List Entry → Type 0

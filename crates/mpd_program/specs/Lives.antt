@@ -1,9 +1,9 @@
 -- The lives of a console: what was read, written and kept from an opening of the journal on.
-use Rattle.std.specs.Prelude.{◌≡◌, ◌≢◌, ◌≤◌, ◌⊎◌, ℕ, List, ◌∷◌, ◌++◌, Option, Some, Result, Ok, Err, IsSome}
+use Rattle.std.specs.Prelude.{◌≡◌, ◌≢◌, ◌≤◌, ◌⊎◌, ℕ, List, ◌∷◌, ◌++◌, Option, Some, None, Result, Ok, Err, IsSome}
 use Rattle.std.specs.Io.KnownBytes.{Appends, Consumes, Keeps}
 use Rattle.disk_model.specs.Faults.{HasGrown}
 use Rattle.disk_model.specs.History.{Change}
-use Rattle.console_codec.specs.SavedState.{SavedState}
+use Rattle.state_codec.specs.SavedState.{SavedState}
 use Rattle.daemon_core.specs.declared.event.Event.{Event}
 use Rattle.daemon_core.specs.Replay.{Entry, replay}
 use Rattle.live_stage.specs.declared.refusal.StartError.{StartError}
@@ -12,7 +12,7 @@ use Rattle.live_stage.specs.Errors.{IsRefusalOfOpen, IsCause, start_number_of}
 use Rattle.live_stage.specs.Found.{found_state, AllFindNow, KeepsFoundState}
 use Rattle.client_session.specs.Requests.{requests_of}
 use Rattle.mpd_program.specs.Serving.{IsAllRead}
-use Rattle.mpd_program.specs.Console.{given, events_of, events_in, ClosesNone, ClosesAtLast, ClosesNoneBefore}
+use Rattle.mpd_program.specs.Console.{asked, asked_in, given, events_of, ClosesNone, ClosesAtLast, ClosesNoneBefore, JobsInTurn}
 use Rattle.mpd_program.specs.declared.console.Ending.{Ending}
 use Rattle.mpd_program.specs.declared.console.Ending.TheVariants.{Whole, Cut, Faulted}
 use Rattle.mpd_program.specs.declared.console.Status.{Status}
@@ -53,14 +53,14 @@ AllFind P now = AllFindNow P now.history_a now.history_b
 
 -- All requests of what was read were served, and the reader is at its end.
 pub record EndsWithInput (c : ℕ) (kept : SavedState) (read : List ℕ) (history : List Entry) (last : Moment) : Type 0 where
-  pub all : events_in history ≡ events_of c (requests_of read)
+  pub all : asked_in history ≡ events_of c (requests_of read)
   pub stays_open : ClosesNone kept history
   pub at_end : IsAllRead read last.input
 
 -- The requests of what was read were served up to the first that closed the client.
 pub record EndsByClose (c : ℕ) (kept : SavedState) (read : List ℕ) (history : List Entry) : Type 0 where
   pub behind : List Event
-  pub front : events_in history ++ behind ≡ events_of c (requests_of read)
+  pub front : asked_in history ++ behind ≡ events_of c (requests_of read)
   pub closed : ClosesAtLast kept history
 
 -- A life that ended with the input, or by a request that closed the client: what was written is what the history gives to
@@ -71,9 +71,10 @@ pub record IsWhole (Honest : Type 0) (c : ℕ) (first last : Moment) : Type 0 wh
   pub history : List Entry
   pub consumed : Consumes first.input last.input read
   pub served : EndsWithInput c kept read history last ⊎ EndsByClose c kept read history
+  pub in_turn : JobsInTurn kept history
   pub written : Appends first.output last.output (given c kept history)
   pub found : Honest → found_state first.content_a first.content_b ≡ Some kept
-  pub holds : Honest → AllFind (λ f. let now = replay kept history in f ≡ Some now.saved) last
+  pub holds : Honest → AllFind (λ f. let now = replay kept history in f ≡ Some now.machine.saved) last
 
 -- A life that was cut short: a front of the requests of what was read was served, a front of what this gives was written,
 -- and the files keep all of it.
@@ -85,12 +86,13 @@ pub record IsCut (Honest : Type 0) (c : ℕ) (first last : Moment) : Type 0 wher
   pub written : List ℕ
   pub unwritten : List ℕ
   pub consumed : Consumes first.input last.input read
-  pub front : events_in history ++ behind ≡ events_of c (requests_of read)
+  pub front : asked_in history ++ behind ≡ events_of c (requests_of read)
   pub stays_open : ClosesNoneBefore kept history
+  pub in_turn : JobsInTurn kept history
   pub parts : written ++ unwritten ≡ given c kept history
   pub appended : Appends first.output last.output written
   pub found : Honest → found_state first.content_a first.content_b ≡ Some kept
-  pub holds : Honest → AllFind (λ f. let now = replay kept history in f ≡ Some now.saved) last
+  pub holds : Honest → AllFind (λ f. let now = replay kept history in f ≡ Some now.machine.saved) last
 
 -- A disk failed while an event was handled: all before it was answered and is kept, and the event is kept or not.
 pub record FailsInEvent (Honest : Type 0) (c : ℕ) (first last : Moment) : Type 0 where
@@ -100,12 +102,13 @@ pub record FailsInEvent (Honest : Type 0) (c : ℕ) (first last : Moment) : Type
   pub event : Event
   pub behind : List Event
   pub consumed : Consumes first.input last.input read
-  pub front : events_in history ++ event ∷ behind ≡ events_of c (requests_of read)
+  pub front : asked_in history ++ (asked event ++ behind) ≡ events_of c (requests_of read)
   pub stays_open : ClosesNone kept history
+  pub in_turn : JobsInTurn kept (record { event = event; refused = None } ∷ history)
   pub written : Appends first.output last.output (given c kept history)
   pub found : Honest → found_state first.content_a first.content_b ≡ Some kept
-  pub holds : Honest → (refused : Option ℕ) × AllFind (λ f. (let now = replay kept history in f ≡ Some now.saved)
-      ⊎ (let now = replay kept (record { event = event; refused = refused } ∷ history) in f ≡ Some now.saved)) last
+  pub holds : Honest → (refused : Option ℕ) × AllFind (λ f. (let now = replay kept history in f ≡ Some now.machine.saved)
+      ⊎ (let now = replay kept (record { event = event; refused = refused } ∷ history) in f ≡ Some now.machine.saved)) last
 
 -- A disk failed while the journal was opened: nothing was read or written, and a restart finds what it might have found.
 pub record FailsInOpening (first last : Moment) (Honest : Type 0) : Type 0 where

@@ -1,5 +1,5 @@
 -- Events of one client served one after the other, from any state on.
-use Rattle.std.specs.Prelude.{◌≡◌, ◌≢◌, ◌⊎◌, ℕ, ◌-◌, ◌^◌, ◌≤◌, length, List, [], ◌∷◌, ◌++◌, Option, Some, Result, MatchResult}
+use Rattle.std.specs.Prelude.{◌≡◌, ◌≢◌, ◌⊎◌, ℕ, ◌-◌, ◌^◌, ◌≤◌, length, List, [], ◌∷◌, ◌++◌, Option, Some, None, Result, MatchResult}
 use Rattle.std.specs.Io.KnownBytes.{Appends, Consumes, IsAtEnd}
 use Rattle.disk_model.specs.History.{Change}
 use Rattle.daemon_core.specs.declared.event.Event.{Event}
@@ -9,8 +9,9 @@ use Rattle.live_stage.specs.declared.refusal.LiveError.{LiveError}
 use Rattle.live_stage.specs.declared.refusal.LiveError.TheVariants.{Broken, NoMemory, NumbersSpent}
 use Rattle.live_stage.specs.Found.{AllFindNow}
 use Rattle.live_stage.specs.Transcript.{replayed}
-use Rattle.client_session.specs.Requests.{requests_of}
-use Rattle.mpd_program.specs.Console.{bytes_to, asked_by, events_of, events_in}
+use Rattle.client_session.specs.Lines.{BeginsTooLong}
+use Rattle.client_session.specs.Requests.{requests_of, rest_of}
+use Rattle.mpd_program.specs.Console.{bytes_to, asked, asked_by, asked_in, events_of, ComesInTurn}
 use Rattle.mpd_program.specs.declared.console.Ending.{Ending}
 use Rattle.mpd_program.specs.declared.console.Ending.TheVariants.{Whole, Cut, Faulted}
 
@@ -34,6 +35,12 @@ abbrev pub KeepsOpenBefore : State → List Entry → Type 0
 KeepsOpenBefore s [] = Unit {0}
 KeepsOpenBefore s (entry ∷ earlier) = KeepsOpen s earlier
 
+-- each event of a job came while that job ran
+abbrev pub KeepsTurns : State → List Entry → Type 0
+KeepsTurns s [] = Unit {0}
+KeepsTurns s (entry ∷ earlier) =
+    (let before = replayed s earlier in ComesInTurn before.machine.job entry.event) × KeepsTurns s earlier
+
 -- these bytes were to be written, and a front of them was
 pub record WritesFront (bytes : List ℕ) (before after : Option (List ℕ)) : Type 0 where
   pub written : List ℕ
@@ -41,11 +48,12 @@ pub record WritesFront (bytes : List ℕ) (before after : Option (List ℕ)) : T
   pub parts : written ++ unwritten ≡ bytes
   pub appended : Appends before after written
 
--- All events were served, and what they give was written.
+-- All events were served, those of jobs in their turn, and what they give was written.
 pub record ServesAll (c : ℕ) (events : List Event) (s t : State) (before after : Option (List ℕ)) : Type 0 where
   pub history : List Entry
-  pub all : events_in history ≡ events
+  pub all : asked_in history ≡ events
   pub stays_open : KeepsOpen s history
+  pub in_turn : KeepsTurns s history
   pub state : t ≡ replayed s history
   pub written : Appends before after (given_from c s history)
 
@@ -53,8 +61,9 @@ pub record ServesAll (c : ℕ) (events : List Event) (s t : State) (before after
 pub record ServesToClose (c : ℕ) (events : List Event) (s t : State) (before after : Option (List ℕ)) : Type 0 where
   pub history : List Entry
   pub behind : List Event
-  pub front : events_in history ++ behind ≡ events
+  pub front : asked_in history ++ behind ≡ events
   pub closed : ClosesLast s history
+  pub in_turn : KeepsTurns s history
   pub state : t ≡ replayed s history
   pub written : Appends before after (given_from c s history)
 
@@ -62,8 +71,9 @@ pub record ServesToClose (c : ℕ) (events : List Event) (s t : State) (before a
 pub record ServesFront (c : ℕ) (events : List Event) (s t : State) (before after : Option (List ℕ)) : Type 0 where
   pub history : List Entry
   pub behind : List Event
-  pub front : events_in history ++ behind ≡ events
+  pub front : asked_in history ++ behind ≡ events
   pub stays_open : KeepsOpenBefore s history
+  pub in_turn : KeepsTurns s history
   pub state : t ≡ replayed s history
   pub written : WritesFront (given_from c s history) before after
 
@@ -73,11 +83,12 @@ pub record ServesToFault (Honest : Type 0) (c : ℕ) (events : List Event) (s : 
   pub history : List Entry
   pub event : Event
   pub behind : List Event
-  pub front : events_in history ++ event ∷ behind ≡ events
+  pub front : asked_in history ++ (asked event ++ behind) ≡ events
   pub stays_open : KeepsOpen s history
+  pub in_turn : KeepsTurns s (record { event = event; refused = None } ∷ history)
   pub written : Appends before after (given_from c s history)
-  pub holds : Honest → (refused : Option ℕ) × AllFindNow (λ f. (let now = replayed s history in f ≡ Some now.saved)
-      ⊎ (let now = replayed s (record { event = event; refused = refused } ∷ history) in f ≡ Some now.saved)) a b
+  pub holds : Honest → (refused : Option ℕ) × AllFindNow (λ f. (let now = replayed s history in f ≡ Some now.machine.saved)
+      ⊎ (let now = replayed s (record { event = event; refused = refused } ∷ history) in f ≡ Some now.machine.saved)) a b
 
 -- how the serving ends where an event is refused
 abbrev pub ending_of : LiveError → Ending
@@ -91,9 +102,11 @@ Stops Honest c events s t a b before after Whole = ServesToClose c events s t be
 Stops Honest c events s t a b before after Cut = ServesFront c events s t before after
 Stops Honest c events s t a b before after Faulted = ServesToFault Honest c events s a b before after
 
--- The input is at its end; or it was read 2^64 - 1 times and gave a byte each time, which is taken for its end.
-abbrev pub IsAllRead : List ℕ → Option (List ℕ) → Type 0
-IsAllRead read input = IsAtEnd input ⊎ (2 ^ 64 - 1 ≤ length read)
+-- The input is at its end; or it was read 2^64 - 1 times and gave a byte each time, which is taken for its end. What is left of it
+-- begins no line that is too long.
+pub record IsAllRead (read : List ℕ) (input : Option (List ℕ)) : Type 0 where
+  pub ended : IsAtEnd input ⊎ (2 ^ 64 - 1 ≤ length read)
+  pub short : BeginsTooLong (rest_of read) → ⊥
 
 -- What came of the input that was read: at its end all requests were served, else the serving stopped.
 pub record ServesInput (Honest : Type 0) (c : ℕ) (first last : Option (List ℕ)) (s t : State) (a b : List Change)

@@ -4,6 +4,8 @@
 #[cfg(test)]
 mod assertions;
 #[cfg(test)]
+mod options;
+#[cfg(test)]
 mod table;
 #[cfg(test)]
 mod walks;

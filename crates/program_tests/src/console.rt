@@ -127,6 +127,34 @@ fn cut_anywhere(rt: HostRuntime) -> Result<(), Fail> {
     Ok(())
 }
 
+// A console with this input writes its greeting and then this, and is served whole.
+fn writes_this(rt: &(impl Abort + AllocGlobal), input: &[u8], expected: &[u8]) -> Result<(), Fail> {
+    let (end, written) = run_lines(rt.alloc(), fresh_disks(rt.alloc())?, input);
+    has_ended(rt, &end, Status::Done, Ending::Whole);
+    let (front, behind) = written.split_at(GREETING.len().min(written.len()));
+    same_bytes(rt, front, GREETING);
+    same_bytes(rt, behind, expected);
+    Ok(())
+}
+
+// The input of a client that waits, and what it is given behind the greeting.
+const WAITING: [(&[u8], &[u8]); 6] = [
+    (b"idle\nnoidle\nping\n", b"OK\nOK\n"),
+    (b"idle\n \"no\\idle\"\t\r\nping\n", b"OK\nOK\n"),
+    (b"noidle\nping\n", b"OK\n"),
+    (b"setvol 40\nidle\nping\n", b"OK\nchanged: mixer\nOK\nOK\n"),
+    (b"idle\nping\nping\n", b""),
+    (b"idle\nnoidle x\nping\n", b""),
+];
+
+#[test]
+fn a_client_that_waits(rt: HostRuntime) -> Result<(), Fail> {
+    for (input, expected) in &WAITING {
+        writes_this(&rt, input, expected)?;
+    }
+    Ok(())
+}
+
 // How many bytes a write takes, the read and the write that fail (0: none), how much is written, and how the console ends.
 const FAILING_STREAMS: [(usize, u64, u64, usize, Ending); 13] = [
     (3, 0, 0, 117, Ending::Whole),

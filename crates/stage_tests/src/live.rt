@@ -1,9 +1,10 @@
 // The stage: the daemon's state and its journal together.
 use crate::assertions::{disk, equal, prints, same_bytes};
-use console_text::{Line, Lines, Request};
+use command_text::{Line, Lines, Request};
 use daemon_core::Event;
 use disk_model::{Disk, Fuse, FuseDisk, MemDisk};
 use live_stage::{Live, LiveError, Receipt, Refused, StartError, Turn, TurnResult};
+use player_core::Order;
 use std::alloc::{AllocError, Global};
 use std::process::Abort;
 use std::test::Fail;
@@ -133,6 +134,16 @@ fn is_whole<D: Disk>(rt: &impl Abort, live: &Live<D>) {
 /// A disk failed.
 fn has_failed<D: Disk>(rt: &impl Abort, live: &Live<D>) {
     equal(rt, is_broken(live), true);
+}
+
+/// Whether the output is to wait.
+fn waits<D: Disk>(live: &Live<D>, alloc: Global) -> Result<bool, LiveError> {
+    Ok(matches!(live.order(alloc)?, Order::Wait))
+}
+
+/// Whether a scan is to read something.
+fn scans<D: Disk>(live: &Live<D>, alloc: Global) -> Result<bool, LiveError> {
+    Ok(live.scan_order(alloc)?.is_some())
 }
 
 /// The numbers of the last event and of the last record.

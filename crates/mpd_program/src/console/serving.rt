@@ -1,9 +1,10 @@
 // One client, from its connect on.
-ghost use Rattle.std.specs.Prelude.{◌≡◌, ◌≢◌, ◌⊎◌, ◌↔◌, ◌≤◌, ◌++◌, [], ◌∷◌, false, Err, OnOk, IfErr};
+ghost use Rattle.std.specs.Prelude.{◌≡◌, ◌≢◌, ◌⊎◌, ◌↔◌, ◌≤◌, ◌++◌, [], false, Err, OnOk, IfErr};
 ghost use Rattle.std.specs.Io.KnownBytes.{Appends};
 ghost use Rattle.disk_model.specs.Later.{AreLater, HasFailed};
+ghost use Rattle.client_session.specs.Lines.{BeginsTooLong};
 ghost use Rattle.client_session.specs.Requests.{requests_of, rest_of};
-ghost use Rattle.mpd_program.specs.Console.{asked_by};
+ghost use Rattle.mpd_program.specs.Console.{asked, asked_by, ComesInTurn};
 ghost use Rattle.mpd_program.specs.Serving.{ending_of, ServesAll, Stops, ServesInput, ServesClient};
 
 use super::Ending;
@@ -39,11 +40,12 @@ fn serve_event<D: Disk, W: Write>(
 ) -> Result<(), Ending>
     requires usable { live.old.is_broken ≡ false }
     requires sent { session.old.queued ≡ [] }
+    requires turn { ComesInTurn live.old.state.machine.job event }
     ensures session { OnOk result (session.new ≡ session.old) }
-    ensures served { OnOk result (ServesAll client (event ∷ []) live.old.state live.new.state
+    ensures served { OnOk result (ServesAll client (asked event) live.old.state live.new.state
         (W.contents writer.old) (W.contents writer.new)) }
-    ensures stopped { IfErr result (λ e. Stops (D.honest live.old.a × D.honest live.old.b) client (event ∷ []) live.old.state live.new.state
-        (D.history live.new.a) (D.history live.new.b) (W.contents writer.old) (W.contents writer.new) e) }
+    ensures stopped { IfErr result (λ e. Stops (D.honest live.old.a × D.honest live.old.b) client (asked event)
+        live.old.state live.new.state (D.history live.new.a) (D.history live.new.b) (W.contents writer.old) (W.contents writer.new) e) }
     ensures usable { result ≢ Err Ending.Faulted → live.new.is_broken ≡ false }
     ensures failed { D.honest live.old.a → D.honest live.old.b → result ≡ Err Ending.Faulted
         → HasFailed D.faults live.old.a live.old.b live.new.a live.new.b }
@@ -96,7 +98,7 @@ fn serve_requests<D: Disk, W: Write>(
     Ok(())
 }
 
-// Serves what a piece of the input brings.
+// Serves what a piece of the input brings. An empty piece meets a line that is too long, which waits for the next one.
 fn serve_piece<D: Disk, W: Write>(
     alloc: Global,
     live: &mut Live<D>,
@@ -108,6 +110,7 @@ fn serve_piece<D: Disk, W: Write>(
     requires usable { live.old.is_broken ≡ false }
     requires sent { session.old.queued ≡ [] }
     ensures session { OnOk result (session.new ≡ record session.old { pending = rest_of (session.old.pending ++ piece.now) }) }
+    ensures short { OnOk result (BeginsTooLong (session.old.pending ++ piece.now) → ⊥) }
     ensures served { OnOk result (ServesAll client (asked_by client (requests_of (session.old.pending ++ piece.now)))
         live.old.state live.new.state (W.contents writer.old) (W.contents writer.new)) }
     ensures stopped { IfErr result (λ e. Stops (D.honest live.old.a × D.honest live.old.b) client
@@ -125,7 +128,7 @@ fn serve_piece<D: Disk, W: Write>(
     serve_requests(alloc, live, session, client, requests, writer)
 }
 
-// Serves pieces of the input until it ends. The read 2^64 - 1 is taken for its end.
+// Serves pieces of the input until it ends, and then an empty one. The read 2^64 - 1 is taken for its end.
 fn serve_input<D: Disk, R: Read, W: Write>(
     alloc: Global,
     live: &mut Live<D>,
@@ -151,14 +154,14 @@ fn serve_input<D: Disk, R: Read, W: Write>(
     let mut reads = 0u64;
     while reads < u64::MAX {
         let count = match reader.read(&mut buffer) {
-            Ok(0) => return Ok(()),
+            Ok(0) => return serve_piece(alloc, live, session, client, &[], writer),
             Ok(count) => count,
             Err(_) => return Err(Ending::Cut),
         };
         serve_piece(alloc, live, session, client, &buffer[..count], writer)?;
         reads += 1;
     }
-    Ok(())
+    serve_piece(alloc, live, session, client, &[], writer)
 }
 
 // Serves a client from its connect to the end of its input, or until it is closed.

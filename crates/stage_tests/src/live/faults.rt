@@ -19,6 +19,12 @@ fn leaves(
     )
 }
 
+/// A broken stage says neither what is to be played nor what is to be read.
+fn tells_nothing<D: Disk>(rt: &impl Abort, alloc: Global, live: &Live<D>) {
+    equal(rt, waits(live, alloc), Err(LiveError::Broken));
+    equal(rt, scans(live, alloc), Err(LiveError::Broken));
+}
+
 /// `setvol 40` over this fuse breaks the stage, and a restart shows this.
 fn setvol_breaks(
     rt: &impl Abort,
@@ -29,6 +35,7 @@ fn setvol_breaks(
     let mut live = fused(alloc, fuse)?;
     refuses(rt, &mut live, alloc, b"setvol 40", LiveError::Broken)?;
     has_failed(rt, &live);
+    tells_nothing(rt, alloc, &live);
     leaves(rt, alloc, live, expected)
 }
 

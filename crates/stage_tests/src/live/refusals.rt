@@ -104,6 +104,26 @@ fn damaged_records(rt: HostRuntime) -> Result<(), Fail> {
     Ok(())
 }
 
+/// Records whose last op drops a playlist that isn't there, alone and behind a change of the volume, and the byte that is named.
+const UNAPPLIED: [(&[u8], u64); 3] = [
+    (&[0xa5, 4, 0, 0, 0, 0x10, 1, 0, b'x', 0], 101),
+    (&[0xa5, 6, 0, 0, 0, 2, 40, 0x10, 1, 0, b'x', 0], 101),
+    (
+        &[
+            0xa5, 2, 0, 0, 0, 2, 40, 0xa5, 4, 0, 0, 0, 0x10, 1, 0, b'x', 0,
+        ],
+        108,
+    ),
+];
+
+#[test]
+fn an_op_that_does_not_apply(rt: HostRuntime) -> Result<(), Fail> {
+    for (records, byte) in &UNAPPLIED {
+        records_are_damaged(&rt, rt.alloc(), records, *byte)?;
+    }
+    Ok(())
+}
+
 /// A stage that gave out the last number refuses each line of client 1, and counts none.
 fn numbers_are_spent(rt: &impl Abort, alloc: Global, live: &mut Live<MemDisk>) -> Result<(), Fail> {
     equal(rt, live.last_record(), u64::MAX);

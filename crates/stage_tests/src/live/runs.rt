@@ -52,6 +52,16 @@ fn two_runs(rt: HostRuntime) -> Result<(), Fail> {
     second_run(&rt, alloc, a, b)
 }
 
+// The player is stopped, and no job runs.
+#[test]
+fn nothing_to_do(rt: HostRuntime) -> Result<(), Fail> {
+    let alloc = rt.alloc();
+    let live = fresh(alloc)?;
+    equal(&rt, waits(&live, alloc), Ok(true));
+    equal(&rt, scans(&live, alloc), Ok(false));
+    Ok(())
+}
+
 /// A stage made no call of a disk since it was made, and has no record.
 fn made_no_call(rt: &impl Abort, live: Live<FuseDisk<MemDisk>>) {
     equal(rt, live.last_record(), 0);

@@ -11,6 +11,16 @@ returns-in_err-line-clause-too_long c =
     only_memory c.from_residual.result _ c.from_residual.ensures.1
     (ends_in_time _ _ _ _ _ _ c.loop-end.invariant.cut at)
 
+pub returns-in_err-request-clause-unended : goal.returns-in_err-request-clause-unended
+returns-in_err-request-clause-unended c = rw c.in_ok-line.ensures.taken tt
+
+pub returns-in_err-request-clause-too_long : goal.returns-in_err-request-clause-too_long
+returns-in_err-request-clause-too_long c =
+    let at = rw c.len.ensures.value at c.in-Some.ensures in
+    let kept = rw c.in_err-request.ensures.no_memory at c.from_residual-in_err-request.ensures.1 in
+    only_memory c.from_residual-in_err-request.result _ kept
+    (ends_in_time _ _ _ _ _ _ c.loop-end.invariant.cut at)
+
 pub returns-in_err-push-clause-unended : goal.returns-in_err-push-clause-unended
 returns-in_err-push-clause-unended c = rw c.in_ok-line.ensures.taken tt
 
@@ -24,7 +34,7 @@ pub loop-end-preserved : goal.loop-end-preserved
 loop-end-preserved c =
     let at = rw c.len.ensures.value at c.in-Some.ensures in
     record {
-      cut = rw (c.in_ok-push.ensures.ok, c.in_ok-line.ensures.line, c.in_ok-line.ensures.taken, c.in_ok-line.ensures.behind) (cut_step _ _ _ _ _ _ c.loop-end.invariant.cut at);
+      cut = rw (c.in_ok-push.ensures.ok, c.in_ok-request.ensures.value, c.in_ok-line.ensures.line, c.in_ok-line.ensures.taken, c.in_ok-line.ensures.behind) (cut_step _ _ _ _ _ _ c.loop-end.invariant.cut at);
       small = rw c.in_ok-line.ensures.behind (omega (arith, c.loop-end.invariant.small, length-drop (c.in-Some.end + 1) c.loop-end.rest.now));
     }
 

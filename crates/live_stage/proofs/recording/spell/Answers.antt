@@ -1,7 +1,7 @@
 use Rattle.std.proofs.Common.{length, ap, sym, ◌∙◌, arith}
 use Rattle.std.specs.Prelude.{IsErr}
 use Rattle.std.proofs.lemmas.List.Folds.{length-flat_map-take}
-use Rattle.console_codec.specs.Spelling.{op_bytes}
+use Rattle.state_codec.specs.SpellingOps.{op_bytes}
 use Rattle.live_stage.proofs.recording.spell.Goals as goal
 
 pub unreachable-requires : goal.unreachable-requires

@@ -1,7 +1,7 @@
 use Rattle.std.proofs.Common.{◌≡◌, take, vec_capacity}
 use Rattle.std.specs.List.{AllByRecursion}
-use Rattle.console_codec.specs.Ops.{IsOp}
-use Rattle.console_codec.specs.Spelling.{ops_bytes}
+use Rattle.state_codec.specs.Ops.{IsOp}
+use Rattle.state_codec.specs.Spelling.{ops_bytes}
 use Rattle.live_stage.proofs.recording.spell.Given as goal
 
 abbrev pub invariant-loop-op : goal.invariant-loop-op

@@ -1,6 +1,6 @@
 use Rattle.std.proofs.Common.{◌≡◌, [], length, Some, ap, ◌∙◌, sym}
-use Rattle.console_codec.specs.SavedState.{SavedState}
-use Rattle.console_codec.specs.Spelling.{saved_bytes}
+use Rattle.state_codec.specs.SavedState.{SavedState}
+use Rattle.state_codec.specs.Spelling.{saved_bytes}
 use Rattle.daemon_core.specs.State.{State}
 use Rattle.live_stage.proofs.FoundLaws.{find_now}
 use Rattle.live_stage.proofs.StartLaws.{fresh_stands, only_a_fault}
@@ -14,7 +14,7 @@ invariant_of-result g c = (
       let hb = c.in-Ok-create.ensures.later.b.honesty.1 hb' in
       let held = c.in-Ok-create.ensures.kept ha hb in
       fresh_stands _ c.deref.result.now c.fresh-saved.result held.says (c.deref.ensures.value ∙ c.in-Ok.ensures.snapshot) c.in-Ok.ensures.in_range
-      ∙ ap (λ (s : State). Some s.saved) (sym c.new.ensures),
+      ∙ ap (λ (s : State). Some s.machine.saved) (sym c.new.ensures),
 )
 
 pub returns-in-Ok-create-clause-kept : goal.returns-in-Ok-create-clause-kept
@@ -27,9 +27,8 @@ returns-in-Ok-create-clause-kept g c = λ ha hb.
 
 pub returns-in-Err-create-clause-fault : goal.returns-in-Err-create-clause-fault
 returns-in-Err-create-clause-fault g c = λ ha hb broken.
-    let key_len = ap (λ (s : SavedState). length s.key) (sym c.fresh-saved.ensures) ∙ c.in-Ok.ensures.in_range.key_len in
     let empty_a : g.D.Disk.content c.args.a ≡ [] = (c.is_empty.ensures ha).0 c.if-not-is_empty.false in
     let empty_b : g.D.Disk.content c.args.b ≡ [] = (c.is_empty-else-not-is_empty.ensures hb).0 c.if-not-is_empty-2.false in
-    let fault = only_a_fault c.in-Err-create.refused.error c.deref.result.now c.args.key (c.deref.ensures.value ∙ c.in-Ok.ensures.snapshot ∙ ap saved_bytes c.fresh-saved.ensures) key_len
+    let fault = only_a_fault c.in-Err-create.refused.error c.deref.result.now c.fresh-saved.result (c.deref.ensures.value ∙ c.in-Ok.ensures.snapshot) c.in-Ok.ensures.in_range
     c.in-Err-create.ensures.nothing_else (λ is. (c.in-Err-create.ensures.too_long ha hb empty_a empty_b).0 is) (sym c.refused_start.ensures.error ∙ broken) in
     rw (c.refused_start.ensures.a, c.refused_start.ensures.b) (c.in-Err-create.ensures.fault ha hb fault)

@@ -12,7 +12,7 @@ pub returns-in-Ok-take_state-clause-found : goal.returns-in-Ok-take_state-clause
 returns-in-Ok-take_state-clause-found g c = λ ha hb.
     found_so _ _ c.in-Ok-open.opened.0.content _ (c.in-Ok-open.ensures.read ha hb)
     (stands c.in-Ok-open.opened.0.content _ _ c.in-Ok-take_state.saved (c.in-Ok-open.ensures.opened.same_snapshot (ha, hb)) (c.in-Ok-open.ensures.opened.same_records (ha, hb)) c.in-Ok-take_state.ensures
-    ∙ ap (λ (s : State). Some s.saved) (sym c.new.ensures))
+    ∙ ap (λ (s : State). Some s.machine.saved) (sym c.new.ensures))
 
 pub returns-in-Ok-take_state-clause-numbers : goal.returns-in-Ok-take_state-clause-numbers
 returns-in-Ok-take_state-clause-numbers g c = λ ha hb content is.

@@ -1,7 +1,7 @@
 use Rattle.std.proofs.Common.{rules, ◌≡◌, false, Some, None, sym, ap, ◌∙◌, arith}
 use Rattle.std.specs.List.{AllByRecursion}
-use Rattle.console_codec.specs.Ops.{IsOp}
-use Rattle.console_codec.specs.Applied.{all_applied}
+use Rattle.state_codec.specs.Ops.{IsOp}
+use Rattle.state_codec.specs.Applied.{all_applied}
 use Rattle.daemon_core.specs.State.{State}
 use Rattle.daemon_core.specs.Step.{Stepped, step}
 use Rattle.live_stage.proofs.FoundLaws.{find_now, find_still, find_either, find_after, content_after}
@@ -10,25 +10,25 @@ use Rattle.live_stage.proofs.live.Live.turn.Goals as goal
 
 pub returns-then-is_spent-clause-any_moment : goal.returns-then-is_spent-clause-any_moment
 returns-then-is_spent-clause-any_moment g c = rw (← c.self.view_is) (λ ha hb usable.
-    (None, tt, find_still _ _ c.self.inside.journal.content c.self.inside.core.saved _ (c.is_spent.ensures.kept ha hb usable) (c.self.invariant.1 usable ha hb)))
+    (None, tt, find_still _ _ c.self.inside.journal.content c.self.inside.core.machine.saved _ (c.is_spent.ensures.kept ha hb usable) (c.self.invariant.1 usable ha hb)))
 
 pub returns-then-are_numbers_spent-clause-any_moment : goal.returns-then-are_numbers_spent-clause-any_moment
 returns-then-are_numbers_spent-clause-any_moment g c = rw (← c.self.view_is) (λ ha hb usable.
-    (None, tt, find_still _ _ c.self.inside.journal.content c.self.inside.core.saved _ (c.is_spent.ensures.kept ha hb usable) (c.self.invariant.1 usable ha hb)))
+    (None, tt, find_still _ _ c.self.inside.journal.content c.self.inside.core.machine.saved _ (c.is_spent.ensures.kept ha hb usable) (c.self.invariant.1 usable ha hb)))
 
 pub returns-in-Err-clause-any_moment : goal.returns-in-Err-clause-any_moment
 returns-in-Err-clause-any_moment g c = rw (← c.self.view_is) (λ ha hb usable.
-    (None, tt, find_still _ _ c.self.inside.journal.content c.self.inside.core.saved _ (c.is_spent.ensures.kept ha hb usable) (c.self.invariant.1 usable ha hb)))
+    (None, tt, find_still _ _ c.self.inside.journal.content c.self.inside.core.machine.saved _ (c.is_spent.ensures.kept ha hb usable) (c.self.invariant.1 usable ha hb)))
 
 pub returns-in_err-number-clause-any_moment : goal.returns-in_err-number-clause-any_moment
 returns-in_err-number-clause-any_moment g c =
     let asked : Stepped = step c.self.inside.core c.args.event c.in-Ok.outcome.refused_at in
     let valid : AllByRecursion IsOp c.deref.result.now = c.record_ops.ensures.valid in
-    let applies : all_applied c.deref.result.now c.self.inside.core.saved ≡ Some asked.after.saved = rw c.deref.ensures.value (c.in-Ok.ensures.rebuilt ∙ ap (λ (s : State). Some s.saved) c.in-Ok.ensures.ok.after) in
+    let applies : all_applied c.deref.result.now c.self.inside.core.machine.saved ≡ Some asked.after.machine.saved = rw c.deref.ensures.value (c.in-Ok.ensures.rebuilt ∙ ap (λ (s : State). Some s.machine.saved) c.in-Ok.ensures.ok.after) in
     rw (← c.self.view_is) (λ ha hb usable. (
       c.in-Ok.outcome.refused_at,
       search rules,
-      find_either _ _ _ _ c.self.inside.journal.content c.deref.result.now c.self.inside.core.saved asked.after.saved
+      find_either _ _ _ _ c.self.inside.journal.content c.deref.result.now c.self.inside.core.machine.saved asked.after.machine.saved
           (c.is_spent.ensures.kept ha hb usable) (c.self.invariant.1 usable ha hb) valid applies
           (λ e. (ap (λ j. g.D.Disk.history j.a) (c.record_ops.ensures.none e).1, ap (λ j. g.D.Disk.history j.b) (c.record_ops.ensures.none e).1))
           (λ some. c.record_ops.ensures.any_moment some ha hb),
@@ -38,13 +38,13 @@ pub invariant_of-self-2 : goal.invariant_of-self-2
 invariant_of-self-2 g c =
     let usable : c.self.inside.journal.is_spent ≡ false = sym c.is_spent.ensures.value ∙ c.if-is_spent.false in
     let valid : AllByRecursion IsOp c.deref.result.now = c.record_ops.ensures.valid in
-    let applies : all_applied c.deref.result.now c.self.inside.core.saved ≡ Some c.step.new.self.saved = rw c.deref.ensures.value c.in-Ok.ensures.rebuilt in
+    let applies : all_applied c.deref.result.now c.self.inside.core.machine.saved ≡ Some c.step.new.self.machine.saved = rw c.deref.ensures.value c.in-Ok.ensures.rebuilt in
     let room = c.self.invariant.0 in (
       omega (arith, c.record_ops.ensures.capacity, room),
       λ spent ha' hb'.
           let ha = c.record_ops.ensures.later.a.honesty.1 ha' in
           let hb = c.record_ops.ensures.later.b.honesty.1 hb' in
-          content_after c.self.inside.journal.content c.record_ops.new.journal.content c.deref.result.now c.self.inside.core.saved c.step.new.self.saved
+          content_after c.self.inside.journal.content c.record_ops.new.journal.content c.deref.result.now c.self.inside.core.machine.saved c.step.new.self.machine.saved
           (c.self.invariant.1 usable ha hb) valid applies
           (λ e. ap (λ j. j.content) (c.record_ops.ensures.none e).1)
           (λ some. let held = c.in_ok-number.ensures.kept some ha hb in held.says),
@@ -54,11 +54,11 @@ pub returns-clause-any_moment : goal.returns-clause-any_moment
 returns-clause-any_moment g c =
     let asked : Stepped = step c.self.inside.core c.args.event c.in-Ok.outcome.refused_at in
     let valid : AllByRecursion IsOp c.deref.result.now = c.record_ops.ensures.valid in
-    let applies : all_applied c.deref.result.now c.self.inside.core.saved ≡ Some asked.after.saved = rw c.deref.ensures.value (c.in-Ok.ensures.rebuilt ∙ ap (λ (s : State). Some s.saved) c.in-Ok.ensures.ok.after) in
+    let applies : all_applied c.deref.result.now c.self.inside.core.machine.saved ≡ Some asked.after.machine.saved = rw c.deref.ensures.value (c.in-Ok.ensures.rebuilt ∙ ap (λ (s : State). Some s.machine.saved) c.in-Ok.ensures.ok.after) in
     rw (← c.self.view_is) (λ ha hb usable. (
       c.in-Ok.outcome.refused_at,
       ap (λ t. t.refused_at) c.new.ensures,
-      find_either _ _ _ _ c.self.inside.journal.content c.deref.result.now c.self.inside.core.saved asked.after.saved
+      find_either _ _ _ _ c.self.inside.journal.content c.deref.result.now c.self.inside.core.machine.saved asked.after.machine.saved
           (c.is_spent.ensures.kept ha hb usable) (c.self.invariant.1 usable ha hb) valid applies
           (λ e. (ap (λ j. g.D.Disk.history j.a) (c.record_ops.ensures.none e).1, ap (λ j. g.D.Disk.history j.b) (c.record_ops.ensures.none e).1))
           (λ some. c.record_ops.ensures.any_moment some ha hb),
@@ -68,9 +68,9 @@ pub returns-clause-kept : goal.returns-clause-kept
 returns-clause-kept g c =
     let usable : c.self.inside.journal.is_spent ≡ false = sym c.is_spent.ensures.value ∙ c.if-is_spent.false in
     let valid : AllByRecursion IsOp c.deref.result.now = c.record_ops.ensures.valid in
-    let applies : all_applied c.deref.result.now c.self.inside.core.saved ≡ Some c.step.new.self.saved = rw c.deref.ensures.value c.in-Ok.ensures.rebuilt in
+    let applies : all_applied c.deref.result.now c.self.inside.core.machine.saved ≡ Some c.step.new.self.machine.saved = rw c.deref.ensures.value c.in-Ok.ensures.rebuilt in
     rw (← c.self.view_is) (λ ha hb unbroken.
-    find_after _ _ _ _ c.self.inside.journal.content c.record_ops.new.journal.content c.deref.result.now c.self.inside.core.saved c.step.new.self.saved
+    find_after _ _ _ _ c.self.inside.journal.content c.record_ops.new.journal.content c.deref.result.now c.self.inside.core.machine.saved c.step.new.self.machine.saved
     (c.is_spent.ensures.kept ha hb usable) (c.self.invariant.1 usable ha hb) valid applies
     (λ e. (ap (λ j. g.D.Disk.history j.a) (c.record_ops.ensures.none e).1, ap (λ j. g.D.Disk.history j.b) (c.record_ops.ensures.none e).1))
     (λ some. let held = c.in_ok-number.ensures.kept some ha hb in held.says)
@@ -78,17 +78,17 @@ returns-clause-kept g c =
 
 pub returns-then-is_spent-clause-kept : goal.returns-then-is_spent-clause-kept
 returns-then-is_spent-clause-kept g c = rw (← c.self.view_is) (λ ha hb usable.
-    find_now (g.D.Disk.history c.self.inside.journal.a) (g.D.Disk.history c.self.inside.journal.b) c.self.inside.journal.content c.self.inside.core.saved (c.is_spent.ensures.kept ha hb usable) (c.self.invariant.1 usable ha hb))
+    find_now (g.D.Disk.history c.self.inside.journal.a) (g.D.Disk.history c.self.inside.journal.b) c.self.inside.journal.content c.self.inside.core.machine.saved (c.is_spent.ensures.kept ha hb usable) (c.self.invariant.1 usable ha hb))
 
 pub returns-then-are_numbers_spent-clause-kept : goal.returns-then-are_numbers_spent-clause-kept
 returns-then-are_numbers_spent-clause-kept g c = rw (← c.self.view_is) (λ ha hb usable.
-    find_now (g.D.Disk.history c.self.inside.journal.a) (g.D.Disk.history c.self.inside.journal.b) c.self.inside.journal.content c.self.inside.core.saved (c.is_spent.ensures.kept ha hb usable) (c.self.invariant.1 usable ha hb))
+    find_now (g.D.Disk.history c.self.inside.journal.a) (g.D.Disk.history c.self.inside.journal.b) c.self.inside.journal.content c.self.inside.core.machine.saved (c.is_spent.ensures.kept ha hb usable) (c.self.invariant.1 usable ha hb))
 
 pub returns-in-Err-clause-kept : goal.returns-in-Err-clause-kept
 returns-in-Err-clause-kept g c =
     let same = c.in-Err.ensures.err in
     rw (← c.self.view_is, same) (λ ha hb usable.
-    find_now (g.D.Disk.history c.self.inside.journal.a) (g.D.Disk.history c.self.inside.journal.b) c.self.inside.journal.content c.self.inside.core.saved (c.is_spent.ensures.kept ha hb usable) (c.self.invariant.1 usable ha hb))
+    find_now (g.D.Disk.history c.self.inside.journal.a) (g.D.Disk.history c.self.inside.journal.b) c.self.inside.journal.content c.self.inside.core.machine.saved (c.is_spent.ensures.kept ha hb usable) (c.self.invariant.1 usable ha hb))
 
 pub returns-then-is_spent-clause-file : goal.returns-then-is_spent-clause-file
 returns-then-is_spent-clause-file g c = still_in_file c.args.self.now

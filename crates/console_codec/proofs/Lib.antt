@@ -1,4 +1,0 @@
-pub mod FieldLaws
-pub mod OpLaws
-pub mod SavedLaws
-pub mod AppliedLaws

@@ -1,8 +1,0 @@
-use Rattle.std.proofs.Common.{append_assoc}
-use Rattle.console_codec.proofs.writing.put_saved.Goals as goal
-
-pub returns-clause-spelled : goal.returns-clause-spelled
-returns-clause-spelled c =
-    rw (c.in_ok-extend_from_slice-6.ensures.items, c.in_ok-extend_from_slice-5.ensures.items, c.in_ok-push.ensures.items, c.in_ok-extend_from_slice-4.ensures.items, c.in_ok-extend_from_slice-3.ensures.items, c.in_ok-extend_from_slice-2.ensures.items, c.in_ok-extend_from_slice.ensures.items, c.in_ok-out.ensures.items)
-    (rw (c.options_array.ensures, c.options.ensures, c.percent.ensures.value, c.volume.ensures, c.to_le_bytes-3.ensures, c.next_id.ensures, c.to_le_bytes-2.ensures, c.version.ensures.value, c.to_le_bytes.ensures, c.order.ensures, c.key.ensures)
-    (simp append_assoc))

@@ -1,9 +1,0 @@
-pub mod SavedState
-pub mod Stored
-pub mod Ops
-pub mod Steps
-pub mod Applied
-pub mod Spelling
-pub mod Reading
-pub mod Answers
-pub mod Fields

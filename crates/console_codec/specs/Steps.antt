@@ -1,8 +1,0 @@
--- Steps that may fail.
-use Rattle.std.specs.Prelude.{Result, Ok, Err}
-
--- the first step, and then the next unless the first failed
-infixl 10 ◌>>=◌
-abbrev pub ◌>>=◌ : {A B E : Type 0} → Result A E → (A → Result B E) → Result B E
-(Ok x) >>= f = f x
-(Err e) >>= f = Err e

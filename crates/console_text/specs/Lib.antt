@@ -1,8 +1,0 @@
-pub mod Words
-pub mod Names
-pub mod Arguments
-pub mod Refusals
-pub mod Reading
-pub mod Answer
-pub mod Ack
-pub mod NextWord

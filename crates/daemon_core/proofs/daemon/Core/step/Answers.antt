@@ -1,0 +1,21 @@
+use Rattle.std.proofs.Common.{◌∙◌, subst}
+use Rattle.daemon_core.specs.Handled.{Does}
+use Rattle.daemon_core.specs.Step.{acted}
+use Rattle.daemon_core.proofs.StepLaws.{is_outcome, rebuilt_by, fits_by}
+use Rattle.daemon_core.proofs.daemon.Core.step.Goals as goal
+
+pub returns-clause-ok : goal.returns-clause-ok
+returns-clause-ok c =
+    let taken = c.take_room.ensures in
+    is_outcome c.args.self.now c.args.event c.handle.new.self c.tell_waiting-outputs.new.self c.in_ok-outputs.field-0
+    c.tell_waiting-outputs.result
+    (subst (λ s. Does (acted s c.args.event c.in_ok-outputs.field-0.refused_at) c.handle.new.self c.in_ok-outputs.field-0)
+    ((λ i. record { machine = taken.machine i; clients = taken.watch i }) ∙ c.self.view_is) c.in_ok-outputs.ensures.ok)
+    c.tell_waiting-outputs.ensures.outputs c.tell_waiting-outputs.ensures.watch c.tell_waiting-outputs.ensures.machine
+    c.in_ok-outputs.ensures.place
+
+pub returns-clause-rebuilt : goal.returns-clause-rebuilt
+returns-clause-rebuilt c = rebuilt_by c.ops_rebuild_the_state.ensures _ _ _ _ (returns-clause-ok c)
+
+pub returns-clause-fits : goal.returns-clause-fits
+returns-clause-fits c = fits_by c.ops_rebuild_the_state.ensures _ _ _ _ (returns-clause-ok c)

@@ -1,0 +1,30 @@
+use Rattle.std.proofs.Common.{rules, refl}
+use Rattle.daemon_core.specs.declared.outcome.Ending.TheVariants.{Answered, Closed}
+use Rattle.daemon_core.proofs.EndLaws.{ends_so, ready_left}
+use Rattle.daemon_core.proofs.parts.CoreParts.end_request.Goals as goal
+
+pub returns-in-Answered : goal.returns-in-Answered
+returns-in-Answered c = ends_so c.args.client c.args.self.now c.args.self.now c.args.work c.args.end _ Answered c.in-Answered.is (record {
+  state = refl;
+  answer = search rules;
+  closes = search rules;
+  ops = refl;
+  refused_at = refl;
+  ended = refl;
+  changed = refl;
+  one = search rules;
+  ready = c.requires.ready;
+})
+
+pub returns-in-Closed : goal.returns-in-Closed
+returns-in-Closed c = ends_so c.args.client c.args.self.now c.leave.new.self c.args.work c.args.end _ Closed c.in-Closed.is (record {
+  state = search rules;
+  answer = search rules;
+  closes = search rules;
+  ops = refl;
+  refused_at = refl;
+  ended = refl;
+  changed = refl;
+  one = search rules;
+  ready = ready_left c.args.self.now c.leave.new.self c.args.client c.requires.ready c.leave.ensures.watch (search rules);
+})

@@ -1,0 +1,32 @@
+use Rattle.std.proofs.Common.{◌≡◌, ℕ, Bool, true, false, List, [], ◌∷◌, None, refl, sym, subst}
+use Rattle.idle_masks.specs.Watched.{with_waiting}
+use Rattle.daemon_core.specs.Handled.{Does, IsNothingBut}
+use Rattle.daemon_core.specs.Parts.{state_of}
+use Rattle.daemon_core.specs.Session.{output}
+use Rattle.daemon_core.specs.Step.{waits_no_more}
+use Rattle.daemon_core.specs.declared.parts.CoreParts.{CoreParts}
+use Rattle.daemon_core.proofs.ClientLaws.{does_but, left_ready, stopped_ready, so_ok}
+use Rattle.daemon_core.proofs.parts.CoreParts.end_waiting.Goals as goal
+
+pub returns-else-is_err-clause-ok : goal.returns-else-is_err-clause-ok
+returns-else-is_err-clause-ok c =
+    let p : CoreParts = c.args.self.now in
+    let q : CoreParts = record { machine = p.machine; watch = c.cancel.new.self; room = p.room } in
+    let h = c.in_ok-handled.handled in
+    let but = subst (λ (b : List ℕ). IsNothingBut (output c.args.client b ∷ []) [] h) c.in_ok-ok.ensures c.in_ok-handled.ensures in
+    let watch : q.watch ≡ with_waiting p.watch c.args.client None =
+    so_ok c.cancel.result (c.cancel.ensures.found.1 c.requires.known) c.cancel.ensures.ok in
+    subst (λ (b : Bool). Does (waits_no_more b c.args.client (state_of p)) q h) (sym c.if-is_noidle.true)
+    (does_but (waits_no_more true c.args.client (state_of p)) q h but (λ i. record { machine = p.machine; clients = watch i })
+    refl refl refl refl (stopped_ready p q c.args.client c.requires.ready watch refl))
+
+pub returns-in_ok-handled-2-clause-ok : goal.returns-in_ok-handled-2-clause-ok
+returns-in_ok-handled-2-clause-ok c =
+    let p : CoreParts = c.args.self.now in
+    let q : CoreParts = c.leave.new.self in
+    let h = c.in_ok-handled-2.handled in
+    let left = c.leave.ensures in
+    subst (λ (b : Bool). Does (waits_no_more b c.args.client (state_of p)) q h) (sym c.if-is_noidle.false)
+    (does_but (waits_no_more false c.args.client (state_of p)) q h c.in_ok-handled-2.ensures
+    (λ i. record { machine = left.machine i; clients = left.watch i })
+    refl refl refl refl (left_ready p q c.args.client c.requires.ready left.watch left.room))

@@ -1,0 +1,31 @@
+-- What the code of an event does before clients that wait are told.
+use Rattle.std.specs.Prelude.{◌≡◌, ◌≤◌, ℕ, List, [], None, false, vec_len}
+use Rattle.idle_masks.specs.Subsystems.{none}
+use Rattle.daemon_core.specs.Parts.{state_of}
+use Rattle.daemon_core.specs.Room.{IsReadyToTell}
+use Rattle.daemon_core.specs.Session.{Acted}
+use Rattle.daemon_core.specs.declared.handled.Handled.{Handled}
+use Rattle.daemon_core.specs.declared.outcome.Output.{Output}
+use Rattle.daemon_core.specs.declared.parts.CoreParts.{CoreParts}
+
+-- it did this, and left room for what those clients are told
+pub record Does (a : Acted) (after : CoreParts) (handled : Handled) : Type 0 where
+  pub state : state_of after ≡ a.after
+  pub answer : handled.outputs.items ≡ a.answer
+  pub closes : handled.closes.items ≡ a.closes
+  pub ops : handled.ops.items ≡ a.ops
+  pub refused_at : handled.refused_at ≡ a.refused_at
+  pub ended : handled.ended ≡ a.ended
+  pub changed : handled.changed ≡ a.changed
+  pub one : vec_len handled.outputs ≤ 1
+  pub ready : IsReadyToTell after
+
+-- nothing is done, but there may be an output and clients that are closed
+pub record IsNothingBut (given : List Output) (closed : List ℕ) (handled : Handled) : Type 0 where
+  pub answer : handled.outputs.items ≡ given
+  pub one : vec_len handled.outputs ≤ 1
+  pub closes : handled.closes.items ≡ closed
+  pub ops : handled.ops.items ≡ []
+  pub refused_at : handled.refused_at ≡ None
+  pub ended : handled.ended ≡ false
+  pub changed : handled.changed ≡ none

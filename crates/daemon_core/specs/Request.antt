@@ -1,0 +1,93 @@
+-- What the code of a request does, line by line.
+use Rattle.std.specs.Prelude.{◌≡◌, ℕ, ◌<◌, List, [], ◌++◌, length, Option, Some, None, Result, Ok, Err, IfSome}
+use Rattle.command_text.specs.Answer.{ack}
+use Rattle.command_text.specs.Reading.{name_of_line, want_of_memory}
+use Rattle.command_text.specs.declared.place.Place.{Place}
+use Rattle.command_text.specs.declared.refusal.ReadError.{ReadError}
+use Rattle.command_text.specs.declared.refusal.ReadError.TheVariants as errors
+use Rattle.idle_masks.specs.declared.subsystem.Subsystems.{Subsystems}
+use Rattle.machine_core.specs.Changed.{changed}
+use Rattle.machine_core.specs.Meaning.{Meaning}
+use Rattle.machine_core.specs.State.{MachineState}
+use Rattle.machine_core.specs.Work.{AddsNothing, AddsOps, AddsText, HasRoom, ack_room}
+use Rattle.machine_core.specs.declared.work.Work.{Work}
+use Rattle.daemon_core.specs.Room.{HasRoomToEnd}
+use Rattle.daemon_core.specs.Run.{Did, Goes, Refuses, Ends, Ran, ran}
+use Rattle.daemon_core.specs.declared.outcome.Ending.{Ending}
+use Rattle.daemon_core.specs.declared.outcome.Ending.TheVariants.{Answered}
+use Rattle.daemon_core.specs.declared.parts.CoreParts.{CoreParts}
+use Rattle.daemon_core.specs.declared.request.RequestEnd.{RequestEnd}
+use Rattle.daemon_core.specs.declared.request.Stop.{Stop}
+use Rattle.daemon_core.specs.declared.request.Stop.TheVariants as stops
+
+-- why a line that wasn't read stops its request
+abbrev pub stop_of_reading : ReadError → Stop
+stop_of_reading (errors.Refused refusal) = stops.Refused refusal
+stop_of_reading errors.NoMemory = stops.NoMemory
+
+-- what a request did, as it stands behind its last command
+abbrev pub ran_of : MachineState → Work → RequestEnd → Ran
+ran_of m work end = record {
+  after = m;
+  text = work.text.items;
+  changed = end.changed;
+  ops = work.ops.items;
+  ending = end.ending;
+  refused_at = end.refused_at;
+}
+
+-- the command did what it means: its lines, the separator and its ops were added, and there is room for what ends a request
+pub record WentOn (separator : List ℕ) (did : Did) (before after : MachineState) (work done : Work) (set : Subsystems) : Type 0 where
+  pub meaning : Meaning
+  pub means : did ≡ Goes meaning
+  pub stands : after ≡ meaning.after
+  pub text : done.text.items ≡ work.text.items ++ (meaning.text ++ separator)
+  pub ops : AddsOps meaning.ops work done
+  pub changed : set ≡ changed before after
+  pub room : HasRoom ack_room done
+
+-- why a command that did this stops its request; or it found no memory
+abbrev pub IsStop : Did → Stop → Type 0
+IsStop did (stops.Ends ending) = did ≡ Ends ending
+IsStop did (stops.Refused refusal) = did ≡ Refuses refusal
+IsStop did stops.NoMemory = Unit {0}
+
+-- the command stops its request, and nothing was changed
+pub record Stopped (did : Did) (before after : MachineState) (work done : Work) (stop : Stop) : Type 0 where
+  pub stands : after ≡ before
+  pub nothing : AddsNothing work done
+  pub why : IsStop did stop
+
+abbrev pub RunsLine : List ℕ → Did → MachineState → MachineState → Work → Work → Result Subsystems Stop → Type 0
+RunsLine separator did before after work done (Ok set) = WentOn separator did before after work done set
+RunsLine separator did before after work done (Err stop) = Stopped did before after work done stop
+
+abbrev pub HasRoomToStop : ℕ → CoreParts → Stop → Type 0
+HasRoomToStop c p (stops.Ends ending) = HasRoomToEnd c ending p
+HasRoomToStop c p (stops.Refused refusal) = Unit {0}
+HasRoomToStop c p stops.NoMemory = Unit {0}
+
+-- How a stop is answered: by nothing where the command ends the request, by the line of its refusal, or by that of want of memory.
+abbrev pub AnswersIt : Stop → ℕ → Ending → Work → Work → Type 0
+AnswersIt (stops.Ends it) index ending work done = (ending ≡ it) × AddsText [] work done
+AnswersIt (stops.Refused refusal) index ending work done = (ending ≡ Answered) × AddsText (ack index refusal) work done
+AnswersIt stops.NoMemory index ending work done = ⊥
+
+abbrev pub WantsMemory : ℕ → List ℕ → Ending → Work → Work → Type 0
+WantsMemory index line ending work done = (ending ≡ Answered) × AddsText (ack index (want_of_memory (name_of_line line))) work done
+
+abbrev pub AnswersStop : Stop → ℕ → List ℕ → Option ℕ → Ending → Work → Work → Type 0
+AnswersStop stop index line None ending work done = AnswersIt stop index ending work done
+AnswersStop stop index line (Some place) ending work done = (place ≡ index) × WantsMemory index line ending work done
+
+-- the commands were run as the request means them, with memory refused where its end says, at one of them or at none
+pub record RunsLines
+    (place : Place) (between : List ℕ) (lines : List (List ℕ)) (before after : MachineState) (work done : Work) (end : RequestEnd)
+    : Type 0 where
+  pub stands : after ≡ (ran place between end.refused_at 0 work.size lines before).after
+  pub text : done.text.items ≡ work.text.items ++ (ran place between end.refused_at 0 work.size lines before).text
+  pub ops : done.ops.items ≡ work.ops.items ++ (ran place between end.refused_at 0 work.size lines before).ops
+  pub changed : end.changed ≡ (ran place between end.refused_at 0 work.size lines before).changed
+  pub ending : end.ending ≡ (ran place between end.refused_at 0 work.size lines before).ending
+  pub refused_at : end.refused_at ≡ (ran place between end.refused_at 0 work.size lines before).refused_at
+  pub within : IfSome end.refused_at (λ place. place < length lines)

@@ -1,0 +1,58 @@
+-- The commands that speak of the client: how a request ends for it.
+use Rattle.std.specs.Prelude.{ℕ, List, [], ◌∷◌, map, Bool, true, false, Option, Some, None}
+use Rattle.idle_masks.specs.Subsystems.{none}
+use Rattle.idle_masks.specs.Watched.{left, with_waiting}
+use Rattle.idle_masks.specs.declared.subsystem.Subsystems.{Subsystems}
+use Rattle.idle_masks.specs.declared.watch.Watched.{Watched}
+use Rattle.state_codec.specs.declared.op.Op.{Op}
+use Rattle.daemon_core.specs.Run.{Ran}
+use Rattle.daemon_core.specs.State.{State, with_machine, with_clients}
+use Rattle.daemon_core.specs.declared.outcome.Ending.{Ending}
+use Rattle.daemon_core.specs.declared.outcome.Ending.TheVariants.{Answered, Closed, Killed, Waits}
+use Rattle.daemon_core.specs.declared.outcome.Output.{Output}
+
+-- What an event does before clients that wait are told: the state, the answer of the event's own client, the clients
+-- that are closed, the ops, the place of the command that was refused memory, if one was, whether the daemon ends, the client
+-- that it connected, and the subsystems that it changed.
+pub record Acted : Type 0 where
+  pub after : State
+  pub answer : List Output
+  pub closes : List ℕ
+  pub ops : List Op
+  pub refused_at : Option ℕ
+  pub ended : Bool
+  pub connected : Option ℕ
+  pub changed : Subsystems
+
+-- an event that does nothing
+abbrev pub nothing : State → Acted
+nothing s =
+    record { after = s; answer = []; closes = []; ops = []; refused_at = None; ended = false; connected = None; changed = none }
+
+abbrev pub output : ℕ → List ℕ → Output
+output c text = record { client = c; bytes = text }
+
+-- the client is connected no more
+abbrev pub without : ℕ → State → State
+without c s = with_clients s (left s.clients c)
+
+-- the client waits for these subsystems, or no longer
+abbrev pub waiting : ℕ → Option Subsystems → State → State
+waiting c mask s = with_clients s (with_waiting s.clients c mask)
+
+abbrev pub numbers_of : List Watched → List ℕ
+numbers_of clients = map (λ w. w.client) clients
+
+-- a request did this, and nothing was said to its client
+abbrev pub ran_silently : State → Ran → Acted
+ran_silently s r = record (nothing (with_machine s r.after)) { ops = r.ops; refused_at = r.refused_at; changed = r.changed }
+
+-- What comes of a request of this client, by how it ended. A client that waits is answered where the changes are told.
+abbrev pub of_ran : ℕ → State → Ran → Ending → Acted
+of_ran c s r Answered = record (ran_silently s r) { answer = output c r.text ∷ [] }
+of_ran c s r Closed = record (ran_silently (without c s) r) { closes = c ∷ [] }
+of_ran c s r Killed = record (ran_silently (with_clients s []) r) { closes = numbers_of s.clients; ended = true }
+of_ran c s r (Waits mask) = ran_silently (waiting c (Some mask) s) r
+
+abbrev pub runs : ℕ → State → Ran → Acted
+runs c s r = of_ran c s r r.ending

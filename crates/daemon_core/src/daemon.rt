@@ -1,0 +1,89 @@
+ghost use Rattle.std.specs.Prelude.{◌≡◌, IfOk};
+ghost use Rattle.daemon_core.specs.State.{start};
+
+use crate::parts::CoreParts;
+use crate::room::Room;
+use idle_masks::Watch;
+use machine_core::Machine;
+use no_memory::NoMemory;
+use player_core::Order;
+use song_db::ScanOrder;
+use state_codec::Saved;
+use std::alloc::Global;
+use std::marker::Model;
+
+/// The daemon's state: the machine, and the clients that are connected.
+#[derive(Drop)]
+pub struct Core {
+    pub(crate) parts: CoreParts,
+}
+
+impl Model for Core {
+    ghost use Rattle.daemon_core.specs.State.{State};
+
+    ghost Value = { State };
+
+    ghost use Rattle.daemon_core.specs.Held.{held};
+
+    ghost view = { held };
+}
+
+impl Core {
+    ghost use Rattle.daemon_core.specs.Orders.{play_order, scan_order};
+
+    /// A daemon that begins with what was saved: no client is connected. It takes no memory yet.
+    pub fn new(alloc: Global, saved: Saved) -> Self
+        ensures { result ≡ start saved }
+    {
+        Core {
+            parts: CoreParts {
+                machine: Machine::new(alloc, saved),
+                watch: Watch::new(alloc),
+                room: Room::new(alloc),
+            },
+        }
+    }
+
+    /// The saved half of the state, where it stands.
+    pub fn as_saved(&self) -> &Saved
+        ensures { result.now ≡ self.now.machine.saved }
+    {
+        self.parts.machine.saved()
+    }
+
+    /// A copy of the saved half of the state.
+    pub fn saved(&self, alloc: Global) -> Result<Saved, NoMemory>
+        ensures { IfOk result (λ saved. saved ≡ self.now.machine.saved) }
+    {
+        self.as_saved().try_clone(alloc)
+    }
+
+    /// What the output is to do: to play a song from a frame on, or to wait.
+    pub fn order(&self, alloc: Global) -> Result<Order, NoMemory>
+        ensures { IfOk result (λ order. order ≡ play_order self.now.machine) }
+    {
+        let machine = &self.parts.machine;
+        let saved = machine.saved();
+        let entries = saved.queue().entries();
+        Ok(machine.player().order(alloc, entries, saved.volume())?)
+    }
+
+    /// What is to be read for the job that runs; none where no job runs.
+    pub fn scan_order(&self, alloc: Global) -> Result<Option<ScanOrder>, NoMemory>
+        ensures { IfOk result (λ order. order ≡ scan_order self.now.machine) }
+    {
+        let machine = &self.parts.machine;
+        let job = machine.job();
+        if !job.runs {
+            return Ok(None);
+        }
+        let place = match &job.place {
+            Some(uri) => Some(uri.try_clone(alloc)?),
+            None => None,
+        };
+        match machine.saved().songs().scan_order(alloc, job.number, place) {
+            Ok(order) => Ok(Some(order)),
+            Err(_) => Err(NoMemory),
+        }
+    }
+}

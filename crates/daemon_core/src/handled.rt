@@ -1,0 +1,63 @@
+// What an event does, before clients that wait are told.
+ghost use Rattle.std.specs.Prelude.{◌≡◌, ◌∷◌, ◌≤◌, [], vec_len, IfOk};
+ghost use Rattle.daemon_core.specs.Session.{output};
+
+use crate::outcome::{Bytes, Output};
+use idle_masks::{ClientId, Subsystems};
+use no_memory::NoMemory;
+use state_codec::Op;
+use std::alloc::Global;
+
+#[derive(Drop)]
+pub struct Handled {
+    // The answer of the event's own client, if it has one.
+    pub(crate) outputs: Vec<Output>,
+    pub(crate) closes: Vec<ClientId>,
+    pub(crate) ops: Vec<Op>,
+    pub(crate) refused_at: Option<u32>,
+    pub(crate) ended: bool,
+    pub(crate) changed: Subsystems,
+}
+
+impl Handled {
+    ghost use Rattle.daemon_core.specs.Handled.{IsNothingBut};
+
+    // Nothing is done, with these outputs and clients that are closed.
+    fn of(alloc: Global, outputs: Vec<Output>, closes: Vec<ClientId>) -> Self
+        requires { vec_len outputs ≤ 1 }
+        ensures { IsNothingBut outputs.items closes.items result }
+    {
+        Handled {
+            outputs,
+            closes,
+            ops: Vec::new(alloc),
+            refused_at: None,
+            ended: false,
+            changed: Subsystems::none(),
+        }
+    }
+
+    pub(crate) fn nothing(alloc: Global) -> Self
+        ensures { IsNothingBut [] [] result }
+    {
+        Handled::of(alloc, Vec::new(alloc), Vec::new(alloc))
+    }
+
+    // A client gets an answer.
+    pub(crate) fn answered(alloc: Global, client: ClientId, bytes: Bytes) -> Result<Self, NoMemory>
+        ensures { IfOk result (IsNothingBut (output client bytes ∷ []) []) }
+    {
+        let mut outputs = Vec::with_capacity(alloc, 1)?;
+        outputs.push_reserved(Output { client, bytes });
+        Ok(Handled::of(alloc, outputs, Vec::new(alloc)))
+    }
+
+    // A client is closed.
+    pub(crate) fn closing(alloc: Global, client: ClientId) -> Result<Self, NoMemory>
+        ensures { IfOk result (IsNothingBut [] (client ∷ [])) }
+    {
+        let mut closes = Vec::with_capacity(alloc, 1)?;
+        closes.push_reserved(client);
+        Ok(Handled::of(alloc, Vec::new(alloc), closes))
+    }
+}

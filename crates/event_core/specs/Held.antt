@@ -1,7 +1,0 @@
--- What the field of a `Core` stands for.
-use Rattle.event_core.specs.Parts.{state_of}
-use Rattle.event_core.specs.State.{State}
-use Rattle.event_core.specs.declared.daemon.Core.TheInside.{Inside}
-
-abbrev pub held : Inside → State
-held i = state_of i.parts
