@@ -8,7 +8,8 @@ Each file `tests/scripts/TOPIC/NAME.txt` is a script, run in a folder of its own
     file NAME [HEX ..]          writes a file of these bytes
     wave NAME FRAMES [ID=TEXT ..]   writes a WAVE file of so many silent frames, 8,000 a second, one channel, 16 bits; with a LIST
                                 INFO of these sub-chunks behind them, as INAM=Hi; _ stands for a space
-    remove NAME                 removes a file
+    remove NAME                 removes a file, a link, or a folder with what stands in it
+    link NAME TARGET            makes a symbolic link
     patch NAME OFFSET HEX       overwrites bytes of a file
     folder NAME                 makes a folder
     holds NAME LENGTH HEX ..    a file has this length and ends with these bytes
@@ -26,6 +27,7 @@ In lines of input and output `%{TEXT*N}` stands for a text N times.
 import concurrent.futures
 import os
 import re
+import shutil
 import signal
 import subprocess
 import tempfile
@@ -153,7 +155,12 @@ def prepare(line, folder):
         with open(path, "wb") as file:
             file.write(wave(int(words[1]), words[2:]))
     elif word == "remove":
-        os.remove(path)
+        if os.path.isdir(path) and not os.path.islink(path):
+            shutil.rmtree(path)
+        else:
+            os.remove(path)
+    elif word == "link":
+        os.symlink(words[1], path)
     elif word == "patch":
         with open(path, "r+b") as file:
             file.seek(int(words[1]))

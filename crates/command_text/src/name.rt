@@ -246,26 +246,12 @@ impl CommandName {
     pub fn is_built(self) -> bool
         ensures { result ≡ is_built self }
     {
-        match self {
-            CommandName::Clear
-            | CommandName::Close
-            | CommandName::Consume
-            | CommandName::Count
-            | CommandName::Idle
-            | CommandName::Kill
-            | CommandName::ListInfo
-            | CommandName::NoIdle
-            | CommandName::Ping
-            | CommandName::Random
-            | CommandName::Remove
-            | CommandName::Repeat
-            | CommandName::SetVolume
-            | CommandName::Single
-            | CommandName::Status
-            | CommandName::Sticker
-            | CommandName::Stop => true,
-            _ => false,
-        }
+        !matches!(
+            self,
+            CommandName::CommandListBegin
+                | CommandName::CommandListEnd
+                | CommandName::CommandListOkBegin
+        )
     }
 
     /// Whether `commands` lists the command: those of this build, but for the lines of command lists and `noidle`.

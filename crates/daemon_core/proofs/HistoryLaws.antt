@@ -21,8 +21,11 @@ use Rattle.daemon_core.specs.Agreement.{Rises, Agree, AgreeBut}
 use Rattle.daemon_core.specs.Pending.{Moment, connects, is_pending, pending_of}
 use Rattle.daemon_core.specs.Replay.{Entry, stepped, replay, moments, moment_of, told_waiting, reply}
 use Rattle.daemon_core.specs.Run.{Ran, ran}
-use Rattle.daemon_core.specs.Session.{Acted, nothing, of_ran, runs, output}
+use Rattle.daemon_core.specs.Session.{Acted, of_ran, runs, output, happened}
 use Rattle.daemon_core.specs.State.{State}
+use Rattle.machine_core.specs.Happening.{Happening}
+use Rattle.machine_core.specs.Reports.{when_fed, when_ended, when_broken}
+use Rattle.machine_core.specs.Scanning.{when_found, when_scanned}
 use Rattle.daemon_core.specs.Step.{connects_client, asked, asked_waiting, requested_by, waiting_of, acted, told, told_to, step}
 use Rattle.daemon_core.specs.declared.event.Event.{Event}
 use Rattle.daemon_core.specs.declared.event.Event.TheVariants as events
@@ -203,8 +206,9 @@ keeps_requested earlier c refused s request None rises agree = record { rises = 
 keeps_requested earlier c refused s request (Some None) rises agree = keeps_asked earlier c refused s request rises agree
 keeps_requested earlier c refused s request (Some (Some mask)) rises agree = keeps_waiting earlier c s request rises agree
 
-keeps_nothing : (earlier : List Moment) (s : State) → Rises s.clients → Agree earlier s.clients → Keeps earlier (nothing s)
-keeps_nothing earlier s rises agree = record { rises = rises; agree = agree; quiet = λ _ _. refl }
+keeps_happened : (earlier : List Moment) (s : State) (h : Happening) → Rises s.clients → Agree earlier s.clients →
+    Keeps earlier (happened s h)
+keeps_happened earlier s h rises agree = record { rises = rises; agree = agree; quiet = λ d e. absurd (false≢true e) }
 
 pub keeps_acted : (earlier : List Moment) (s : State) (event : Event) (refused : Option ℕ) → Rises s.clients → Agree earlier s.clients →
     Keeps earlier (acted s event refused)
@@ -213,11 +217,11 @@ keeps_acted earlier s (events.Request c request) refused rises agree =
     keeps_requested earlier c refused s request (waiting_of (watched s.clients c)) rises agree
 keeps_acted earlier s (events.Gone c) refused rises agree =
     let k = keeps_left earlier c s.clients rises agree in record { rises = k.0; agree = k.1; quiet = λ _ _. refl }
-keeps_acted earlier s (events.Fed ticket frames) refused rises agree = keeps_nothing earlier s rises agree
-keeps_acted earlier s (events.Ended ticket) refused rises agree = keeps_nothing earlier s rises agree
-keeps_acted earlier s (events.Broken ticket cause) refused rises agree = keeps_nothing earlier s rises agree
-keeps_acted earlier s (events.Batch job changes) refused rises agree = keeps_nothing earlier s rises agree
-keeps_acted earlier s (events.ScanDone job) refused rises agree = keeps_nothing earlier s rises agree
+keeps_acted earlier s (events.Fed ticket frames) refused rises agree = keeps_happened earlier s (when_fed ticket frames s.machine) rises agree
+keeps_acted earlier s (events.Ended ticket) refused rises agree = keeps_happened earlier s (when_ended ticket s.machine) rises agree
+keeps_acted earlier s (events.Broken ticket cause) refused rises agree = keeps_happened earlier s (when_broken ticket cause s.machine) rises agree
+keeps_acted earlier s (events.Batch job changes) refused rises agree = keeps_happened earlier s (when_found job changes s.machine) rises agree
+keeps_acted earlier s (events.ScanDone job) refused rises agree = keeps_happened earlier s (when_scanned job s.machine) rises agree
 
 reported_number : (changed : Subsystems) (w : Watched) → let v = reported (grown changed w) in v.client ≡ w.client
 reported_number changed w = client-reported (grown changed w) (is_empty (due (grown changed w)))

@@ -81,7 +81,7 @@ ran_names_none place separator index size (line ∷ lines) m =
     (λ n t. ran_names_none place separator (suc index) n lines t)
 
 -- so it is with an event
-of_ran_place : (c : ℕ) (s : State) (r : Ran) (ending : Ending) → let a = of_ran c s r ending in a.refused_at ≡ r.refused_at
+pub of_ran_place : (c : ℕ) (s : State) (r : Ran) (ending : Ending) → let a = of_ran c s r ending in a.refused_at ≡ r.refused_at
 of_ran_place c s r Answered = refl
 of_ran_place c s r Closed = refl
 of_ran_place c s r Killed = refl

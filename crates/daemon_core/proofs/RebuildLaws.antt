@@ -19,7 +19,10 @@ use Rattle.idle_masks.specs.Watched.{watched}
 use Rattle.idle_masks.specs.declared.subsystem.Subsystems.{Subsystems}
 use Rattle.idle_masks.specs.declared.watch.Watched.{Watched}
 use Rattle.machine_core.specs.Command.{meaning}
+use Rattle.machine_core.specs.Happening.{Happening}
 use Rattle.machine_core.specs.Meaning.{Meaning, Meant}
+use Rattle.machine_core.specs.Reports.{when_fed, when_ended, when_broken}
+use Rattle.machine_core.specs.Scanning.{when_found, when_scanned}
 use Rattle.machine_core.specs.Size.{max_request_bytes, within}
 use Rattle.machine_core.specs.State.{MachineState}
 use Rattle.state_codec.proofs.AppliedLaws.{all_applied-append}
@@ -29,7 +32,8 @@ use Rattle.state_codec.specs.SpellingOps.{op_bytes}
 use Rattle.state_codec.specs.declared.op.Op.{Op}
 use Rattle.daemon_core.specs.Run.{Did, Goes, Refuses, Ends, ending_of, did_of, unless_it_ends, performed, read_and_performed, attempted}
 use Rattle.daemon_core.specs.Run.{Ran, wants_memory, follow, is_refused_at, ran}
-use Rattle.daemon_core.specs.Session.{of_ran, runs}
+use Rattle.daemon_core.specs.Reported.{IsRebuilt, IsReported}
+use Rattle.daemon_core.specs.Session.{happened, of_ran, runs}
 use Rattle.daemon_core.specs.State.{State}
 use Rattle.daemon_core.specs.Step.{connects_client, asked, waits_no_more, is_noidle, requested_by, waiting_of, acted, step}
 use Rattle.daemon_core.specs.declared.event.Event.{Event}
@@ -167,20 +171,24 @@ connect_rebuilds : (c : ℕ) (s : State) (found : Option Watched) →
 connect_rebuilds c s None = record { state = refl; fits = omega arith }
 connect_rebuilds c s (Some w) = same s
 
-acted_rebuilds : (law : CommandsRebuild) (s : State) (event : Event) (refused : Option ℕ) →
-    let a = acted s event refused in Rebuilt 0 s.machine a.after.machine a.ops
-acted_rebuilds law s (events.Connect c) refused = connect_rebuilds c s (watched s.clients c)
-acted_rebuilds law s (events.Request c request) refused =
-    requested_rebuilds law c refused s request (waiting_of (watched s.clients c))
-acted_rebuilds law s (events.Gone c) refused = record { state = refl; fits = omega arith }
-acted_rebuilds law s (events.Fed ticket frames) refused = same s
-acted_rebuilds law s (events.Ended ticket) refused = same s
-acted_rebuilds law s (events.Broken ticket cause) refused = same s
-acted_rebuilds law s (events.Batch job changes) refused = same s
-acted_rebuilds law s (events.ScanDone job) refused = same s
+happened_rebuilds : (s : State) (h : Happening) → IsRebuilt s.machine h →
+    let a = happened s h in Rebuilt 0 s.machine a.after.machine a.ops
+happened_rebuilds s h is = record { state = is.state; fits = omega (arith, is.fits) }
 
-pub step_rebuilds : (law : CommandsRebuild) (s : State) (event : Event) (refused : Option ℕ) →
+acted_rebuilds : (law : CommandsRebuild) (s : State) (event : Event) (refused : Option ℕ) → IsReported event s.machine →
+    let a = acted s event refused in Rebuilt 0 s.machine a.after.machine a.ops
+acted_rebuilds law s (events.Connect c) refused reported = connect_rebuilds c s (watched s.clients c)
+acted_rebuilds law s (events.Request c request) refused reported =
+    requested_rebuilds law c refused s request (waiting_of (watched s.clients c))
+acted_rebuilds law s (events.Gone c) refused reported = record { state = refl; fits = omega arith }
+acted_rebuilds law s (events.Fed ticket frames) refused reported = happened_rebuilds s (when_fed ticket frames s.machine) reported
+acted_rebuilds law s (events.Ended ticket) refused reported = happened_rebuilds s (when_ended ticket s.machine) reported
+acted_rebuilds law s (events.Broken ticket cause) refused reported = happened_rebuilds s (when_broken ticket cause s.machine) reported
+acted_rebuilds law s (events.Batch job changes) refused reported = happened_rebuilds s (when_found job changes s.machine) reported
+acted_rebuilds law s (events.ScanDone job) refused reported = happened_rebuilds s (when_scanned job s.machine) reported
+
+pub step_rebuilds : (law : CommandsRebuild) (s : State) (event : Event) (refused : Option ℕ) → IsReported event s.machine →
     let r = step s event refused in Rebuilt 0 s.machine r.after.machine r.ops
 unfolding step
-step_rebuilds law s event refused =
-    let h = acted_rebuilds law s event refused in record { state = h.state; fits = h.fits }
+step_rebuilds law s event refused reported =
+    let h = acted_rebuilds law s event refused reported in record { state = h.state; fits = h.fits }

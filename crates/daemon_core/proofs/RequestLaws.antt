@@ -44,6 +44,7 @@ use Rattle.daemon_core.specs.declared.room.Room.{Room}
 use Rattle.idle_masks.specs.declared.watch.Watched.{Watched}
 use Rattle.daemon_core.specs.declared.request.Stop.TheVariants as stops
 use Rattle.daemon_core.proofs.PendingLaws.{contains-set_of, set_ext}
+use Rattle.daemon_core.proofs.ReachedLaws.{of_ran_place}
 
 -- Room that was taken before changes nothing.
 adds_from : (more : List Op) (before mid after : Work) → AddsNothing before mid → AddsOps more mid after → AddsOps more before after
@@ -446,12 +447,6 @@ of_ran_same c clients m n r Answered = refl
 of_ran_same c clients m n r Closed = refl
 of_ran_same c clients m n r Killed = refl
 of_ran_same c clients m n r (Waits mask) = refl
-
-of_ran_place : (c : ℕ) (s : State) (r : Ran) (ending : Ending) → let a = of_ran c s r ending in a.refused_at ≡ r.refused_at
-of_ran_place c s r Answered = refl
-of_ran_place c s r Closed = refl
-of_ran_place c s r Killed = refl
-of_ran_place c s r (Waits mask) = refl
 
 -- the lines of a request were run, and its end was made
 pub lines_do : (c : ℕ) (place : Place) (between : List ℕ) (lines : List (List ℕ)) (before mid after : CoreParts) (fresh work : Work)

@@ -1,6 +1,7 @@
 -- What the code of an event does before clients that wait are told.
 use Rattle.std.specs.Prelude.{◌≡◌, ◌≤◌, ℕ, List, [], None, false, vec_len}
 use Rattle.idle_masks.specs.Subsystems.{none}
+use Rattle.machine_core.specs.declared.happened.Happened.{Happened}
 use Rattle.daemon_core.specs.Parts.{state_of}
 use Rattle.daemon_core.specs.Room.{IsReadyToTell}
 use Rattle.daemon_core.specs.Session.{Acted}
@@ -29,3 +30,13 @@ pub record IsNothingBut (given : List Output) (closed : List ℕ) (handled : Han
   pub refused_at : handled.refused_at ≡ None
   pub ended : handled.ended ≡ false
   pub changed : handled.changed ≡ none
+
+-- what an event of the player or of a scan did, and no more
+pub record IsOf (happened : Happened) (handled : Handled) : Type 0 where
+  pub answer : handled.outputs.items ≡ []
+  pub one : vec_len handled.outputs ≤ 1
+  pub closes : handled.closes.items ≡ []
+  pub ops : handled.ops.items ≡ happened.ops.items
+  pub refused_at : handled.refused_at ≡ None
+  pub ended : handled.ended ≡ false
+  pub changed : handled.changed ≡ happened.changed

@@ -3,6 +3,7 @@ pub mod Run
 pub mod Session
 pub mod Pending
 pub mod Step
+pub mod Reported
 pub mod Replay
 pub mod Agreement
 pub mod Parts

@@ -4,6 +4,7 @@ use Rattle.idle_masks.specs.Subsystems.{none}
 use Rattle.idle_masks.specs.Watched.{left, with_waiting}
 use Rattle.idle_masks.specs.declared.subsystem.Subsystems.{Subsystems}
 use Rattle.idle_masks.specs.declared.watch.Watched.{Watched}
+use Rattle.machine_core.specs.Happening.{Happening}
 use Rattle.state_codec.specs.declared.op.Op.{Op}
 use Rattle.daemon_core.specs.Run.{Ran}
 use Rattle.daemon_core.specs.State.{State, with_machine, with_clients}
@@ -28,6 +29,10 @@ pub record Acted : Type 0 where
 abbrev pub nothing : State → Acted
 nothing s =
     record { after = s; answer = []; closes = []; ops = []; refused_at = None; ended = false; connected = None; changed = none }
+
+-- an event of the player or of a scan did this
+abbrev pub happened : State → Happening → Acted
+happened s h = record (nothing (with_machine s h.after)) { ops = h.ops; changed = h.changed }
 
 abbrev pub output : ℕ → List ℕ → Output
 output c text = record { client = c; bytes = text }

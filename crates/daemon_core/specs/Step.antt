@@ -12,10 +12,12 @@ use Rattle.idle_masks.specs.declared.ready.Report.{Report}
 use Rattle.idle_masks.specs.declared.subsystem.Subsystem.{Subsystem}
 use Rattle.idle_masks.specs.declared.subsystem.Subsystems.{Subsystems}
 use Rattle.idle_masks.specs.declared.watch.Watched.{Watched}
+use Rattle.machine_core.specs.Reports.{when_fed, when_ended, when_broken}
+use Rattle.machine_core.specs.Scanning.{when_found, when_scanned}
 use Rattle.state_codec.specs.declared.op.Op.{Op}
 use Rattle.daemon_core.specs.Pending.{Moment}
 use Rattle.daemon_core.specs.Run.{ran}
-use Rattle.daemon_core.specs.Session.{Acted, nothing, output, without, waiting, runs}
+use Rattle.daemon_core.specs.Session.{Acted, nothing, happened, output, without, waiting, runs}
 use Rattle.daemon_core.specs.State.{State, with_clients}
 use Rattle.daemon_core.specs.declared.event.Event.{Event}
 use Rattle.daemon_core.specs.declared.event.Event.TheVariants as events
@@ -57,16 +59,16 @@ abbrev pub waiting_of : Option Watched → Option (Option Subsystems)
 waiting_of None = None
 waiting_of (Some w) = Some w.waiting
 
--- What an event does, where memory is refused at one of its commands or at none. The events of the player and of scans do nothing yet.
+-- What an event does, where memory is refused at one of its commands or at none.
 abbrev pub acted : State → Event → Option ℕ → Acted
 acted s (events.Connect c) refused = connects_client c s (watched s.clients c)
 acted s (events.Request c request) refused = requested_by c refused s request (waiting_of (watched s.clients c))
 acted s (events.Gone c) refused = nothing (without c s)
-acted s (events.Fed ticket frames) refused = nothing s
-acted s (events.Ended ticket) refused = nothing s
-acted s (events.Broken ticket cause) refused = nothing s
-acted s (events.Batch job changes) refused = nothing s
-acted s (events.ScanDone job) refused = nothing s
+acted s (events.Fed ticket frames) refused = happened s (when_fed ticket frames s.machine)
+acted s (events.Ended ticket) refused = happened s (when_ended ticket s.machine)
+acted s (events.Broken ticket cause) refused = happened s (when_broken ticket cause s.machine)
+acted s (events.Batch job changes) refused = happened s (when_found job changes s.machine)
+acted s (events.ScanDone job) refused = happened s (when_scanned job s.machine)
 
 abbrev pub line_if : Bool → Subsystem → List ℕ
 line_if true x = changed_line x

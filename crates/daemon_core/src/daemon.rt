@@ -62,10 +62,7 @@ impl Core {
     pub fn order(&self, alloc: Global) -> Result<Order, NoMemory>
         ensures { IfOk result (λ order. order ≡ play_order self.now.machine) }
     {
-        let machine = &self.parts.machine;
-        let saved = machine.saved();
-        let entries = saved.queue().entries();
-        Ok(machine.player().order(alloc, entries, saved.volume())?)
+        self.parts.machine.order(alloc)
     }
 
     /// What is to be read for the job that runs; none where no job runs.

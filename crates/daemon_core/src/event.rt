@@ -3,7 +3,7 @@ use idle_masks::ClientId;
 use player_core::BrokenCause;
 use state_codec::Changes;
 
-/// What happens to the daemon: each event is handled whole before the next one. Those of the player and of scans do nothing yet.
+/// What happens to the daemon: each event is handled whole before the next one.
 #[derive(Debug, Drop)]
 pub enum Event {
     /// A client has connected. Numbers of clients rise and are never used again.

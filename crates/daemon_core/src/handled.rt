@@ -4,6 +4,7 @@ ghost use Rattle.daemon_core.specs.Session.{output};
 
 use crate::outcome::{Bytes, Output};
 use idle_masks::{ClientId, Subsystems};
+use machine_core::Happened;
 use no_memory::NoMemory;
 use state_codec::Op;
 use std::alloc::Global;
@@ -20,7 +21,7 @@ pub struct Handled {
 }
 
 impl Handled {
-    ghost use Rattle.daemon_core.specs.Handled.{IsNothingBut};
+    ghost use Rattle.daemon_core.specs.Handled.{IsNothingBut, IsOf};
 
     // Nothing is done, with these outputs and clients that are closed.
     fn of(alloc: Global, outputs: Vec<Output>, closes: Vec<ClientId>) -> Self
@@ -41,6 +42,21 @@ impl Handled {
         ensures { IsNothingBut [] [] result }
     {
         Handled::of(alloc, Vec::new(alloc), Vec::new(alloc))
+    }
+
+    // An event of the player or of a scan did this.
+    pub(crate) fn happened(alloc: Global, happened: Happened) -> Self
+        ensures { IsOf happened result }
+    {
+        let Happened { ops, changed } = happened;
+        Handled {
+            outputs: Vec::new(alloc),
+            closes: Vec::new(alloc),
+            ops,
+            refused_at: None,
+            ended: false,
+            changed,
+        }
     }
 
     // A client gets an answer.

@@ -19,6 +19,7 @@ impl CoreParts {
     ghost use Rattle.daemon_core.specs.Handled.{Does};
     ghost use Rattle.daemon_core.specs.Outcome.{command_count};
     ghost use Rattle.daemon_core.specs.Parts.{state_of};
+    ghost use Rattle.daemon_core.specs.Reported.{IsReported};
     ghost use Rattle.daemon_core.specs.Room.{IsReadyToTell};
     ghost use Rattle.daemon_core.specs.Step.{acted};
 
@@ -27,17 +28,33 @@ impl CoreParts {
         requires { IsReadyToTell self.old }
         ensures ok { IfOk result (λ handled. Does (acted (state_of self.old) event handled.refused_at) self.new handled) }
         ensures place { IfOk result (λ handled. IfSome handled.refused_at (λ k. k < command_count event)) }
+        ensures reported { IfOk result (λ handled. IsReported event self.old.machine) }
         ensures err { OnErr result (state_of self.new ≡ state_of self.old) }
     {
         match event {
             Event::Connect(client) => self.connect(alloc, client),
             Event::Request(client, request) => self.handle_request(alloc, client, request),
             Event::Gone(client) => Ok(self.forget(alloc, client)),
-            Event::Fed { .. }
-            | Event::Ended { .. }
-            | Event::Broken { .. }
-            | Event::Batch { .. }
-            | Event::ScanDone { .. } => Ok(Handled::nothing(alloc)),
+            Event::Fed { ticket, frames } => {
+                let happened = self.machine.fed(alloc, ticket, frames);
+                Ok(Handled::happened(alloc, happened))
+            }
+            Event::Ended { ticket } => {
+                let happened = self.machine.ended(alloc, ticket)?;
+                Ok(Handled::happened(alloc, happened))
+            }
+            Event::Broken { ticket, cause } => {
+                let happened = self.machine.broken(alloc, ticket, cause)?;
+                Ok(Handled::happened(alloc, happened))
+            }
+            Event::Batch { job, changes } => {
+                let happened = self.machine.batch(alloc, job, changes)?;
+                Ok(Handled::happened(alloc, happened))
+            }
+            Event::ScanDone { job } => {
+                let happened = self.machine.scan_done(alloc, job);
+                Ok(Handled::happened(alloc, happened))
+            }
         }
     }
 }

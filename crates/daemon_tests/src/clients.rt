@@ -142,7 +142,7 @@ fn others_do_nothing(rt: &impl Abort, core: &mut Core, alloc: Global) -> Result<
 }
 
 #[test]
-fn events_that_do_nothing_yet(rt: HostRuntime) -> Result<(), Fail> {
+fn events_of_unknown_tickets_and_jobs(rt: HostRuntime) -> Result<(), Fail> {
     let alloc = rt.alloc();
     let mut core = fresh(alloc);
     others_do_nothing(&rt, &mut core, alloc)

@@ -8,10 +8,20 @@ mod clients;
 #[cfg(test)]
 mod commands;
 #[cfg(test)]
+mod database;
+#[cfg(test)]
+mod finding;
+#[cfg(test)]
 mod given;
 #[cfg(test)]
 mod lines;
 #[cfg(test)]
 mod memory;
+#[cfg(test)]
+mod player;
+#[cfg(test)]
+mod playlists;
+#[cfg(test)]
+mod queue;
 #[cfg(test)]
 mod recovered;

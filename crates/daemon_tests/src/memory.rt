@@ -114,7 +114,7 @@ fn refused_memory_of_an_event(rt: HostRuntime) -> Result<(), Fail> {
 /// A line of client 1, the name of its command, and what is given out.
 type Asked<'a> = (&'a str, &'a str, &'a str);
 
-const LINES: [Asked; 14] = [
+const LINES: [Asked; 21] = [
     ("close", "close", "closes [1]\n"),
     ("kill", "kill", "closes [1, 2]\nended\n"),
     ("ping", "ping", "1> OK\n"),
@@ -149,6 +149,29 @@ const LINES: [Asked; 14] = [
     ),
     ("stop", "stop", "1> OK\n"),
     ("idle options", "idle", ""),
+    (
+        "search title blue",
+        "search",
+        "1> file: d/b.wav\nFormat: 8000:16:1\nTitle: Blue\nArtist: Ann\nTime: 1\nduration: 1.500\nOK\n",
+    ),
+    (
+        "find \"(base '')\" sort -Title window 0:1",
+        "find",
+        "1> file: d/b.wav\nFormat: 8000:16:1\nTitle: Blue\nArtist: Ann\nTime: 1\nduration: 1.500\nOK\n",
+    ),
+    ("list Title base d", "list", "1> Title: Blue\nOK\n"),
+    (
+        "findadd Title Blue",
+        "findadd",
+        "1> OK\nop 04020000000100000001000000\n",
+    ),
+    (
+        "searchaddpl m title blue",
+        "searchaddpl",
+        "1> OK\nop 0b01006d0100000001000000\n",
+    ),
+    ("move 0 1", "move", "1> OK\nop 06000000000100000001000000\n"),
+    ("update", "update", "1> updating_db: 1\nOK\n"),
 ];
 
 fn lines_are_given_or_refused(rt: &impl Abort, alloc: Global, table: &[Asked]) -> Result<(), Fail> {

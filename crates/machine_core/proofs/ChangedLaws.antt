@@ -1,6 +1,9 @@
 -- What is told by comparing values of before is what changed.
-use Rattle.std.proofs.Common.{◌≡◌, ℕ, Bool, true, false, not, ◌&&◌, ◌==◌, List, length, drop, refl, sym, ap, ◌∙◌, subst}
+use Rattle.std.proofs.Common.{◌≡◌, ℕ, ◌-◌, ◌≤◌, Bool, true, false, not, ◌&&◌, ◌==◌, List, ◌++◌, length, take, drop, length-append}
+use Rattle.std.proofs.Common.{refl, sym, ap, ◌∙◌, subst, arith}
 use Rattle.std.proofs.Math.Seq.{drop-append_seam}
+use Rattle.std.proofs.lemmas.List.{take_all}
+use Rattle.std.specs.Vec.{vec_len}
 use Rattle.std.proofs.lemmas.Bool.{eqb-true}
 use Rattle.std.specs.Option.{option_eq}
 use Rattle.std.specs.Str.{bytes_eq}
@@ -30,10 +33,10 @@ job_told a b true is place =
 job_told a b false is place = refl
 
 -- so all eight are told
-pub since_is_changed : (m : MachineState) (x : Meaning) (made : ℕ) → IsLawful m x → IsSavedState m.saved →
-    changed_since (before_of m made) x.ops x.after ≡ changed m x.after
+pub since_is_changed : (m : MachineState) (x : Meaning) → IsLawful m x → IsSavedState m.saved →
+    changed_since (before_of m) x.ops x.after ≡ changed m x.after
 unfolding changed
-since_is_changed m x made lawful kept =
+since_is_changed m x lawful kept =
     let tells : TellsChanges m x = lawful.tells kept in
     let job : (m.job.number == x.after.job.number && same_flag m.job.runs x.after.job.runs) ≡ same_job m.job x.after.job =
     job_told m.job x.after.job _ refl lawful.place in
@@ -49,16 +52,22 @@ since_is_changed m x made lawful kept =
     }
 
 -- so they are of a command, told by the ops that the work has gained
-pub since_command : (command : Command) (m n : MachineState) (work done : Work) (before : Before) →
-    Went (meaning command m) n work done → IsSavedState m.saved → before ≡ before_of m (length work.ops.items) →
-    changed_since before (drop before.ops done.ops.items) n ≡ changed m n
-since_command command m n work done before went kept is =
+pub since_command : (command : Command) (m n : MachineState) (work done : Work) (before : Before) (made : ℕ) (all : List Op) →
+    Went (meaning command m) n work done → IsSavedState m.saved → before ≡ before_of m → made ≡ vec_len work.ops →
+    all ≡ done.ops.items → changed_since before (take (length all - made) (drop made all)) n ≡ changed m n
+since_command command m n work done before made all went kept is count same =
     let x : Meaning = went.meaning in
-    let made : ℕ = length work.ops.items in
+    let old : List Op = work.ops.items in
     let lawful : IsLawful m x = subst (Lawful m) went.means (command_lawful command m) in
-    let gained : drop made done.ops.items ≡ x.ops = ap (drop made) went.ops.ops ∙ drop-append_seam work.ops.items x.ops in
-    ap (λ (b : Before). changed_since b (drop b.ops done.ops.items) n) is
-    ∙ ap (λ (ops : List Op). changed_since (before_of m made) ops n) gained
-    ∙ ap (changed_since (before_of m made) x.ops) went.stands
-    ∙ since_is_changed m x made lawful kept
+    let all_is : all ≡ old ++ x.ops = same ∙ went.ops.ops in
+    let counted : made ≡ length old = omega (arith, work.ops.ok.0) in
+    let behind : drop made all ≡ x.ops =
+    (λ i. drop (counted i) (all_is i)) ∙ drop-append_seam old x.ops in
+    let few : length x.ops ≤ length all - made = omega (arith, counted, ap length all_is, length-append old x.ops) in
+    let gained : take (length all - made) (drop made all) ≡ x.ops =
+    ap (take (length all - made)) behind ∙ take_all (length all - made) x.ops few in
+    ap (λ (b : Before). changed_since b (take (length all - made) (drop made all)) n) is
+    ∙ ap (λ (ops : List Op). changed_since (before_of m) ops n) gained
+    ∙ ap (changed_since (before_of m) x.ops) went.stands
+    ∙ since_is_changed m x lawful kept
     ∙ ap (changed m) (sym went.stands)

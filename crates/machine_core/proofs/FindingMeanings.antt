@@ -1,14 +1,31 @@
 -- What the commands that find songs mean.
-use Rattle.std.proofs.Common.{◌≡◌, [], length, refl}
+use Rattle.std.proofs.Common.{◌≡◌, ℕ, suc, ◌≤◌, Bool, true, false, List, [], ◌∷◌, length, filter, Option, Some, None, Err}
+use Rattle.std.proofs.Common.{refl, ap, sym, ◌∙◌, arith}
+use Rattle.std.specs.List.{flat_map}
 use Rattle.command_text.specs.AnswerNames.{count_lines}
-use Rattle.command_text.specs.declared.command.finding.FindingCommand.{FindingCommand}
-use Rattle.command_text.specs.declared.command.finding.FindingCommand.TheVariants as commands
-use Rattle.command_text.specs.declared.command.finding.FindingCommand.TheVariants.{Count}
+use Rattle.command_text.specs.AnswerSongs.{song_lines}
+use Rattle.command_text.specs.declared.command.finding.FindingCommand.TheVariants.{Add, AddToPlaylist, Count, Find, InQueue, ListTag}
+use Rattle.command_text.specs.declared.command.finding.Search.{Search}
+use Rattle.command_text.specs.declared.refusal.CommandRefusal.TheVariants.{BadPlaylistName}
+use Rattle.play_queue.specs.declared.target.Target.{Target}
+use Rattle.state_codec.specs.declared.op.Op.TheVariants.{List as OfLists}
+use Rattle.state_codec.specs.declared.op.list_op.ListOp.TheVariants as list_ops
+use Rattle.stored_lists.specs.Name.{is_good_name}
 use Rattle.filter_expr.specs.Tree.{Tree}
-use Rattle.filter_expr.specs.declared.case.Case.TheVariants.{Exact}
+use Rattle.filter_expr.specs.declared.case.Case.{Case}
+use Rattle.filter_expr.specs.declared.case.Case.TheVariants.{Exact, Folded}
 use Rattle.song_db.specs.Duration.{total_of}
-use Rattle.machine_core.specs.Finding.{finding_meaning, matching}
-use Rattle.machine_core.specs.Meaning.{says}
+use Rattle.song_db.specs.Query.{values_of}
+use Rattle.song_db.specs.Row.{Row}
+use Rattle.filter_expr.specs.Meaning.{is_match}
+use Rattle.filter_expr.specs.Order.{is_before, sorted}
+use Rattle.filter_expr.specs.declared.order.SortOrder.{SortOrder}
+use Rattle.wave_pcm.specs.declared.tags.Tag.{Tag}
+use Rattle.machine_core.specs.Adding.{adds}
+use Rattle.machine_core.specs.Finding.{finding_meaning, matching, found, numbers_in, chosen, entries_found, value_lines}
+use Rattle.machine_core.specs.Finding.{in_order, in_window, part_of}
+use Rattle.machine_core.specs.declared.commands.finding.part.Part.{Part}
+use Rattle.machine_core.specs.Meaning.{says, edits}
 use Rattle.machine_core.specs.State.{MachineState}
 
 pub count_means : (m : MachineState) (tree : Tree)
@@ -17,12 +34,59 @@ pub count_means : (m : MachineState) (tree : Tree)
 unfolding finding_meaning
 count_means m tree = refl
 
-pub others_mean_nothing : (command : FindingCommand) (m : MachineState) → ((tree : Tree) → command ≡ Count tree → ⊥)
-    → finding_meaning command m ≡ says [] m
+pub find_means : (m : MachineState) (search : Search)
+    → finding_meaning (Find search) m ≡ says (flat_map song_lines (found search m.saved.songs)) m
 unfolding finding_meaning
-others_mean_nothing (commands.Add search to) m other = refl
-others_mean_nothing (commands.AddToPlaylist name tree) m other = refl
-others_mean_nothing (commands.Count tree) m other = absurd (other tree refl)
-others_mean_nothing (commands.Find search) m other = refl
-others_mean_nothing (commands.InQueue case tree) m other = refl
-others_mean_nothing (commands.ListTag tag tree) m other = refl
+find_means m search = refl
+
+pub entries_mean : (m : MachineState) (case : Case) (tree : Tree)
+    → finding_meaning (InQueue case tree) m ≡ says (entries_found case tree m.saved.songs 0 m.saved.queue.entries) m
+unfolding finding_meaning
+entries_mean m case tree = refl
+
+pub values_mean : (m : MachineState) (tag : Tag) (tree : Option Tree)
+    → finding_meaning (ListTag tag tree) m ≡ says (value_lines tag (values_of (chosen tree m.saved.songs) tag)) m
+unfolding finding_meaning
+values_mean m tag tree = refl
+
+fewer : {X : Type 0} (test : X → Bool) (xs : List X) → length (filter test xs) ≤ length xs
+fewer test [] = omega arith
+fewer test (x ∷ xs) = by_cases (test x) refl (fewer test xs)
+  where
+    by_cases : (b : Bool) → test x ≡ b → length (filter test xs) ≤ length xs → length (filter test (x ∷ xs)) ≤ suc (length xs)
+    by_cases true is fewer = rw is (omega arith)
+    by_cases false is fewer = rw is (omega arith)
+
+-- what is found where an order is asked for, and where none is
+pub sorted_found : (search : Search) (order : SortOrder) (rows : List Row) → search.sort ≡ Some order
+    → in_window search.window (sorted (is_before order) (matching search.case search.filter rows)) ≡ found search rows
+sorted_found search order rows is =
+    ap (λ sort. in_window search.window (in_order sort (matching search.case search.filter rows))) (sym is)
+
+pub found_by_uri : (search : Search) (part : Part) (rows : List Row) → search.sort ≡ None
+    → ((some : List Row) → length some ≤ length rows → part_of part some ≡ in_window search.window some)
+    → part_of part (matching search.case search.filter rows) ≡ found search rows
+found_by_uri search part rows is within =
+    within (matching search.case search.filter rows) (fewer (is_match search.case search.filter) rows)
+    ∙ ap (λ sort. in_window search.window (in_order sort (matching search.case search.filter rows))) (sym is)
+
+pub all_found : (case : Case) (tree : Tree) (part : Part) (rows : List Row)
+    → ((some : List Row) → length some ≤ length rows → part_of part some ≡ in_window None some)
+    → part_of part (matching case tree rows) ≡ matching case tree rows
+all_found case tree part rows within = within (matching case tree rows) (fewer (is_match case tree) rows)
+
+pub add_means : (m : MachineState) (search : Search) (to : Option Target)
+    → finding_meaning (Add search to) m ≡ adds to (numbers_in m.saved.songs (found search m.saved.songs)) [] m
+unfolding finding_meaning
+add_means m search to = refl
+
+pub append_means : (m : MachineState) (name : List ℕ) (tree : Tree) → is_good_name name ≡ true
+    → finding_meaning (AddToPlaylist name tree) m
+    ≡ edits (OfLists (list_ops.Add name (numbers_in m.saved.songs (matching Folded tree m.saved.songs)))) [] m
+unfolding finding_meaning
+append_means m name tree good = rw good refl
+
+pub append_refused : (m : MachineState) (name : List ℕ) (tree : Tree) → is_good_name name ≡ false
+    → finding_meaning (AddToPlaylist name tree) m ≡ Err BadPlaylistName
+unfolding finding_meaning
+append_refused m name tree bad = rw bad refl

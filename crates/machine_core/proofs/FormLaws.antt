@@ -46,10 +46,10 @@ Lawful m (Ok x) = IsLawful m x
 Lawful m (Err refusal) = Unit {0}
 
 -- a part that stays tells nothing
-same_lists_told : (s t : SavedState) → t.lists ≡ s.lists → false ≡ not (same_lists s.lists t.lists)
+pub same_lists_told : (s t : SavedState) → t.lists ≡ s.lists → false ≡ not (same_lists s.lists t.lists)
 same_lists_told s t same = sym (told_same s.lists t.lists _ (lists_decide s.lists t.lists) (sym same))
 
-same_stickers_told : (s t : SavedState) → t.stickers ≡ s.stickers → false ≡ not (same_stickers s.stickers t.stickers)
+pub same_stickers_told : (s t : SavedState) → t.stickers ≡ s.stickers → false ≡ not (same_stickers s.stickers t.stickers)
 same_stickers_told s t same = sym (told_same s.stickers t.stickers _ (stickers_decide s.stickers t.stickers) (sym same))
 
 -- nothing is told where playlists and stickers stay

@@ -1,6 +1,6 @@
--- What is kept of a machine before a command, and which subsystems are told to have changed by comparing it with the machine behind
--- the command. That these are the subsystems that did change is a law of the commands.
-use Rattle.std.specs.Prelude.{ℕ, Bool, true, false, not, ◌&&◌, ◌==◌, List, nat_eq}
+-- What is kept of a machine before a command or an event, and which subsystems are told to have changed by comparing it with the machine
+-- behind. That these are the subsystems that did change is a law of the shared forms.
+use Rattle.std.specs.Prelude.{Bool, true, false, not, ◌&&◌, ◌==◌, List, nat_eq}
 use Rattle.std.specs.List.{list_any}
 use Rattle.std.specs.Option.{option_eq}
 use Rattle.idle_masks.specs.declared.subsystem.Subsystems.{Subsystems}
@@ -11,9 +11,9 @@ use Rattle.machine_core.specs.Changed.{same_options, same_state}
 use Rattle.machine_core.specs.State.{MachineState}
 use Rattle.machine_core.specs.declared.changed.Before.{Before}
 
--- the values that are compared, where the request has made so many ops
-abbrev pub before_of : MachineState → ℕ → Before
-before_of m made = record {
+-- the values that are compared
+abbrev pub before_of : MachineState → Before
+before_of m = record {
   version = m.saved.queue.version;
   volume = m.saved.volume;
   options = m.saved.options;
@@ -22,7 +22,6 @@ before_of m made = record {
   ticket = m.player.ticket;
   job = m.job.number;
   runs = m.job.runs;
-  ops = made;
 }
 
 -- an op of the stored playlists

@@ -1,18 +1,28 @@
 -- The commands of the database and its scans.
-use Rattle.std.specs.Prelude.{ℕ, List, [], ◌++◌, Option, Some, None, Result, Ok, Err, flat_map, unwrap_or, if◌then◌else◌}
-use Rattle.command_text.specs.AnswerNames.{directory_line}
-use Rattle.command_text.specs.AnswerSongs.{song_lines}
+use Rattle.std.specs.Prelude.{ℕ, suc, List, [], ◌++◌, true, false, not, nat_lt, length, filter, Option, Some, None, Result, Ok, Err}
+use Rattle.std.specs.Prelude.{flat_map, unwrap_or, if◌then◌else◌}
+use Rattle.command_text.specs.AnswerNames.{command_line, tag_type_line, directory_line, database_lines}
+use Rattle.command_text.specs.AnswerSongs.{file_line, song_lines, shown_tags}
+use Rattle.command_text.specs.AnswerStatus.{job_line}
+use Rattle.command_text.specs.Names.{all_names, is_listed}
 use Rattle.command_text.specs.declared.command.database.DatabaseCommand.{DatabaseCommand}
 use Rattle.command_text.specs.declared.command.database.DatabaseCommand.TheVariants as commands
 use Rattle.command_text.specs.declared.refusal.CommandRefusal.{CommandRefusal}
-use Rattle.command_text.specs.declared.refusal.CommandRefusal.TheVariants.{NoSuchUri}
+use Rattle.command_text.specs.declared.refusal.CommandRefusal.TheVariants.{AlreadyUpdating, NoSuchUri}
+use Rattle.song_db.specs.Duration.{total_of}
 use Rattle.song_db.specs.Place.{place_of}
-use Rattle.song_db.specs.Query.{is_folder, folders_in, songs_in}
+use Rattle.song_db.specs.Query.{is_folder, folders_in, songs_in, values_of}
 use Rattle.song_db.specs.Row.{Row, row_at}
+use Rattle.song_db.specs.Walk.{Item, FolderAt, SongOf, walk_of}
 use Rattle.song_db.specs.declared.place.Place.{Place}
+use Rattle.state_codec.specs.Steps.{◌>>=◌}
+use Rattle.wave_pcm.specs.declared.tags.Tag.TheVariants.{Artist, Album}
 use Rattle.machine_core.specs.Lent.{lent}
-use Rattle.machine_core.specs.Meaning.{Meant, answers, not_built}
+use Rattle.machine_core.specs.Meaning.{Meant, must, says, answers, begins}
 use Rattle.machine_core.specs.State.{MachineState}
+use Rattle.machine_core.specs.declared.answer_database.Detail.{Detail}
+use Rattle.machine_core.specs.declared.answer_database.Detail.TheVariants.{Paths, Songs}
+use Rattle.machine_core.specs.declared.job.Job.{Job}
 
 -- the folders and the songs right in a place, by their bytes
 abbrev pub content_lines : List Row → Place → List ℕ
@@ -26,7 +36,52 @@ abbrev pub info_at : List Row → List ℕ → Option Row → Result (List ℕ) 
 info_at songs path (Some row) = Ok (song_lines row)
 info_at songs path None = folder_info songs (place_of (lent path))
 
+-- a song by its path alone, or by all that is known of it
+abbrev pub detail_lines : Detail → Row → List ℕ
+detail_lines Paths row = file_line row.uri
+detail_lines Songs row = song_lines row
+
+abbrev pub item_lines : Detail → Item → List ℕ
+item_lines detail (FolderAt path) = directory_line path
+item_lines detail (SongOf row) = detail_lines detail row
+
+-- all folders and songs below a place, together by the bytes of their paths
+abbrev pub all_below : Detail → List Row → Place → Result (List ℕ) CommandRefusal
+all_below detail songs place = if is_folder songs place then Ok (flat_map (item_lines detail) (walk_of songs place)) else Err NoSuchUri
+
+-- the song of a path goes before the folder of that path
+abbrev pub all_at : Detail → List Row → List ℕ → Option Row → Result (List ℕ) CommandRefusal
+all_at detail songs path (Some row) = Ok (detail_lines detail row)
+all_at detail songs path None = all_below detail songs (place_of (lent path))
+
+abbrev pub listing : Detail → Option (List ℕ) → MachineState → Meant
+listing detail path m =
+    let named = unwrap_or path [] in answers (all_at detail m.saved.songs named (row_at m.saved.songs named)) m
+
+-- how many artists and albums the songs have, each counted once, how many songs there are, and how long they play
+abbrev pub statistics : List Row → List ℕ
+statistics songs = database_lines (length (values_of songs Artist)) (length (values_of songs Album)) (length songs) (total_of songs)
+
+abbrev pub last_job_number : ℕ
+last_job_number = 2147483647
+
+-- jobs count from 1 on, and behind the last number from 1 again
+abbrev pub next_job : ℕ → ℕ
+next_job number = if nat_lt number last_job_number then suc number else 1
+
+-- a job that begins
+abbrev pub begun : ℕ → Option (List ℕ) → Job
+begun number place = record { number = number; place = place; runs = true; has_changed_a_row = false }
+
 unfoldable pub database_meaning : DatabaseCommand → MachineState → Meant
+database_meaning commands.Commands m = says (flat_map command_line (filter is_listed all_names)) m
+database_meaning (commands.ListAll path) m = listing Paths path m
+database_meaning (commands.ListAllInfo path) m = listing Songs path m
 database_meaning (commands.ListInfo path) m =
     let named = unwrap_or path [] in answers (info_at m.saved.songs named (row_at m.saved.songs named)) m
-database_meaning other m = not_built m
+database_meaning commands.NotCommands m = says [] m
+database_meaning commands.Stats m = says (statistics m.saved.songs) m
+database_meaning commands.TagTypes m = says (flat_map tag_type_line shown_tags) m
+database_meaning (commands.Update place) m = do
+  free ← must (not m.job.runs) AlreadyUpdating
+  begins (begun (next_job m.job.number) place) (job_line (next_job m.job.number)) m

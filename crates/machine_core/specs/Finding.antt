@@ -1,22 +1,93 @@
 -- The commands that find songs by a filter.
-use Rattle.std.specs.Prelude.{List, length, filter}
-use Rattle.command_text.specs.AnswerNames.{count_lines}
+use Rattle.std.specs.Prelude.{◌≡◌, ℕ, ◌≤◌, suc, List, [], ◌∷◌, ◌++◌, length, take, drop, filter, flat_map, Option, Some, None}
+use Rattle.std.specs.Prelude.{Result, OnOk, OnErr, vec_capacity, if◌then◌else◌}
+use Rattle.std.specs.Global.{Vec}
+use Rattle.std.specs.List.{filter_map}
+use Rattle.command_text.specs.AnswerNames.{count_lines, value_line}
+use Rattle.command_text.specs.AnswerSongs.{song_lines, entry_lines}
 use Rattle.command_text.specs.declared.command.finding.FindingCommand.{FindingCommand}
 use Rattle.command_text.specs.declared.command.finding.FindingCommand.TheVariants as commands
+use Rattle.command_text.specs.declared.command.finding.Search.{Search}
+use Rattle.command_text.specs.declared.range.Window.{Window}
+use Rattle.command_text.specs.declared.refusal.CommandRefusal.TheVariants.{BadPlaylistName}
 use Rattle.filter_expr.specs.Meaning.{is_match}
+use Rattle.filter_expr.specs.Order.{is_before, sorted, window_of}
 use Rattle.filter_expr.specs.Tree.{Tree}
 use Rattle.filter_expr.specs.declared.case.Case.{Case}
-use Rattle.filter_expr.specs.declared.case.Case.TheVariants.{Exact}
+use Rattle.filter_expr.specs.declared.case.Case.TheVariants.{Exact, Folded}
+use Rattle.filter_expr.specs.declared.order.SortOrder.{SortOrder}
+use Rattle.play_queue.specs.declared.entry.Entry.{Entry}
 use Rattle.song_db.specs.Duration.{total_of}
-use Rattle.song_db.specs.Row.{Row}
-use Rattle.machine_core.specs.Meaning.{Meant, says, not_built}
+use Rattle.song_db.specs.Query.{number_at, values_of}
+use Rattle.song_db.specs.Row.{Row, row_at}
+use Rattle.state_codec.specs.Steps.{◌>>=◌}
+use Rattle.state_codec.specs.declared.op.Op.TheVariants.{List as OfLists}
+use Rattle.state_codec.specs.declared.op.list_op.ListOp.TheVariants as list_ops
+use Rattle.stored_lists.specs.Name.{is_good_name}
+use Rattle.wave_pcm.specs.declared.tags.Tag.{Tag}
+use Rattle.machine_core.specs.Adding.{adds}
+use Rattle.machine_core.specs.Meaning.{Meant, must, says, edits}
 use Rattle.machine_core.specs.State.{MachineState}
+use Rattle.machine_core.specs.declared.commands.finding.part.Part.{Part}
 
 -- the rows that a filter denotes, by URI
 abbrev pub matching : Case → Tree → List Row → List Row
 matching case tree rows = filter (is_match case tree) rows
 
+-- in the order that is asked for; if none is, they stay by URI
+abbrev pub in_order : Option SortOrder → List Row → List Row
+in_order None rows = rows
+in_order (Some order) rows = sorted (is_before order) rows
+
+abbrev pub in_window : Option Window → List Row → List Row
+in_window None rows = rows
+in_window (Some window) rows = window_of window.start window.end rows
+
+-- What a search finds: the rows that match, in order, and of these the window.
+abbrev pub found : Search → List Row → List Row
+found search rows = in_window search.window (in_order search.sort (matching search.case search.filter rows))
+
+-- the numbers of rows among all the songs
+abbrev pub numbers_in : List Row → List Row → List ℕ
+numbers_in songs rows = filter_map (λ row. number_at songs row.uri) rows
+
+-- those of which the values are asked: all, or those that match
+abbrev pub chosen : Option Tree → List Row → List Row
+chosen None rows = rows
+chosen (Some tree) rows = matching Exact tree rows
+
+abbrev pub value_lines : Tag → List (List ℕ) → List ℕ
+value_lines tag values = flat_map (value_line tag) values
+
+-- the entry at a position, where the row of its song matches
+abbrev pub entry_found : Case → Tree → ℕ → Entry → Option Row → List ℕ
+entry_found case tree position entry None = []
+entry_found case tree position entry (Some row) = if is_match case tree row then entry_lines row position entry else []
+
+-- of the entries that stand from a position on those that match, as the queue has them
+abbrev pub entries_found : Case → Tree → List Row → ℕ → List Entry → List ℕ
+entries_found case tree songs position [] = []
+entries_found case tree songs position (entry ∷ entries) =
+    entry_found case tree position entry (row_at songs entry.uri) ++ entries_found case tree songs (suc position) entries
+
 unfoldable pub finding_meaning : FindingCommand → MachineState → Meant
+finding_meaning (commands.Add search to) m = adds to (numbers_in m.saved.songs (found search m.saved.songs)) [] m
+finding_meaning (commands.AddToPlaylist name tree) m = do
+  form ← must (is_good_name name) BadPlaylistName
+  edits (OfLists (list_ops.Add name (numbers_in m.saved.songs (matching Folded tree m.saved.songs)))) [] m
 finding_meaning (commands.Count tree) m =
     let found = matching Exact tree m.saved.songs in says (count_lines (length found) (total_of found)) m
-finding_meaning other m = not_built m
+finding_meaning (commands.Find search) m = says (flat_map song_lines (found search m.saved.songs)) m
+finding_meaning (commands.InQueue case tree) m = says (entries_found case tree m.saved.songs 0 m.saved.queue.entries) m
+finding_meaning (commands.ListTag tag tree) m = says (value_lines tag (values_of (chosen tree m.saved.songs) tag)) m
+
+-- a part of a list: so many are passed over, up to an end, which is counted from the first
+abbrev pub part_of : {X : Type 0} → Part → List X → List X
+part_of part xs = drop part.skip (take part.end xs)
+
+-- What a writer does that looks at songs between its lines: it adds these lines at the end. Where memory is refused, for a line or
+-- for a look, what was there stands there still.
+pub record Writes {A E : Type 0} (lines : List ℕ) (result : Result A E) (before after : Vec ℕ) : Type 0 where
+  pub all : OnOk result (after.items ≡ before.items ++ lines)
+  pub front : OnErr result (take (length before.items) after.items ≡ before.items)
+  pub room : vec_capacity before ≤ vec_capacity after

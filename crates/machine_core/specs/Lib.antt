@@ -3,6 +3,11 @@ pub mod State
 pub mod Told
 pub mod Followed
 pub mod Meaning
+pub mod Named
+pub mod Adding
+pub mod Spans
+pub mod Happening
+pub mod Steps
 pub mod Settings
 pub mod Database
 pub mod Queue
@@ -13,7 +18,10 @@ pub mod Entries
 pub mod Playing
 pub mod Command
 pub mod Changed
+pub mod Reports
 pub mod Before
 pub mod Size
 pub mod Work
 pub mod Held
+pub mod Scanning
+pub mod ScanningRows

@@ -1,12 +1,104 @@
 -- The commands of the stored playlists.
-use Rattle.std.specs.Prelude.{[]}
+use Rattle.std.specs.Prelude.{ℕ, Bool, true, List, [], length, is_some, Option, Some, None, Result, Ok, Err, slice_range, unwrap_or}
+use Rattle.std.specs.Prelude.{if◌then◌else◌}
+use Rattle.std.specs.List.{flat_map}
+use Rattle.std.specs.Option.{ok_or}
+use Rattle.command_text.specs.AnswerNames.{playlist_line}
+use Rattle.command_text.specs.AnswerSongs.{file_line, song_lines}
 use Rattle.command_text.specs.declared.command.lists.ListsCommand.{ListsCommand}
 use Rattle.command_text.specs.declared.command.lists.ListsCommand.TheVariants as commands
+use Rattle.command_text.specs.declared.range.PositionRange.{PositionRange}
+use Rattle.command_text.specs.declared.range.PositionRange.TheVariants.{From}
+use Rattle.command_text.specs.declared.refusal.CommandRefusal.{CommandRefusal}
+use Rattle.command_text.specs.declared.refusal.CommandRefusal.TheVariants.{BadPlaylistName, NoSuchPlaylist, NoCurrentSong}
+use Rattle.play_queue.specs.declared.target.Target.{Target}
+use Rattle.play_queue.specs.declared.target.Target.TheVariants.{At, After, Before}
+use Rattle.song_db.specs.Row.{Row, row_at}
+use Rattle.state_codec.specs.Steps.{◌>>=◌}
 use Rattle.state_codec.specs.declared.op.Op.TheVariants.{List as Lists}
-use Rattle.state_codec.specs.declared.op.list_op.ListOp.TheVariants.{Drop}
-use Rattle.machine_core.specs.Meaning.{Meant, edits, not_built}
-use Rattle.machine_core.specs.State.{MachineState}
+use Rattle.state_codec.specs.declared.op.list_op.ListOp.TheVariants.{Save, Add, Remove, Move, Clear, Rename, Drop}
+use Rattle.stored_lists.specs.Lists.{Stored, names_of, songs_of}
+use Rattle.stored_lists.specs.Name.{is_good_name}
+use Rattle.stored_lists.specs.Songs.{Uris}
+use Rattle.machine_core.specs.Adding.{adds}
+use Rattle.machine_core.specs.Meaning.{Meant, must, says, edits}
+use Rattle.machine_core.specs.Named.{numbers_of, numbers_named}
+use Rattle.machine_core.specs.Spans.{span_in}
+use Rattle.machine_core.specs.State.{MachineState, shown_of}
+
+-- a name that a playlist may have
+abbrev pub list_name : List ℕ → Result (List ℕ) CommandRefusal
+list_name name = if is_good_name name then Ok name else Err BadPlaylistName
+
+-- the songs of a playlist
+abbrev pub songs_named : Stored → List ℕ → Result Uris CommandRefusal
+songs_named lists name = do
+  good ← list_name name
+  ok_or (songs_of lists good) NoSuchPlaylist
+
+-- the names, by their bytes
+abbrev pub name_lines : Stored → List ℕ
+name_lines lists = flat_map playlist_line (names_of lists)
+
+-- a song's lines, or its URI alone where the song is gone
+abbrev pub lines_or_uri : List ℕ → Option Row → List ℕ
+lines_or_uri uri (Some row) = song_lines row
+lines_or_uri uri None = file_line uri
+
+abbrev pub song_info : List Row → List ℕ → List ℕ
+song_info songs uri = lines_or_uri uri (row_at songs uri)
+
+-- a relative place is counted from the current song
+abbrev pub can_count : Option Target → Option ℕ → Bool
+can_count None current = true
+can_count (Some (At position)) current = true
+can_count (Some (After n)) current = is_some current
+can_count (Some (Before n)) current = is_some current
+
+-- no range names all
+abbrev pub or_all : Option PositionRange → PositionRange
+or_all range = unwrap_or range (From 0)
+
+-- the songs in the range that still have rows
+abbrev pub rows_to_load : List Row → Uris → Option PositionRange → Option Target → Option ℕ → Result (List ℕ) CommandRefusal
+rows_to_load database songs range to current = do
+  counted ← must (can_count to current) NoCurrentSong
+  span ← span_in (or_all range) (length songs)
+  Ok (numbers_of database (slice_range songs span.start span.end))
 
 unfoldable pub lists_meaning : ListsCommand → MachineState → Meant
-lists_meaning (commands.Remove name) m = edits (Lists (Drop name)) [] m
-lists_meaning other m = not_built m
+lists_meaning (commands.Add name path) m = do
+  good ← list_name name
+  rows ← numbers_named m.saved.songs path
+  edits (Lists (Add good rows)) [] m
+lists_meaning (commands.Clear name) m = do
+  good ← list_name name
+  edits (Lists (Clear good)) [] m
+lists_meaning (commands.Delete name range) m = do
+  songs ← songs_named m.saved.lists name
+  span ← span_in range (length songs)
+  edits (Lists (Remove name span.start span.end)) [] m
+lists_meaning (commands.Load name range to) m = do
+  songs ← songs_named m.saved.lists name
+  rows ← rows_to_load m.saved.songs songs range to (shown_of m).current
+  adds to rows [] m
+lists_meaning (commands.Move name from to) m = do
+  good ← list_name name
+  edits (Lists (Move good from to)) [] m
+lists_meaning commands.Names m = says (name_lines m.saved.lists) m
+lists_meaning (commands.Remove name) m = do
+  good ← list_name name
+  edits (Lists (Drop good)) [] m
+lists_meaning (commands.Rename from to) m = do
+  old ← list_name from
+  new ← list_name to
+  edits (Lists (Rename old new)) [] m
+lists_meaning (commands.Save name) m = do
+  good ← list_name name
+  edits (Lists (Save good)) [] m
+lists_meaning (commands.Songs name) m = do
+  songs ← songs_named m.saved.lists name
+  says (flat_map file_line songs) m
+lists_meaning (commands.SongsInfo name) m = do
+  songs ← songs_named m.saved.lists name
+  says (flat_map (song_info m.saved.songs) songs) m

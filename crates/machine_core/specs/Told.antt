@@ -14,6 +14,8 @@ use Rattle.stickers.specs.declared.refusal.StickersError.{StickersError}
 use Rattle.stickers.specs.declared.refusal.StickersError.TheVariants as stickers
 use Rattle.stored_lists.specs.declared.refusal.ListsError.{ListsError}
 use Rattle.stored_lists.specs.declared.refusal.ListsError.TheVariants as lists
+use Rattle.machine_core.specs.declared.work.Failure.{Failure}
+use Rattle.machine_core.specs.declared.work.Failure.TheVariants.{Refused, NoMemory}
 
 -- a full database refuses batches alone, and no command makes one
 abbrev pub songs_told : SongDbError → CommandRefusal
@@ -57,3 +59,10 @@ op_told (Stickers refusal) = stickers_told refusal
 
 abbrev pub told : Option OpRefusal → Option CommandRefusal
 told refusal = option_map op_told refusal
+
+-- want of memory of the player is want of memory; else it is refused
+abbrev pub failure_of : PlayerError → Failure
+failure_of player.BadIndex = Refused command.BadIndex
+failure_of player.NoSuchSong = Refused command.NoSuchSong
+failure_of player.NotPlaying = Refused command.NotPlaying
+failure_of player.NoMemory = NoMemory

@@ -1,18 +1,17 @@
-// Which subsystems a command changed, told by values of before it. Nothing is copied for it but numbers, and no list is walked but
-// that of the ops that the command made.
-ghost use Rattle.std.specs.Prelude.{◌≡◌, ◌≤◌, drop, length};
+// Which subsystems a command or an event changed, told by values of before it. Nothing is copied for it but numbers, and no list is
+// walked but that of the ops that were made.
+ghost use Rattle.std.specs.Prelude.{◌≡◌};
 ghost use Rattle.std.specs.List.{list_any};
 ghost use Rattle.state_codec.specs.SavedState.{IsSavedState};
 ghost use Rattle.machine_core.specs.Before.{before_of, changed_since, is_of_lists, is_of_stickers, keeps_job, plays_on};
 ghost use Rattle.machine_core.specs.Changed.{same_options};
 
 use crate::machine::Machine;
-use crate::work::Work;
 use idle_masks::Subsystems;
 use player_core::{Options, PlayState, Volume};
 use state_codec::Op;
 
-// What is kept of a machine and of its request's work before a command, to be compared behind it.
+// What is kept of a machine before a command or an event, to be compared behind it.
 #[derive(Drop)]
 pub(crate) struct Before {
     version: u32,
@@ -24,14 +23,12 @@ pub(crate) struct Before {
     // The number of the last job: a job has one place, so the place isn't kept.
     job: u32,
     runs: bool,
-    // How many ops the request has made.
-    ops: usize,
 }
 
 impl Machine {
-    // What is kept of the machine before a command.
-    pub(crate) fn before(&self, work: &Work) -> Before
-        ensures value { result ≡ before_of self.now (length work.now.ops.items) }
+    // What is kept of the machine before a command or an event.
+    pub(crate) fn before(&self) -> Before
+        ensures value { result ≡ before_of self.now }
         ensures kept { IsSavedState self.now.saved }
     {
         let _key = self.saved.key();
@@ -44,16 +41,13 @@ impl Machine {
             ticket: self.player.ticket(),
             job: self.job.number,
             runs: self.job.runs,
-            ops: work.ops.len(),
         }
     }
 
     // The subsystems that differ from before, where the ops made since tell of playlists and stickers.
-    pub(crate) fn changed_since(&self, before: &Before, work: &Work) -> Subsystems
-        requires { before.now.ops ≤ length work.now.ops.items }
-        ensures { result ≡ changed_since before.now (drop before.now.ops work.now.ops.items) self.now }
+    pub(crate) fn changed_since(&self, before: &Before, made: &[Op]) -> Subsystems
+        ensures { result ≡ changed_since before.now made.now self.now }
     {
-        let made = &work.ops[before.ops..];
         Subsystems {
             database: false,
             update: !self.keeps_job(before),

@@ -32,9 +32,10 @@ impl Machine {
         ensures performs { Performs (meaning command.entry self.old) self.old self.new work.old work.new result }
         ensures changed { IfOk result (λ set. set ≡ changed self.old self.new) }
     {
-        let before = self.before(work);
+        let before = self.before();
+        let made = work.ops.len();
         self.dispatch(alloc, command, work)?;
-        Ok(self.changed_since(&before, work))
+        Ok(self.changed_since(&before, &work.ops[made..]))
     }
 
     // The command of each topic.
@@ -55,7 +56,7 @@ impl Machine {
             Command::Finding(command) => self.perform_finding(alloc, command, work),
             Command::Lists(command) => self.perform_lists(alloc, command, work),
             Command::Stickers(command) => self.perform_stickers(alloc, command, work),
-            Command::Playing(command) => self.perform_playing(command, work),
+            Command::Playing(command) => self.perform_playing(alloc, command, work),
             Command::Session(_) => Ok(()),
         }
     }

@@ -148,7 +148,7 @@ impl Machine {
 }
 
 // Begins a new random order, if there is one.
-fn begin_order(saved: &mut Saved, order: Option<u64>)
+pub(crate) fn begin_order(saved: &mut Saved, order: Option<u64>)
     ensures { saved.new ≡ after_all (order_ops order) saved.old }
 {
     if let Some(order) = order {

@@ -1,5 +1,8 @@
 use song_db::Uri;
 
+/// Numbers are shown as 31 bits.
+const LAST_NUMBER: u32 = 2_147_483_647;
+
 /// The last job of the database.
 #[derive(Debug, Drop)]
 pub struct Job {
@@ -14,6 +17,8 @@ pub struct Job {
 
 impl Job {
     ghost use Rattle.std.specs.Prelude.{◌≡◌};
+    ghost use Rattle.std.specs.Prelude.{option_map};
+    ghost use Rattle.machine_core.specs.Database.{begun, next_job};
     ghost use Rattle.machine_core.specs.State.{no_job};
 
     /// No job has begun yet.
@@ -25,6 +30,29 @@ impl Job {
             place: None,
             runs: false,
             has_changed_a_row: false,
+        }
+    }
+
+    /// A job of this number that has just begun.
+    pub(crate) fn begun(number: u32, place: Option<Uri>) -> Job
+        ensures { result ≡ begun number place }
+    {
+        Job {
+            number,
+            place,
+            runs: true,
+            has_changed_a_row: false,
+        }
+    }
+
+    /// The number of the job that comes after this one: jobs count from 1, and begin again behind the last number.
+    pub(crate) fn next_number(&self) -> u32
+        ensures { result ≡ next_job self.now.number }
+    {
+        if self.number < LAST_NUMBER {
+            self.number + 1
+        } else {
+            1
         }
     }
 }

@@ -2,16 +2,29 @@
 //! code that does it.
 #![tactic(auto)]
 
+mod adding;
 mod answer;
+mod answer_database;
+mod answer_entries;
+mod answer_lists;
 mod changed;
 mod commands;
+mod current;
 mod edit;
+mod happened;
 pub mod job;
 pub mod laws;
 pub mod machine;
+mod named;
+mod reports;
+mod scanning;
+mod span;
+mod step_ops;
+mod steps;
 mod told;
 pub mod work;
 
+pub use happened::Happened;
 pub use job::Job;
 pub use machine::Machine;
 pub use work::{Failure, MAX_REQUEST_BYTES, Work};

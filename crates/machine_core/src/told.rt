@@ -1,10 +1,11 @@
 // How a command tells the refusal of a part.
 ghost use Rattle.std.specs.Prelude.{◌≡◌};
-ghost use Rattle.machine_core.specs.Told.{songs_told, queue_told, lists_told, stickers_told, op_told};
+ghost use Rattle.machine_core.specs.Told.{songs_told, queue_told, lists_told, stickers_told, op_told, failure_of};
 
 use crate::work::Failure;
 use command_text::CommandRefusal;
 use play_queue::QueueError;
+use player_core::PlayerError;
 use song_db::SongDbError;
 use state_codec::OpRefusal;
 use stickers::StickersError;
@@ -77,5 +78,17 @@ impl From<OpRefusal> for Failure {
 
     fn from(refusal: OpRefusal) -> Failure {
         Failure::Refused(op_told(refusal))
+    }
+}
+
+/// Why a command did nothing, where the player did nothing.
+pub(crate) fn failure_of(error: PlayerError) -> Failure
+    ensures { result ≡ failure_of error }
+{
+    match error {
+        PlayerError::BadIndex => Failure::Refused(CommandRefusal::BadIndex),
+        PlayerError::NoSuchSong => Failure::Refused(CommandRefusal::NoSuchSong),
+        PlayerError::NotPlaying => Failure::Refused(CommandRefusal::NotPlaying),
+        PlayerError::NoMemory => Failure::NoMemory,
     }
 }

@@ -14,7 +14,7 @@ use Rattle.client_session.specs.Requests.{requests_of, rest_of}
 use Rattle.client_session.specs.Session.{SessionState}
 use Rattle.client_session.proofs.Streams.{requests_of-append, rest_of-append}
 use Rattle.client_session.proofs.StreamLaws.{requests_of-nil, rest_of-nil}
-use Rattle.mpd_program.specs.Console.{asked_by, events_of}
+use Rattle.mpd_program.specs.Console.{asked_by, events_of, RunsNone}
 use Rattle.mpd_program.specs.Serving.{ServesAll, ServesFront, Stops, IsAllRead, ServesInput, StopsReading, ServesClient}
 use Rattle.mpd_program.specs.declared.console.Ending.{Ending}
 use Rattle.mpd_program.specs.declared.console.Ending.TheVariants.{Whole, Cut, Faulted}
@@ -92,7 +92,7 @@ both A B (Err e) a b = tt
 -- What was read is all, and an empty piece was fed behind it: its requests, of which there are none, were served or not.
 pub reads_all : {D : Type 0} {n : ℕ} (honest : D → Type 0) (history : D → List Change) (faults : D → ℕ) (c : ℕ) (first old new : LiveState D) (session : SessionState) (a b : List Change) (start input later before now after : Option (List ℕ)) (none piece : List ℕ) (result : Result (Unit {0}) Ending)
     → Consumes input later none → none ≡ [] → piece ≡ [] → IsAtEnd later ⊎ (2 ^ 64 - 1 ≤ n) → ReadsSoFar honest history faults c first old session start input before now n
-    → OnOk result (ServesAll c (asked_by c (requests_of (session.pending ++ piece))) old.state new.state now after × (BeginsTooLong (session.pending ++ piece) → ⊥))
+    → OnOk result (ServesAll c (asked_by c (requests_of (session.pending ++ piece))) old.state new.state now after × ((BeginsTooLong (session.pending ++ piece) → ⊥) × RunsNone new.state.machine.job))
     → IfErr result (λ e. Stops (honest old.a × honest old.b) c (asked_by c (requests_of (session.pending ++ piece))) old.state new.state a b now after e)
     → ServesInput (honest first.a × honest first.b) c start later first.state new.state a b before after result
 reads_all {n = n} honest history faults c first old new session a b start input later before now after none piece (Ok done) taken is_none is_empty ended far served stops =
@@ -107,10 +107,13 @@ reads_all {n = n} honest history faults c first old new session a b start input 
       served = (
         subst (λ (v : List Event). ServesAll c v first.state new.state before after) joined
             (serves_on c (asked_by c (requests_of far.read)) (asked_by c (requests_of (session.pending ++ piece))) first.state old.state new.state before now after far.so_far.served served.0),
-        record {
-          ended = read_to_end far.read none n later ended far.often;
-          short = λ long. served.1 (subst BeginsTooLong (sym left) long);
-        },
+        (
+          record {
+            ended = read_to_end far.read none n later ended far.often;
+            short = λ long. served.1.0 (subst BeginsTooLong (sym left) long);
+          },
+          served.1.1,
+        ),
       );
     } where
       read_to_end : (read more : List ℕ) (n : ℕ) (later : Option (List ℕ)) → IsAtEnd later ⊎ (2 ^ 64 - 1 ≤ n) → n ≤ length read → IsAtEnd later ⊎ (2 ^ 64 - 1 ≤ length (read ++ more))
@@ -144,7 +147,7 @@ pub stops_at_connect : (Honest : Type 0) (c : ℕ) (s t : State) (a b : List Cha
 stops_at_connect Honest c s t a b start before after ending h = record {
   read = [];
   consumed = consumes_nothing start start (keeps_itself start);
-  stops = subst (λ (v : List Request). StopsReading Honest c (events_of c v) (IsAllRead [] start) s t a b before after ending) (sym requests_of-nil) (reading_of Honest c (events.Connect c ∷ []) (IsAllRead [] start) s t a b before after ending h);
+  stops = subst (λ (v : List Request). StopsReading Honest c (events_of c v) (IsAllRead [] start × RunsNone t.machine.job) s t a b before after ending) (sym requests_of-nil) (reading_of Honest c (events.Connect c ∷ []) (IsAllRead [] start × RunsNone t.machine.job) s t a b before after ending h);
 }
 
 pub ends_with_input : (Strong Weak : Type 0) (c : ℕ) (s t u : State) (a b : List Change) (start last before now after : Option (List ℕ)) (done : Unit {0})
@@ -162,7 +165,7 @@ pub stops_in_input : (Strong Weak : Type 0) (c : ℕ) (s t u : State) (a b : Lis
 stops_in_input Strong Weak c s t u a b start last before now after ending given first input = record {
   read = input.read;
   consumed = input.consumed;
-  stops = reading_of Strong c (events_of c (requests_of input.read)) (IsAllRead input.read last) s u a b before after ending
+  stops = reading_of Strong c (events_of c (requests_of input.read)) (IsAllRead input.read last × RunsNone u.machine.job) s u a b before after ending
       (stops_on Strong c (events.Connect c ∷ []) (asked_by c (requests_of input.read)) s t u a b before now after ending first
       (stops_under Strong Weak c (asked_by c (requests_of input.read)) t u a b now after ending given input.served));
 }

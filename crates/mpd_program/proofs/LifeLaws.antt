@@ -16,7 +16,7 @@ use Rattle.live_stage.specs.Found.{found_state, AllFindNow, KeepsFoundState}
 use Rattle.live_stage.specs.Transcript.{replayed}
 use Rattle.live_stage.proofs.RunLaws.{replayed_from_start}
 use Rattle.client_session.specs.Requests.{requests_of}
-use Rattle.mpd_program.specs.Console.{bytes_to, given, events_of, ClosesNone, ClosesAtLast, ClosesNoneBefore, ComesInTurn, JobsInTurn}
+use Rattle.mpd_program.specs.Console.{bytes_to, given, events_of, ClosesNone, ClosesAtLast, ClosesNoneBefore, ComesInTurn, JobsInTurn, RunsNone}
 use Rattle.mpd_program.specs.Lives.{Moment, HasFailed, IsWhole, IsCut, FailsInEvent, IsFaulted, IsRefused, IsLife, refusal_of}
 use Rattle.mpd_program.specs.Serving.{given_from, KeepsOpen, KeepsTurns, KeepsOpenBefore, ClosesLast, ServesAll, ServesToClose, ServesFront, ServesToFault, ServesClient, IsAllRead}
 use Rattle.mpd_program.specs.declared.console.Ending.{Ending}
@@ -69,16 +69,21 @@ HoldsEither x event a b =
 
 whole_by_end : (Honest : Type 0) (c : ℕ) (first last : Moment) (kept : SavedState) (t : State) (read : List ℕ)
     → (Honest → found_state first.content_a first.content_b ≡ Some kept) → Consumes first.input last.input read
-    → ServesAll c (events_of c (requests_of read)) (start kept) t first.output last.output → IsAllRead read last.input
+    → ServesAll c (events_of c (requests_of read)) (start kept) t first.output last.output → IsAllRead read last.input → RunsNone t.machine.job
     → (Honest → AllFindNow (λ f. f ≡ Some t.machine.saved) last.history_a last.history_b) → IsWhole Honest c first last
 unfolding Holds
-whole_by_end Honest c first last kept t read found consumed p at_end holds = record {
+whole_by_end Honest c first last kept t read found consumed p at_end idle holds = record {
   kept = kept;
   read = read;
   history = p.history;
   consumed = consumed;
   in_turn = turns_at_start kept p.history p.in_turn;
-  served = inl (record { all = p.all; stays_open = open_at_start kept p.history p.stays_open; at_end = at_end });
+  served = inl (record {
+    all = p.all;
+    stays_open = open_at_start kept p.history p.stays_open;
+    idle = subst (λ (v : State). RunsNone v.machine.job) (p.state ∙ replayed_from_start kept p.history) idle;
+    at_end = at_end;
+  });
   written = subst (Appends first.output last.output) (given_at_start c kept p.history) p.written;
   found = found;
   holds = λ honest. subst (λ (v : State). Holds v last.history_a last.history_b) (p.state ∙ replayed_from_start kept p.history) (holds honest);
@@ -151,7 +156,7 @@ served_life : (Honest : Type 0) (c : ℕ) (first last : Moment) (kept : SavedSta
     → IsLife Honest c (Ok ending) first last
 served_life Honest c first last kept t Whole found p holds failed =
     elim p.stops [
-      | inl all ↦ whole_by_end Honest c first last kept t p.read found p.consumed all.0 all.1 (holds (λ is. cc))
+      | inl all ↦ whole_by_end Honest c first last kept t p.read found p.consumed all.0 all.1.0 all.1.1 (holds (λ is. cc))
       | inr closed ↦ whole_by_close Honest c first last kept t p.read found p.consumed closed (holds (λ is. cc))
     ]
 served_life Honest c first last kept t Cut found p holds failed = cut_life Honest c first last kept t p.read found p.consumed p.stops (holds (λ is. cc))

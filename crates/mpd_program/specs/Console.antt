@@ -1,5 +1,5 @@
 -- What a console's client is given, along one history.
-use Rattle.std.specs.Prelude.{◌≡◌, ◌≢◌, ℕ, ◌==◌, List, [], ◌∷◌, ◌++◌, map, true, if◌then◌else◌}
+use Rattle.std.specs.Prelude.{◌≡◌, ◌≢◌, ℕ, ◌==◌, List, [], ◌∷◌, ◌++◌, map, true, false, if◌then◌else◌}
 use Rattle.command_text.specs.declared.request.Request.{Request}
 use Rattle.state_codec.specs.SavedState.{SavedState}
 use Rattle.daemon_core.specs.declared.event.Event.{Event}
@@ -47,10 +47,15 @@ pub record IsRunning (number : ℕ) (job : Job) : Type 0 where
   pub same : job.number ≡ number
   pub runs : job.runs ≡ true
 
--- A request may be followed by the events of the job that it started: these come while that job runs.
+-- no job runs
+abbrev pub RunsNone : Job → Type 0
+RunsNone job = job.runs ≡ false
+
+-- A request may be followed by the events of the job that it started: these come while that job runs. A client connects, and makes
+-- its next request, while none runs.
 abbrev pub ComesInTurn : Job → Event → Type 0
-ComesInTurn job (events.Connect c) = Unit {0}
-ComesInTurn job (events.Request c request) = Unit {0}
+ComesInTurn job (events.Connect c) = RunsNone job
+ComesInTurn job (events.Request c request) = RunsNone job
 ComesInTurn job (events.Gone c) = Unit {0}
 ComesInTurn job (events.Fed ticket frames) = Unit {0}
 ComesInTurn job (events.Ended ticket) = Unit {0}
@@ -58,7 +63,7 @@ ComesInTurn job (events.Broken ticket cause) = Unit {0}
 ComesInTurn job (events.Batch number changes) = IsRunning number job
 ComesInTurn job (events.ScanDone number) = IsRunning number job
 
--- each event of a job came while that job ran
+-- each event of a job came while that job ran, and each request while none did
 abbrev pub JobsInTurn : SavedState → List Entry → Type 0
 JobsInTurn kept [] = Unit {0}
 JobsInTurn kept (entry ∷ earlier) =

@@ -12,7 +12,7 @@ use Rattle.live_stage.specs.Errors.{IsRefusalOfOpen, IsCause, start_number_of}
 use Rattle.live_stage.specs.Found.{found_state, AllFindNow, KeepsFoundState}
 use Rattle.client_session.specs.Requests.{requests_of}
 use Rattle.mpd_program.specs.Serving.{IsAllRead}
-use Rattle.mpd_program.specs.Console.{asked, asked_in, given, events_of, ClosesNone, ClosesAtLast, ClosesNoneBefore, JobsInTurn}
+use Rattle.mpd_program.specs.Console.{asked, asked_in, given, events_of, ClosesNone, ClosesAtLast, ClosesNoneBefore, JobsInTurn, RunsNone}
 use Rattle.mpd_program.specs.declared.console.Ending.{Ending}
 use Rattle.mpd_program.specs.declared.console.Ending.TheVariants.{Whole, Cut, Faulted}
 use Rattle.mpd_program.specs.declared.console.Status.{Status}
@@ -51,10 +51,11 @@ HasFailed first last = HasGrown first.faults_a last.faults_a ⊎ HasGrown first.
 abbrev pub AllFind : (Option SavedState → Type 0) → Moment → Type 0
 AllFind P now = AllFindNow P now.history_a now.history_b
 
--- All requests of what was read were served, and the reader is at its end.
+-- All requests of what was read were served, the last one's job is over, and the reader is at its end.
 pub record EndsWithInput (c : ℕ) (kept : SavedState) (read : List ℕ) (history : List Entry) (last : Moment) : Type 0 where
   pub all : asked_in history ≡ events_of c (requests_of read)
   pub stays_open : ClosesNone kept history
+  pub idle : let now = replay kept history in RunsNone now.machine.job
   pub at_end : IsAllRead read last.input
 
 -- The requests of what was read were served up to the first that closed the client.

@@ -11,9 +11,14 @@ use Rattle.live_stage.specs.Found.{AllFindNow}
 use Rattle.live_stage.specs.Transcript.{replayed}
 use Rattle.client_session.specs.Lines.{BeginsTooLong}
 use Rattle.client_session.specs.Requests.{requests_of, rest_of}
-use Rattle.mpd_program.specs.Console.{bytes_to, asked, asked_by, asked_in, events_of, ComesInTurn}
+use Rattle.mpd_program.specs.Console.{bytes_to, asked, asked_by, asked_in, events_of, ComesInTurn, RunsNone}
 use Rattle.mpd_program.specs.declared.console.Ending.{Ending}
 use Rattle.mpd_program.specs.declared.console.Ending.TheVariants.{Whole, Cut, Faulted}
+
+-- the step of this event leads from the one state to the other
+pub record StepsTo (event : Event) (s t : State) : Type 0 where
+  pub refused : Option ℕ
+  pub state : let now = stepped s (record { event = event; refused = refused }) in t ≡ now.after
 
 -- what a history that began with this state gives to this client
 abbrev pub given_from : ℕ → State → List Entry → List ℕ
@@ -35,7 +40,7 @@ abbrev pub KeepsOpenBefore : State → List Entry → Type 0
 KeepsOpenBefore s [] = Unit {0}
 KeepsOpenBefore s (entry ∷ earlier) = KeepsOpen s earlier
 
--- each event of a job came while that job ran
+-- each event of a job came while that job ran, and each request while none did
 abbrev pub KeepsTurns : State → List Entry → Type 0
 KeepsTurns s [] = Unit {0}
 KeepsTurns s (entry ∷ earlier) =
@@ -108,13 +113,13 @@ pub record IsAllRead (read : List ℕ) (input : Option (List ℕ)) : Type 0 wher
   pub ended : IsAtEnd input ⊎ (2 ^ 64 - 1 ≤ length read)
   pub short : BeginsTooLong (rest_of read) → ⊥
 
--- What came of the input that was read: at its end all requests were served, else the serving stopped.
+-- What came of the input that was read: at its end all requests were served, and no job runs, else the serving stopped.
 pub record ServesInput (Honest : Type 0) (c : ℕ) (first last : Option (List ℕ)) (s t : State) (a b : List Change)
     (before after : Option (List ℕ)) (result : Result Unit Ending) : Type 0 where
   pub read : List ℕ
   pub consumed : Consumes first last read
   pub served : MatchResult result
-      (λ _. ServesAll c (asked_by c (requests_of read)) s t before after × IsAllRead read last)
+      (λ _. ServesAll c (asked_by c (requests_of read)) s t before after × (IsAllRead read last × RunsNone t.machine.job))
       (λ e. Stops Honest c (asked_by c (requests_of read)) s t a b before after e)
 
 -- how the serving of a client ended that connected and then made the requests of what was read
@@ -130,4 +135,5 @@ pub record ServesClient (Honest : Type 0) (c : ℕ) (first last : Option (List �
     (before after : Option (List ℕ)) (ending : Ending) : Type 0 where
   pub read : List ℕ
   pub consumed : Consumes first last read
-  pub stops : StopsReading Honest c (events_of c (requests_of read)) (IsAllRead read last) s t a b before after ending
+  pub stops : StopsReading Honest c (events_of c (requests_of read)) (IsAllRead read last × RunsNone t.machine.job)
+      s t a b before after ending

@@ -5,6 +5,7 @@ ghost use Rattle.live_stage.specs.Found.{AllFindNow};
 ghost use Rattle.mpd_program.specs.Lives.{moment_of, IsLife, IsConsole, refusal_of, status_of, ending_of};
 ghost use Rattle.mpd_program.specs.Status.{code_of};
 
+mod scanning;
 mod sending;
 mod serving;
 
@@ -14,6 +15,7 @@ use serving::serve_client;
 use std::alloc::Global;
 use std::fmt;
 use std::io::{Read, Write};
+use wave_pcm::Folder;
 
 /// The number of the first client.
 const FIRST_CLIENT: u64 = 1;
@@ -103,11 +105,12 @@ impl<D> Life<D> {
 }
 
 // Opens the journal, and serves one client.
-fn serve_life<D: Disk, R: Read, W: Write>(
+fn serve_life<D: Disk, F: Folder, R: Read, W: Write>(
     alloc: Global,
     a: D,
     b: D,
     client: u64,
+    folder: &mut F,
     reader: &mut R,
     writer: &mut W,
 ) -> Life<D>
@@ -120,7 +123,7 @@ fn serve_life<D: Disk, R: Read, W: Write>(
         Ok(live) => live,
         Err(refused) => return refused_life(refused),
     };
-    let ending = serve_client(alloc, &mut live, client, reader, writer);
+    let ending = serve_client(alloc, &mut live, client, folder, reader, writer);
     // As long as no disk failed, the files give its state.
     let _broken = live.is_broken();
     let (a, b) = live.into_disks();
@@ -166,12 +169,16 @@ fn ended<D>(ending: Ending, last: Life<D>) -> ConsoleEnd<D>
 /// Opens the journal on the disks of files a and b, and serves one client from its connect to the end of its input, or
 /// until a request closes it.
 ///
+/// Where a request began a job of the database, the job's scan over the folder follows at once: before the next request all of the
+/// folder, or of the part that was asked for, is read, and the job is over.
+///
 /// After a disk fault that client is closed, the journal is opened again, and a new client is served with what is left of the
 /// input. After a second one it gives up.
-pub fn run_console<D: Disk, R: Read, W: Write>(
+pub fn run_console<D: Disk, F: Folder, R: Read, W: Write>(
     alloc: Global,
     a: D,
     b: D,
+    folder: &mut F,
     reader: &mut R,
     writer: &mut W,
 ) -> ConsoleEnd<D>
@@ -193,12 +200,12 @@ pub fn run_console<D: Disk, R: Read, W: Write>(
 
     ensures later { AreLater D.honest D.history D.faults a b result.a result.b }
 {
-    let first = serve_life(alloc, a, b, FIRST_CLIENT, reader, writer);
+    let first = serve_life(alloc, a, b, FIRST_CLIENT, folder, reader, writer);
     if !first.is_faulted() {
         let ending = first.ending();
         return ended(ending, first);
     }
     let Life { came_to: _, a, b } = first;
-    let second = serve_life(alloc, a, b, SECOND_CLIENT, reader, writer);
+    let second = serve_life(alloc, a, b, SECOND_CLIENT, folder, reader, writer);
     ended(Ending::Faulted, second)
 }

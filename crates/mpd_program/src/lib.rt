@@ -5,6 +5,7 @@ pub mod arguments;
 pub mod config;
 pub mod console;
 pub mod exit;
+mod music;
 pub mod tasks;
 
 pub use arguments::Task;

@@ -6,10 +6,12 @@ use crate::arguments::Task;
 use crate::config::{Config, ConfigError};
 use crate::console::{ConsoleEnd, Status, run_console};
 use crate::exit::Exit;
+use crate::music::Music;
 use disk_model::{Disk, FileDisk, MemDisk};
 use live_stage::{Live, Refused, StartError};
 use std::fs::{self, File};
 use std::io;
+use wave_pcm::{Folder, MemFolder};
 
 /// Does what the command line asks for, and says how the program ends.
 pub fn run_command_line(rt: &HostRuntime) -> Exit {
@@ -28,7 +30,7 @@ pub fn run_command_line(rt: &HostRuntime) -> Exit {
 fn run(rt: &HostRuntime, task: Task) -> Result<(), Exit> {
     match task {
         Task::ConsoleInMemory => console_in_memory(rt),
-        Task::Console(path) => console(rt, &read_config(rt, path.as_str())?),
+        Task::Console(path) => console(rt, read_config(rt, path.as_str())?),
         Task::Create(path) => create(rt, &read_config(rt, path.as_str())?),
     }
 }
@@ -64,9 +66,10 @@ fn refused<D: Disk + Drop>(refused: Refused<D>) -> Exit
     }
 }
 
-/// Serves one client on standard input and output over these disks.
-fn serve<D: Disk + Drop>(rt: &HostRuntime, a: D, b: D) -> ConsoleEnd<D> {
-    run_console(rt.alloc(), a, b, &mut rt.reader(), &mut io::writer(rt))
+/// Serves one client on standard input and output over these disks and this folder.
+fn serve<D: Disk + Drop, F: Folder>(rt: &HostRuntime, a: D, b: D, folder: &mut F) -> ConsoleEnd<D> {
+    let alloc = rt.alloc();
+    run_console(alloc, a, b, folder, &mut rt.reader(), &mut io::writer(rt))
 }
 
 /// How the program ends after a console.
@@ -86,25 +89,31 @@ fn tell_fault(rt: &HostRuntime, path: &str, disk: &FileDisk<File>) {
     }
 }
 
-/// Serves one client over a fresh journal in memory, with a key of zeros. Nothing keeps it.
+/// Serves one client over a fresh journal in memory, with a key of zeros, and over a folder without songs. Nothing keeps it.
 fn console_in_memory(rt: &HostRuntime) -> Result<(), Exit> {
     let alloc = rt.alloc();
     match Live::create(alloc, MemDisk::new(alloc), MemDisk::new(alloc), [0; 32]) {
         Ok(live) => {
             let (a, b) = live.into_disks();
-            exit_of(serve(rt, a, b).status)
+            exit_of(serve(rt, a, b, &mut MemFolder::new(alloc)).status)
         }
         Err(error) => Err(refused(error)),
     }
 }
 
-/// Serves one client over the journal of the configuration.
-fn console(rt: &HostRuntime, config: &Config) -> Result<(), Exit> {
-    let a = open_file(rt, config.journal_a.as_str())?;
-    let b = open_file(rt, config.journal_b.as_str())?;
-    let end = serve(rt, a, b);
-    tell_fault(rt, config.journal_a.as_str(), &end.a);
-    tell_fault(rt, config.journal_b.as_str(), &end.b);
+/// Serves one client over the journal and the songs of the configuration.
+fn console(rt: &HostRuntime, config: Config) -> Result<(), Exit> {
+    let Config {
+        music,
+        journal_a,
+        journal_b,
+        ..
+    } = config;
+    let a = open_file(rt, journal_a.as_str())?;
+    let b = open_file(rt, journal_b.as_str())?;
+    let end = serve(rt, a, b, &mut Music::new(rt, music));
+    tell_fault(rt, journal_a.as_str(), &end.a);
+    tell_fault(rt, journal_b.as_str(), &end.b);
     exit_of(end.status)
 }
 

@@ -7,6 +7,7 @@ use std::alloc::Global;
 use std::io::{self, Read, Write};
 use std::process::Abort;
 use std::test::Fail;
+use wave_pcm::MemFolder;
 
 const GREETING: &[u8] = b"OK MPD 0.23.0\n";
 
@@ -67,14 +68,14 @@ impl Write for Narrow {
     }
 }
 
-// Runs a console. It has no contract, so the long one of `run_console` is read here alone.
+// Runs a console over no songs. It has no contract, so the long one of `run_console` is read here alone.
 fn run<D: Disk>(
     alloc: Global,
     (a, b): (D, D),
     reader: &mut impl Read,
     writer: &mut impl Write,
 ) -> ConsoleEnd<D> {
-    run_console(alloc, a, b, reader, writer)
+    run_console(alloc, a, b, &mut MemFolder::new(alloc), reader, writer)
 }
 
 // Runs a console whose input comes line by line, and gives what it wrote too.

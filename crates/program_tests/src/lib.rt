@@ -9,3 +9,5 @@ mod config;
 mod console;
 #[cfg(test)]
 mod exit;
+#[cfg(test)]
+mod scans;

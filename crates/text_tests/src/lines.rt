@@ -62,7 +62,7 @@ fn names_of_this_build(rt: HostRuntime) -> Result<(), Fail> {
         }
     }
     equal(&rt, CommandName::all().len(), 71);
-    equal(&rt, listed > 8, true);
+    equal(&rt, listed, 67);
     Ok(())
 }
 

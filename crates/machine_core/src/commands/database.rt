@@ -1,17 +1,26 @@
 // The commands of the database and its scans.
-ghost use Rattle.std.specs.Prelude.{◌≡◌, [], unwrap_or};
+ghost use Rattle.std.specs.Prelude.{◌≡◌, [], true, false, flat_map, filter, unwrap_or};
+ghost use Rattle.command_text.specs.AnswerNames.{command_line, tag_type_line};
+ghost use Rattle.command_text.specs.AnswerSongs.{shown_tags};
+ghost use Rattle.command_text.specs.AnswerStatus.{job_line};
+ghost use Rattle.command_text.specs.Names.{all_names, is_listed};
+ghost use Rattle.command_text.specs.declared.command.database.DatabaseCommand.TheVariants.{Update};
 ghost use Rattle.song_db.specs.Change.{has_uri};
 ghost use Rattle.song_db.specs.Query.{is_folder};
 ghost use Rattle.song_db.specs.Row.{row_at};
-ghost use Rattle.machine_core.specs.Database.{database_meaning, folder_info, info_at};
-ghost use Rattle.machine_core.specs.Meaning.{answers};
+ghost use Rattle.machine_core.specs.Database.{database_meaning, folder_info, info_at, all_at, all_below, statistics};
+ghost use Rattle.machine_core.specs.Meaning.{answers, says};
 ghost use Rattle.machine_core.specs.Work.{HasRoom, Performs, command_room};
 
 use crate::answer::write_content;
+use crate::answer_database::{Detail, write_commands, write_detail, write_tag_types, write_walk};
+use crate::job::Job;
 use crate::machine::Machine;
 use crate::work::{Failure, Work};
-use command_text::{CommandRefusal, DatabaseCommand, Text, write_song};
-use song_db::Place;
+use command_text::{
+    CommandRefusal, DatabaseCommand, Text, write_job, write_song, write_statistics,
+};
+use song_db::{Place, Uri};
 use std::alloc::Global;
 
 // The path that is named, or the empty one, which is the root.
@@ -49,16 +58,108 @@ impl Machine {
         requires { HasRoom command_room work.old }
         ensures { Performs (database_meaning command.entry self.old) self.old self.new work.old work.new result }
     {
-        match &command {
-            DatabaseCommand::ListInfo(path) => self.list_info(alloc, path_or_root(path), work),
-            DatabaseCommand::Commands => Ok(()),
-            DatabaseCommand::ListAll(_) => Ok(()),
-            DatabaseCommand::ListAllInfo(_) => Ok(()),
+        match command {
+            DatabaseCommand::Commands => self.list_commands(work),
+            DatabaseCommand::ListAll(path) => {
+                self.list_all(path_or_root(&path), Detail::Paths, work)
+            }
+            DatabaseCommand::ListAllInfo(path) => {
+                self.list_all(path_or_root(&path), Detail::Songs, work)
+            }
+            DatabaseCommand::ListInfo(path) => self.list_info(alloc, path_or_root(&path), work),
             DatabaseCommand::NotCommands => Ok(()),
-            DatabaseCommand::Stats => Ok(()),
-            DatabaseCommand::TagTypes => Ok(()),
-            DatabaseCommand::Update(_) => Ok(()),
+            DatabaseCommand::Stats => self.put_statistics(alloc, work),
+            DatabaseCommand::TagTypes => self.list_tag_types(work),
+            DatabaseCommand::Update(place) => self.begin_job(place, work),
         }
+    }
+
+    // `commands`
+    fn list_commands(&self, work: &mut Work) -> Result<(), Failure>
+        ensures { Performs (says (flat_map command_line (filter is_listed all_names)) self.now) self.now self.now work.old work.new result }
+    {
+        let mark = work.text.len();
+        let written = write_commands(&mut work.text);
+        work.keep(mark, written)
+    }
+
+    // `tagtypes`
+    fn list_tag_types(&self, work: &mut Work) -> Result<(), Failure>
+        ensures { Performs (says (flat_map tag_type_line shown_tags) self.now) self.now self.now work.old work.new result }
+    {
+        let mark = work.text.len();
+        let written = write_tag_types(&mut work.text);
+        work.keep(mark, written)
+    }
+
+    // `stats`, by one walk of the songs.
+    fn put_statistics(&self, alloc: Global, work: &mut Work) -> Result<(), Failure>
+        ensures { Performs (says (statistics self.now.saved.songs) self.now) self.now self.now work.old work.new result }
+    {
+        let songs = self.saved.songs();
+        let Ok(counts) = songs.value_counts(alloc) else {
+            return Err(Failure::NoMemory);
+        };
+        let (artists, albums) = (counts.artists, counts.albums);
+        let mark = work.text.len();
+        let written = write_statistics(
+            &mut work.text,
+            artists,
+            albums,
+            songs.len(),
+            songs.milliseconds(),
+        );
+        work.keep(mark, written)
+    }
+
+    // `update`: a job begins, unless one runs.
+    fn begin_job(&mut self, place: Option<Uri>, work: &mut Work) -> Result<(), Failure>
+        requires { HasRoom command_room work.old }
+        ensures { Performs (database_meaning (Update place) self.old) self.old self.new work.old work.new result }
+    {
+        if self.job.runs {
+            return Err(Failure::Refused(CommandRefusal::AlreadyUpdating));
+        }
+        let number = self.job.next_number();
+        self.tell_job(number, work)?;
+        self.job = Job::begun(number, place);
+        Ok(())
+    }
+
+    fn tell_job(&self, number: u32, work: &mut Work) -> Result<(), Failure>
+        ensures { Performs (says (job_line number) self.now) self.now self.now work.old work.new result }
+    {
+        let mark = work.text.len();
+        let written = write_job(&mut work.text, number);
+        work.keep(mark, written)
+    }
+
+    // `listall` and `listallinfo`: the song of a path, or else all that stands below the folder of that path.
+    fn list_all(&self, path: &str, detail: Detail, work: &mut Work) -> Result<(), Failure>
+        ensures { Performs (answers (all_at detail self.now.saved.songs path.now (row_at self.now.saved.songs path.now)) self.now)
+            self.now self.now work.old work.new result }
+    {
+        match self.saved.songs().get(path) {
+            Ok(row) => {
+                let mark = work.text.len();
+                let written = write_detail(&mut work.text, row, detail);
+                work.keep(mark, written)
+            }
+            Err(_) => self.list_below(Place::read(path), detail, work),
+        }
+    }
+
+    // All folders and songs below a place.
+    fn list_below(&self, place: Place<'_>, detail: Detail, work: &mut Work) -> Result<(), Failure>
+        ensures { Performs (answers (all_below detail self.now.saved.songs place.entry) self.now)
+            self.now self.now work.old work.new result }
+    {
+        let Ok(walk) = self.saved.songs().walk(place) else {
+            return Err(Failure::Refused(CommandRefusal::NoSuchUri));
+        };
+        let mark = work.text.len();
+        let written = write_walk(&mut work.text, walk, detail);
+        work.keep(mark, written)
     }
 
     // `lsinfo`: the song of a path, or else what stands right in the folder of that path.

@@ -1,18 +1,32 @@
 // The commands that find songs by a filter.
-ghost use Rattle.std.specs.Prelude.{◌≡◌, ◌≤◌, length, IfOk};
-ghost use Rattle.command_text.specs.declared.command.finding.FindingCommand.TheVariants.{Count};
-ghost use Rattle.filter_expr.specs.declared.case.Case.TheVariants.{Exact};
+ghost use Rattle.std.specs.Prelude.{◌≡◌, ◌≤◌, Some, None, length, map, IfOk, if◌then◌else◌};
+ghost use Rattle.std.specs.Option.{option_copied};
+ghost use Rattle.command_text.specs.declared.command.finding.FindingCommand.TheVariants.{Add, AddToPlaylist, Count, Find, InQueue, ListTag};
+ghost use Rattle.filter_expr.specs.declared.case.Case.TheVariants.{Exact, Folded};
 ghost use Rattle.song_db.specs.Duration.{total_of};
 ghost use Rattle.song_db.specs.Limits.{MAX_ROWS};
-ghost use Rattle.machine_core.specs.Finding.{finding_meaning, matching};
+ghost use Rattle.song_db.specs.Query.{values_of};
+ghost use Rattle.stored_lists.specs.Name.{is_good_name};
+ghost use Rattle.machine_core.specs.Finding.{finding_meaning, matching, found, in_window, chosen, numbers_in};
 ghost use Rattle.machine_core.specs.Work.{HasRoom, Performs, command_room};
 
 use crate::machine::Machine;
 use crate::work::{Failure, Work};
-use command_text::{FindingCommand, NoMemory, write_counts};
-use filter_expr::{Case, Filter};
-use song_db::SongRow;
-use std::alloc::Global;
+use command_text::{CommandRefusal, FindingCommand, NoMemory, Search, Window, write_counts};
+use filter_expr::{Case, Filter, SortOrder, window};
+use gathering::{matching_numbers, matching_values, numbers_of, sorted_rows};
+use part::Part;
+use play_queue::Target;
+use song_db::{SongDb, SongRow, Texts};
+use state_codec::{ListOp, Op, RowNumbers, Text};
+use std::alloc::{AllocError, Global};
+use stored_lists::is_good_name;
+use wave_pcm::Tag;
+use writing::{write_entries, write_matching, write_rows, write_values};
+
+mod gathering;
+mod part;
+mod writing;
 
 // How many rows match, and how many milliseconds they play together.
 fn count_matching(
@@ -36,7 +50,6 @@ fn count_matching(
 }
 
 impl Machine {
-    #[tactic(auto, unfolding(crate::specs::Finding::finding_meaning))]
     pub(super) fn perform_finding(
         &mut self,
         alloc: Global,
@@ -46,11 +59,31 @@ impl Machine {
         requires { HasRoom command_room work.old }
         ensures { Performs (finding_meaning command.entry self.old) self.old self.new work.old work.new result }
     {
-        if let FindingCommand::Count(filter) = &command {
-            return self.count(alloc, filter, work);
+        self.perform_command(alloc, &command, work)
+    }
+
+    // By reference, so that what a command owns is let go in one place.
+    fn perform_command(
+        &mut self,
+        alloc: Global,
+        command: &FindingCommand<'_>,
+        work: &mut Work,
+    ) -> Result<(), Failure>
+        requires { HasRoom command_room work.old }
+        ensures { Performs (finding_meaning command.now self.old) self.old self.new work.old work.new result }
+    {
+        match command {
+            FindingCommand::Add(search, to) => self.add_found(alloc, search, *to, work),
+            FindingCommand::AddToPlaylist(name, filter) => {
+                self.add_to_playlist(alloc, name.as_str(), filter, work)
+            }
+            FindingCommand::Count(filter) => self.count(alloc, filter, work),
+            FindingCommand::Find(search) => self.find(alloc, search, work),
+            FindingCommand::InQueue(case, filter) => self.find_entries(alloc, *case, filter, work),
+            FindingCommand::ListTag(tag, filter) => {
+                self.list_values(alloc, *tag, filter.as_ref(), work)
+            }
         }
-        // The others aren't there yet.
-        Ok(())
     }
 
     // `count`: the rows that match aren't gathered, only counted.
@@ -64,4 +97,208 @@ impl Machine {
         let written = write_counts(&mut work.text, songs, milliseconds);
         work.keep(mark, written)
     }
+
+    // `find`, `search`: what isn't sorted is written while rows are looked at.
+    fn find(&self, alloc: Global, search: &Search, work: &mut Work) -> Result<(), Failure>
+        ensures { Performs (finding_meaning (Find search.now) self.now) self.now self.now work.old work.new result }
+    {
+        match search.sort {
+            Some(order) => self.find_sorted(alloc, search, order, work),
+            None => self.find_by_uri(alloc, search, work),
+        }
+    }
+
+    fn find_sorted(
+        &self,
+        alloc: Global,
+        search: &Search,
+        order: SortOrder,
+        work: &mut Work,
+    ) -> Result<(), Failure>
+        requires { search.now.sort ≡ Some order }
+        ensures { Performs (finding_meaning (Find search.now) self.now) self.now self.now work.old work.new result }
+    {
+        let rows = self.saved.songs().rows();
+        let sorted = sorted_rows(alloc, rows, search.case, &search.filter, order)?;
+        let mark = work.text.len();
+        let written = write_rows(&mut work.text, windowed(&sorted, search.window));
+        work.keep(mark, written)
+    }
+
+    fn find_by_uri(&self, alloc: Global, search: &Search, work: &mut Work) -> Result<(), Failure>
+        requires { search.now.sort ≡ None }
+        ensures { Performs (finding_meaning (Find search.now) self.now) self.now self.now work.old work.new result }
+    {
+        let rows = self.saved.songs().rows();
+        let part = Part::of_window(search.window, rows.len());
+        let mark = work.text.len();
+        let written = write_matching(
+            &mut work.text,
+            alloc,
+            rows,
+            search.case,
+            &search.filter,
+            part,
+        );
+        work.keep(mark, written)
+    }
+
+    // `findadd`, `searchadd`: the numbers of the rows that `find` would answer.
+    fn add_found(
+        &mut self,
+        alloc: Global,
+        search: &Search,
+        to: Option<Target>,
+        work: &mut Work,
+    ) -> Result<(), Failure>
+        requires { HasRoom command_room work.old }
+        ensures { Performs (finding_meaning (Add search.now to) self.old) self.old self.new work.old work.new result }
+    {
+        let rows = found_numbers(alloc, self.saved.songs(), search)?;
+        self.add_rows(alloc, to, rows, work)
+    }
+
+    // `searchaddpl`
+    fn add_to_playlist(
+        &mut self,
+        alloc: Global,
+        name: &str,
+        filter: &Filter,
+        work: &mut Work,
+    ) -> Result<(), Failure>
+        requires { HasRoom command_room work.old }
+        ensures { Performs (finding_meaning (AddToPlaylist name.now filter.now) self.old) self.old self.new work.old work.new result }
+    {
+        match playlist_name(alloc, name)? {
+            Some(name) => {
+                let rows = folded_numbers(alloc, self.saved.songs(), filter)?;
+                self.edit(alloc, Op::List(ListOp::Add { name, rows }), work)
+            }
+            None => Err(Failure::Refused(CommandRefusal::BadPlaylistName)),
+        }
+    }
+
+    // `playlistfind`, `playlistsearch`: the entries of the queue.
+    fn find_entries(
+        &self,
+        alloc: Global,
+        case: Case,
+        filter: &Filter,
+        work: &mut Work,
+    ) -> Result<(), Failure>
+        ensures { Performs (finding_meaning (InQueue case filter.now) self.now) self.now self.now work.old work.new result }
+    {
+        let songs = self.saved.songs();
+        let entries = self.saved.queue().entries();
+        let mark = work.text.len();
+        let written = write_entries(&mut work.text, alloc, songs, entries, case, filter);
+        work.keep(mark, written)
+    }
+
+    // `list`: the values of a tag, of all rows or of those that match.
+    fn list_values(
+        &self,
+        alloc: Global,
+        tag: Tag,
+        filter: Option<&Filter>,
+        work: &mut Work,
+    ) -> Result<(), Failure>
+        ensures { Performs (finding_meaning (ListTag tag (option_copied filter.entry)) self.now) self.now self.now
+            work.old work.new result }
+    {
+        let values = chosen_values(alloc, self.saved.songs(), tag, filter)?;
+        let mark = work.text.len();
+        let written = write_values(&mut work.text, tag, &values);
+        work.keep(mark, written)
+    }
+}
+
+// The rows in a window, if one is asked for.
+fn windowed<'r, 's>(rows: &'r [&'s SongRow], part: Option<Window>) -> &'r [&'s SongRow]
+    ensures rows { map (λ row. row.now) result.now ≡ in_window part (map (λ row. row.now) rows.now) }
+    ensures few { length result.now ≤ length rows.now }
+{
+    match part {
+        None => rows,
+        Some(part) => window(rows, part.start as usize, end_of(part)),
+    }
+}
+
+fn end_of(part: Window) -> Option<usize>
+    ensures { result ≡ part.end }
+{
+    match part.end {
+        Some(end) => Some(end as usize),
+        None => None,
+    }
+}
+
+// The numbers of the rows that a search finds.
+fn found_numbers(alloc: Global, songs: &SongDb, search: &Search) -> Result<RowNumbers, NoMemory>
+    ensures { IfOk result (λ numbers. numbers ≡ numbers_in songs.now (found search.now songs.now)) }
+{
+    let _limit = songs.len();
+    let rows = songs.rows();
+    match search.sort {
+        Some(order) => {
+            let sorted = sorted_rows(alloc, rows, search.case, &search.filter, order)?;
+            let numbers = numbers_of(alloc, songs, windowed(&sorted, search.window))?;
+            Ok(row_numbers(numbers))
+        }
+        None => {
+            let part = Part::of_window(search.window, rows.len());
+            let numbers = matching_numbers(alloc, rows, search.case, &search.filter, part)?;
+            Ok(row_numbers(numbers))
+        }
+    }
+}
+
+// The numbers of all rows that match, whatever the case of letters.
+fn folded_numbers(alloc: Global, songs: &SongDb, filter: &Filter) -> Result<RowNumbers, NoMemory>
+    ensures { IfOk result (λ numbers. numbers ≡ numbers_in songs.now (matching Folded filter.now songs.now)) }
+{
+    let _limit = songs.len();
+    let rows = songs.rows();
+    let all = Part::of_window(None, rows.len());
+    let numbers = matching_numbers(alloc, rows, Case::Folded, filter, all)?;
+    Ok(row_numbers(numbers))
+}
+
+// As an op has them. There are never more than rows.
+fn row_numbers(numbers: Vec<u32>) -> RowNumbers
+    requires { length numbers.items ≤ MAX_ROWS }
+    ensures { result ≡ numbers.items }
+{
+    match RowNumbers::new(numbers) {
+        Some(numbers) => numbers,
+        None => unreachable!(),
+    }
+}
+
+// The values of a tag, of all rows or of those that match.
+fn chosen_values<'a>(
+    alloc: Global,
+    songs: &'a SongDb,
+    tag: Tag,
+    filter: Option<&Filter>,
+) -> Result<Texts<'a>, NoMemory>
+    ensures { IfOk result (λ values. values ≡ values_of (chosen (option_copied filter.entry) songs.now) tag) }
+{
+    match filter {
+        Some(filter) => matching_values(alloc, songs.rows(), filter, tag),
+        None => match songs.distinct(alloc, tag) {
+            Ok(values) => Ok(values),
+            Err(_) => Err(NoMemory),
+        },
+    }
+}
+
+// A name as an op has it, if a playlist may have it.
+fn playlist_name(alloc: Global, name: &str) -> Result<Option<Text>, AllocError>
+    ensures { IfOk result (λ text. text ≡ (if is_good_name name.now then Some name.now else None)) }
+{
+    if is_good_name(name) {
+        return Text::read(alloc, name);
+    }
+    Ok(None)
 }

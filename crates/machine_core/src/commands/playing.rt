@@ -2,21 +2,28 @@
 ghost use Rattle.std.specs.Prelude.{◌≡◌, None};
 ghost use Rattle.command_text.specs.Answer.{Adds};
 ghost use Rattle.command_text.specs.declared.command.playing.PlayingCommand.TheVariants.{CurrentSong};
-ghost use Rattle.player_core.specs.Commands.{halted, paused};
+ghost use Rattle.player_core.specs.Commands.{halted, paused, previous_one};
+ghost use Rattle.player_core.specs.Seek.{sought_here};
 ghost use Rattle.machine_core.specs.Entries.{position_info, shown_info};
 ghost use Rattle.machine_core.specs.Playing.{playing_meaning};
-ghost use Rattle.machine_core.specs.State.{shown_of};
+ghost use Rattle.machine_core.specs.State.{settings_of, shown_of};
+ghost use Rattle.machine_core.specs.Steps.{step_in, moves, puts, named_length, current_length};
 ghost use Rattle.machine_core.specs.Work.{HasRoom, Performs, command_room};
+ghost use Rattle.machine_core.specs.declared.steps.PlayerStep.TheVariants.{Seek as SeekTo};
 
 use crate::machine::Machine;
+use crate::steps::PlayerStep;
+use crate::told::failure_of;
 use crate::work::{Failure, Work};
 use command_text::{NoMemory, PlayingCommand, write_entry};
-use player_core::Shown;
+use player_core::{SeekTime, Selector, Shown};
+use std::alloc::Global;
 
 impl Machine {
     #[tactic(auto, unfolding(crate::specs::Playing::playing_meaning))]
     pub(super) fn perform_playing(
         &mut self,
+        alloc: Global,
         command: PlayingCommand,
         work: &mut Work,
     ) -> Result<(), Failure>
@@ -26,14 +33,62 @@ impl Machine {
         match command {
             PlayingCommand::ClearError => self.clear_error(),
             PlayingCommand::CurrentSong => return self.write_current_song(work),
+            PlayingCommand::Next => return self.make_step(alloc, PlayerStep::Next, work),
             PlayingCommand::Pause(switch) => self.pause(switch),
+            PlayingCommand::Play(None) => return self.make_step(alloc, PlayerStep::Resume, work),
+            PlayingCommand::Play(Some(selector)) => {
+                return self.make_step(alloc, PlayerStep::Play(selector), work);
+            }
+            PlayingCommand::Previous => return self.previous(work),
+            PlayingCommand::Seek(selector, milliseconds) => {
+                return self.seek(alloc, selector, milliseconds, work);
+            }
+            PlayingCommand::SeekCurrent(time) => return self.seek_current(time, work),
             PlayingCommand::Stop => self.stop(),
-            PlayingCommand::Next
-            | PlayingCommand::Play(_)
-            | PlayingCommand::Previous
-            | PlayingCommand::Seek(_, _)
-            | PlayingCommand::SeekCurrent(_) => {}
         }
+        Ok(())
+    }
+
+    fn seek(
+        &mut self,
+        alloc: Global,
+        selector: Selector,
+        milliseconds: u32,
+        work: &mut Work,
+    ) -> Result<(), Failure>
+        requires { HasRoom command_room work.old }
+        ensures { Performs (moves (step_in (SeekTo selector (named_length selector self.old) milliseconds) self.old) self.old)
+            self.old self.new work.old work.new result }
+    {
+        let song = self.named_length(selector);
+        self.make_step(alloc, PlayerStep::Seek(selector, song, milliseconds), work)
+    }
+
+    fn previous(&mut self, work: &mut Work) -> Result<(), Failure>
+        requires { HasRoom command_room work.old }
+        ensures { Performs (puts (previous_one self.old.saved.queue.entries (settings_of self.old.saved) self.old.player) self.old)
+            self.old self.new work.old work.new result }
+    {
+        let settings = self.settings();
+        let entries = self.saved.queue().entries();
+        if let Err(error) = self.player.previous(entries, &settings) {
+            return Err(failure_of(error));
+        }
+        self.kept.forget();
+        Ok(())
+    }
+
+    fn seek_current(&mut self, time: SeekTime, work: &mut Work) -> Result<(), Failure>
+        requires { HasRoom command_room work.old }
+        ensures { Performs (puts (sought_here (settings_of self.old.saved) (current_length self.old) time self.old.player) self.old)
+            self.old self.new work.old work.new result }
+    {
+        let settings = self.settings();
+        let song = self.current_length();
+        if let Err(error) = self.player.seek_current(&settings, song, time) {
+            return Err(failure_of(error));
+        }
+        self.kept.forget();
         Ok(())
     }
 

@@ -1,17 +1,28 @@
 // The commands of the queue.
-ghost use Rattle.command_text.specs.declared.command.queue.QueueCommand.TheVariants.{Clear};
-ghost use Rattle.machine_core.specs.Queue.{queue_meaning};
+ghost use Rattle.std.specs.Prelude.{◌≡◌, ◌<◌, length, IfOk};
+ghost use Rattle.command_text.specs.declared.command.queue.QueueCommand.TheVariants as commands;
+ghost use Rattle.play_queue.specs.Limits.{MAX_ENTRIES};
+ghost use Rattle.machine_core.specs.Queue.{place_of_id, queue_length, queue_meaning};
+ghost use Rattle.machine_core.specs.Spans.{span_in, span_or_all};
 ghost use Rattle.machine_core.specs.Work.{HasRoom, Performs, command_room};
 
 use crate::machine::Machine;
+use crate::span::{Span, span_in};
 use crate::work::{Failure, Work};
-use command_text::QueueCommand;
+use command_text::{CommandRefusal, PositionRange, QueueCommand};
+use state_codec::{Op, QueueOp};
 use std::alloc::Global;
 
+mod adding;
+mod moving;
+mod priorities;
+mod showing;
+
 impl Machine {
+    #[tactic(auto, unfolding(crate::specs::Queue::queue_meaning))]
     pub(super) fn perform_queue(
         &mut self,
-        _alloc: Global,
+        alloc: Global,
         command: QueueCommand<'_>,
         work: &mut Work,
     ) -> Result<(), Failure>
@@ -19,16 +30,136 @@ impl Machine {
         ensures { Performs (queue_meaning command.entry self.old) self.old self.new work.old work.new result }
     {
         match command {
+            QueueCommand::Add(uri, to) => self.add_named(alloc, uri, to, work),
+            QueueCommand::AddId(uri, to) => self.add_song(alloc, uri, to, work),
+            QueueCommand::Changes(version, range) => {
+                self.show_changes(alloc, version, range, work)
+            }
+            QueueCommand::ChangesPositions(version, range) => {
+                self.show_changed_places(alloc, version, range, work)
+            }
             QueueCommand::Clear => self.clear_queue(work),
-            _ => Ok(()),
+            QueueCommand::Delete(range) => self.delete_range(range, work),
+            QueueCommand::DeleteId(id) => self.delete_id(id, work),
+            QueueCommand::Info(range) => self.show_range(range, work),
+            QueueCommand::InfoId(id) => match id {
+                None => self.show_queue(work),
+                Some(id) => self.show_id(id, work),
+            },
+            QueueCommand::Move(range, to) => self.move_range(alloc, range, to, work),
+            QueueCommand::MoveId(id, to) => self.move_id(alloc, id, to, work),
+            QueueCommand::Priority(priority, ranges) => {
+                self.set_priority(alloc, priority, &ranges, work)
+            }
+            QueueCommand::PriorityId(priority, ids) => {
+                self.set_priority_of_ids(alloc, priority, &ids, work)
+            }
+            QueueCommand::Shuffle(range) => self.shuffle(alloc, range, work),
+            QueueCommand::Swap(one, other) => self.swap(alloc, one, other, work),
+            QueueCommand::SwapId(one, other) => self.swap_ids(alloc, one, other, work),
         }
     }
 
+    // The positions of a RANGE of the queue.
+    fn span(&self, range: PositionRange) -> Result<Span, CommandRefusal>
+        ensures { result ≡ span_in range (queue_length self.now) }
+    {
+        span_in(range, self.queue_length())
+    }
+
+    // The positions of a RANGE of the queue, or all of them.
+    fn span_or_all(&self, range: Option<PositionRange>) -> Result<Span, CommandRefusal>
+        ensures { result ≡ span_or_all range (queue_length self.now) }
+    {
+        match range {
+            Some(range) => self.span(range),
+            None => Ok(Span {
+                start: 0,
+                end: self.queue_length(),
+            }),
+        }
+    }
+
+    // The position of the entry with an id.
+    fn place_of_id(&self, id: u32) -> Result<u32, CommandRefusal>
+        ensures place { result ≡ place_of_id id self.now }
+        ensures within { IfOk result (λ at. at < MAX_ENTRIES) }
+    {
+        match self.saved.queue().pos_of(id) {
+            Some(at) => Ok(at as u32),
+            None => Err(CommandRefusal::NoSuchSong),
+        }
+    }
+
+    #[tactic(auto, unfolding(crate::specs::Queue::queue_meaning))]
     fn clear_queue(&mut self, work: &mut Work) -> Result<(), Failure>
         requires { HasRoom command_room work.old }
-        ensures { Performs (queue_meaning Clear self.old) self.old self.new work.old work.new result }
+        ensures { Performs (queue_meaning commands.Clear self.old) self.old self.new work.old work.new result }
     {
-        let end = self.saved.queue().entries().len() as u32;
+        let end = self.queue_length();
         self.delete_entries(0, end, work)
+    }
+
+    #[tactic(auto, unfolding(crate::specs::Queue::queue_meaning))]
+    fn delete_range(&mut self, range: PositionRange, work: &mut Work) -> Result<(), Failure>
+        requires { HasRoom command_room work.old }
+        ensures { Performs (queue_meaning (commands.Delete range) self.old) self.old self.new work.old work.new result }
+    {
+        let span = self.span(range)?;
+        self.delete_entries(span.start, span.end, work)
+    }
+
+    #[tactic(auto, unfolding(crate::specs::Queue::queue_meaning))]
+    fn delete_id(&mut self, id: u32, work: &mut Work) -> Result<(), Failure>
+        requires { HasRoom command_room work.old }
+        ensures { Performs (queue_meaning (commands.DeleteId id) self.old) self.old self.new work.old work.new result }
+    {
+        let at = self.place_of_id(id)?;
+        self.delete_entries(at, at + 1, work)
+    }
+
+    #[tactic(auto, unfolding(crate::specs::Queue::queue_meaning))]
+    fn swap(&mut self, alloc: Global, one: u32, other: u32, work: &mut Work) -> Result<(), Failure>
+        requires { HasRoom command_room work.old }
+        ensures { Performs (queue_meaning (commands.Swap one other) self.old) self.old self.new work.old work.new result }
+    {
+        self.edit(alloc, Op::Queue(QueueOp::Swap { one, other }), work)
+    }
+
+    #[tactic(auto, unfolding(crate::specs::Queue::queue_meaning))]
+    fn swap_ids(
+        &mut self,
+        alloc: Global,
+        one: u32,
+        other: u32,
+        work: &mut Work,
+    ) -> Result<(), Failure>
+        requires { HasRoom command_room work.old }
+        ensures { Performs (queue_meaning (commands.SwapId one other) self.old) self.old self.new work.old work.new result }
+    {
+        let one = self.place_of_id(one)?;
+        let other = self.place_of_id(other)?;
+        self.edit(alloc, Op::Queue(QueueOp::Swap { one, other }), work)
+    }
+
+    #[tactic(auto, unfolding(crate::specs::Queue::queue_meaning))]
+    fn shuffle(
+        &mut self,
+        alloc: Global,
+        range: Option<PositionRange>,
+        work: &mut Work,
+    ) -> Result<(), Failure>
+        requires { HasRoom command_room work.old }
+        ensures { Performs (queue_meaning (commands.Shuffle range) self.old) self.old self.new work.old work.new result }
+    {
+        let span = self.span_or_all(range)?;
+        if span.count() < 2 {
+            return Ok(());
+        }
+        let op = QueueOp::Shuffle {
+            start: span.start,
+            end: span.end,
+        };
+        self.edit(alloc, Op::Queue(op), work)
     }
 }

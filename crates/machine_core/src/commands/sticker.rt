@@ -99,10 +99,7 @@ impl Machine {
         let Some(value) = StickerValue::read(alloc, value.as_str())? else {
             return Err(Failure::Refused(CommandRefusal::BadArgument(5)));
         };
-        let Ok(row) = self.saved.songs().get(uri.as_str()) else {
-            return Err(Failure::Refused(CommandRefusal::NoSuchUri));
-        };
-        let uri = row.as_uri().try_clone(alloc)?;
+        let uri = self.song_uri(alloc, uri.as_str())?;
         let Some(name) = op_name(alloc, name.as_str())? else {
             return Err(Failure::Refused(CommandRefusal::BadStickerName));
         };
@@ -123,10 +120,7 @@ impl Machine {
         requires { HasRoom command_room work.old }
         ensures { Performs (stickers_meaning (commands.Delete uri.entry None) self.old) self.old self.new work.old work.new result }
     {
-        let Ok(row) = self.saved.songs().get(uri.as_str()) else {
-            return Err(Failure::Refused(CommandRefusal::NoSuchUri));
-        };
-        let uri = row.as_uri().try_clone(alloc)?;
+        let uri = self.song_uri(alloc, uri.as_str())?;
         self.edit(alloc, Op::Sticker(StickerOp::DeleteAll { uri }), work)
     }
 
@@ -142,10 +136,7 @@ impl Machine {
         ensures { Performs (stickers_meaning (commands.Delete uri.entry (Some name.entry)) self.old)
             self.old self.new work.old work.new result }
     {
-        let Ok(row) = self.saved.songs().get(uri.as_str()) else {
-            return Err(Failure::Refused(CommandRefusal::NoSuchUri));
-        };
-        let uri = row.as_uri().try_clone(alloc)?;
+        let uri = self.song_uri(alloc, uri.as_str())?;
         let Some(name) = op_name(alloc, name.as_str())? else {
             return Err(Failure::Refused(CommandRefusal::BadStickerName));
         };

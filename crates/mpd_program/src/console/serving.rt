@@ -4,23 +4,26 @@ ghost use Rattle.std.specs.Io.KnownBytes.{Appends};
 ghost use Rattle.disk_model.specs.Later.{AreLater, HasFailed};
 ghost use Rattle.client_session.specs.Lines.{BeginsTooLong};
 ghost use Rattle.client_session.specs.Requests.{requests_of, rest_of};
-ghost use Rattle.mpd_program.specs.Console.{asked, asked_by, ComesInTurn};
-ghost use Rattle.mpd_program.specs.Serving.{ending_of, ServesAll, Stops, ServesInput, ServesClient};
+ghost use Rattle.mpd_program.specs.Console.{asked, asked_by, ComesInTurn, RunsNone};
+ghost use Rattle.mpd_program.specs.Serving.{ending_of, ServesAll, Stops, ServesInput, ServesClient, StepsTo};
 
 use super::Ending;
+use super::scanning::serve_job;
 use super::sending::{Unsent, send_outputs};
 use client_session::{Requests, Session};
+use command_text::Request;
 use daemon_core::Event;
 use disk_model::Disk;
 use live_stage::{Live, LiveError};
 use std::alloc::Global;
 use std::io::{Read, Write};
+use wave_pcm::Folder;
 
 // How many bytes are read at once, at most.
 const PIECE: usize = 8_192;
 
 // How a client's serving ends whose event was refused.
-fn ending_of(error: LiveError) -> Ending
+pub(super) fn ending_of(error: LiveError) -> Ending
     ensures { result ≡ ending_of error }
 {
     match error {
@@ -30,7 +33,7 @@ fn ending_of(error: LiveError) -> Ending
 }
 
 // Handles one event, and sends what it gives to the client.
-fn serve_event<D: Disk, W: Write>(
+pub(super) fn serve_event<D: Disk, W: Write>(
     alloc: Global,
     live: &mut Live<D>,
     session: &mut Session,
@@ -42,6 +45,7 @@ fn serve_event<D: Disk, W: Write>(
     requires sent { session.old.queued ≡ [] }
     requires turn { ComesInTurn live.old.state.machine.job event }
     ensures session { OnOk result (session.new ≡ session.old) }
+    ensures step { OnOk result (StepsTo event live.old.state live.new.state) }
     ensures served { OnOk result (ServesAll client (asked event) live.old.state live.new.state
         (W.contents writer.old) (W.contents writer.new)) }
     ensures stopped { IfErr result (λ e. Stops (D.honest live.old.a × D.honest live.old.b) client (asked event)
@@ -64,18 +68,51 @@ fn serve_event<D: Disk, W: Write>(
     if is_open { Ok(()) } else { Err(Ending::Whole) }
 }
 
+// Handles a request, and then reads for the job that it began, if it began one.
+fn serve_request<D: Disk, F: Folder, W: Write>(
+    alloc: Global,
+    live: &mut Live<D>,
+    session: &mut Session,
+    client: u64,
+    request: Request,
+    folder: &mut F,
+    writer: &mut W,
+) -> Result<(), Ending>
+    requires usable { live.old.is_broken ≡ false }
+    requires sent { session.old.queued ≡ [] }
+    requires idle { RunsNone live.old.state.machine.job }
+    ensures session { OnOk result (session.new ≡ session.old) }
+    ensures idle { OnOk result (RunsNone live.new.state.machine.job) }
+    ensures served { OnOk result (ServesAll client (asked (Event.Request client request)) live.old.state live.new.state
+        (W.contents writer.old) (W.contents writer.new)) }
+    ensures stopped { IfErr result (λ e. Stops (D.honest live.old.a × D.honest live.old.b) client
+        (asked (Event.Request client request)) live.old.state live.new.state (D.history live.new.a) (D.history live.new.b)
+        (W.contents writer.old) (W.contents writer.new) e) }
+    ensures usable { result ≢ Err Ending.Faulted → live.new.is_broken ≡ false }
+    ensures failed { D.honest live.old.a → D.honest live.old.b → result ≡ Err Ending.Faulted
+        → HasFailed D.faults live.old.a live.old.b live.new.a live.new.b }
+    ensures later { AreLater D.honest D.history D.faults live.old.a live.old.b live.new.a live.new.b }
+{
+    let event = Event::Request(client, request);
+    serve_event(alloc, live, session, client, event, writer)?;
+    serve_job(alloc, live, session, client, folder, writer)
+}
+
 // Handles requests one after the other. What is behind one that closes the client isn't served.
-fn serve_requests<D: Disk, W: Write>(
+fn serve_requests<D: Disk, F: Folder, W: Write>(
     alloc: Global,
     live: &mut Live<D>,
     session: &mut Session,
     client: u64,
     requests: Requests,
+    folder: &mut F,
     writer: &mut W,
 ) -> Result<(), Ending>
     requires usable { live.old.is_broken ≡ false }
     requires sent { session.old.queued ≡ [] }
+    requires idle { RunsNone live.old.state.machine.job }
     ensures session { OnOk result (session.new ≡ session.old) }
+    ensures idle { OnOk result (RunsNone live.new.state.machine.job) }
     ensures served { OnOk result (ServesAll client (asked_by client requests) live.old.state live.new.state
         (W.contents writer.old) (W.contents writer.new)) }
     ensures stopped { IfErr result (λ e. Stops (D.honest live.old.a × D.honest live.old.b) client (asked_by client requests)
@@ -86,31 +123,27 @@ fn serve_requests<D: Disk, W: Write>(
     ensures later { AreLater D.honest D.history D.faults live.old.a live.old.b live.new.a live.new.b }
 {
     for request in requests {
-        serve_event(
-            alloc,
-            live,
-            session,
-            client,
-            Event::Request(client, request),
-            writer,
-        )?;
+        serve_request(alloc, live, session, client, request, folder, writer)?;
     }
     Ok(())
 }
 
 // Serves what a piece of the input brings. An empty piece meets a line that is too long, which waits for the next one.
-fn serve_piece<D: Disk, W: Write>(
+fn serve_piece<D: Disk, F: Folder, W: Write>(
     alloc: Global,
     live: &mut Live<D>,
     session: &mut Session,
     client: u64,
     piece: &[u8],
+    folder: &mut F,
     writer: &mut W,
 ) -> Result<(), Ending>
     requires usable { live.old.is_broken ≡ false }
     requires sent { session.old.queued ≡ [] }
+    requires idle { RunsNone live.old.state.machine.job }
     ensures session { OnOk result (session.new ≡ record session.old { pending = rest_of (session.old.pending ++ piece.now) }) }
     ensures short { OnOk result (BeginsTooLong (session.old.pending ++ piece.now) → ⊥) }
+    ensures idle { OnOk result (RunsNone live.new.state.machine.job) }
     ensures served { OnOk result (ServesAll client (asked_by client (requests_of (session.old.pending ++ piece.now)))
         live.old.state live.new.state (W.contents writer.old) (W.contents writer.new)) }
     ensures stopped { IfErr result (λ e. Stops (D.honest live.old.a × D.honest live.old.b) client
@@ -125,21 +158,23 @@ fn serve_piece<D: Disk, W: Write>(
         Ok(requests) => requests,
         Err(_) => return Err(Ending::Cut),
     };
-    serve_requests(alloc, live, session, client, requests, writer)
+    serve_requests(alloc, live, session, client, requests, folder, writer)
 }
 
 // Serves pieces of the input until it ends, and then an empty one. The read 2^64 - 1 is taken for its end.
-fn serve_input<D: Disk, R: Read, W: Write>(
+fn serve_input<D: Disk, F: Folder, R: Read, W: Write>(
     alloc: Global,
     live: &mut Live<D>,
     session: &mut Session,
     client: u64,
+    folder: &mut F,
     reader: &mut R,
     writer: &mut W,
 ) -> Result<(), Ending>
     requires usable { live.old.is_broken ≡ false }
     requires sent { session.old.queued ≡ [] }
     requires fresh { session.old.pending ≡ [] }
+    requires idle { RunsNone live.old.state.machine.job }
     ensures served { ServesInput (D.honest live.old.a × D.honest live.old.b) client (R.remaining reader.old) (R.remaining reader.new)
         live.old.state live.new.state (D.history live.new.a) (D.history live.new.b) (W.contents writer.old) (W.contents writer.new) result }
     ensures usable { result ≢ Err Ending.Faulted → live.new.is_broken ≡ false }
@@ -154,25 +189,35 @@ fn serve_input<D: Disk, R: Read, W: Write>(
     let mut reads = 0u64;
     while reads < u64::MAX {
         let count = match reader.read(&mut buffer) {
-            Ok(0) => return serve_piece(alloc, live, session, client, &[], writer),
+            Ok(0) => return serve_piece(alloc, live, session, client, &[], folder, writer),
             Ok(count) => count,
             Err(_) => return Err(Ending::Cut),
         };
-        serve_piece(alloc, live, session, client, &buffer[..count], writer)?;
+        serve_piece(
+            alloc,
+            live,
+            session,
+            client,
+            &buffer[..count],
+            folder,
+            writer,
+        )?;
         reads += 1;
     }
-    serve_piece(alloc, live, session, client, &[], writer)
+    serve_piece(alloc, live, session, client, &[], folder, writer)
 }
 
 // Serves a client from its connect to the end of its input, or until it is closed.
-pub(super) fn serve_client<D: Disk, R: Read, W: Write>(
+pub(super) fn serve_client<D: Disk, F: Folder, R: Read, W: Write>(
     alloc: Global,
     live: &mut Live<D>,
     client: u64,
+    folder: &mut F,
     reader: &mut R,
     writer: &mut W,
 ) -> Ending
-    requires { live.old.is_broken ≡ false }
+    requires usable { live.old.is_broken ≡ false }
+    requires idle { RunsNone live.old.state.machine.job }
     ensures served { ServesClient (D.honest live.old.a × D.honest live.old.b) client (R.remaining reader.old) (R.remaining reader.new)
         live.old.state live.new.state (D.history live.new.a) (D.history live.new.b) (W.contents writer.old) (W.contents writer.new) result }
     ensures usable { result ≢ Ending.Faulted → live.new.is_broken ≡ false }
@@ -191,7 +236,7 @@ pub(super) fn serve_client<D: Disk, R: Read, W: Write>(
     ) {
         return ending;
     }
-    match serve_input(alloc, live, &mut session, client, reader, writer) {
+    match serve_input(alloc, live, &mut session, client, folder, reader, writer) {
         Ok(()) => Ending::Whole,
         Err(ending) => ending,
     }

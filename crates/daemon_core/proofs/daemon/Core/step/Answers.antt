@@ -1,5 +1,7 @@
-use Rattle.std.proofs.Common.{◌∙◌, subst}
+use Rattle.std.proofs.Common.{◌∙◌, ap, subst}
 use Rattle.daemon_core.specs.Handled.{Does}
+use Rattle.daemon_core.specs.Reported.{IsReported}
+use Rattle.daemon_core.specs.State.{State}
 use Rattle.daemon_core.specs.Step.{acted}
 use Rattle.daemon_core.proofs.StepLaws.{is_outcome, rebuilt_by, fits_by}
 use Rattle.daemon_core.proofs.daemon.Core.step.Goals as goal
@@ -15,7 +17,11 @@ returns-clause-ok c =
     c.in_ok-outputs.ensures.place
 
 pub returns-clause-rebuilt : goal.returns-clause-rebuilt
-returns-clause-rebuilt c = rebuilt_by c.ops_rebuild_the_state.ensures _ _ _ _ (returns-clause-ok c)
+returns-clause-rebuilt c = rebuilt_by c.ops_rebuild_the_state.ensures _ _ _ _
+    (subst (IsReported c.args.event) (c.take_room.ensures.machine ∙ ap (λ (s : State). s.machine) c.self.view_is) c.in_ok-outputs.ensures.reported)
+    (returns-clause-ok c)
 
 pub returns-clause-fits : goal.returns-clause-fits
-returns-clause-fits c = fits_by c.ops_rebuild_the_state.ensures _ _ _ _ (returns-clause-ok c)
+returns-clause-fits c = fits_by c.ops_rebuild_the_state.ensures _ _ _ _
+    (subst (IsReported c.args.event) (c.take_room.ensures.machine ∙ ap (λ (s : State). s.machine) c.self.view_is) c.in_ok-outputs.ensures.reported)
+    (returns-clause-ok c)

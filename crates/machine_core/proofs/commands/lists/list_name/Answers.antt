@@ -1,9 +1,14 @@
-use Rattle.std.proofs.Common.{sym, ◌∙◌}
+use Rattle.std.proofs.Common.{◌≡◌, true, sym, ◌∙◌}
 use Rattle.std.proofs.lemmas.Str.{is_utf8-from_IsUtf8}
-use Rattle.machine_core.proofs.EditCommands.{read_as_name}
+use Rattle.state_codec.specs.Text.{is_text}
+use Rattle.stored_lists.specs.Name.{is_good_name}
+use Rattle.machine_core.proofs.ListsNames.{name_is_text}
 use Rattle.machine_core.proofs.commands.lists.list_name.Goals as goal
 
-pub returns-then-is_good_name : goal.returns-then-is_good_name
-returns-then-is_good_name c =
-    read_as_name c.read.result c.args.name.now (sym c.is_good_name.ensures ∙ c.if-is_good_name.true)
-    (is_utf8-from_IsUtf8 c.args.name.now c.utf8.name) c.read.ensures
+pub unreachable-requires : goal.unreachable-requires
+unreachable-requires c =
+    let name = c.args.name.now in
+    let good : is_good_name name ≡ true = sym c.is_good_name.ensures ∙ c.if-not-is_good_name.false in
+    let text : is_text name ≡ true = name_is_text name good (is_utf8-from_IsUtf8 name c.utf8.name) in
+    let made = rw text at c.in_ok-text.ensures in
+    cc

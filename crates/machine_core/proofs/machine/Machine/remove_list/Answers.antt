@@ -1,11 +1,22 @@
-use Rattle.machine_core.proofs.EditCommands.{removed, bad_name_refused}
+use Rattle.std.proofs.Common.{[]}
+use Rattle.state_codec.specs.declared.op.Op.TheVariants.{List as OfLists}
+use Rattle.state_codec.specs.declared.op.list_op.ListOp.TheVariants.{Drop}
+use Rattle.machine_core.specs.Lists.{list_name, lists_meaning}
+use Rattle.machine_core.specs.Meaning.{edits}
+use Rattle.machine_core.proofs.Answering.{also}
+use Rattle.machine_core.proofs.LookUps.{found, not_found}
 use Rattle.machine_core.proofs.machine.Machine.remove_list.Goals as goal
 
-pub returns-in-Some : goal.returns-in-Some
-returns-in-Some c =
-    removed c.args.name.now c.in-Some.name c.in_ok-name.field-0 c.args.self.now c.edit.new.self c.args.work.now c.edit.new.work
-    c.edit.result c.in_ok-name.ensures c.in-Some.is c.edit.ensures
+pub returns-in_err-name : goal.returns-in_err-name
+unfolding lists_meaning
+returns-in_err-name c =
+    let m = c.args.self.now in
+    not_found (list_name c.args.name.now) (λ good. edits (OfLists (Drop good)) [] m) m c.args.work.now c.in_err-name.field-0.0
+    c.from_residual.result c.in_err-name.ensures c.from_residual.ensures.1
 
-pub returns-in-None : goal.returns-in-None
-returns-in-None c =
-    bad_name_refused c.args.name.now c.in_ok-name.field-0 c.args.self.now c.args.work.now c.in_ok-name.ensures c.in-None.is
+pub returns : goal.returns
+unfolding lists_meaning
+returns c =
+    let m = c.args.self.now in
+    also _ _ _ _ _ _ _
+    (found (list_name c.args.name.now) (λ good. edits (OfLists (Drop good)) [] m) c.in_ok-name.name c.in_ok-name.ensures) c.edit.ensures

@@ -1,6 +1,11 @@
 use Rattle.disk_model.proofs.LaterLaws.{pair_on}
 use Rattle.mpd_program.proofs.InputLaws.{stops_at_connect, ends_with_input, stops_in_input}
+use Rattle.mpd_program.proofs.JobLaws.{connect_leaves}
 use Rattle.mpd_program.proofs.console.serving.serve_client.Goals as goal
+
+pub serve_input-requires-clause-idle : goal.serve_input-requires-clause-idle
+serve_input-requires-clause-idle g c =
+    connect_leaves c.args.client c.args.live.now.state c.serve_event.new.live.state c.in_default.ensures.step c.requires.idle
 
 pub returns-in-Err-clause-served : goal.returns-in-Err-clause-served
 returns-in-Err-clause-served g c =

@@ -19,6 +19,7 @@ pub loop-reads-init : goal.loop-reads-init
 loop-reads-init g c = record {
   reads = reads_begin g.D.Disk.honest g.D.Disk.history g.D.Disk.faults c.args.client c.args.live.now c.args.session.now (g.R.Read.remaining c.args.reader.now) (g.W.Write.contents c.args.writer.now) c.requires.fresh c.requires.sent c.requires.usable;
   room = c.in-Ok.ensures.len;
+  idle = c.requires.idle;
 }
 
 pub returns-in-Ok-eq0-clause-served : goal.returns-in-Ok-eq0-clause-served
@@ -31,7 +32,7 @@ returns-in-Ok-eq0-clause-served g c =
     (g.W.Write.contents c.args.writer.now) (g.W.Write.contents c.loop-reads.writer) (g.W.Write.contents c.serve_piece.new.writer)
     (take c.in-Ok-eq0.field-0 c.read.new.buf) _ c.serve_piece.result
     bytes.0 (ap (λ (k : ℕ). take k c.read.new.buf) c.in-Ok-eq0.field-0-test) refl (inl (bytes.1 c.in-Ok-eq0.field-0-test room)) c.loop-reads.invariant.reads
-    (both _ _ c.serve_piece.result piece.served piece.short) piece.stopped
+    (both _ _ c.serve_piece.result piece.served (both _ _ c.serve_piece.result piece.short piece.idle)) piece.stopped
 
 pub returns-in-Err-read-clause-served : goal.returns-in-Err-read-clause-served
 returns-in-Err-read-clause-served g c =
@@ -45,7 +46,7 @@ returns-clause-served g c =
     (g.R.Read.remaining c.args.reader.now) (g.R.Read.remaining c.loop-reads.reader) (g.R.Read.remaining c.loop-reads.reader)
     (g.W.Write.contents c.args.writer.now) (g.W.Write.contents c.loop-reads.writer) (g.W.Write.contents c.serve_piece-2.new.writer)
     [] _ c.serve_piece-2.result (consumes_nothing _ _ (keeps_itself _)) refl refl (inr (omega arith)) c.loop-reads.invariant.reads
-    (both _ _ c.serve_piece-2.result piece.served piece.short) piece.stopped
+    (both _ _ c.serve_piece-2.result piece.served (both _ _ c.serve_piece-2.result piece.short piece.idle)) piece.stopped
 
 pub loop-reads-preserved : goal.loop-reads-preserved
 loop-reads-preserved g c =
@@ -61,6 +62,7 @@ loop-reads-preserved g c =
           taken some c.loop-reads.invariant.reads done.session done.served (done.usable (λ is. cc))
           done.later;
       room = c.loop-reads.invariant.room;
+      idle = done.idle;
     }
 
 pub returns-in_err-serve_piece-clause-served : goal.returns-in_err-serve_piece-clause-served

@@ -1,0 +1,27 @@
+-- What holds of the ops of an event of the player or of a scan.
+use Rattle.std.specs.Prelude.{◌≡◌, ◌≤◌, length, Some}
+use Rattle.machine_core.specs.Happening.{Happening}
+use Rattle.machine_core.specs.Reports.{when_fed, when_ended, when_broken}
+use Rattle.machine_core.specs.Scanning.{when_found, when_scanned}
+use Rattle.machine_core.specs.Size.{max_request_bytes}
+use Rattle.machine_core.specs.State.{MachineState}
+use Rattle.state_codec.specs.Applied.{all_applied}
+use Rattle.state_codec.specs.Spelling.{ops_bytes}
+use Rattle.daemon_core.specs.declared.event.Event.{Event}
+use Rattle.daemon_core.specs.declared.event.Event.TheVariants as events
+
+-- they rebuild the saved half, and fit into one record
+pub record IsRebuilt (m : MachineState) (h : Happening) : Type 0 where
+  pub state : all_applied h.ops m.saved ≡ Some h.after.saved
+  pub fits : length (ops_bytes h.ops) ≤ max_request_bytes
+
+-- nothing is said here of clients and their requests
+abbrev pub IsReported : Event → MachineState → Type 0
+IsReported (events.Connect c) m = Unit {0}
+IsReported (events.Request c request) m = Unit {0}
+IsReported (events.Gone c) m = Unit {0}
+IsReported (events.Fed ticket frames) m = IsRebuilt m (when_fed ticket frames m)
+IsReported (events.Ended ticket) m = IsRebuilt m (when_ended ticket m)
+IsReported (events.Broken ticket cause) m = IsRebuilt m (when_broken ticket cause m)
+IsReported (events.Batch job changes) m = IsRebuilt m (when_found job changes m)
+IsReported (events.ScanDone job) m = IsRebuilt m (when_scanned job m)

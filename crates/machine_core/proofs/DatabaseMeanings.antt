@@ -1,0 +1,79 @@
+-- What the commands of the database mean, case by case.
+use Rattle.std.proofs.Common.{◌≡◌, ℕ, Bool, true, false, List, [], length, ◌++◌, ◌||◌, codes, Bor, Option, Err}
+use Rattle.std.proofs.Common.{refl, sym, ap, subst, ◌∙◌}
+use Rattle.std.specs.Str.{bytes_eq}
+use Rattle.command_text.specs.AnswerNames.{database_lines}
+use Rattle.command_text.specs.AnswerStatus.{job_line}
+use Rattle.command_text.specs.declared.command.database.DatabaseCommand.TheVariants.{Update}
+use Rattle.command_text.specs.declared.refusal.CommandRefusal.TheVariants.{AlreadyUpdating}
+use Rattle.song_db.specs.Duration.{total_of}
+use Rattle.song_db.specs.Place.{place_of}
+use Rattle.song_db.specs.Query.{values_of}
+use Rattle.song_db.specs.Row.{Row}
+use Rattle.wave_pcm.specs.declared.tags.Tag.TheVariants.{Artist, Album}
+use Rattle.machine_core.specs.Database.{all_below, begun, database_meaning, next_job, statistics}
+use Rattle.machine_core.specs.Lent.{lent}
+use Rattle.machine_core.specs.Meaning.{Meaning, Meant, begins, says}
+use Rattle.machine_core.specs.State.{MachineState}
+use Rattle.machine_core.specs.Work.{AddsOps, Performs, Went}
+use Rattle.machine_core.specs.declared.answer_database.Detail.{Detail}
+use Rattle.machine_core.specs.declared.job.Job.{Job}
+use Rattle.machine_core.specs.declared.work.Failure.TheVariants.{Refused}
+use Rattle.machine_core.specs.declared.work.Work.{Work}
+use Rattle.machine_core.proofs.Answering.{is_refused}
+
+-- where the text of a place lies in memory is nothing to what is found by it
+pub same_all_below : (detail : Detail) (path : Bor (List ℕ)) (songs : List Row)
+    → all_below detail songs (place_of (lent path.now)) ≡ all_below detail songs (place_of path)
+same_all_below detail path songs = by_cases (bytes_eq path.now [] || bytes_eq path.now (codes "/")) refl where
+  by_cases : (b : Bool) → (bytes_eq path.now [] || bytes_eq path.now (codes "/")) ≡ b
+      → all_below detail songs (place_of (lent path.now)) ≡ all_below detail songs (place_of path)
+  by_cases true is = rw is
+  by_cases false is = rw is
+
+-- a job runs already
+pub runs_already : (place : Option (List ℕ)) (m : MachineState) (w : Work) → m.job.runs ≡ true
+    → Performs {T = Unit {0}} (database_meaning (Update place) m) m m w w (Err (Refused AlreadyUpdating))
+unfolding database_meaning
+runs_already place m w runs = is_refused AlreadyUpdating _ m w (rw runs)
+
+pub update_begins : (place : Option (List ℕ)) (m : MachineState) → m.job.runs ≡ false
+    → database_meaning (Update place) m ≡ begins (begun (next_job m.job.number) place) (job_line (next_job m.job.number)) m
+unfolding database_meaning
+update_begins place m free = rw free
+
+-- a job whose lines were told begins
+pub begins_told : (job : Job) (lines : List ℕ) (m : MachineState) (w y : Work) → Went (says lines m) m w y
+    → Went (begins job lines m) (record m { job = job }) w y
+begins_told job lines m w y g = record {
+  meaning = record { text = lines; ops = []; after = record m { job = job } };
+  means = refl;
+  stands = refl;
+  text = g.text ∙ ap (λ (x : Meaning). w.text.items ++ x.text) (sym is);
+  ops = subst (λ (x : Meaning). AddsOps x.ops w y) (sym is) g.ops;
+  room = g.room;
+}
+  where
+    is : record { text = lines; ops = []; after = m } ≡ g.meaning
+    is = cc
+
+-- so it is of the next job, told of a machine by another name
+pub job_began : (place : Option (List ℕ)) (number : ℕ) (m n : MachineState) (w y : Work) (job : Job) → n ≡ m
+    → number ≡ next_job n.job.number → n.job.runs ≡ false → job ≡ begun number place → Went (says (job_line number) m) m w y
+    → Went (database_meaning (Update place) m) (record n { job = job }) w y
+job_began place number m n w y job same is free began told =
+    let next : number ≡ next_job m.job.number = is ∙ ap (λ (k : MachineState). next_job k.job.number) same in
+    let runs : m.job.runs ≡ false = sym (ap (λ (k : MachineState). k.job.runs) same) ∙ free in
+    let means : begins job (job_line number) m ≡ database_meaning (Update place) m =
+    ap (λ (j : Job). begins j (job_line number) m) began ∙ ap (λ k. begins (begun k place) (job_line k) m) next
+    ∙ sym (update_begins place m runs) in
+    subst (λ (k : Meant). Went k (record n { job = job }) w y) means
+    (subst (λ (k : MachineState). Went (begins job (job_line number) m) (record k { job = job }) w y) (sym same)
+    (begins_told job (job_line number) m w y told))
+
+-- what was counted of the songs
+pub counted : (songs all : List Row) (artists albums count total : ℕ) → songs ≡ all → artists ≡ length (values_of songs Artist)
+    → albums ≡ length (values_of songs Album) → count ≡ length songs → total ≡ total_of songs
+    → database_lines artists albums count total ≡ statistics all
+counted songs all artists albums count total same a b n t =
+    (λ i. database_lines (a i) (b i) (n i) (t i)) ∙ ap statistics same

@@ -1,0 +1,114 @@
+-- Writers that look at songs between their lines.
+use Rattle.std.proofs.Common.{◌≡◌, ℕ, List, [], ◌++◌, length, take, Result, Ok, Err, IsErr}
+use Rattle.std.proofs.Common.{◌∙◌, ap, sym, refl, subst, append_assoc, arith, length-append}
+use Rattle.std.proofs.lemmas.Bool.{false≢true}
+use Rattle.std.proofs.lemmas.List.{append-nil, take-take}
+use Rattle.std.proofs.Math.Seq.{take-length, take-append_seam}
+use Rattle.std.specs.Global.{Vec}
+use Rattle.std.specs.Vec.{vec_len}
+use Rattle.command_text.specs.Answer.{Adds}
+use Rattle.no_memory.specs.declared.NoMemory.{NoMemory as WantOfMemory}
+use Rattle.machine_core.specs.Finding.{Writes}
+use Rattle.machine_core.specs.Meaning.{Meant, says}
+use Rattle.machine_core.specs.State.{MachineState}
+use Rattle.machine_core.specs.Work.{Keeps, Performs}
+use Rattle.machine_core.specs.declared.work.Failure.{Failure}
+use Rattle.machine_core.specs.declared.work.Failure.TheVariants.{Refused, NoMemory}
+use Rattle.machine_core.specs.declared.work.Work.{Work}
+use Rattle.machine_core.proofs.Answering.{reads}
+
+-- one that looks at none
+pub of_adds : {A E : Type 0} (lines : List ℕ) (r : Result A E) (o n : Vec ℕ) → Adds lines r o n → Writes lines r o n
+of_adds lines (Ok x) o n h = record { all = h.all; front = tt; room = h.room }
+of_adds lines (Err e) o n h = record {
+  all = tt;
+  front = ap (take (length o.items)) h.front.stands ∙ take-append_seam o.items h.front.added;
+  room = h.room;
+}
+
+-- the same lines in other words
+pub writes_same : {A E : Type 0} (a b : List ℕ) (r : Result A E) (o n : Vec ℕ) → Writes a r o n → a ≡ b → Writes b r o n
+writes_same a b r o n h e = subst (λ (l : List ℕ). Writes l r o n) e h
+
+pub writes_none : {A E : Type 0} (x : A) (o : Vec ℕ) → Writes {A = A} {E = E} [] (Ok x) o o
+writes_none x o = record { all = sym (append-nil o.items); front = tt; room = omega arith }
+
+-- a look that found no memory
+pub writes_no_more : {A E : Type 0} (lines : List ℕ) (r : Result A E) (o : Vec ℕ) → IsErr r → Writes lines r o o
+writes_no_more lines (Ok x) o failed = absurd (false≢true failed)
+writes_no_more lines (Err e) o failed = record { all = tt; front = take-length o.items; room = omega arith }
+
+-- what stands in front of more stands in front of less
+shorter_front : (old more new : List ℕ) → take (length (old ++ more)) new ≡ old ++ more → take (length old) new ≡ old
+shorter_front old more new same = whole ∙ take-append_seam old more
+  where
+    whole : take (length old) new ≡ take (length old) (old ++ more)
+    whole = sym (take-take (length old) (length (old ++ more)) new (omega (arith, length-append old more))) ∙ ap (take (length old)) same
+
+pub writes_then : {A B E D : Type 0} (a b : List ℕ) (x : A) (r : Result B D) (o m n : Vec ℕ) → Writes {A = A} {E = E} a (Ok x) o m
+    → Writes b r m n → Writes (a ++ b) r o n
+writes_then a b x (Ok y) o m n h k = record {
+  all = k.all ∙ ap (λ (l : List ℕ). l ++ b) h.all ∙ append_assoc o.items a b;
+  front = tt;
+  room = omega (arith, h.room, k.room);
+}
+writes_then a b x (Err e) o m n h k = record {
+  all = tt;
+  front = shorter_front o.items a n.items (rw h.all at k.front);
+  room = omega (arith, h.room, k.room);
+}
+
+pub writes_stop : {A B E D : Type 0} (a b : List ℕ) (e : E) (r : Result B D) (o n : Vec ℕ) → Writes {A = A} {E = E} a (Err e) o n → IsErr r
+    → Writes (a ++ b) r o n
+writes_stop a b e (Ok x) o n h failed = absurd (false≢true failed)
+writes_stop a b e (Err d) o n h failed = record { all = tt; front = h.front; room = h.room }
+
+-- What a loop has left to do: whatever writes the lines that are left makes all of them.
+abbrev pub Remains : List ℕ → List ℕ → Vec ℕ → Vec ℕ → Type 0
+Remains all left before now =
+    (result : Result (Unit {0}) WantOfMemory) (after : Vec ℕ) → Writes left result now after → Writes all result before after
+
+pub all_remains : (all : List ℕ) (out : Vec ℕ) → Remains all all out out
+all_remains all out result after h = h
+
+pub same_remains : (all left other : List ℕ) (before now : Vec ℕ) → left ≡ other → Remains all left before now
+    → Remains all other before now
+same_remains all left other before now same h result after k = h result after (rw same k)
+
+pub less_remains : (all more left : List ℕ) (before now after : Vec ℕ) (u : Unit {0}) → Remains all (more ++ left) before now
+    → Writes {A = Unit {0}} {E = WantOfMemory} more (Ok u) now after → Remains all left before after
+less_remains all more left before now after u h a result last k = h result last (writes_then more left u result now after last a k)
+
+pub none_remains : (all left : List ℕ) (before now : Vec ℕ) (u : Unit {0}) → left ≡ [] → Remains all left before now
+    → Writes {A = Unit {0}} {E = WantOfMemory} all (Ok u) before now
+none_remains all left before now u none h = h (Ok u) now (rw none (writes_none u now))
+
+-- a writer that was refused ends the loop, and so does a look
+pub stopped_writing : {B : Type 0} (all more left : List ℕ) (before now after : Vec ℕ) (e : WantOfMemory)
+    (result : Result (Unit {0}) WantOfMemory) → Remains all (more ++ left) before now
+    → Writes {A = B} {E = WantOfMemory} more (Err e) now after → IsErr result → Writes all result before after
+stopped_writing all more left before now after e result h a failed =
+    h result after (writes_stop more left e result now after a failed)
+
+pub stopped_looking : (all left : List ℕ) (before now : Vec ℕ) (result : Result (Unit {0}) WantOfMemory) → Remains all left before now
+    → IsErr result → Writes all result before now
+stopped_looking all left before now result h failed = h result now (writes_no_more left result now failed)
+
+-- a command that means lines which such a writer wrote, and which were kept or cut off
+pub finds : (meant : Meant) (lines : List ℕ) (m : MachineState) (mark : ℕ) (w x y : Work) (written : Result (Unit {0}) WantOfMemory)
+    (result : Result (Unit {0}) Failure) → meant ≡ says lines m → mark ≡ vec_len w.text → x.ops.items ≡ w.ops.items → x.size ≡ w.size
+    → Writes lines written w.text x.text → Keeps mark written x y result → Performs meant m m w y result
+finds meant lines m mark w x y (Ok u) result means at ops size a k =
+    reads meant lines m m mark w x y (Ok u) result means refl at ops size (record { all = a.all; front = tt; full = tt; room = a.room }) k
+finds meant lines m mark w x y (Err e) (Ok u) means at ops size a k = absurd (false≢true k.kept.0)
+finds meant lines m mark w x y (Err e) (Err (Refused refusal)) means at ops size a k = absurd (cc k.memory)
+finds meant lines m mark w x y (Err e) (Err NoMemory) means at ops size a k = record {
+  state = refl;
+  nothing = record {
+    text = k.cut ∙ ap (λ n. take n x.text.items) (let h : mark ≡ length w.text.items = omega (arith, at, w.text.ok.0) in h) ∙ a.front;
+    room = omega (arith, a.room, k.room);
+    ops = k.ops ∙ ops;
+    size = k.size ∙ size;
+  };
+  refusal = tt;
+}

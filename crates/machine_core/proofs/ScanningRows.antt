@@ -1,0 +1,153 @@
+-- What one change of a batch does at its turn, and which changes tell something.
+use Rattle.std.proofs.Common.{◌≡◌, ℕ, ◌+◌, ◌-◌, ◌<◌, ◌≤◌, Bool, true, false, cond, ◌||◌, List, [], ◌∷◌, ◌++◌, length, take, get_or, nat_lt}
+use Rattle.std.proofs.Common.{Option, Some, None, is_some, refl, sym, ap, ◌∙◌, arith, append_assoc, if◌then◌else◌}
+use Rattle.std.proofs.lemmas.List.{append-nil, take_more}
+use Rattle.std.specs.List.{list_any}
+use Rattle.std.specs.Str.{bytes_eq}
+use Rattle.song_db.specs.Change.{IsDatabase, after_change, after_batch, uri_of}
+use Rattle.song_db.specs.Effect.{effect_of, effects_of, put_effect, drop_effect, changes_a_row, is_left_out}
+use Rattle.song_db.specs.Limits.{MAX_ROWS}
+use Rattle.song_db.specs.Row.{Row, row_at}
+use Rattle.song_db.specs.Same.{same_row}
+use Rattle.song_db.specs.declared.change.RowChange.{RowChange}
+use Rattle.song_db.specs.declared.change.RowChange.TheVariants.{Put, Drop}
+use Rattle.song_db.specs.declared.effect.Effect.{Effect}
+use Rattle.song_db.specs.declared.effect.Effect.TheVariants.{Nothing, Came, Replaced, Went, LeftOut}
+use Rattle.state_codec.proofs.BatchRows.{row_left as row_of_change, row_after, length_after, database_batch, batch_more, fit_more}
+use Rattle.state_codec.proofs.BatchSteps.{fit_at}
+use Rattle.state_codec.proofs.Unchanged.{none_changed}
+use Rattle.machine_core.specs.Scanning.{telling}
+use Rattle.machine_core.specs.ScanningRows.{AreTold, count_told, row_left}
+
+-- what changes a row isn't left out
+changes_fits : (e : Effect) → changes_a_row e ≡ true → is_left_out e ≡ false
+changes_fits Nothing h = refl
+changes_fits Came h = refl
+changes_fits (Replaced old) h = refl
+changes_fits (Went old) h = refl
+changes_fits (LeftOut row) h = absurd (cc)
+
+-- those that tell something are no more than all
+pub telling_few : (rows : List Row) (changes : List RowChange) → length (telling rows changes) ≤ length changes
+telling_few rows [] = omega arith
+telling_few rows (change ∷ changes) =
+    of (changes_a_row (effect_of rows change)) (telling_few (after_change rows change) changes)
+  where
+    of : (b : Bool) → length (telling (after_change rows change) changes) ≤ length changes
+        → length (if b then change ∷ telling (after_change rows change) changes else telling (after_change rows change) changes)
+        ≤ length (change ∷ changes)
+    of true few = omega (arith, few)
+    of false few = omega (arith, few)
+
+-- a count tells whether a change changes a row
+count_put : (rows : List Row) (row : Row) (n : ℕ) (o : Option Row)
+    → (is_left_out (put_effect rows row o) ≡ false → n + cond (is_some o) 1 0 ≡ 1 + length rows)
+    → count_told (length rows) (Put row) o ≡ (if changes_a_row (put_effect rows row o) then Some n else None)
+count_put rows row n (Some old) long = of (same_row old row) long
+  where
+    of : (b : Bool) → (is_left_out (cond b Nothing (Replaced old)) ≡ false → n + 1 ≡ 1 + length rows)
+        → cond b None (Some (length rows)) ≡ (if changes_a_row (cond b Nothing (Replaced old)) then Some n else None)
+    of true long = refl
+    of false long = let same : n + 1 ≡ 1 + length rows = long refl in let few : length rows ≡ n = omega arith in ap Some few
+count_put rows row n None long = of (nat_lt (length rows) MAX_ROWS) long
+  where
+    of : (b : Bool) → (is_left_out (cond b Came (LeftOut row)) ≡ false → n + 0 ≡ 1 + length rows)
+        → cond b (Some (length rows + 1)) None ≡ (if changes_a_row (cond b Came (LeftOut row)) then Some n else None)
+    of true long = let same : n + 0 ≡ 1 + length rows = long refl in let few : length rows + 1 ≡ n = omega arith in ap Some few
+    of false long = refl
+
+count_drop : (rows : List Row) (uri : List ℕ) (n : ℕ) (o : Option Row)
+    → (is_left_out (drop_effect o) ≡ false → n + cond (is_some o) 1 0 ≡ 0 + length rows)
+    → count_told (length rows) (Drop uri) o ≡ (if changes_a_row (drop_effect o) then Some n else None)
+count_drop rows uri n (Some old) long =
+    let same : n + 1 ≡ 0 + length rows = long refl in let few : length rows - 1 ≡ n = omega arith in ap Some few
+count_drop rows uri n None long = refl
+
+count_step : (rows : List Row) (change : RowChange) → IsDatabase rows
+    → count_told (length rows) change (row_at rows (uri_of change))
+    ≡ (if changes_a_row (effect_of rows change) then Some (length (after_change rows change)) else None)
+count_step rows (Put row) database =
+    count_put rows row (length (after_change rows (Put row))) (row_at rows row.uri) (length_after rows (Put row) database)
+count_step rows (Drop uri) database =
+    count_drop rows uri (length (after_change rows (Drop uri))) (row_at rows uri) (length_after rows (Drop uri) database)
+
+-- no change more
+pub kept_none : (rows : List Row) (told : List RowChange) (change : RowChange) (count : ℕ) (row : Option Row) → IsDatabase rows
+    → AreTold rows told count → row ≡ row_at (after_batch rows told) (uri_of change) → count_told count change row ≡ None
+    → told ≡ told ++ telling (after_batch rows told) (change ∷ [])
+kept_none rows told change count row database all is none =
+    let after : List Row = after_batch rows told in
+    let step = count_step after change (database_batch rows told database) in
+    let here : count_told (length after) change (row_at after (uri_of change)) ≡ None =
+    sym (λ i. count_told (all.count i) change (is i)) ∙ none in
+    let no : changes_a_row (effect_of after change) ≡ false = of (changes_a_row (effect_of after change)) _ (sym step ∙ here) in
+    rw no (sym (append-nil told))
+  where
+    of : (b : Bool) (n : ℕ) → (if b then Some n else None) ≡ None → b ≡ false
+    of true n h = absurd (cc)
+    of false n h = refl
+
+-- one change more
+pub kept_one : (rows : List Row) (told : List RowChange) (change : RowChange) (count next : ℕ) (row : Option Row) → IsDatabase rows
+    → AreTold rows told count → row ≡ row_at (after_batch rows told) (uri_of change) → count_told count change row ≡ Some next
+    → AreTold rows (told ++ change ∷ []) next × (told ++ change ∷ [] ≡ told ++ telling (after_batch rows told) (change ∷ []))
+kept_one rows told change count next row database all is some =
+    let after : List Row = after_batch rows told in
+    let step = count_step after change (database_batch rows told database) in
+    let here : count_told (length after) change (row_at after (uri_of change)) ≡ Some next =
+    sym (λ i. count_told (all.count i) change (is i)) ∙ some in
+    let told_so = of (changes_a_row (effect_of after change)) _ (sym step ∙ here) in (
+      record {
+        fit = fit_more rows told change
+            ∙ (λ i. all.fit i || changes_fits (effect_of after change) told_so.0 i);
+        count = sym told_so.1 ∙ ap length (sym (batch_more rows told (change ∷ [])));
+      },
+      rw told_so.0 refl,
+    )
+  where
+    of : (b : Bool) (n : ℕ) → (if b then Some n else None) ≡ Some next → (b ≡ true) × (n ≡ next)
+    of true n h = (refl, cc)
+    of false n h = absurd (cc)
+
+-- a change that is kept or not, with those behind it
+pub tell_on : (rows : List Row) (told rest more : List RowChange) (change : RowChange) → IsDatabase rows
+    → more ≡ told ++ telling (after_batch rows told) (change ∷ [])
+    → more ++ telling (after_batch rows more) rest ≡ told ++ telling (after_batch rows told) (change ∷ rest)
+tell_on rows told rest more change database is =
+    by_cases (changes_a_row (effect_of after change)) refl
+    (is ∙ ap (λ c. told ++ c) (one (changes_a_row (effect_of after change)) refl))
+  where
+    after : List Row
+    after = after_batch rows told
+
+    one : (b : Bool) → changes_a_row (effect_of after change) ≡ b → telling after (change ∷ []) ≡ (if b then change ∷ [] else [])
+    one b h = rw h refl
+
+    by_cases : (b : Bool) → changes_a_row (effect_of after change) ≡ b → more ≡ told ++ (if b then change ∷ [] else [])
+        → more ++ telling (after_batch rows more) rest
+        ≡ told ++ (if b then change ∷ telling (after_change after change) rest else telling (after_change after change) rest)
+    by_cases true h e =
+        (λ i. e i ++ telling (after_batch rows (e i)) rest)
+        ∙ ap (λ rs. (told ++ change ∷ []) ++ telling rs rest) (batch_more rows told (change ∷ []))
+        ∙ append_assoc told (change ∷ []) (telling (after_change after change) rest)
+    by_cases false h e =
+        (λ i. (e ∙ append-nil told) i ++ telling (after_batch rows ((e ∙ append-nil told) i)) rest)
+        ∙ ap (λ rs. told ++ telling rs rest) (sym (none_changed after change (database_batch rows told database) h))
+
+-- the row of a URI behind one change more
+pub row_step : (rows : List Row) (told : List RowChange) (i : ℕ) (change : RowChange) (uri : List ℕ) → IsDatabase rows
+    → list_any is_left_out (effects_of rows told) ≡ false → i < length told → change ≡ get_or told i change
+    → row_at (after_batch rows (take (i + 1) told)) uri
+    ≡ cond (bytes_eq uri (uri_of change)) (row_left change) (row_at (after_batch rows (take i told)) uri)
+row_step rows told i change uri database fit within is =
+    let before : List Row = after_batch rows (take i told) in
+    let more : take (i + 1) told ≡ take i told ++ change ∷ [] =
+    take_more told i change within ∙ ap (λ c. take i told ++ c ∷ []) (sym is) in
+    ap (λ cs. row_at (after_batch rows cs) uri) more
+    ∙ ap (λ rs. row_at rs uri) (batch_more rows (take i told) (change ∷ []))
+    ∙ row_after before change uri (database_batch rows (take i told) database) (fit_at rows told i change fit within is).1
+    ∙ ap (λ o. cond (bytes_eq uri (uri_of change)) o (row_at before uri)) (left change)
+  where
+    left : (c : RowChange) → row_of_change c ≡ row_left c
+    left (Put row) = refl
+    left (Drop key) = refl

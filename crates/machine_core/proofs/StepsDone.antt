@@ -1,0 +1,33 @@
+-- From the parts of a step that was made to what it means.
+use Rattle.std.proofs.Common.{◌≡◌, ◌+◌, ◌≤◌, ◌++◌, length, refl, sym, subst, ap, ◌∙◌}
+use Rattle.std.specs.Prelude.{Result, Ok, Err, IfOk}
+use Rattle.std.proofs.lemmas.List.{append-nil}
+use Rattle.player_core.specs.Player.{Step}
+use Rattle.player_core.specs.Refusal.{AnswersIfMemory, refusal_of}
+use Rattle.player_core.specs.declared.changes.Changes.{Changes}
+use Rattle.player_core.specs.declared.refusal.PlayerError.{PlayerError}
+use Rattle.state_codec.specs.Spelling.{ops_bytes}
+use Rattle.std.specs.Vec.{vec_len, vec_capacity}
+use Rattle.machine_core.specs.Steps.{step_ops, steps, moves}
+use Rattle.machine_core.specs.State.{MachineState}
+use Rattle.machine_core.specs.Work.{AddsNothing, AddsOps, HasRoom, Went, command_room}
+use Rattle.machine_core.specs.declared.work.Work.{Work}
+
+-- a step was made, and its ops were added
+pub made_went : (s : Result Step PlayerError) (m n : MachineState) (w a d : Work) (changes : Changes) →
+    AnswersIfMemory {T = Changes} (refusal_of s) (Ok changes) →
+    IfOk s (λ (made : Step). (changes ≡ made.changes) × (n ≡ (steps made m).after)) →
+    AddsNothing w a → a.text ≡ w.text → AddsOps (step_ops changes) a d → d.text ≡ a.text → HasRoom command_room w → Went (moves s m) n w d
+made_went (Err e) m n w a d changes answer is nothing same ops text room = absurd (cc)
+made_went (Ok made) m n w a d changes answer is nothing same ops text room = record {
+  meaning = steps made m;
+  means = refl;
+  stands = is.1;
+  text = ap (λ t. t.items) (text ∙ same) ∙ sym (append-nil w.text.items);
+  ops = record {
+    ops = ops.ops ∙ (λ i. nothing.ops i ++ step_ops (is.0 i));
+    size = ops.size ∙ (λ i. nothing.size i + length (ops_bytes (step_ops (is.0 i))));
+    fits = ops.fits;
+  };
+  room = subst (λ t. vec_len t + command_room ≤ vec_capacity t) (sym (text ∙ same)) room;
+}

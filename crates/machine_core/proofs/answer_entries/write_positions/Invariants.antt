@@ -1,0 +1,7 @@
+use Rattle.std.proofs.Common.{drop}
+use Rattle.machine_core.specs.Entries.{position_info}
+use Rattle.machine_core.proofs.Lines.{Leaves}
+use Rattle.machine_core.proofs.answer_entries.write_positions.Given as goal
+
+abbrev pub invariant-loop-position : goal.invariant-loop-position
+invariant-loop-position l = Leaves (position_info l.saved) l.positions (drop l.position-index l.positions) l.fn.out l.out

@@ -1,0 +1,28 @@
+use Rattle.std.proofs.Common.{map, drop, ◌+◌, arith}
+use Rattle.command_text.specs.AnswerSongs.{song_lines}
+use Rattle.machine_core.proofs.Lines.{leaves_fewer, leaves_none, leaves_off, next_left, none_left}
+use Rattle.machine_core.proofs.commands.finding.writing.write_rows.Goals as goal
+
+pub loop-row-preserved : goal.loop-row-preserved
+loop-row-preserved c =
+    let rows = c.args.rows.now in
+    let at = c.loop-row in
+    leaves_fewer song_lines (map (λ row. row.now) rows) c.row-item.result.now (map (λ row. row.now) (drop
+    (at.row-index + 1) rows)) _ _ _ _
+    (rw (next_left (λ row. row.now) rows at.row-index c.row-item.result
+    (omega arith) c.row-item.is) at at.invariant) c.in_ok-write_song.ensures
+
+pub returns-in_err-write_song : goal.returns-in_err-write_song
+returns-in_err-write_song c =
+    let rows = c.args.rows.now in
+    let at = c.loop-row in
+    leaves_off song_lines (map (λ row. row.now) rows) c.row-item.result.now (map (λ row. row.now) (drop
+    (at.row-index + 1) rows)) _ _ _ _ _
+    (rw (next_left (λ row. row.now) rows at.row-index c.row-item.result (omega arith) c.row-item.is) at at.invariant)
+    c.in_err-write_song.ensures c.from_residual.ensures.0
+
+pub returns : goal.returns
+returns c =
+    let rows = c.args.rows.now in
+    leaves_none song_lines (map (λ row. row.now) rows) _ _ _
+    (rw (none_left (λ row. row.now) rows c.loop-row.row-index (omega arith)) at c.loop-row.invariant)

@@ -1,0 +1,20 @@
+use Rattle.std.proofs.Common.{List, refl, ap, ◌∙◌}
+use Rattle.command_text.proofs.Adding.{adds_same}
+use Rattle.song_db.specs.Query.{values_of}
+use Rattle.song_db.specs.Row.{Row}
+use Rattle.std.specs.Option.{option_copied}
+use Rattle.machine_core.specs.Finding.{chosen, value_lines}
+use Rattle.machine_core.specs.State.{MachineState}
+use Rattle.machine_core.proofs.Answering.{reads}
+use Rattle.machine_core.proofs.FindingMeanings.{values_mean}
+use Rattle.machine_core.proofs.machine.Machine.list_values.Goals as goal
+
+pub returns : goal.returns
+returns c =
+    let m = c.args.self.now in
+    let tag = c.args.tag in
+    let tree = option_copied c.args.filter in
+    let songs = c.songs.ensures ∙ ap (λ (n : MachineState). n.saved.songs) c.self.view_is in
+    reads _ _ m m _ c.args.work.now _ c.keep.new.self _ _ (values_mean m tag tree) refl c.len-mark.ensures refl refl
+    (adds_same _ _ _ _ _ c.write_values-written.ensures (ap (value_lines tag) (c.in_ok-values.ensures
+    ∙ ap (λ (rows : List Row). values_of (chosen tree rows) tag) songs))) c.keep.ensures

@@ -1,0 +1,43 @@
+-- What the output's reports mean: that frames were played, that a song has ended, that one could not be played on.
+use Rattle.std.specs.Prelude.{ℕ, [], Option, Some, None}
+use Rattle.play_queue.specs.declared.entry.Entry.{Entry}
+use Rattle.player_core.specs.Ending.{ended}
+use Rattle.player_core.specs.Order.{current_entry}
+use Rattle.player_core.specs.Player.{PlayerState}
+use Rattle.player_core.specs.Reports.{fed, broken}
+use Rattle.player_core.specs.declared.failure.BrokenCause.{BrokenCause}
+use Rattle.song_db.specs.Row.{Row}
+use Rattle.machine_core.specs.Changed.{changed}
+use Rattle.machine_core.specs.Followed.{current_row}
+use Rattle.machine_core.specs.Happening.{Happening}
+use Rattle.machine_core.specs.Meaning.{Meaning}
+use Rattle.machine_core.specs.State.{MachineState, settings_of}
+use Rattle.machine_core.specs.Steps.{steps}
+
+-- what happens is what is meant, and the subsystems that it changes
+abbrev pub happens : Meaning → MachineState → Happening
+happens x m = record { ops = x.ops; after = x.after; changed = changed m x.after }
+
+-- the player alone changes
+abbrev pub player_happens : PlayerState → MachineState → Happening
+player_happens player m = happens (record { text = []; ops = []; after = record m { player = player } }) m
+
+-- frames of the current song count up to its end
+abbrev pub fed_in : Option Row → ℕ → ℕ → PlayerState → PlayerState
+fed_in None ticket frames player = player
+fed_in (Some row) ticket frames player = fed player ticket frames row.frames
+
+abbrev pub when_fed : ℕ → ℕ → MachineState → Happening
+when_fed ticket frames m = player_happens (fed_in (current_row m.saved m.player) ticket frames m.player) m
+
+-- the song that has ended is followed as the player follows it
+abbrev pub when_ended : ℕ → MachineState → Happening
+when_ended ticket m = happens (steps (ended m.saved.queue.entries (settings_of m.saved) m.player ticket) m) m
+
+-- the failure is that of the current song
+abbrev pub broken_in : Option Entry → ℕ → BrokenCause → PlayerState → PlayerState
+broken_in None ticket cause player = player
+broken_in (Some entry) ticket cause player = broken player ticket cause entry.uri
+
+abbrev pub when_broken : ℕ → BrokenCause → MachineState → Happening
+when_broken ticket cause m = player_happens (broken_in (current_entry m.saved.queue.entries m.player.current) ticket cause m.player) m

@@ -1,0 +1,54 @@
+-- What the events of a scan do: a batch of changes of rows, and the end.
+use Rattle.std.specs.Prelude.{ℕ, Bool, true, false, ◌&&◌, ◌==◌, List, [], ◌∷◌, ◌++◌, if◌then◌else◌}
+use Rattle.song_db.specs.Change.{after_change}
+use Rattle.song_db.specs.Effect.{effect_of, changes_a_row}
+use Rattle.song_db.specs.Row.{Row}
+use Rattle.song_db.specs.declared.change.RowChange.{RowChange}
+use Rattle.state_codec.specs.Applied.{after_all}
+use Rattle.state_codec.specs.declared.op.Op.TheVariants.{Batch}
+use Rattle.machine_core.specs.Changed.{changed}
+use Rattle.machine_core.specs.Followed.{followed}
+use Rattle.machine_core.specs.Happening.{Happening, nothing_happens}
+use Rattle.machine_core.specs.Meaning.{order_ops}
+use Rattle.machine_core.specs.State.{MachineState}
+use Rattle.machine_core.specs.declared.job.Job.{Job}
+
+-- the job of this number runs
+abbrev pub is_running : ℕ → MachineState → Bool
+is_running job m = m.job.runs && m.job.number == job
+
+abbrev pub over : Job → Job
+over job = record job { runs = false }
+
+-- the job is over; `database` is told where one of its changes changed a row
+abbrev pub ends_scan : MachineState → Happening
+ends_scan m =
+    let after = record m { job = over m.job } in
+    record { ops = []; after = after; changed = record (changed m after) { database = m.job.has_changed_a_row } }
+
+abbrev pub when_scanned : ℕ → MachineState → Happening
+when_scanned job m = if is_running job m then ends_scan m else nothing_happens m
+
+-- the changes that change a row at their turn, in their order; each finds the rows as those before it left them
+abbrev pub telling : List Row → List RowChange → List RowChange
+telling rows [] = []
+telling rows (change ∷ changes) =
+    let rest = telling (after_change rows change) changes in if changes_a_row (effect_of rows change) then change ∷ rest else rest
+
+abbrev pub found_a_change : Job → Job
+found_a_change job = record job { has_changed_a_row = true }
+
+-- these changes are made by one op, behind the new random order that begins before it, if one does, and the player follows
+abbrev pub changes_rows : List RowChange → MachineState → Happening
+changes_rows changes m =
+    let next = followed (Batch changes) m in
+    let ops = order_ops next.order ++ Batch changes ∷ [] in
+    let after = record m { saved = after_all ops m.saved; player = next.player; job = found_a_change m.job } in
+    record { ops = ops; after = after; changed = changed m after }
+
+abbrev pub finds : List RowChange → MachineState → Happening
+finds [] m = nothing_happens m
+finds (change ∷ changes) m = changes_rows (change ∷ changes) m
+
+abbrev pub when_found : ℕ → List RowChange → MachineState → Happening
+when_found job changes m = if is_running job m then finds (telling m.saved.songs changes) m else nothing_happens m

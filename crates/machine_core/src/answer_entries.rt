@@ -1,0 +1,76 @@
+// The lines of the queue's entries, one after the other.
+ghost use Rattle.std.specs.Prelude.{◌≡◌};
+ghost use Rattle.std.specs.List.{flat_map};
+ghost use Rattle.command_text.specs.Answer.{Adds};
+ghost use Rattle.machine_core.specs.Entries.{place_info, position_info};
+ghost use Rattle.machine_core.specs.Spans.{positions_in};
+
+use crate::span::Span;
+use command_text::{NoMemory, write_entry, write_place};
+use play_queue::Entry;
+use state_codec::Saved;
+
+// Adds the entry at a position, if one stands there.
+pub(crate) fn write_position(
+    out: &mut Vec<u8>,
+    saved: &Saved,
+    position: usize,
+) -> Result<(), NoMemory>
+    ensures { Adds (position_info saved.now position) result out.old out.new }
+{
+    let Some(entry) = saved.queue().get(position) else {
+        return Ok(());
+    };
+    match saved.songs().get(entry.uri.as_str()) {
+        Ok(row) => write_entry(out, row, position, entry),
+        Err(_) => Ok(()),
+    }
+}
+
+// Adds the entries at the positions of a span.
+pub(crate) fn write_span(out: &mut Vec<u8>, saved: &Saved, span: Span) -> Result<(), NoMemory>
+    ensures { Adds (flat_map (position_info saved.now) (positions_in span)) result out.old out.new }
+{
+    for position in span.start..span.end {
+        write_position(out, saved, position as usize)?;
+    }
+    Ok(())
+}
+
+// Adds the entries at these positions.
+pub(crate) fn write_positions(
+    out: &mut Vec<u8>,
+    saved: &Saved,
+    positions: &[usize],
+) -> Result<(), NoMemory>
+    ensures { Adds (flat_map (position_info saved.now) positions.now) result out.old out.new }
+{
+    for position in positions {
+        write_position(out, saved, *position)?;
+    }
+    Ok(())
+}
+
+// Adds the entry at a position by its position and id alone, if one stands there.
+fn write_place_at(out: &mut Vec<u8>, entries: &[Entry], position: usize) -> Result<(), NoMemory>
+    ensures { Adds (place_info entries.now position) result out.old out.new }
+{
+    match entries.get(position) {
+        Some(entry) => write_place(out, position, entry.id),
+        None => Ok(()),
+    }
+}
+
+// Adds the entries at these positions by their positions and ids alone.
+pub(crate) fn write_places(
+    out: &mut Vec<u8>,
+    entries: &[Entry],
+    positions: &[usize],
+) -> Result<(), NoMemory>
+    ensures { Adds (flat_map (place_info entries.now) positions.now) result out.old out.new }
+{
+    for position in positions {
+        write_place_at(out, entries, *position)?;
+    }
+    Ok(())
+}

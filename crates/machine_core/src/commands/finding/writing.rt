@@ -1,0 +1,107 @@
+// The lines of what is found, written while songs and entries are looked at.
+ghost use Rattle.std.specs.Prelude.{◌≡◌, map};
+ghost use Rattle.std.specs.List.{flat_map};
+ghost use Rattle.command_text.specs.Answer.{Adds};
+ghost use Rattle.command_text.specs.AnswerSongs.{song_lines};
+ghost use Rattle.song_db.specs.Row.{row_at};
+ghost use Rattle.machine_core.specs.Finding.{Writes, entries_found, entry_found, matching, part_of, value_lines};
+
+use super::part::Part;
+use command_text::{NoMemory, write_entry, write_song, write_value};
+use filter_expr::{Case, Filter};
+use play_queue::Entry;
+use song_db::{SongDb, SongRow, Texts};
+use std::alloc::Global;
+use wave_pcm::Tag;
+
+// Adds the rows that match, and of these a part. The rows behind the part aren't looked at.
+pub(super) fn write_matching(
+    out: &mut Vec<u8>,
+    alloc: Global,
+    rows: &[SongRow],
+    case: Case,
+    filter: &Filter,
+    part: Part,
+) -> Result<(), NoMemory>
+    ensures { Writes (flat_map song_lines (part_of part (matching case filter.now rows.now))) result out.old out.new }
+{
+    let mut part = part;
+    for row in rows {
+        if part.is_over() {
+            return Ok(());
+        }
+        if !filter.matches(alloc, row, case)? {
+            continue;
+        }
+        if !part.takes() {
+            continue;
+        }
+        write_song(out, row)?;
+    }
+    Ok(())
+}
+
+pub(super) fn write_rows(out: &mut Vec<u8>, rows: &[&SongRow]) -> Result<(), NoMemory>
+    ensures { Adds (flat_map song_lines (map (λ row. row.now) rows.now)) result out.old out.new }
+{
+    for row in rows {
+        write_song(out, *row)?;
+    }
+    Ok(())
+}
+
+// Adds the values of a tag.
+pub(super) fn write_values(out: &mut Vec<u8>, tag: Tag, values: &Texts<'_>) -> Result<(), NoMemory>
+    ensures { Adds (value_lines tag values.now) result out.old out.new }
+{
+    for value in values.iter() {
+        write_value(out, tag, *value)?;
+    }
+    Ok(())
+}
+
+// Adds the entries that match.
+pub(super) fn write_entries(
+    out: &mut Vec<u8>,
+    alloc: Global,
+    songs: &SongDb,
+    entries: &[Entry],
+    case: Case,
+    filter: &Filter,
+) -> Result<(), NoMemory>
+    ensures { Writes (entries_found case filter.now songs.now 0 entries.now) result out.old out.new }
+{
+    for position in 0..entries.len() {
+        write_match(
+            out,
+            alloc,
+            songs,
+            case,
+            filter,
+            position,
+            &entries[position],
+        )?;
+    }
+    Ok(())
+}
+
+// Adds an entry, if it matches.
+fn write_match(
+    out: &mut Vec<u8>,
+    alloc: Global,
+    songs: &SongDb,
+    case: Case,
+    filter: &Filter,
+    position: usize,
+    entry: &Entry,
+) -> Result<(), NoMemory>
+    ensures { Writes (entry_found case filter.now position entry.now (row_at songs.now entry.now.uri)) result out.old out.new }
+{
+    let Ok(row) = songs.get(entry.uri.as_str()) else {
+        return Ok(());
+    };
+    if !filter.matches(alloc, row, case)? {
+        return Ok(());
+    }
+    write_entry(out, row, position, entry)
+}

@@ -1,0 +1,162 @@
+// The events of a scan: a batch of changes of rows, and the end. All memory is taken before anything changes.
+ghost use Rattle.std.specs.Prelude.{◌≡◌, ◌+◌, ◌≤◌, ◌++◌, ◌∷◌, [], None, option_copied, vec_len, vec_capacity};
+ghost use Rattle.std.specs.Prelude.{IfOk, OnOk, OnErr};
+ghost use Rattle.idle_masks.specs.Subsystems.{none};
+ghost use Rattle.song_db.specs.Scan.{drops_of};
+ghost use Rattle.state_codec.specs.Applied.{refusal_of};
+ghost use Rattle.state_codec.specs.declared.op.Op.TheVariants.{Batch};
+ghost use Rattle.machine_core.specs.Followed.{followed, current_row, cut_to, no_block, of_step, step_as_they_leave};
+ghost use Rattle.machine_core.specs.Happening.{HasHappened};
+ghost use Rattle.machine_core.specs.Meaning.{order_ops};
+ghost use Rattle.machine_core.specs.Scanning.{is_running, when_scanned, when_found, changes_rows};
+
+mod rows;
+
+use crate::current::current_entry;
+use crate::happened::Happened;
+use crate::machine::Machine;
+use crate::scanning::rows::{dropped_by, telling};
+use idle_masks::Subsystems;
+use no_memory::NoMemory;
+use player_core::{Block, Player};
+use song_db::{RowChange, SongRow};
+use state_codec::{Changes, Op, Saved};
+use std::alloc::Global;
+
+impl Machine {
+    /// A scan is over: its job runs no more. Nothing happens where the job of this number doesn't run.
+    pub fn scan_done(&mut self, alloc: Global, job: u32) -> Happened
+        ensures { HasHappened (when_scanned job self.old) self.old self.new result }
+    {
+        if !self.runs_job(job) {
+            return nothing(alloc);
+        }
+        let before = self.before();
+        self.job.runs = false;
+        let mut changed = self.changed_since(&before, &[]);
+        changed.database = self.job.has_changed_a_row;
+        Happened {
+            ops: Vec::new(alloc),
+            changed,
+        }
+    }
+
+    /// A scan has read a batch. One op makes the changes of it that change a row at their turn. Nothing happens where
+    /// there are none, or where the job of this number doesn't run. Without memory the machine stays as it was.
+    pub fn batch(&mut self, alloc: Global, job: u32, changes: Changes) -> Result<Happened, NoMemory>
+        ensures ok { IfOk result (λ happened. HasHappened (when_found job changes self.old) self.old self.new happened) }
+        ensures err { OnErr result (self.new ≡ self.old) }
+    {
+        if !self.runs_job(job) {
+            return Ok(nothing(alloc));
+        }
+        let told = telling(alloc, self.saved.songs(), changes)?;
+        match Changes::new(told) {
+            Some(told) => self.change_rows(alloc, told),
+            None => Ok(nothing(alloc)),
+        }
+    }
+
+    // Whether the job of this number runs.
+    fn runs_job(&self, job: u32) -> bool
+        ensures { result ≡ is_running job self.now }
+    {
+        self.job.runs && self.job.number == job
+    }
+
+    // Makes changes, each of which changes a row at its turn, and tells what that did.
+    fn change_rows(&mut self, alloc: Global, changes: Changes) -> Result<Happened, NoMemory>
+        requires { refusal_of (Batch changes) self.old.saved ≡ None }
+        ensures ok { IfOk result (λ happened. HasHappened (changes_rows changes self.old) self.old self.new happened) }
+        ensures err { OnErr result (self.new ≡ self.old) }
+    {
+        let before = self.before();
+        let stickers = self.saved.stickers().len();
+        let mut ops = Vec::with_capacity(alloc, 2)?;
+        let order = self.make_batch(alloc, &changes)?;
+        push_ops(&mut ops, order, changes);
+        let mut changed = self.changed_since(&before, &ops);
+        changed.sticker = stickers != self.saved.stickers().len();
+        Ok(Happened { ops, changed })
+    }
+
+    // Makes the op of a batch; the player follows, and the job remembers. It says which random order began, if one did.
+    fn make_batch(&mut self, alloc: Global, changes: &Changes) -> Result<Option<u64>, NoMemory>
+        requires { refusal_of (Batch changes.now) self.old.saved ≡ None }
+        ensures order { IfOk result (λ order. order ≡ (followed (Batch changes.now) self.old).order) }
+        ensures machine { OnOk result (self.new ≡ (changes_rows changes.now self.old).after) }
+        ensures err { OnErr result (self.new ≡ self.old) }
+    {
+        let (mut player, order) = self.follow_batch(alloc, changes.as_slice())?;
+        let op = Op::Batch(changes.try_clone(alloc)?);
+        if self.saved.apply(alloc, op).is_err() {
+            return Err(NoMemory);
+        }
+        cut_to_song(&self.saved, &mut player);
+        if let Some(order) = order {
+            self.saved.set_order(order);
+        }
+        self.kept.forget();
+        self.player = player;
+        self.job.has_changed_a_row = true;
+        Ok(order)
+    }
+
+    // The player, as it is when the entries of dropped songs leave, and the random order that begins then, if one does.
+    fn follow_batch(
+        &self,
+        alloc: Global,
+        changes: &[RowChange],
+    ) -> Result<(Player, Option<u64>), NoMemory>
+        ensures { IfOk result (λ next. record { player = next.0; order = next.1 }
+            ≡ of_step (step_as_they_leave no_block (drops_of changes.now) self.now)) }
+    {
+        let dropped = dropped_by(alloc, changes)?;
+        let settings = self.settings();
+        let entries = self.saved.queue().entries();
+        let mut player = self.player.try_clone(alloc)?;
+        match player.follow_removal(entries, &settings, Block::NONE, &dropped) {
+            Ok(step) => Ok((player, step.order)),
+            Err(_) => Err(NoMemory),
+        }
+    }
+}
+
+// What an event does that changes nothing.
+fn nothing(alloc: Global) -> Happened
+    ensures ops { result.ops.items ≡ [] }
+    ensures changed { result.changed ≡ none }
+{
+    Happened {
+        ops: Vec::new(alloc),
+        changed: Subsystems::none(),
+    }
+}
+
+// The op of a batch, behind the new random order that begins before it, if one does.
+fn push_ops(ops: &mut Vec<Op>, order: Option<u64>, changes: Changes)
+    requires { vec_len ops.old + 2 ≤ vec_capacity ops.old }
+    ensures { ops.new.items ≡ ops.old.items ++ (order_ops order ++ Batch changes ∷ []) }
+{
+    if let Some(order) = order {
+        ops.push_reserved(Op::SetOrder(order));
+    }
+    ops.push_reserved(Op::Batch(changes));
+}
+
+// The frame position is cut to the frames of the current song.
+fn cut_to_song(saved: &Saved, player: &mut Player)
+    ensures { player.new ≡ cut_to (current_row saved.now player.old) player.old }
+{
+    if let Some(row) = current_row(saved, player) {
+        player.cut(row.info().frames);
+    }
+}
+
+// The row of the current song.
+fn current_row<'a>(saved: &'a Saved, player: &Player) -> Option<&'a SongRow>
+    ensures { option_copied result ≡ current_row saved.now player.now }
+{
+    let entry = current_entry(saved.queue().entries(), player.current())?;
+    saved.songs().get(entry.uri.as_str()).ok()
+}

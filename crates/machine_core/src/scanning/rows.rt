@@ -1,0 +1,116 @@
+// Which changes of a batch change a row at their turn, told before any of them is made.
+ghost use Rattle.std.specs.Prelude.{◌≡◌, ◌<◌, ◌≤◌, ◌+◌, ◌++◌, ◌∷◌, [], false, length, vec_len, vec_capacity, IfOk, OnOk};
+ghost use Rattle.std.specs.List.{list_any};
+ghost use Rattle.std.specs.Option.{option_copied};
+ghost use Rattle.song_db.specs.Change.{after_batch};
+ghost use Rattle.song_db.specs.Effect.{effects_of, is_left_out};
+ghost use Rattle.song_db.specs.Row.{row_at};
+ghost use Rattle.song_db.specs.declared.change.RowChange.TheVariants.{Put};
+ghost use Rattle.song_db.specs.Scan.{drops_of};
+ghost use Rattle.machine_core.specs.Scanning.{telling};
+ghost use Rattle.machine_core.specs.ScanningRows.{AreTold, count_told, row_left};
+
+use song_db::{MAX_ROWS, RowChange, SongDb, SongRow, Uri};
+use state_codec::Changes;
+use std::alloc::{AllocError, Global};
+
+// Those that do, in their order. Each is looked up among the rows and among those before it.
+pub(super) fn telling(
+    alloc: Global,
+    songs: &SongDb,
+    changes: Changes,
+) -> Result<Vec<RowChange>, AllocError>
+    ensures told { IfOk result (λ told. told.items ≡ telling songs.now changes) }
+    ensures fit { IfOk result (λ told. list_any is_left_out (effects_of songs.now told.items) ≡ false) }
+{
+    let mut count = songs.len();
+    let changes = changes.into_vec();
+    let mut told = Vec::with_capacity(alloc, changes.len())?;
+    for change in changes {
+        keep_telling(songs, change, &mut told, &mut count);
+    }
+    Ok(told)
+}
+
+// Adds a change to those before it, where it changes a row behind them.
+fn keep_telling(songs: &SongDb, change: RowChange, told: &mut Vec<RowChange>, count: &mut usize)
+    requires told { AreTold songs.now told.old.items count.old }
+    requires room { vec_len told.old < vec_capacity told.old }
+    ensures told { AreTold songs.now told.new.items count.new }
+    ensures items { told.new.items ≡ told.old.items ++ telling (after_batch songs.now told.old.items) (change ∷ []) }
+    ensures len { vec_len told.new ≤ vec_len told.old + 1 }
+    ensures capacity { vec_capacity told.new ≡ vec_capacity told.old }
+{
+    let _rows = songs.len();
+    let row = row_behind(songs, told, change.uri());
+    if let Some(after) = count_told(*count, &change, row) {
+        *count = after;
+        told.push_reserved(change);
+    }
+}
+
+// The row of a URI behind changes none of which is left out.
+fn row_behind<'a>(songs: &'a SongDb, told: &'a [RowChange], uri: &str) -> Option<&'a SongRow>
+    requires { AreTold songs.now told.now (length (after_batch songs.now told.now)) }
+    ensures { option_copied result ≡ row_at (after_batch songs.now told.now) uri.now }
+{
+    let _rows = songs.len();
+    let mut row = songs.get(uri).ok();
+    for change in told {
+        if uri == change.uri() {
+            row = row_left(change);
+        }
+    }
+    row
+}
+
+fn row_left(change: &RowChange) -> Option<&SongRow>
+    ensures { option_copied result ≡ row_left change.now }
+{
+    match change {
+        RowChange::Put(row) => Some(row),
+        RowChange::Drop(_) => None,
+    }
+}
+
+fn count_told(count: usize, change: &RowChange, row: Option<&SongRow>) -> Option<usize>
+    requires { count ≤ MAX_ROWS }
+    ensures { result ≡ count_told count change.now (option_copied row.entry) }
+{
+    match change {
+        RowChange::Put(new) => count_put(count, new, row),
+        RowChange::Drop(_) => row.map(|_row| count.saturating_sub(1)),
+    }
+}
+
+fn count_put(count: usize, new: &SongRow, row: Option<&SongRow>) -> Option<usize>
+    requires { count ≤ MAX_ROWS }
+    ensures { result ≡ count_told count (Put new.now) (option_copied row.entry) }
+{
+    match row {
+        Some(old) if old.is_same(new) => None,
+        Some(_) => Some(count),
+        None if count < MAX_ROWS => Some(count + 1),
+        None => None,
+    }
+}
+
+// The URIs that changes drop, in memory of their own.
+pub(super) fn dropped_by(alloc: Global, changes: &[RowChange]) -> Result<Vec<Uri>, AllocError>
+    ensures { IfOk result (λ uris. uris.items ≡ drops_of changes.now) }
+{
+    let mut uris = Vec::new(alloc);
+    for change in changes {
+        push_dropped(alloc, change, &mut uris)?;
+    }
+    Ok(uris)
+}
+
+fn push_dropped(alloc: Global, change: &RowChange, uris: &mut Vec<Uri>) -> Result<(), AllocError>
+    ensures { OnOk result (uris.new.items ≡ uris.old.items ++ drops_of (change.now ∷ [])) }
+{
+    if let RowChange::Drop(uri) = change {
+        uris.push(uri.try_clone(alloc)?)?;
+    }
+    Ok(())
+}

@@ -1,0 +1,189 @@
+// Scans of the console: folders in memory, of which a call fails, and files that went.
+use crate::assertions::{equal, same_bytes};
+use disk_model::{Disk, Fuse, FuseDisk, MemDisk};
+use live_stage::{Live, Refused};
+use mpd_program::{ConsoleEnd, Ending, Status, run_console};
+use std::alloc::Global;
+use std::io::Read;
+use std::process::Abort;
+use std::test::Fail;
+use wave_pcm::{FaultyFolder, Folder, MemFolder};
+
+// A song of two frames, with a title and an artist.
+const SONG: &[u8] =
+    b"RIFF\0\0\0\0WAVEjunk\x03\0\0\0\x01\x02\x03\0fmt \x10\0\0\0\x01\0\x01\0\x40\x1f\0\0\x80\x3e\0\0\x02\0\x10\0data\x04\0\0\0\x01\0\xfe\xffLIST\x1a\0\0\0INFOINAM\x03\0\0\0Hi\0\0IART\x02\0\0\0A\0";
+
+const GREETING: &[u8] = b"OK MPD 0.23.0\n";
+
+const LISTED: &[u8] = b"directory: d\nfile: d/A.wav\nOK\n";
+
+// The disks of a fresh journal.
+fn fresh_disks(alloc: Global) -> Result<(MemDisk, MemDisk), Refused<MemDisk>> {
+    let live = Live::create(alloc, MemDisk::new(alloc), MemDisk::new(alloc), [0; 32])?;
+    Ok(live.into_disks())
+}
+
+// A song in a folder, and beside the folder a file with the name of a song.
+fn two_files(alloc: Global) -> Result<MemFolder<'static>, Fail> {
+    let mut folder = MemFolder::new(alloc);
+    folder.add(alloc, "d/A.wav", SONG)?;
+    folder.add(alloc, "x.wav", b"RIFF\0")?;
+    Ok(folder)
+}
+
+// Runs a console over a folder, and gives what it wrote too. It has no contract, so the long one of `run_console` is read here alone.
+fn run<D: Disk, F: Folder>(
+    alloc: Global,
+    (a, b): (D, D),
+    folder: &mut F,
+    reader: &mut impl Read,
+) -> (ConsoleEnd<D>, Vec<u8>) {
+    let mut written = Vec::new(alloc);
+    let end = run_console(alloc, a, b, folder, reader, &mut written);
+    (end, written)
+}
+
+// A console over fresh disks and this folder was served whole, and wrote the greeting and then this. It gives its disks.
+fn writes_this<F: Folder>(
+    rt: &(impl Abort + AllocGlobal),
+    disks: (MemDisk, MemDisk),
+    folder: &mut F,
+    mut input: &[u8],
+    expected: &[u8],
+) -> (MemDisk, MemDisk) {
+    let (end, written) = run(rt.alloc(), disks, folder, &mut input);
+    equal(rt, end.status, Status::Done);
+    equal(rt, end.ending, Ending::Whole);
+    let (front, behind) = written.split_at(GREETING.len().min(written.len()));
+    same_bytes(rt, front, GREETING);
+    same_bytes(rt, behind, expected);
+    let ConsoleEnd { a, b, .. } = end;
+    (a, b)
+}
+
+// What is asked for over the two files, and answered.
+const ASKED: [(&[u8], &[u8]); 8] = [
+    (b"update\n", b"updating_db: 1\nOK\n"),
+    (
+        b"update\nlistall\n",
+        b"updating_db: 1\nOK\ndirectory: d\nfile: d/A.wav\nOK\n",
+    ),
+    (
+        b"update\nlsinfo d\n",
+        b"updating_db: 1\nOK\nfile: d/A.wav\nFormat: 8000:16:1\nTitle: Hi\nArtist: A\nTime: 0\nduration: 0.000\nOK\n",
+    ),
+    (
+        b"update\nlsinfo x.wav\n",
+        b"updating_db: 1\nOK\nACK [50@0] {lsinfo} No such file or directory\n",
+    ),
+    (
+        b"update d\nlsinfo\n",
+        b"updating_db: 1\nOK\ndirectory: d\nOK\n",
+    ),
+    (b"update x.wav\nlistall\n", b"updating_db: 1\nOK\nOK\n"),
+    (
+        b"update\nupdate\nlistall\n",
+        b"updating_db: 1\nOK\nupdating_db: 2\nOK\ndirectory: d\nfile: d/A.wav\nOK\n",
+    ),
+    (
+        b"rescan ../d\nlistall\n",
+        b"ACK [2@0] {rescan} bad argument 1\nOK\n",
+    ),
+];
+
+#[test]
+fn updates(rt: HostRuntime) -> Result<(), Fail> {
+    let alloc = rt.alloc();
+    for (input, expected) in &ASKED {
+        writes_this(
+            &rt,
+            fresh_disks(alloc)?,
+            &mut two_files(alloc)?,
+            input,
+            expected,
+        );
+    }
+    Ok(())
+}
+
+#[test]
+fn kept_and_removed(rt: HostRuntime) -> Result<(), Fail> {
+    let alloc = rt.alloc();
+    let disks = fresh_disks(alloc)?;
+    let (update, update_answer) = (b"update\n", b"updating_db: 1\nOK\n");
+    let disks = writes_this(&rt, disks, &mut two_files(alloc)?, update, update_answer);
+    let mut empty = MemFolder::new(alloc);
+    let disks = writes_this(&rt, disks, &mut empty, b"listall\n", LISTED);
+    let disks = writes_this(&rt, disks, &mut empty, update, update_answer);
+    writes_this(&rt, disks, &mut empty, b"listall\n", b"OK\n");
+    Ok(())
+}
+
+// The call of the folder that fails, how many there are in two updates, and how much is written. Without a fault the root, `d`, its
+// song and `x.wav` are four calls.
+const FAILING: [(u64, u64, usize); 8] = [
+    (0, 5, 83),
+    (1, 7, 83),
+    (2, 8, 83),
+    (3, 8, 110),
+    (4, 5, 110),
+    (5, 7, 110),
+    (6, 8, 110),
+    (7, 8, 110),
+];
+
+// Of two updates over a folder that fails once, the second leaves the song listed.
+fn keeps_what_it_cannot_read(
+    rt: &(impl Abort + AllocGlobal),
+    (calls_before, calls, length): (u64, u64, usize),
+) -> Result<(), Fail> {
+    let alloc = rt.alloc();
+    let mut folder = FaultyFolder {
+        folder: two_files(alloc)?,
+        calls_before,
+        calls: 0,
+    };
+    let mut input: &[u8] = b"update\nlistall\nupdate\nlistall\n";
+    let (end, written) = run(alloc, fresh_disks(alloc)?, &mut folder, &mut input);
+    equal(rt, end.ending, Ending::Whole);
+    equal(rt, folder.calls, calls);
+    equal(rt, written.len(), length);
+    equal(rt, written.ends_with(LISTED), true);
+    Ok(())
+}
+
+#[test]
+fn folders_that_fail(rt: HostRuntime) -> Result<(), Fail> {
+    for case in &FAILING {
+        keeps_what_it_cannot_read(&rt, *case)?;
+    }
+    Ok(())
+}
+
+// Runs a console over the two files and fresh disks, of which the first has this fuse.
+fn run_fused(alloc: Global, fuse: Fuse) -> Result<(ConsoleEnd<FuseDisk<MemDisk>>, Vec<u8>), Fail> {
+    let (a, b) = fresh_disks(alloc)?;
+    let disks = (FuseDisk::new(a, fuse), FuseDisk::new(b, Fuse::Fail(100)));
+    let (update, listall): (&[u8], &[u8]) = (b"update\n", b"listall\n");
+    let mut reader = update.chain(update).chain(listall);
+    Ok(run(alloc, disks, &mut two_files(alloc)?, &mut reader))
+}
+
+// Wherever the first disk fails once, the next update reads what the one before it could not keep.
+fn reads_again(rt: &(impl Abort + AllocGlobal), call: u64) -> Result<bool, Fail> {
+    let (end, written) = run_fused(rt.alloc(), Fuse::Fail(call))?;
+    equal(rt, end.status, Status::Done);
+    equal(rt, end.ending == Ending::Faulted, end.a.faults() > 0);
+    equal(rt, written.ends_with(LISTED), true);
+    Ok(written.len() == 94)
+}
+
+#[test]
+fn disks_that_fail_in_a_scan(rt: HostRuntime) -> Result<(), Fail> {
+    let mut in_a_batch = 0u32;
+    for call in 1..24 {
+        in_a_batch = in_a_batch.saturating_add(u32::from(reads_again(&rt, call)?));
+    }
+    equal(&rt, in_a_batch > 0, true);
+    Ok(())
+}
