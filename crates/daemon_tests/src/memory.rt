@@ -15,11 +15,10 @@ type Row<'a> = (Happens<'a>, &'a str, &'a str);
 fn waiting(alloc: Global) -> Result<Core, Fail> {
     let mut core = filled(alloc)?;
     connect_both(&mut core, alloc)?;
-    stepped(
-        &mut core,
-        alloc,
-        event(alloc, Happens::Line(2, "idle mixer"))?,
-    )?;
+    let idle = event(alloc, Happens::Line(2, "idle mixer"))?;
+    if stepped(&mut core, alloc, idle)?.refused_at.is_some() {
+        return Err(Fail::from(NoMemory));
+    }
     Ok(core)
 }
 

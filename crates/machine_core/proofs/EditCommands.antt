@@ -1,10 +1,10 @@
 -- From what was done to what the commands of the queue mean.
-use Rattle.std.proofs.Common.{◌≡◌, ℕ, [], length, refl, sym, subst}
+use Rattle.std.proofs.Common.{◌≡◌, ℕ, [], length, sym, subst}
 use Rattle.std.specs.Prelude.{Result}
 use Rattle.command_text.specs.declared.command.queue.QueueCommand.TheVariants as queue
 use Rattle.state_codec.specs.declared.op.Op.TheVariants.{Queue as OfQueue}
 use Rattle.state_codec.specs.declared.op.queue_op.QueueOp.TheVariants.{Delete}
-use Rattle.machine_core.specs.Meaning.{Meant, edits, says}
+use Rattle.machine_core.specs.Meaning.{Meant, edits}
 use Rattle.machine_core.specs.Queue.{queue_meaning}
 use Rattle.machine_core.specs.State.{MachineState}
 use Rattle.machine_core.specs.Work.{Performs}

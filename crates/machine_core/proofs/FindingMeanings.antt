@@ -1,19 +1,15 @@
 -- What the commands that find songs mean.
-use Rattle.std.proofs.Common.{◌≡◌, ℕ, suc, ◌≤◌, Bool, true, false, List, [], ◌∷◌, length, filter, Option, Some, None, Err}
+use Rattle.std.proofs.Common.{◌≡◌, suc, ◌≤◌, Bool, true, false, List, [], ◌∷◌, length, filter, Option, Some, None}
 use Rattle.std.proofs.Common.{refl, ap, sym, ◌∙◌, arith}
 use Rattle.std.specs.List.{flat_map}
 use Rattle.command_text.specs.AnswerNames.{count_lines}
 use Rattle.command_text.specs.AnswerSongs.{song_lines}
-use Rattle.command_text.specs.declared.command.finding.FindingCommand.TheVariants.{Add, AddToPlaylist, Count, Find, InQueue, ListTag}
+use Rattle.command_text.specs.declared.command.finding.FindingCommand.TheVariants.{Add, Count, Find, InQueue, ListTag}
 use Rattle.command_text.specs.declared.command.finding.Search.{Search}
-use Rattle.command_text.specs.declared.refusal.CommandRefusal.TheVariants.{BadPlaylistName}
 use Rattle.play_queue.specs.declared.target.Target.{Target}
-use Rattle.state_codec.specs.declared.op.Op.TheVariants.{List as OfLists}
-use Rattle.state_codec.specs.declared.op.list_op.ListOp.TheVariants as list_ops
-use Rattle.stored_lists.specs.Name.{is_good_name}
 use Rattle.filter_expr.specs.Tree.{Tree}
 use Rattle.filter_expr.specs.declared.case.Case.{Case}
-use Rattle.filter_expr.specs.declared.case.Case.TheVariants.{Exact, Folded}
+use Rattle.filter_expr.specs.declared.case.Case.TheVariants.{Exact}
 use Rattle.song_db.specs.Duration.{total_of}
 use Rattle.song_db.specs.Query.{values_of}
 use Rattle.song_db.specs.Row.{Row}
@@ -25,7 +21,7 @@ use Rattle.machine_core.specs.Adding.{adds}
 use Rattle.machine_core.specs.Finding.{finding_meaning, matching, found, numbers_in, chosen, entries_found, value_lines}
 use Rattle.machine_core.specs.Finding.{in_order, in_window, part_of}
 use Rattle.machine_core.specs.declared.commands.finding.part.Part.{Part}
-use Rattle.machine_core.specs.Meaning.{says, edits}
+use Rattle.machine_core.specs.Meaning.{says}
 use Rattle.machine_core.specs.State.{MachineState}
 
 pub count_means : (m : MachineState) (tree : Tree)
@@ -79,14 +75,3 @@ pub add_means : (m : MachineState) (search : Search) (to : Option Target)
     → finding_meaning (Add search to) m ≡ adds to (numbers_in m.saved.songs (found search m.saved.songs)) [] m
 unfolding finding_meaning
 add_means m search to = refl
-
-pub append_means : (m : MachineState) (name : List ℕ) (tree : Tree) → is_good_name name ≡ true
-    → finding_meaning (AddToPlaylist name tree) m
-    ≡ edits (OfLists (list_ops.Add name (numbers_in m.saved.songs (matching Folded tree m.saved.songs)))) [] m
-unfolding finding_meaning
-append_means m name tree good = rw good refl
-
-pub append_refused : (m : MachineState) (name : List ℕ) (tree : Tree) → is_good_name name ≡ false
-    → finding_meaning (AddToPlaylist name tree) m ≡ Err BadPlaylistName
-unfolding finding_meaning
-append_refused m name tree bad = rw bad refl

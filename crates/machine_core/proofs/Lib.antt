@@ -37,8 +37,8 @@ pub mod DatabaseMeanings
 pub mod ScanningRows
 pub mod ScanningLaws
 pub mod ScanningSize
-pub mod FindingNames
 pub mod FindingWriters
 pub mod FindingSteps
 pub mod FindingNumbers
 pub mod FindingSorted
+pub mod CurrentPlace

@@ -9,10 +9,10 @@ use Rattle.play_queue.specs.declared.target.Target.{Target}
 use Rattle.song_db.specs.Query.{number_at}
 use Rattle.state_codec.specs.declared.op.Op.TheVariants.{Queue as OfQueue}
 use Rattle.state_codec.specs.declared.op.queue_op.QueueOp.TheVariants.{Shuffle}
-use Rattle.machine_core.specs.Adding.{adds, place_in}
+use Rattle.machine_core.specs.Adding.{adds, can_count, place_in}
 use Rattle.machine_core.specs.Meaning.{edits, must, says}
 use Rattle.machine_core.specs.Named.{numbers_named}
-use Rattle.machine_core.specs.Queue.{can_count, moves, place_in_rest, place_of_id, places_of_ids, queue_length, queue_meaning, shuffles}
+use Rattle.machine_core.specs.Queue.{moves, place_in_rest, place_of_id, places_of_ids, queue_length, queue_meaning, shuffles}
 use Rattle.machine_core.specs.Spans.{count_of, span_in, span_or_all, spans_in}
 use Rattle.machine_core.specs.State.{MachineState, shown_of}
 use Rattle.machine_core.specs.declared.span.Span.{Span}
@@ -45,7 +45,7 @@ queue_lawful (queue.Info range) m = then_lawful m (span_or_all range (queue_leng
 queue_lawful (queue.InfoId None) m = says_lawful _ m
 queue_lawful (queue.InfoId (Some id)) m = then_lawful m (place_of_id id m) _ (λ at. says_lawful _ m)
 queue_lawful (queue.Move range to) m =
-    then_lawful m (must (can_count to (shown_of m).current) NoCurrentSong) _
+    then_lawful m (must (can_count (Some to) (shown_of m).current) NoCurrentSong) _
     (λ song. then_lawful m (span_in range (queue_length m)) _ (λ block. moves_lawful block to m))
 queue_lawful (queue.MoveId id to) m = then_lawful m (place_of_id id m) _ (λ at. moves_lawful _ to m)
 queue_lawful (queue.Priority priority ranges) m = then_lawful m (spans_in ranges (queue_length m)) _ (λ spans. edits_lawful _ _ m refl)

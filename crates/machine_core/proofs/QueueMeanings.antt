@@ -24,16 +24,14 @@ use Rattle.state_codec.specs.declared.op.Op.TheVariants.{Queue}
 use Rattle.state_codec.specs.declared.op.queue_op.QueueOp.TheVariants.{Add}
 use Rattle.machine_core.specs.Adding.{adds, place_in}
 use Rattle.machine_core.specs.Entries.{place_info, position_info}
-use Rattle.machine_core.specs.Meaning.{Meant, edits, says}
+use Rattle.machine_core.specs.Meaning.{edits, says}
 use Rattle.machine_core.specs.Named.{IsNotFound, numbers_named}
 use Rattle.machine_core.specs.Queue.{changed_in, place_of_id, queue_length, queue_meaning}
 use Rattle.machine_core.specs.Spans.{FindsItems, positions_in, span_in, span_or_all, spans_in, whole}
 use Rattle.machine_core.specs.State.{MachineState}
-use Rattle.machine_core.specs.Work.{Performs}
 use Rattle.machine_core.specs.declared.span.Span.{Span}
 use Rattle.machine_core.specs.declared.work.Failure.{Failure}
 use Rattle.machine_core.specs.declared.work.Failure.TheVariants.{Refused}
-use Rattle.machine_core.specs.declared.work.Work.{Work}
 
 pub range_shown : (range : Option PositionRange) (m : MachineState) (span : Span) → span_or_all range (queue_length m) ≡ Ok span
     → queue_meaning (commands.Info range) m ≡ says (flat_map (position_info m.saved) (positions_in span)) m
@@ -150,11 +148,6 @@ pub song_added : (uri : List ℕ) (to : Option Target) (m : MachineState) (row a
     → queue_meaning (commands.AddId uri to) m ≡ edits (Queue (Add at (row ∷ []))) (id_line m.saved.queue.next_id) m
 unfolding queue_meaning
 song_added uri to m row at named place = rw (named, place)
-
--- what is done of a machine is done of the same by another name
-pub same_machine : (meant : MachineState → Meant) (m k n : MachineState) (w y : Work) (r : Result (Unit {0}) Failure) → k ≡ m
-    → Performs (meant k) k n w y r → Performs (meant m) m n w y r
-same_machine meant m k n w y r same h = subst (λ (x : MachineState). Performs (meant x) x n w y r) same h
 
 -- the songs of these rows are added
 pub songs_added : (uri : List ℕ) (to : Option Target) (m : MachineState) (rows : List ℕ) → numbers_named m.saved.songs uri ≡ Ok rows

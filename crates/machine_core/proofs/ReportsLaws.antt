@@ -1,5 +1,5 @@
 -- From the parts of what happened to what a report means.
-use Rattle.std.proofs.Common.{◌≡◌, ◌+◌, ◌≤◌, false, List, [], ◌++◌, length, Result, Ok, Err}
+use Rattle.std.proofs.Common.{◌≡◌, ◌≤◌, false, List, [], ◌++◌, length, Result, Ok, Err}
 use Rattle.std.proofs.Common.{sym, subst, ap, ◌∙◌, arith}
 use Rattle.player_core.specs.Player.{PlayerState, Step}
 use Rattle.std.specs.Result.{is_err}
@@ -7,7 +7,6 @@ use Rattle.state_codec.specs.SavedState.{IsSavedState}
 use Rattle.state_codec.specs.Spelling.{ops_bytes}
 use Rattle.state_codec.specs.declared.op.Op.{Op}
 use Rattle.machine_core.specs.Before.{before_of, changed_since}
-use Rattle.machine_core.specs.Changed.{changed}
 use Rattle.machine_core.specs.Happening.{HasHappened}
 use Rattle.machine_core.specs.Meaning.{Meaning, Meant}
 use Rattle.machine_core.specs.Reports.{happens, player_happens}

@@ -9,7 +9,6 @@ use Rattle.command_text.specs.declared.command.finding.FindingCommand.{FindingCo
 use Rattle.command_text.specs.declared.command.finding.FindingCommand.TheVariants as commands
 use Rattle.command_text.specs.declared.command.finding.Search.{Search}
 use Rattle.command_text.specs.declared.range.Window.{Window}
-use Rattle.command_text.specs.declared.refusal.CommandRefusal.TheVariants.{BadPlaylistName}
 use Rattle.filter_expr.specs.Meaning.{is_match}
 use Rattle.filter_expr.specs.Order.{is_before, sorted, window_of}
 use Rattle.filter_expr.specs.Tree.{Tree}
@@ -23,10 +22,10 @@ use Rattle.song_db.specs.Row.{Row, row_at}
 use Rattle.state_codec.specs.Steps.{◌>>=◌}
 use Rattle.state_codec.specs.declared.op.Op.TheVariants.{List as OfLists}
 use Rattle.state_codec.specs.declared.op.list_op.ListOp.TheVariants as list_ops
-use Rattle.stored_lists.specs.Name.{is_good_name}
 use Rattle.wave_pcm.specs.declared.tags.Tag.{Tag}
 use Rattle.machine_core.specs.Adding.{adds}
-use Rattle.machine_core.specs.Meaning.{Meant, must, says, edits}
+use Rattle.machine_core.specs.Lists.{list_name}
+use Rattle.machine_core.specs.Meaning.{Meant, says, edits}
 use Rattle.machine_core.specs.State.{MachineState}
 use Rattle.machine_core.specs.declared.commands.finding.part.Part.{Part}
 
@@ -73,8 +72,8 @@ entries_found case tree songs position (entry ∷ entries) =
 unfoldable pub finding_meaning : FindingCommand → MachineState → Meant
 finding_meaning (commands.Add search to) m = adds to (numbers_in m.saved.songs (found search m.saved.songs)) [] m
 finding_meaning (commands.AddToPlaylist name tree) m = do
-  form ← must (is_good_name name) BadPlaylistName
-  edits (OfLists (list_ops.Add name (numbers_in m.saved.songs (matching Folded tree m.saved.songs)))) [] m
+  good ← list_name name
+  edits (OfLists (list_ops.Add good (numbers_in m.saved.songs (matching Folded tree m.saved.songs)))) [] m
 finding_meaning (commands.Count tree) m =
     let found = matching Exact tree m.saved.songs in says (count_lines (length found) (total_of found)) m
 finding_meaning (commands.Find search) m = says (flat_map song_lines (found search m.saved.songs)) m

@@ -1,6 +1,5 @@
 -- The commands of the stored playlists.
-use Rattle.std.specs.Prelude.{ℕ, Bool, true, List, [], length, is_some, Option, Some, None, Result, Ok, Err, slice_range, unwrap_or}
-use Rattle.std.specs.Prelude.{if◌then◌else◌}
+use Rattle.std.specs.Prelude.{ℕ, List, [], length, Option, Some, None, Result, Ok, Err, slice_range, if◌then◌else◌}
 use Rattle.std.specs.List.{flat_map}
 use Rattle.std.specs.Option.{ok_or}
 use Rattle.command_text.specs.AnswerNames.{playlist_line}
@@ -8,11 +7,9 @@ use Rattle.command_text.specs.AnswerSongs.{file_line, song_lines}
 use Rattle.command_text.specs.declared.command.lists.ListsCommand.{ListsCommand}
 use Rattle.command_text.specs.declared.command.lists.ListsCommand.TheVariants as commands
 use Rattle.command_text.specs.declared.range.PositionRange.{PositionRange}
-use Rattle.command_text.specs.declared.range.PositionRange.TheVariants.{From}
 use Rattle.command_text.specs.declared.refusal.CommandRefusal.{CommandRefusal}
 use Rattle.command_text.specs.declared.refusal.CommandRefusal.TheVariants.{BadPlaylistName, NoSuchPlaylist, NoCurrentSong}
 use Rattle.play_queue.specs.declared.target.Target.{Target}
-use Rattle.play_queue.specs.declared.target.Target.TheVariants.{At, After, Before}
 use Rattle.song_db.specs.Row.{Row, row_at}
 use Rattle.state_codec.specs.Steps.{◌>>=◌}
 use Rattle.state_codec.specs.declared.op.Op.TheVariants.{List as Lists}
@@ -20,10 +17,10 @@ use Rattle.state_codec.specs.declared.op.list_op.ListOp.TheVariants.{Save, Add, 
 use Rattle.stored_lists.specs.Lists.{Stored, names_of, songs_of}
 use Rattle.stored_lists.specs.Name.{is_good_name}
 use Rattle.stored_lists.specs.Songs.{Uris}
-use Rattle.machine_core.specs.Adding.{adds}
+use Rattle.machine_core.specs.Adding.{adds, can_count}
 use Rattle.machine_core.specs.Meaning.{Meant, must, says, edits}
 use Rattle.machine_core.specs.Named.{numbers_of, numbers_named}
-use Rattle.machine_core.specs.Spans.{span_in}
+use Rattle.machine_core.specs.Spans.{span_in, span_or_all}
 use Rattle.machine_core.specs.State.{MachineState, shown_of}
 
 -- a name that a playlist may have
@@ -48,22 +45,11 @@ lines_or_uri uri None = file_line uri
 abbrev pub song_info : List Row → List ℕ → List ℕ
 song_info songs uri = lines_or_uri uri (row_at songs uri)
 
--- a relative place is counted from the current song
-abbrev pub can_count : Option Target → Option ℕ → Bool
-can_count None current = true
-can_count (Some (At position)) current = true
-can_count (Some (After n)) current = is_some current
-can_count (Some (Before n)) current = is_some current
-
--- no range names all
-abbrev pub or_all : Option PositionRange → PositionRange
-or_all range = unwrap_or range (From 0)
-
 -- the songs in the range that still have rows
 abbrev pub rows_to_load : List Row → Uris → Option PositionRange → Option Target → Option ℕ → Result (List ℕ) CommandRefusal
 rows_to_load database songs range to current = do
   counted ← must (can_count to current) NoCurrentSong
-  span ← span_in (or_all range) (length songs)
+  span ← span_or_all range (length songs)
   Ok (numbers_of database (slice_range songs span.start span.end))
 
 unfoldable pub lists_meaning : ListsCommand → MachineState → Meant

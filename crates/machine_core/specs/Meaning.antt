@@ -67,7 +67,3 @@ edits op text m = unless_refused (told (refusal_of op m.saved)) (made op text m)
 -- what is named must be there
 abbrev pub must : Bool → CommandRefusal → Result (Unit {0}) CommandRefusal
 must is_there refusal = if is_there then Ok tt else Err refusal
-
--- a command that isn't there yet
-abbrev pub not_built : MachineState → Result Meaning CommandRefusal
-not_built m = says [] m

@@ -1,6 +1,6 @@
 -- The commands of the queue.
-use Rattle.std.specs.Prelude.{ℕ, ◌+◌, ◌-◌, Bool, true, false, not, ◌&&◌, ◌||◌, nat_lt, List, [], ◌∷◌, length, map, filter}
-use Rattle.std.specs.Prelude.{Option, Some, None, option_map, is_some, Result, Err, if◌then◌else◌}
+use Rattle.std.specs.Prelude.{ℕ, ◌+◌, ◌-◌, Bool, true, false, ◌&&◌, nat_lt, List, [], ◌∷◌, length, map, filter}
+use Rattle.std.specs.Prelude.{Option, Some, None, option_map, Result, Err, if◌then◌else◌}
 use Rattle.std.specs.List.{flat_map}
 use Rattle.std.specs.Option.{ok_or}
 use Rattle.std.specs.Result.{result_map_both}
@@ -17,7 +17,7 @@ use Rattle.song_db.specs.Query.{number_at}
 use Rattle.state_codec.specs.Steps.{◌>>=◌}
 use Rattle.state_codec.specs.declared.op.Op.TheVariants.{Queue}
 use Rattle.state_codec.specs.declared.op.queue_op.QueueOp.TheVariants.{Delete, Move, Swap, Shuffle, Prio}
-use Rattle.machine_core.specs.Adding.{adds, place_among}
+use Rattle.machine_core.specs.Adding.{adds, can_count, place_among}
 use Rattle.machine_core.specs.Entries.{place_info, position_info}
 use Rattle.machine_core.specs.Meaning.{Meant, must, says, edits}
 use Rattle.machine_core.specs.Named.{numbers_named}
@@ -41,10 +41,6 @@ abbrev pub is_relative : Target → Bool
 is_relative (At position) = false
 is_relative (After n) = true
 is_relative (Before n) = true
-
--- the song that a place is counted from is there
-abbrev pub can_count : Target → Option ℕ → Bool
-can_count to current = not (is_relative to) || is_some current
 
 -- a position is one of the block
 abbrev pub is_held : Span → Option ℕ → Bool
@@ -106,7 +102,7 @@ queue_meaning (commands.InfoId (Some id)) m = do
   at ← place_of_id id m
   says (position_info m.saved at) m
 queue_meaning (commands.Move range to) m = do
-  song ← must (can_count to (shown_of m).current) NoCurrentSong
+  song ← must (can_count (Some to) (shown_of m).current) NoCurrentSong
   block ← span_in range (queue_length m)
   moves block to m
 queue_meaning (commands.MoveId id to) m = do

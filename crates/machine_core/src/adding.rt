@@ -1,6 +1,6 @@
 // Songs are added to the queue, by any command that adds some.
 ghost use Rattle.std.specs.Prelude.{◌≡◌, [], length};
-ghost use Rattle.machine_core.specs.Adding.{adds, place_among, place_in};
+ghost use Rattle.machine_core.specs.Adding.{adds, can_count, place_among, place_in};
 ghost use Rattle.machine_core.specs.Named.{Finds};
 ghost use Rattle.machine_core.specs.State.{shown_of};
 ghost use Rattle.machine_core.specs.Work.{HasRoom, Performs, command_room};
@@ -28,14 +28,12 @@ impl Machine {
     }
 
     // The position of a place in the queue: its end, if none is named.
-    pub(crate) fn place_in(&mut self, to: Option<Target>) -> Result<u32, Failure>
-        ensures place { Finds (place_in to self.old) result }
-        ensures same { self.new ≡ self.old }
+    pub(crate) fn place_in(&self, to: Option<Target>) -> Result<u32, Failure>
+        ensures { Finds (place_in to self.now) result }
     {
-        let current = self.current_position();
         let length = self.queue_length();
         match to {
-            Some(target) => resolve(target, current, length),
+            Some(target) => resolve(target, self.current_position(), length),
             None => Ok(length),
         }
     }
@@ -47,15 +45,12 @@ impl Machine {
         self.saved.queue().entries().len() as u32
     }
 
-    // The position of the current song. What is shown of it is kept, so that the next look draws no word for it.
-    pub(crate) fn current_position(&mut self) -> Option<usize>
-        ensures position { result ≡ (shown_of self.old).current }
-        ensures same { self.new ≡ self.old }
+    // The position of the current song. No word is drawn for it, as one is for the next song.
+    pub(crate) fn current_position(&self) -> Option<usize>
+        ensures { result ≡ (shown_of self.now).current }
     {
-        let settings = self.settings();
-        let entries = self.saved.queue().entries();
-        let shown = self.kept.look(&self.player, entries, &settings);
-        shown.current
+        let id = self.player.current()?;
+        self.saved.queue().pos_of(id)
     }
 }
 
@@ -66,5 +61,15 @@ pub(crate) fn resolve(target: Target, current: Option<usize>, length: u32) -> Re
     match target.resolve(current, length as usize) {
         Ok(at) => Ok(at as u32),
         Err(refusal) => Err(Failure::from(OpRefusal::Queue(refusal))),
+    }
+}
+
+// Whether a place is named by its position, or there is a current song to count it from.
+pub(crate) fn can_count(to: Option<Target>, current: Option<usize>) -> bool
+    ensures { result ≡ can_count to current }
+{
+    match to {
+        None | Some(Target::At(_)) => true,
+        Some(Target::After(_) | Target::Before(_)) => current.is_some(),
     }
 }

@@ -20,7 +20,8 @@ fn write_folders(out: &mut Vec<u8>, folders: &Texts<'_>) -> Result<(), NoMemory>
     Ok(())
 }
 
-fn write_songs(out: &mut Vec<u8>, songs: &[&SongRow]) -> Result<(), NoMemory>
+// Adds songs.
+pub(crate) fn write_songs(out: &mut Vec<u8>, songs: &[&SongRow]) -> Result<(), NoMemory>
     ensures { Adds (flat_map song_lines (map (λ song. song.now) songs.now)) result out.old out.new }
 {
     for song in songs {

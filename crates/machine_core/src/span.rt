@@ -1,6 +1,6 @@
 // The positions that a RANGE names.
 ghost use Rattle.std.specs.Prelude.{◌≡◌};
-ghost use Rattle.machine_core.specs.Spans.{count_of, holds, span_in, unless_past};
+ghost use Rattle.machine_core.specs.Spans.{count_of, holds, span_in, span_or_all, unless_past};
 
 use command_text::{CommandRefusal, PositionRange};
 
@@ -44,6 +44,19 @@ pub(crate) fn span_in(range: PositionRange, length: u32) -> Result<Span, Command
         }
         PositionRange::From(start) => unless_past(start, length, length),
         PositionRange::Between(start, end) => unless_past(start, end, length),
+    }
+}
+
+// The positions of a RANGE among so many, or all of them.
+pub(crate) fn span_or_all(range: Option<PositionRange>, length: u32) -> Result<Span, CommandRefusal>
+    ensures { result ≡ span_or_all range length }
+{
+    match range {
+        Some(range) => span_in(range, length),
+        None => Ok(Span {
+            start: 0,
+            end: length,
+        }),
     }
 }
 

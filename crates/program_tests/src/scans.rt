@@ -1,4 +1,6 @@
 // Scans of the console: folders in memory, of which a call fails, and files that went.
+ghost use Rattle.std.specs.Prelude.{[]};
+
 use crate::assertions::{equal, same_bytes};
 use disk_model::{Disk, Fuse, FuseDisk, MemDisk};
 use live_stage::{Live, Refused};
@@ -7,7 +9,7 @@ use std::alloc::Global;
 use std::io::Read;
 use std::process::Abort;
 use std::test::Fail;
-use wave_pcm::{FaultyFolder, Folder, MemFolder};
+use wave_pcm::{FaultyFolder, Folder, FolderEntry, FolderFault, MemFolder, MemSource};
 
 // A song of two frames, with a title and an artist.
 const SONG: &[u8] =
@@ -132,21 +134,51 @@ const FAILING: [(u64, u64, usize); 8] = [
     (7, 8, 110),
 ];
 
+// Two files in memory, of which one call fails.
+#[derive(Drop)]
+struct BrokenFolder {
+    folder: FaultyFolder<MemFolder<'static>>,
+}
+
+impl Folder for BrokenFolder {
+    type File = MemSource<'static>;
+
+    ghost files = { λ _. [] };
+
+    ghost honest = { λ _. ⊥ };
+
+    ghost steady = { λ _. ⊥ };
+
+    fn list(&mut self, alloc: Global, path: &str) -> Result<Option<Vec<FolderEntry>>, FolderFault> {
+        self.folder.list(alloc, path)
+    }
+
+    fn open(&mut self, alloc: Global, path: &str) -> Result<Option<Self::File>, FolderFault> {
+        self.folder.open(alloc, path)
+    }
+}
+
+fn broken_folder(alloc: Global, calls_before: u64) -> Result<BrokenFolder, Fail> {
+    Ok(BrokenFolder {
+        folder: FaultyFolder {
+            folder: two_files(alloc)?,
+            calls_before,
+            calls: 0,
+        },
+    })
+}
+
 // Of two updates over a folder that fails once, the second leaves the song listed.
 fn keeps_what_it_cannot_read(
     rt: &(impl Abort + AllocGlobal),
     (calls_before, calls, length): (u64, u64, usize),
 ) -> Result<(), Fail> {
     let alloc = rt.alloc();
-    let mut folder = FaultyFolder {
-        folder: two_files(alloc)?,
-        calls_before,
-        calls: 0,
-    };
+    let mut broken = broken_folder(alloc, calls_before)?;
     let mut input: &[u8] = b"update\nlistall\nupdate\nlistall\n";
-    let (end, written) = run(alloc, fresh_disks(alloc)?, &mut folder, &mut input);
+    let (end, written) = run(alloc, fresh_disks(alloc)?, &mut broken, &mut input);
     equal(rt, end.ending, Ending::Whole);
-    equal(rt, folder.calls, calls);
+    equal(rt, broken.folder.calls, calls);
     equal(rt, written.len(), length);
     equal(rt, written.ends_with(LISTED), true);
     Ok(())

@@ -1,28 +1,28 @@
 // The commands that find songs by a filter.
-ghost use Rattle.std.specs.Prelude.{◌≡◌, ◌≤◌, Some, None, length, map, IfOk, if◌then◌else◌};
+ghost use Rattle.std.specs.Prelude.{◌≡◌, ◌≤◌, Some, None, length, map, IfOk};
 ghost use Rattle.std.specs.Option.{option_copied};
 ghost use Rattle.command_text.specs.declared.command.finding.FindingCommand.TheVariants.{Add, AddToPlaylist, Count, Find, InQueue, ListTag};
 ghost use Rattle.filter_expr.specs.declared.case.Case.TheVariants.{Exact, Folded};
 ghost use Rattle.song_db.specs.Duration.{total_of};
 ghost use Rattle.song_db.specs.Limits.{MAX_ROWS};
 ghost use Rattle.song_db.specs.Query.{values_of};
-ghost use Rattle.stored_lists.specs.Name.{is_good_name};
 ghost use Rattle.machine_core.specs.Finding.{finding_meaning, matching, found, in_window, chosen, numbers_in};
 ghost use Rattle.machine_core.specs.Work.{HasRoom, Performs, command_room};
 
+use super::lists::list_name;
+use crate::answer::write_songs;
 use crate::machine::Machine;
 use crate::work::{Failure, Work};
-use command_text::{CommandRefusal, FindingCommand, NoMemory, Search, Window, write_counts};
+use command_text::{FindingCommand, NoMemory, Search, Window, write_counts};
 use filter_expr::{Case, Filter, SortOrder, window};
 use gathering::{matching_numbers, matching_values, numbers_of, sorted_rows};
 use part::Part;
 use play_queue::Target;
 use song_db::{SongDb, SongRow, Texts};
-use state_codec::{ListOp, Op, RowNumbers, Text};
-use std::alloc::{AllocError, Global};
-use stored_lists::is_good_name;
+use state_codec::{ListOp, Op, RowNumbers};
+use std::alloc::Global;
 use wave_pcm::Tag;
-use writing::{write_entries, write_matching, write_rows, write_values};
+use writing::{write_entries, write_matching, write_values};
 
 mod gathering;
 mod part;
@@ -121,7 +121,7 @@ impl Machine {
         let rows = self.saved.songs().rows();
         let sorted = sorted_rows(alloc, rows, search.case, &search.filter, order)?;
         let mark = work.text.len();
-        let written = write_rows(&mut work.text, windowed(&sorted, search.window));
+        let written = write_songs(&mut work.text, windowed(&sorted, search.window));
         work.keep(mark, written)
     }
 
@@ -169,13 +169,9 @@ impl Machine {
         requires { HasRoom command_room work.old }
         ensures { Performs (finding_meaning (AddToPlaylist name.now filter.now) self.old) self.old self.new work.old work.new result }
     {
-        match playlist_name(alloc, name)? {
-            Some(name) => {
-                let rows = folded_numbers(alloc, self.saved.songs(), filter)?;
-                self.edit(alloc, Op::List(ListOp::Add { name, rows }), work)
-            }
-            None => Err(Failure::Refused(CommandRefusal::BadPlaylistName)),
-        }
+        let name = list_name(alloc, name)?;
+        let rows = folded_numbers(alloc, self.saved.songs(), filter)?;
+        self.edit(alloc, Op::List(ListOp::Add { name, rows }), work)
     }
 
     // `playlistfind`, `playlistsearch`: the entries of the queue.
@@ -291,14 +287,4 @@ fn chosen_values<'a>(
             Err(_) => Err(NoMemory),
         },
     }
-}
-
-// A name as an op has it, if a playlist may have it.
-fn playlist_name(alloc: Global, name: &str) -> Result<Option<Text>, AllocError>
-    ensures { IfOk result (λ text. text ≡ (if is_good_name name.now then Some name.now else None)) }
-{
-    if is_good_name(name) {
-        return Text::read(alloc, name);
-    }
-    Ok(None)
 }

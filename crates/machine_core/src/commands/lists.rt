@@ -1,15 +1,16 @@
 // The commands of the stored playlists.
-ghost use Rattle.std.specs.Prelude.{◌≡◌, ◌≤◌, length, Ok, is_some, IfOk, IfErr};
+ghost use Rattle.std.specs.Prelude.{◌≡◌, ◌≤◌, length, Ok, IfOk, IfErr};
 ghost use Rattle.command_text.specs.declared.command.lists.ListsCommand.TheVariants as commands;
 ghost use Rattle.stored_lists.specs.Limits.{MAX_ENTRIES};
-ghost use Rattle.machine_core.specs.Lists.{lists_meaning, list_name, songs_named, can_count, or_all, rows_to_load};
+ghost use Rattle.machine_core.specs.Lists.{lists_meaning, list_name, songs_named, rows_to_load};
 ghost use Rattle.machine_core.specs.Named.{Finds, IsNotFound};
 ghost use Rattle.machine_core.specs.Work.{HasRoom, Performs, command_room};
 
+use crate::adding::can_count;
 use crate::answer_lists::{write_list_names, write_song_infos, write_uris};
 use crate::machine::Machine;
 use crate::named::numbers_of;
-use crate::span::span_in;
+use crate::span::{span_in, span_or_all};
 use crate::work::{Failure, Work};
 use command_text::{CommandRefusal, ListsCommand, PositionRange};
 use play_queue::Target;
@@ -236,20 +237,9 @@ fn rows_to_load(
     if !can_count(to, current) {
         return Err(Failure::Refused(CommandRefusal::NoCurrentSong));
     }
-    let range = range.unwrap_or(PositionRange::From(0));
-    let span = span_in(range, songs.len() as u32)?;
+    let span = span_or_all(range, songs.len() as u32)?;
     match songs.as_slice().get(span.start as usize..span.end as usize) {
         Some(part) => numbers_of(alloc, database, part),
         None => numbers_of(alloc, database, &[]),
-    }
-}
-
-// Whether a place is named by its position, or there is a current song to count it from.
-fn can_count(to: Option<Target>, current: Option<usize>) -> bool
-    ensures { result ≡ can_count to current }
-{
-    match to {
-        None | Some(Target::At(_)) => true,
-        Some(Target::After(_) | Target::Before(_)) => current.is_some(),
     }
 }

@@ -4,18 +4,19 @@ ghost use Rattle.command_text.specs.Answer.{Adds};
 ghost use Rattle.command_text.specs.declared.command.playing.PlayingCommand.TheVariants.{CurrentSong};
 ghost use Rattle.player_core.specs.Commands.{halted, paused, previous_one};
 ghost use Rattle.player_core.specs.Seek.{sought_here};
-ghost use Rattle.machine_core.specs.Entries.{position_info, shown_info};
+ghost use Rattle.machine_core.specs.Entries.{shown_info};
 ghost use Rattle.machine_core.specs.Playing.{playing_meaning};
 ghost use Rattle.machine_core.specs.State.{settings_of, shown_of};
 ghost use Rattle.machine_core.specs.Steps.{step_in, moves, puts, named_length, current_length};
 ghost use Rattle.machine_core.specs.Work.{HasRoom, Performs, command_room};
 ghost use Rattle.machine_core.specs.declared.steps.PlayerStep.TheVariants.{Seek as SeekTo};
 
+use crate::answer_entries::write_position;
 use crate::machine::Machine;
 use crate::steps::PlayerStep;
 use crate::told::failure_of;
 use crate::work::{Failure, Work};
-use command_text::{NoMemory, PlayingCommand, write_entry};
+use command_text::{NoMemory, PlayingCommand};
 use player_core::{SeekTime, Selector, Shown};
 use std::alloc::Global;
 
@@ -129,21 +130,8 @@ impl Machine {
         ensures { Adds (shown_info self.now.saved (shown_of self.now).current) result out.old out.new }
     {
         match shown.current {
-            Some(position) => self.put_entry(out, position),
+            Some(position) => write_position(out, &self.saved, position),
             None => Ok(()),
-        }
-    }
-
-    // The lines of the entry at a position, if one stands there.
-    fn put_entry(&self, out: &mut Vec<u8>, position: usize) -> Result<(), NoMemory>
-        ensures { Adds (position_info self.now.saved position) result out.old out.new }
-    {
-        let Some(entry) = self.saved.queue().get(position) else {
-            return Ok(());
-        };
-        match self.saved.songs().get(entry.uri.as_str()) {
-            Ok(row) => write_entry(out, row, position, entry),
-            Err(_) => Ok(()),
         }
     }
 }

@@ -7,7 +7,7 @@ ghost use Rattle.machine_core.specs.Spans.{span_in, span_or_all};
 ghost use Rattle.machine_core.specs.Work.{HasRoom, Performs, command_room};
 
 use crate::machine::Machine;
-use crate::span::{Span, span_in};
+use crate::span::{Span, span_in, span_or_all};
 use crate::work::{Failure, Work};
 use command_text::{CommandRefusal, PositionRange, QueueCommand};
 use state_codec::{Op, QueueOp};
@@ -71,13 +71,7 @@ impl Machine {
     fn span_or_all(&self, range: Option<PositionRange>) -> Result<Span, CommandRefusal>
         ensures { result ≡ span_or_all range (queue_length self.now) }
     {
-        match range {
-            Some(range) => self.span(range),
-            None => Ok(Span {
-                start: 0,
-                end: self.queue_length(),
-            }),
-        }
+        span_or_all(range, self.queue_length())
     }
 
     // The position of the entry with an id.

@@ -1,5 +1,5 @@
 // The lines of what is found, written while songs and entries are looked at.
-ghost use Rattle.std.specs.Prelude.{◌≡◌, map};
+ghost use Rattle.std.specs.Prelude.{◌≡◌};
 ghost use Rattle.std.specs.List.{flat_map};
 ghost use Rattle.command_text.specs.Answer.{Adds};
 ghost use Rattle.command_text.specs.AnswerSongs.{song_lines};
@@ -37,15 +37,6 @@ pub(super) fn write_matching(
             continue;
         }
         write_song(out, row)?;
-    }
-    Ok(())
-}
-
-pub(super) fn write_rows(out: &mut Vec<u8>, rows: &[&SongRow]) -> Result<(), NoMemory>
-    ensures { Adds (flat_map song_lines (map (λ row. row.now) rows.now)) result out.old out.new }
-{
-    for row in rows {
-        write_song(out, *row)?;
     }
     Ok(())
 }

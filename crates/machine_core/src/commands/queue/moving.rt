@@ -5,7 +5,7 @@ ghost use Rattle.machine_core.specs.Named.{Finds};
 ghost use Rattle.machine_core.specs.Queue.{in_rest, is_held, is_relative, moves, place_in_rest, queue_meaning};
 ghost use Rattle.machine_core.specs.Work.{HasRoom, Performs, command_room};
 
-use crate::adding::resolve;
+use crate::adding::{can_count, resolve};
 use crate::machine::Machine;
 use crate::span::Span;
 use crate::work::{Failure, Work};
@@ -57,7 +57,7 @@ impl Machine {
         ensures { Performs (queue_meaning (commands.Move range to) self.old) self.old self.new work.old work.new result }
     {
         let current = self.current_position();
-        if is_relative(to) && current.is_none() {
+        if !can_count(Some(to), current) {
             return Err(Failure::Refused(CommandRefusal::NoCurrentSong));
         }
         let block = self.span(range)?;
@@ -101,9 +101,8 @@ impl Machine {
     }
 
     // The position of a place in the rest without a block.
-    fn place_in_rest(&mut self, to: Target, block: Span) -> Result<u32, Failure>
-        ensures place { Finds (place_in_rest to block self.old) result }
-        ensures same { self.new ≡ self.old }
+    fn place_in_rest(&self, to: Target, block: Span) -> Result<u32, Failure>
+        ensures { Finds (place_in_rest to block self.now) result }
     {
         let current = self.current_position();
         if is_relative(to) && is_held(block, current) {

@@ -1,33 +1,34 @@
 use Rattle.std.proofs.Common.{◌≡◌, List, [], ap, sym, ◌∙◌}
 use Rattle.filter_expr.specs.declared.case.Case.TheVariants.{Folded}
-use Rattle.command_text.specs.declared.refusal.CommandRefusal.TheVariants.{BadPlaylistName}
 use Rattle.song_db.specs.Row.{Row}
 use Rattle.state_codec.specs.declared.op.Op.TheVariants.{List as OfLists}
-use Rattle.state_codec.specs.declared.op.list_op.ListOp.TheVariants as list_ops
-use Rattle.stored_lists.specs.Name.{is_good_name}
-use Rattle.machine_core.specs.Finding.{matching, numbers_in}
+use Rattle.state_codec.specs.declared.op.list_op.ListOp.TheVariants.{Add}
+use Rattle.machine_core.specs.Finding.{finding_meaning, matching, numbers_in}
+use Rattle.machine_core.specs.Lists.{list_name}
 use Rattle.machine_core.specs.Meaning.{edits}
 use Rattle.machine_core.specs.State.{MachineState}
-use Rattle.machine_core.proofs.Answering.{also, is_refused}
-use Rattle.machine_core.proofs.BadNames.{none_is_bad, some_is_good}
-use Rattle.machine_core.proofs.FindingMeanings.{append_means, append_refused}
+use Rattle.machine_core.proofs.Answering.{also}
+use Rattle.machine_core.proofs.LookUps.{found, not_found}
 use Rattle.machine_core.proofs.machine.Machine.add_to_playlist.Goals as goal
 
-pub returns-in_ok-rows-in-Some : goal.returns-in_ok-rows-in-Some
-returns-in_ok-rows-in-Some c =
+pub returns-in_err-name : goal.returns-in_err-name
+unfolding finding_meaning
+returns-in_err-name c =
     let m = c.args.self.now in
-    let name = c.args.name.now in
-    let tree = c.args.filter.now in
-    let songs = c.songs.ensures ∙ ap (λ (n : MachineState). n.saved.songs) c.self.view_is in
-    let rows : c.in_ok-rows-in-Some.rows ≡ numbers_in m.saved.songs (matching Folded tree m.saved.songs) =
-    c.in_ok-rows-in-Some.ensures ∙ ap (λ (songs : List Row). numbers_in songs (matching Folded tree songs)) songs in
-    let good = some_is_good (is_good_name name) name c.in-Some.name c.in_ok-name.field-0 c.in_ok-name.ensures c.in-Some.is in
-    also _ (edits (OfLists (list_ops.Add c.in-Some.name c.in_ok-rows-in-Some.rows)) [] m) m _ _ _ _
-    (append_means m name tree good.0 ∙ (λ i. edits (OfLists (list_ops.Add (sym good.1 i) (sym rows i))) [] m)) c.edit.ensures
+    not_found (list_name c.args.name.now)
+    (λ good. edits (OfLists (Add good (numbers_in m.saved.songs (matching Folded c.args.filter.now m.saved.songs)))) [] m) m
+    c.args.work.now c.in_err-name.field-0.0 c.from_residual.result c.in_err-name.ensures c.from_residual.ensures.1
 
-pub returns-in-None : goal.returns-in-None
-returns-in-None c =
+pub returns : goal.returns
+unfolding finding_meaning
+returns c =
     let m = c.args.self.now in
-    let name = c.args.name.now in
-    let bad = none_is_bad (is_good_name name) name c.in_ok-name.field-0 c.in_ok-name.ensures c.in-None.is in
-    is_refused BadPlaylistName _ m c.args.work.now (append_refused m name c.args.filter.now bad)
+    let tree = c.args.filter.now in
+    let name = c.in_ok-name.name in
+    let songs = c.songs.ensures ∙ ap (λ (n : MachineState). n.saved.songs) c.self.view_is in
+    let rows : c.in_ok-rows.rows ≡ numbers_in m.saved.songs (matching Folded tree m.saved.songs) =
+    c.in_ok-rows.ensures ∙ ap (λ (songs : List Row). numbers_in songs (matching Folded tree songs)) songs in
+    also _ _ _ _ _ _ _
+    (found (list_name c.args.name.now)
+    (λ good. edits (OfLists (Add good (numbers_in m.saved.songs (matching Folded tree m.saved.songs)))) [] m) name c.in_ok-name.ensures
+    ∙ (λ i. edits (OfLists (Add name (sym rows i))) [] m)) c.edit.ensures

@@ -15,7 +15,7 @@ returns c =
     let rows : c.rows-rows.result.now ≡ m.saved.songs = c.rows-rows.ensures ∙ c.songs.ensures
     ∙ ap (λ (n : MachineState). n.saved.songs) c.self.view_is in
     reads _ _ m m _ c.args.work.now _ c.keep.new.self _ _ (find_means m search) refl c.len-mark.ensures refl refl
-    (adds_same _ _ _ _ _ c.write_rows-written.ensures (ap (flat_map song_lines) (c.windowed.ensures.rows
+    (adds_same _ _ _ _ _ c.write_songs-written.ensures (ap (flat_map song_lines) (c.windowed.ensures.rows
     ∙ ap (λ items. in_window search.window (map (λ row. row.now) items)) c.deref.ensures.value
     ∙ ap (in_window search.window) c.in_ok-sorted.ensures.found
     ∙ sorted_found search c.args.order c.rows-rows.result.now c.requires

@@ -1,0 +1,112 @@
+"""Changes at random, each one that the daemon carries out in the state it is drawn for."""
+
+import model
+
+PLAYLISTS = ["a", "Zoë", "late night", 'the "best"', "back\\slash"]
+STICKERS = ["rating", "played at", "ü"]
+MOST_ENTRIES = 12
+
+
+def setting(state, draw):
+    name = draw.choice([*model.SETTINGS])
+    value = draw.choice([it for it in model.SETTINGS[name] if it != state.settings[name]])
+    return ["setvol" if name == "volume" else name, value]
+
+
+def place_for(count, draw):
+    """A place among so many, or none."""
+    return draw.choice([[], [str(draw.randint(0, count))]])
+
+
+def a_range(count, draw):
+    """A range of at least one of so many."""
+    first = draw.randrange(count)
+    return draw.choice([f"{first}", f"{first}:", f"{first}:{draw.randint(first + 1, count + 1)}"])
+
+
+def adding(state, draw):
+    command = draw.choice(["add", "addid"])
+    uri = draw.choice([*state.songs, *(["d", "d/e", "", "/"] if command == "add" else [])])
+    return [command, uri, *place_for(len(state.queue), draw)]
+
+
+def loading(state, draw):
+    names = [it for it, songs in state.playlists.items() if songs]
+    if names:
+        name = draw.choice(names)
+        text = a_range(len(state.playlists[name]), draw)
+        return ["load", name, *draw.choice([[], [text], [text, str(draw.randint(0, len(state.queue)))]])]
+
+
+def ordering(state, draw):
+    """An edit of a queue with two entries or more that leaves all of them there."""
+    count = len(state.queue)
+    if count > 1:
+        at, other = draw.sample(range(count), 2)
+        number, second = state.queue[at].id, state.queue[other].id
+        text = a_range(count, draw)
+        first, end = model.span(text, count)
+        to = draw.randint(0, count - (end - first))
+        prio, more = str(draw.randrange(256)), a_range(count, draw)
+        return draw.choice(
+            [
+                ["move", text, str(to)],
+                ["moveid", str(number), str(other)],
+                ["swap", str(at), str(other)],
+                ["swapid", str(number), str(second)],
+                ["prio", prio, text, more],
+                ["prioid", prio, str(number), str(second)],
+                ["shuffle", *draw.choice([[], [text]])],
+            ]
+        )
+
+
+def deleting(state, draw):
+    if state.queue:
+        text, number = a_range(len(state.queue), draw), str(draw.choice(state.queue).id)
+        return draw.choice([["delete", text], ["deleteid", number], ["deleteid", number], ["clear"]])
+
+
+def listing(state, draw):
+    """A change of which playlists there are."""
+    names, free = [*state.playlists], [it for it in PLAYLISTS if it not in state.playlists]
+    ways = [["save", draw.choice(free)], ["playlistadd", draw.choice(free), draw.choice([*state.songs, ""])]] if free else []
+    ways += [["rm", draw.choice(names)]] if names else []
+    ways += [["rename", draw.choice(names), draw.choice(free)]] if names and free else []
+    return draw.choice(ways)
+
+
+def list_editing(state, draw):
+    if state.playlists:
+        name = draw.choice([*state.playlists])
+        count = len(state.playlists[name])
+        ways = [["playlistadd", name, draw.choice([*state.songs, "d"])]] * 2 if count < MOST_ENTRIES else []
+        if count:
+            text, (at, to) = a_range(count, draw), (str(draw.randrange(count)) for _ in range(2))
+            ways += [["playlistdelete", name, text], ["playlistclear", name], *[["playlistmove", name, at, to]] * 2]
+        return draw.choice(ways)
+
+
+def sticking(state, draw):
+    uri, name = draw.choice([*state.songs]), draw.choice(STICKERS)
+    value = draw.choice(["", str(draw.randrange(10)), 'with "quotes" and \\', "ö" * draw.randint(1, 2048)])
+    return ["sticker", "set", "song", uri, name, value]
+
+
+def unsticking(state, draw):
+    if state.stickers:
+        uri, name = draw.choice([*state.stickers])
+        return ["sticker", "delete", "song", uri, *draw.choice([[name], []])]
+
+
+# How often each kind is drawn, beside the others.
+KINDS = {setting: 4, adding: 4, loading: 1, ordering: 7, deleting: 3, listing: 3, list_editing: 4, sticking: 2, unsticking: 1}
+
+
+def change(state, draw):
+    """The words of a change, which may leave the state as it is."""
+    kinds = {it: often for it, often in KINDS.items() if len(state.queue) < MOST_ENTRIES or it not in (adding, loading)}
+    while True:
+        kind = draw.choices([*kinds], [*kinds.values()])[0]
+        if words := kind(state, draw):
+            return words

@@ -1,0 +1,271 @@
+"""What the daemon keeps, as plain lists: the state after each change by docs/PROTOCOL.md, and what a client then reads.
+
+Nothing plays and no song is current, so no place is relative and no command starts a song.
+"""
+
+import copy
+import typing
+
+MASK = 2**32 - 1
+
+# The settings and their values, in the order of the lines of `status`.
+SETTINGS = {
+    "volume": [str(it) for it in range(101)],
+    "repeat": ["0", "1"],
+    "random": ["0", "1"],
+    "single": ["0", "1", "oneshot"],
+    "consume": ["0", "1"],
+}
+
+
+class Song(typing.NamedTuple):
+    """A song of one channel and 8,000 frames a second."""
+
+    frames: int
+    title: str
+
+    def lines(self):
+        milliseconds = self.frames * 1000 // 8000
+        title = f"Title: {self.title}\n" if self.title else ""
+        seconds = f"{milliseconds // 1000}.{milliseconds % 1000:03}"
+        return f"Format: 8000:16:1\n{title}Time: {milliseconds // 1000}\nduration: {seconds}\n"
+
+
+class Entry(typing.NamedTuple):
+    id: int
+    uri: str
+    prio: int = 0
+
+    def lines(self, song, position):
+        prio = f"Prio: {self.prio}\n" if self.prio else ""
+        return f"file: {self.uri}\n{song.lines()}Pos: {position}\nId: {self.id}\n{prio}"
+
+
+def quoted(word):
+    return word if word and not set(word) & set(' \t"\\') else '"' + word.replace("\\", "\\\\").replace('"', '\\"') + '"'
+
+
+def request(words):
+    """The line of these words."""
+    return " ".join(map(quoted, words)).encode() + b"\n"
+
+
+def told(lines):
+    """An answer of these lines."""
+    return ("".join(lines) + "OK\n").encode()
+
+
+def by_bytes(texts):
+    return sorted(texts, key=str.encode)
+
+
+def span(text, length):
+    """The first and the end position of a range."""
+    first, colon, end = text.partition(":")
+    return int(first), (min(int(end), length) if end else length) if colon else int(first) + 1
+
+
+def moved(items, first, end, to):
+    """The block is taken out, and its first item put at a place of the rest."""
+    rest = items[:first] + items[end:]
+    return rest[:to] + items[first:end] + rest[to:]
+
+
+def swapped(items, one, other):
+    items = list(items)
+    items[one], items[other] = items[other], items[one]
+    return tuple(items)
+
+
+def quarter_round(now, a, b, c, d):
+    for to, by, other, turn in ((a, b, d, 16), (c, d, b, 12), (a, b, d, 8), (c, d, b, 7)):
+        now[to] = (now[to] + now[by]) & MASK
+        mixed = now[other] ^ now[to]
+        now[other] = (mixed << turn | mixed >> 32 - turn) & MASK
+
+
+def random_word(key, stream, place):
+    """The word at a place of a stream of ChaCha with 8 rounds, whose counter and stream have 64 bits each."""
+    text = b"expand 32-byte k" + key + (place // 16).to_bytes(8, "little") + stream.to_bytes(8, "little")
+    begin = [int.from_bytes(text[it : it + 4], "little") for it in range(0, 64, 4)]
+    now = list(begin)
+    for it in range(32):
+        turn, column = it // 4 % 2, it % 4
+        quarter_round(now, column, *(4 * row + (column + row * turn) % 4 for row in (1, 2, 3)))
+    return (now[place % 16] + begin[place % 16]) & MASK
+
+
+class State:
+    """What is kept. A method named as a command makes its change, and gives its lines where it has some."""
+
+    def __init__(self, songs, key):
+        self.songs, self.key = songs, key
+        self.settings = {name: values[-1 if name == "volume" else 0] for name, values in SETTINGS.items()}
+        self.queue, self.stamps = (), ()
+        self.version, self.next_id, self.order_number = 1, 1, 0
+        self.playlists, self.stickers = {}, {}
+
+    def after(self, words):
+        """The state after a command, and its answer."""
+        state = copy.copy(self)
+        state.settings, state.playlists, state.stickers = dict(self.settings), dict(self.playlists), dict(self.stickers)
+        name = words[0] + ("_" + words[1] if words[0] == "sticker" else "")
+        lines = getattr(state, name)(*words[3 if words[0] == "sticker" else 1 :])
+        return state, told([lines or ""])
+
+    def seen(self):
+        """All that a client can read of it but the stamps, to be told from other states."""
+        parts = [frozenset(it.items()) for it in (self.settings, self.playlists, self.stickers)]
+        return self.version, self.queue, *parts
+
+    def songs_at(self, uri):
+        """The song, or the songs below the folder."""
+        folder = "" if uri in ("", "/") else uri + "/"
+        return [uri] if uri in self.songs else by_bytes(it for it in self.songs if it.startswith(folder))
+
+    def position(self, number):
+        return next(at for at, entry in enumerate(self.queue) if entry.id == int(number))
+
+    # The settings.
+
+    def set(self, name, value):
+        self.settings[name] = value
+
+    def setvol(self, value):
+        self.set("volume", value)
+
+    def repeat(self, value):
+        self.set("repeat", value)
+
+    def random(self, value):
+        self.order_number += (self.settings["random"], value) == ("0", "1")
+        self.set("random", value)
+
+    def single(self, value):
+        self.set("single", value)
+
+    def consume(self, value):
+        self.set("consume", value)
+
+    # The queue.
+
+    def edit(self, queue):
+        """Where the queue differs, the version grows by one and is the stamp of just the positions that differ."""
+        if queue != self.queue:
+            self.version += 1
+            same = [one == other for one, other in zip(self.queue, queue)]
+            self.stamps = tuple(self.stamps[at] if at < len(same) and same[at] else self.version for at in range(len(queue)))
+            self.queue = queue
+
+    def insert(self, uris, to):
+        place = len(self.queue) if to is None else int(to)
+        entries = tuple(Entry(number, uri) for number, uri in enumerate(uris, self.next_id))
+        self.next_id += len(entries)
+        self.edit(self.queue[:place] + entries + self.queue[place:])
+
+    def add(self, uri, to=None):
+        self.insert(self.songs_at(uri), to)
+
+    def addid(self, uri, to=None):
+        self.insert([uri], to)
+        return f"Id: {self.next_id - 1}\n"
+
+    def delete(self, text):
+        first, end = span(text, len(self.queue))
+        self.edit(self.queue[:first] + self.queue[end:])
+
+    def deleteid(self, number):
+        self.delete(str(self.position(number)))
+
+    def clear(self):
+        self.edit(())
+
+    def move(self, text, to):
+        self.edit(moved(self.queue, *span(text, len(self.queue)), int(to)))
+
+    def moveid(self, number, to):
+        self.move(str(self.position(number)), to)
+
+    def swap(self, one, other):
+        self.edit(swapped(self.queue, int(one), int(other)))
+
+    def swapid(self, one, other):
+        self.swap(self.position(one), self.position(other))
+
+    def shuffle(self, text="0:"):
+        first, end = span(text, len(self.queue))
+        if end - first > 1:
+            self.order_number += 1
+            word = lambda entry: (random_word(self.key, self.order_number, entry.id), entry.id)
+            self.edit(self.queue[:first] + tuple(sorted(self.queue[first:end], key=word)) + self.queue[end:])
+
+    def prio(self, prio, *ranges):
+        raised = {at for it in ranges for at in range(*span(it, len(self.queue)))}
+        self.edit(tuple(it._replace(prio=int(prio)) if at in raised else it for at, it in enumerate(self.queue)))
+
+    def prioid(self, prio, *numbers):
+        self.prio(prio, *(str(self.position(it)) for it in numbers))
+
+    def load(self, name, text="0:", to=None):
+        first, end = span(text, len(self.playlists[name]))
+        self.insert([it for it in self.playlists[name][first:end] if it in self.songs], to)
+
+    # Playlists.
+
+    def save(self, name):
+        self.playlists[name] = tuple(it.uri for it in self.queue)
+
+    def rm(self, name):
+        del self.playlists[name]
+
+    def rename(self, name, other):
+        self.playlists[other] = self.playlists.pop(name)
+
+    def playlistadd(self, name, uri):
+        self.playlists[name] = self.playlists.get(name, ()) + tuple(self.songs_at(uri))
+
+    def playlistclear(self, name):
+        self.playlists[name] = ()
+
+    def playlistdelete(self, name, text):
+        first, end = span(text, len(self.playlists[name]))
+        self.playlists[name] = self.playlists[name][:first] + self.playlists[name][end:]
+
+    def playlistmove(self, name, place, to):
+        self.playlists[name] = moved(self.playlists[name], int(place), int(place) + 1, int(to))
+
+    # Stickers.
+
+    def sticker_set(self, uri, name, value):
+        self.stickers[uri, name] = value
+
+    def sticker_delete(self, uri, name=None):
+        gone = {it for it in self.stickers if it[0] == uri and name in (None, it[1])}
+        self.stickers = {it: value for it, value in self.stickers.items() if it not in gone}
+
+    # What a client reads.
+
+    def readings(self, names):
+        """Requests that tell all of it but the stamps, with their answers; `names` are those that playlists may have."""
+        status = [*self.settings.items(), ("playlist", self.version), ("playlistlength", len(self.queue)), ("state", "stop")]
+        yield ["status"], told(f"{key}: {value}\n" for key, value in status)
+        yield ["playlistinfo"], told(it.lines(self.songs[it.uri], at) for at, it in enumerate(self.queue))
+        yield ["listplaylists"], told(f"playlist: {it}\n" for it in by_bytes(self.playlists))
+        for name in names:
+            songs = told(f"file: {it}\n" for it in self.playlists.get(name, ()))
+            yield ["listplaylist", name], songs if name in self.playlists else b"ACK [50@0] {listplaylist} No such playlist\n"
+        for uri in self.songs:
+            stickers = by_bytes(name for it, name in self.stickers if it == uri)
+            yield ["sticker", "list", "song", uri], told(f"sticker: {it}={self.stickers[uri, it]}\n" for it in stickers)
+        yield ["listall"], told(f"{kind}: {path}\n" for path, kind in self.paths())
+
+    def paths(self):
+        """The folders and the songs, by the bytes of their paths, a folder before a song."""
+        folders = {(uri[:at], "directory") for uri in self.songs for at, it in enumerate(uri) if it == "/"}
+        return sorted([*folders, *((it, "file") for it in self.songs)], key=lambda it: (it[0].encode(), it[1]))
+
+    def stamp_readings(self):
+        """Requests that tell the stamp of each position, with their answers."""
+        for version in sorted({0} | {it - before for it in self.stamps for before in (0, 1)}):
+            late = [at for at, stamp in enumerate(self.stamps) if stamp > version]
+            yield ["plchangesposid", str(version)], told(f"cpos: {at}\nId: {self.queue[at].id}\n" for at in late)
