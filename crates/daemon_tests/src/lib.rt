@@ -25,3 +25,5 @@ mod playlists;
 mod queue;
 #[cfg(test)]
 mod recovered;
+#[cfg(test)]
+mod sizes;
