@@ -4,6 +4,7 @@
 """
 
 import os
+import re
 import shutil
 import sys
 
@@ -12,8 +13,10 @@ from toolchain import RT
 
 
 def take_below(checkout, tried):
-    """Has every other crate taken as the checkout has it."""
+    """Has every other crate taken as the checkout has it, so that each last line says that kept work was trusted."""
     prove = RT.Crate.ci
+    words = RT.rtlib.VERDICT.pattern
+    RT.rtlib.VERDICT = re.compile(words.replace(r"statements=trusted\n", r"statements=trusted( incremental=trusted)?\n"), re.M)
 
     def ci(crate, flags, tests):
         if crate.name in tried:
