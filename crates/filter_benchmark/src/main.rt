@@ -13,11 +13,12 @@ use std::env;
 use timing::measure;
 
 /// The passes in the order in which they are printed; the plain one comes first.
-const PASSES: [Pass; 4] = [
+const PASSES: [Pass; 5] = [
     Pass::Plain,
     Pass::Equality,
     Pass::Containment,
     Pass::FoldedPair,
+    Pass::FoldedAbsent,
 ];
 
 /// Prints the rows a second of each pass, and how many times as long it takes as the plain one.

@@ -17,6 +17,8 @@ pub enum Pass {
     Containment,
     /// One of the six tags has this text in it, where the case doesn't count.
     FoldedPair,
+    /// The same with a text that no row has.
+    FoldedAbsent,
 }
 
 impl Pass {
@@ -27,6 +29,7 @@ impl Pass {
             Pass::Equality => "an equality",
             Pass::Containment => "a containment",
             Pass::FoldedPair => "a folded pair over any tag",
+            Pass::FoldedAbsent => "a folded pair that nothing has",
         }
     }
 
@@ -36,16 +39,8 @@ impl Pass {
             Pass::Plain => Ok(None),
             Pass::Equality => exact(alloc, b"(artist == 'The Artist 0017')"),
             Pass::Containment => exact(alloc, b"(title contains 'Song 0001')"),
-            Pass::FoldedPair => {
-                let filter = read(
-                    alloc,
-                    &[
-                        LineWord::from_slice(b"any"),
-                        LineWord::from_slice(b"the ARTIST 0017"),
-                    ],
-                )?;
-                Ok(Some((filter, Case::Folded)))
-            }
+            Pass::FoldedPair => folded(alloc, b"the ARTIST 0017"),
+            Pass::FoldedAbsent => folded(alloc, b"THUNDER"),
         }
     }
 
@@ -55,12 +50,18 @@ impl Pass {
             Pass::Plain => ROWS,
             Pass::Equality | Pass::FoldedPair => ROWS / ARTISTS,
             Pass::Containment => 10,
+            Pass::FoldedAbsent => 0,
         }
     }
 }
 
 fn exact(alloc: Global, text: &[u8]) -> Result<Option<(Filter, Case)>> {
     Ok(Some((read(alloc, &[LineWord::from_slice(text)])?, Case::Exact)))
+}
+
+fn folded(alloc: Global, value: &[u8]) -> Result<Option<(Filter, Case)>> {
+    let words = [LineWord::from_slice(b"any"), LineWord::from_slice(value)];
+    Ok(Some((read(alloc, &words)?, Case::Folded)))
 }
 
 fn read(alloc: Global, words: &[LineWord<'_>]) -> Result<Filter> {

@@ -1,3 +1,4 @@
+mod Ascii
 mod Comparisons
 mod Enclosing
 mod Expressions

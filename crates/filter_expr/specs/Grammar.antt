@@ -87,8 +87,8 @@ pub record SpellsNegation (spells : Tree → List ℕ → Type 0) (tree : Tree) 
 abbrev pub SpellsGroup : (Tree → List ℕ → Type 0) → ℕ → Tree → List ℕ → Type 0
 SpellsGroup spells zero tree text = spells tree text
 SpellsGroup spells (suc others) tree text =
-    (left right : Tree) × (first before after last : List ℕ) × SpellsGroup spells others left first × IsGap before × IsGap after × spells right last
-    × (text ≡ first ++ (before ++ (codes "AND" ++ (after ++ last)))) × (tree ≡ And left right)
+    (left right : Tree) × (first before after last : List ℕ) × SpellsGroup spells others left first × IsGap before × IsGap after
+    × spells right last × (text ≡ first ++ (before ++ (codes "AND" ++ (after ++ last)))) × (tree ≡ And left right)
 
 -- what stands between parentheses
 abbrev pub SpellsInside : (Tree → List ℕ → Type 0) → Tree → List ℕ → Type 0

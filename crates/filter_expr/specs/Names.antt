@@ -10,14 +10,19 @@ use Rattle.filter_expr.specs.declared.name.Key.TheVariants.{Of, Base}
 abbrev pub tag_named : List ℕ → Option Tag
 tag_named name =
     if str_eq_ignore_ascii_case name (codes "title") then Some Title
-    else (if str_eq_ignore_ascii_case name (codes "artist") then Some Artist else (if str_eq_ignore_ascii_case name (codes "album") then Some Album else (if str_eq_ignore_ascii_case name (codes "date") then Some Date else (if str_eq_ignore_ascii_case name (codes "genre") then Some Genre else (if str_eq_ignore_ascii_case name (codes "comment") then Some Comment else None)))))
+    else (if str_eq_ignore_ascii_case name (codes "artist") then Some Artist
+    else (if str_eq_ignore_ascii_case name (codes "album") then Some Album
+    else (if str_eq_ignore_ascii_case name (codes "date") then Some Date
+    else (if str_eq_ignore_ascii_case name (codes "genre") then Some Genre
+    else (if str_eq_ignore_ascii_case name (codes "comment") then Some Comment else None)))))
 
 -- a tag, or something else that is named
 abbrev pub key_of : Option Tag → List ℕ → Option Key
 key_of (Some tag) name = Some (Of (OfTag tag))
 key_of None name =
     if str_eq_ignore_ascii_case name (codes "any") then Some (Of Any)
-    else (if str_eq_ignore_ascii_case name (codes "file") then Some (Of File) else (if str_eq_ignore_ascii_case name (codes "base") then Some Base else None))
+    else (if str_eq_ignore_ascii_case name (codes "file") then Some (Of File)
+    else (if str_eq_ignore_ascii_case name (codes "base") then Some Base else None))
 
 unfoldable pub key_named : List ℕ → Option Key
 key_named name = key_of (tag_named name) name

@@ -111,4 +111,6 @@ quoted quote false (b ∷ text) =
 -- a value in quotes, which is UTF-8
 unfoldable pub value_at : List ℕ → Result (List ℕ × List ℕ) Fault
 value_at [] = Err (Bad 0)
-value_at (b ∷ text) = if is_quote b then (quoted b false text >>= λ x. if is_utf8 x.0 then Ok x else Err (Bad (length (b ∷ text)))) else Err (Bad (length (b ∷ text)))
+value_at (b ∷ text) =
+    if is_quote b then (quoted b false text >>= λ x. if is_utf8 x.0 then Ok x else Err (Bad (length (b ∷ text))))
+    else Err (Bad (length (b ∷ text)))

@@ -18,7 +18,8 @@ unfoldable pub operator_at : Subject → List ℕ → Result (Operator × List �
 operator_at File text = word_at (codes "==") (without_blanks text) >>= λ rest. Ok (operators.Equal, rest)
 operator_at subject text =
     if begins_so equals_sign (without_blanks text) then (word_at (codes "==") (without_blanks text) >>= λ rest. Ok (operators.Equal, rest))
-    else (if begins_so exclamation (without_blanks text) then (word_at (codes "!=") (without_blanks text) >>= λ rest. Ok (operators.Unequal, rest))
+    else (if begins_so exclamation (without_blanks text)
+    then (word_at (codes "!=") (without_blanks text) >>= λ rest. Ok (operators.Unequal, rest))
     else (between_gaps (codes "contains") text >>= λ rest. Ok (operators.Contains, rest)))
 
 abbrev pub test_tree : Subject → Operator → List ℕ → Tree

@@ -23,7 +23,12 @@ subject_number File = 7
 abbrev subject_at : ℕ → Subject
 subject_at n =
     if n == 0 then OfTag Title
-    else (if n == 1 then OfTag Artist else (if n == 2 then OfTag Album else (if n == 3 then OfTag Date else (if n == 4 then OfTag Genre else (if n == 5 then OfTag Comment else (if n == 6 then Any else File))))))
+    else (if n == 1 then OfTag Artist
+    else (if n == 2 then OfTag Album
+    else (if n == 3 then OfTag Date
+    else (if n == 4 then OfTag Genre
+    else (if n == 5 then OfTag Comment
+    else (if n == 6 then Any else File))))))
 
 abbrev comparison_number : Comparison → ℕ
 comparison_number Equals = 0
@@ -49,7 +54,10 @@ with_and (left ∷ right ∷ trees) = And left right ∷ trees
 abbrev placed : Step → List Tree → List Tree
 placed step trees =
     if step.0 == 0 then Test (subject_at step.1.0) Equals step.1.1 ∷ trees
-    else (if step.0 == 1 then Test (subject_at step.1.0) Contains step.1.1 ∷ trees else (if step.0 == 2 then Test (subject_at step.1.0) Pair step.1.1 ∷ trees else (if step.0 == 3 then Base step.1.1 ∷ trees else (if step.0 == 4 then with_not trees else with_and trees))))
+    else (if step.0 == 1 then Test (subject_at step.1.0) Contains step.1.1 ∷ trees
+    else (if step.0 == 2 then Test (subject_at step.1.0) Pair step.1.1 ∷ trees
+    else (if step.0 == 3 then Base step.1.1 ∷ trees
+    else (if step.0 == 4 then with_not trees else with_and trees))))
 
 -- the trees of nodes
 abbrev trees_of : List Step → List Tree
@@ -76,8 +84,10 @@ trees_again (Test subject Contains value) after = ap (λ (s : Subject). Test s C
 trees_again (Test subject Pair value) after = ap (λ (s : Subject). Test s Pair value ∷ trees_of after) (subject_again subject)
 trees_again (Base base) after = refl
 trees_again (Not tree) after = ap with_not (trees_again tree after)
-trees_again (And left right) after = ap with_and (trees_again left (steps right after)) ∙ ap (λ (ts : List Tree). with_and (left ∷ ts)) (trees_again right after)
+trees_again (And left right) after =
+    ap with_and (trees_again left (steps right after)) ∙ ap (λ (ts : List Tree). with_and (left ∷ ts)) (trees_again right after)
 
 abbrev pub tree_code : Coded Tree
 tree_code =
-    code_by (List Step) (coded_list (coded× coded_ℕ (coded× coded_ℕ (coded_list coded_ℕ)))) (λ tree. steps tree []) (λ list. first_tree (trees_of list)) (λ tree. ap first_tree (trees_again tree []))
+    code_by (List Step) (coded_list (coded× coded_ℕ (coded× coded_ℕ (coded_list coded_ℕ)))) (λ tree. steps tree [])
+    (λ list. first_tree (trees_of list)) (λ tree. ap first_tree (trees_again tree []))

@@ -5,6 +5,7 @@ ghost use Rattle.filter_expr.specs.Folding.{folded};
 ghost use Rattle.filter_expr.specs.Meaning.{passes, compared, song_of, does_hold, any_passes};
 ghost use Rattle.filter_expr.specs.declared.case.Case.TheVariants.{Folded};
 
+use crate::lowered::compare_ascii;
 use crate::row_text::occurs_in;
 use crate::subject::{Comparison, Subject};
 use crate::value::{TestValue, fold};
@@ -13,7 +14,7 @@ use std::alloc::{AllocError, Global};
 use std::marker::Model;
 use wave_pcm::Tag;
 
-/// A text of a song, or its absence, and what it folds to once that was asked for.
+/// A text of a song, or its absence, and what it folds to once that was asked for; a text that is plain ASCII is compared where it stands.
 #[derive(Debug, Drop)]
 pub(crate) struct FoldedText<'a> {
     text: Option<&'a str>,
@@ -57,6 +58,9 @@ impl<'a> FoldedText<'a> {
         };
         if empty {
             return Ok(comparison == Comparison::Contains);
+        }
+        if text.is_ascii() {
+            return Ok(compare_ascii(comparison, value.folded(), text));
         }
         if let Some(folded) = &self.folds_to {
             return Ok(compare(comparison, value.folded(), folded.as_str()));

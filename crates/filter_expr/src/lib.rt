@@ -6,6 +6,7 @@ mod expression;
 pub mod filter;
 mod folded_row;
 pub mod laws;
+mod lowered;
 pub mod name;
 mod operator;
 pub mod order;

@@ -5,7 +5,7 @@ use Rattle.std.specs.Int.{w32, to_le_bytes}
 use Rattle.std.specs.Result.{result_ok}
 use Rattle.std.proofs.lemmas.Bool.{cases_eq}
 use Rattle.std.proofs.lemmas.Grind.{flat_map-append}
-use Rattle.std.proofs.lemmas.List.{append-nil, take_at, take-take, take-append-le, get_or_at, nil_from_length}
+use Rattle.std.proofs.lemmas.List.{append-nil, take_at, get_or_at, nil_from_length}
 use Rattle.std.proofs.lemmas.List.Elements.{All-append, All-cons, All-nil}
 use Rattle.disk_model.specs.History.{Change}
 use Rattle.disk_model.specs.Images.{window, settled, IsImage}
@@ -239,8 +239,3 @@ fresh_kept here there snapshot h o end is empty is_end short here_settled there_
   in_use = laid_in_use here there snapshot end 1 0 is is_end (lit< tt) (lit< tt) short (inl (inl (subst (λ (l : List ℕ). length l < 32)
       (sym empty) (lit< tt))));
 }
-
--- the front of a buffer that a record was put into
-pub buffer_front : (new rest : List ℕ) (count room : ℕ) → count ≤ room → count ≤ length new
-    → take count (take room (new ++ rest)) ≡ take count new
-buffer_front new rest count room fits long = take-take count room (new ++ rest) fits ∙ take-append-le count new rest long

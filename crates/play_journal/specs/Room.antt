@@ -1,4 +1,4 @@
--- The buffer for one record.
+-- The room for one record.
 use Rattle.std.specs.Prelude.{ℕ}
 
 -- its length field, its body, and the gate behind it

@@ -1,5 +1,6 @@
 // The device calls that add a record.
-ghost use Rattle.std.specs.Prelude.{◌≡◌, ◌≢◌, ◌+◌, ◌-◌, ◌^◌, ◌<◌, ◌≤◌, [], ◌∷◌, ◌++◌, length, take, slice_index, OnOk, OnErr};
+ghost use Rattle.std.specs.Prelude.{◌≡◌, ◌≢◌, ◌+◌, ◌-◌, ◌^◌, ◌<◌, ◌≤◌, [], ◌∷◌, ◌++◌, length, take, slice_index, vec_capacity, OnOk};
+ghost use Rattle.std.specs.Prelude.{OnErr};
 ghost use Rattle.std.specs.Int.{w32, to_le_bytes};
 ghost use Rattle.disk_model.specs.Faults.{HasGrown};
 ghost use Rattle.disk_model.specs.Images.{window, settled};
@@ -13,16 +14,19 @@ use crate::laying::write_synced;
 use crate::reading::{CLOSED, OPEN};
 use disk_model::Disk;
 
-// Puts the length of a record, its body and a closed gate into the front of the buffer.
-pub(crate) fn put_record(buffer: &mut [u8], body: &[u8])
-    requires room { length body.now + 5 ≤ length buffer.old }
+// Puts the length of a record, its body and a closed gate into the buffer, in place of what it held.
+pub(crate) fn put_record(buffer: &mut Vec<u8>, body: &[u8])
+    requires room { length body.now + 5 ≤ vec_capacity buffer.old }
     requires short { length body.now < 2 ^ 32 }
-    ensures { take (5 + length body.now) buffer.new ≡ to_le_bytes w32 (length body.now) ++ body.now ++ 0 ∷ [] }
+    ensures record { buffer.new.items ≡ to_le_bytes w32 (length body.now) ++ body.now ++ 0 ∷ [] }
+    ensures room { vec_capacity buffer.old ≤ vec_capacity buffer.new }
 {
-    let len = body.len();
-    buffer[..4].copy_from_slice(&(len as u32).to_le_bytes());
-    buffer[4..4 + len].copy_from_slice(body);
-    buffer[4 + len] = CLOSED;
+    let len = (body.len() as u32).to_le_bytes();
+    buffer.clear();
+    if buffer.extend_from_slice(&len).is_err() || buffer.extend_from_slice(body).is_err() {
+        unreachable!();
+    }
+    buffer.push_reserved(CLOSED);
 }
 
 // Writes a record behind the closed gate at the end of a settled file, and then opens the gate: four calls of the disk.

@@ -1,6 +1,6 @@
 // Laying down the first file.
-ghost use Rattle.std.specs.Prelude.{◌≡◌, ◌↔◌, ◌+◌, ◌-◌, ◌^◌, ◌<◌, ◌≤◌, ◌≢◌, ◌⊎◌, [], ◌∷◌, ◌++◌, length, vec_len, Err, IfOk, IfErr, OnOk};
-ghost use Rattle.std.specs.Prelude.{OnErr};
+ghost use Rattle.std.specs.Prelude.{◌≡◌, ◌↔◌, ◌+◌, ◌-◌, ◌^◌, ◌<◌, ◌≤◌, ◌≢◌, ◌⊎◌, [], ◌∷◌, ◌++◌, length, vec_capacity, Err, IfOk, IfErr};
+ghost use Rattle.std.specs.Prelude.{OnErr, OnOk};
 ghost use Rattle.disk_model.specs.Faults.{HasGrown};
 ghost use Rattle.disk_model.specs.Images.{window, settled};
 ghost use Rattle.disk_model.specs.Later.{AreLater, HasFailed};
@@ -30,7 +30,7 @@ pub(crate) fn fresh_journal<D: Disk>(
     ensures settled_a { D.honest a.old → OnOk result (window (D.history a.new) ≡ settled (D.content a.new)) }
     ensures settled_b { D.honest b.old → OnOk result (window (D.history b.new) ≡ settled (D.content b.new)) }
     ensures content_b { D.honest b.old → OnOk result (D.content b.new ≡ D.content b.old) }
-    ensures room { IfOk result (λ r. vec_len r.0 ≡ room) }
+    ensures room { IfOk result (λ r. room ≤ vec_capacity r.0) }
     ensures end { IfOk result (λ r. r.1 ≡ 32 + length snapshot.now) }
     ensures too_long { (result ≡ Err JournalError.TooLong) ↔ (4294967295 < length snapshot.now) }
     ensures later { AreLater D.honest D.history D.faults a.old b.old a.new b.new }

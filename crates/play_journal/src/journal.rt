@@ -1,6 +1,6 @@
 // The journal.
-ghost use Rattle.std.specs.Prelude.{◌≡◌, ◌≢◌, ◌⊎◌, ◌↔◌, ◌+◌, ◌-◌, ◌^◌, ◌<◌, ◌≤◌, Bool, true, false, List, [], ◌∷◌, length, vec_len, Ok};
-ghost use Rattle.std.specs.Prelude.{Err, Some, None, IsTrue, IsSome, IfOk, IfErr, OnOk, OnErr, IsOk, IsErrAnd, MatchResult, MatchBool};
+ghost use Rattle.std.specs.Prelude.{◌≡◌, ◌≢◌, ◌⊎◌, ◌↔◌, ◌+◌, ◌-◌, ◌^◌, ◌<◌, ◌≤◌, Bool, true, false, List, [], ◌∷◌, length, vec_capacity};
+ghost use Rattle.std.specs.Prelude.{Err, Some, None, IsTrue, IsSome, IfOk, IfErr, OnOk, OnErr, IsOk, IsErrAnd, MatchResult, MatchBool, Ok};
 ghost use Rattle.disk_model.specs.Later.{AreLater, HasFailed};
 ghost use Rattle.play_journal.specs.Calls.{Holds, IsNew, IsOpened, IsNextRecord, StaysInFile, IsNextGeneration, RefusesInOrder};
 ghost use Rattle.play_journal.specs.Content.{fresh, with_record, with_snapshot, IsBeforeOrAfter, IsOldOrNew};
@@ -39,7 +39,7 @@ pub struct Journal<D: Disk> {
 }
 
 impl<D: Disk> Model for Journal<D> {
-    ghost use Rattle.std.specs.Prelude.{◌≡◌, ◌+◌, ◌^◌, ◌<◌, false, vec_len};
+    ghost use Rattle.std.specs.Prelude.{◌≡◌, ◌+◌, ◌^◌, ◌<◌, ◌≤◌, false, vec_capacity};
     ghost use Rattle.play_journal.specs.JournalState.{JournalState, content_in, at_place, IsKept};
     ghost use Rattle.play_journal.specs.Room.{room};
 
@@ -56,7 +56,7 @@ impl<D: Disk> Model for Journal<D> {
       is_in_b = j.swapped;
     } };
 
-    ghost invariant = { λ j. (vec_len j.buffer ≡ room) × (j.base + j.count < 2 ^ 64)
+    ghost invariant = { λ j. (room ≤ vec_capacity j.buffer) × (j.base + j.count < 2 ^ 64)
         × (j.spent ≡ false → D.honest j.here → D.honest j.there → IsKept (D.content j.here) (D.content j.there) (D.history j.here)
         (D.history j.there) j.end j.generation j.base j.count) };
 }
@@ -182,7 +182,7 @@ impl<D: Disk> Journal<D> {
             return Err(JournalError::NumbersSpent);
         }
         put_record(&mut self.buffer, body);
-        match append_at(&mut self.here, self.end, &self.buffer[..5 + len]) {
+        match append_at(&mut self.here, self.end, &self.buffer) {
             Ok(()) => {
                 self.end = self.end.saturating_add(5 + len as u64);
                 self.count += 1;
@@ -305,7 +305,7 @@ fn placed<D>(swapped: bool, first: D, second: D) -> (D, D)
 
 // The journal over a file that was opened, and what stands in it.
 fn opened_journal<D: Disk>(opened: Opened, swapped: bool, a: D, b: D) -> (Journal<D>, Stored)
-    requires room { vec_len opened.buffer ≡ room }
+    requires room { room ≤ vec_capacity opened.buffer }
     requires numbers { opened.file.base + length opened.file.stored.records < 2 ^ 64 }
     requires in_use { D.honest a → D.honest b → IsKept (D.content (at_place swapped a b)) (D.content (at_place swapped b a))
         (D.history (at_place swapped a b)) (D.history (at_place swapped b a)) opened.file.end opened.file.generation opened.file.base

@@ -1,6 +1,6 @@
 // Opening two files that a crash may have left.
-ghost use Rattle.std.specs.Prelude.{◌≡◌, ◌≢◌, ◌⊎◌, ◌↔◌, ◌+◌, ◌-◌, ◌^◌, ◌<◌, ◌≤◌, Bool, List, ◌++◌, length, take, flat_map, vec_len, Ok};
-ghost use Rattle.std.specs.Prelude.{Err, OnOk, OnErr, IfOk, IfErr};
+ghost use Rattle.std.specs.Prelude.{◌≡◌, ◌≢◌, ◌⊎◌, ◌↔◌, ◌+◌, ◌-◌, ◌^◌, ◌<◌, ◌≤◌, Bool, List, ◌++◌, length, take, flat_map, vec_capacity};
+ghost use Rattle.std.specs.Prelude.{Err, OnOk, OnErr, IfOk, IfErr, Ok};
 ghost use Rattle.disk_model.specs.Calls.{IsSameOrAdds};
 ghost use Rattle.disk_model.specs.Faults.{HasGrown};
 ghost use Rattle.disk_model.specs.History.{Synced};
@@ -24,11 +24,11 @@ use std::alloc::{AllocError, Global};
 // Room for one record with its length field, and for the closed gate behind it.
 const ROOM: usize = LONGEST_BODY + 5;
 
-// The buffer for one record.
+// The buffer for one record: room alone, no byte of which is touched before the first record is put into it.
 pub(crate) fn record_room(alloc: Global) -> Result<Vec<u8>, AllocError>
-    ensures { IfOk result (λ v. vec_len v ≡ room) }
+    ensures { IfOk result (λ v. room ≤ vec_capacity v) }
 {
-    vec![in alloc; 0; ROOM]
+    Vec::with_capacity(alloc, ROOM)
 }
 
 // The generation of a file that is open, or none.
@@ -89,7 +89,7 @@ pub(crate) struct Opened {
 // Reads a settled file whose head is right, and cuts off what follows its closing gate.
 fn open_file<D: Disk>(alloc: Global, disk: &mut D) -> Result<Opened, JournalError>
     ensures later { IsLater D.honest D.history D.faults disk.old disk.new }
-    ensures room { IfOk result (λ r. vec_len r.buffer ≡ room) }
+    ensures room { IfOk result (λ r. room ≤ vec_capacity r.buffer) }
     ensures numbers { IfOk result (λ r. r.file.base + length r.file.stored.records < 2 ^ 64) }
     ensures read { D.honest disk.old → IfOk result (λ r. read (D.content disk.old) ≡ Ok (content_read r.file)) }
     ensures end { IfOk result (λ r. r.file.end ≡ 32 + length r.file.stored.snapshot + length (flat_map gated r.file.stored.records)) }
@@ -147,7 +147,7 @@ pub(crate) fn open_files<D: Disk>(
     ensures later { AreLater D.honest D.history D.faults a.old b.old a.new b.new }
     ensures kept_a { D.honest a.old → D.honest b.old → KeepsFile (D.history a.old) (D.history a.new) }
     ensures kept_b { D.honest a.old → D.honest b.old → KeepsFile (D.history b.old) (D.history b.new) }
-    ensures room { IfOk result (λ r. vec_len r.1.buffer ≡ room) }
+    ensures room { IfOk result (λ r. room ≤ vec_capacity r.1.buffer) }
     ensures numbers { IfOk result (λ r. r.1.file.base + length r.1.file.stored.records < 2 ^ 64) }
     ensures read { D.honest a.old → D.honest b.old → IfOk result (λ r. reading (D.content a.old) (D.content b.old) ≡ Ok
         (content_read r.1.file)) }

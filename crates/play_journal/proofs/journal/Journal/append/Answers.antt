@@ -1,9 +1,8 @@
-use Rattle.std.proofs.Common.{◌≡◌, ◌∙◌, ◌+◌, ◌^◌, ◌<◌, ◌≤◌, [], ◌∷◌, ◌++◌, ℕ, List, Some, length, arith, sym, ap, subst}
-use Rattle.std.specs.Prelude.{take, drop}
+use Rattle.std.proofs.Common.{◌≡◌, ◌∙◌, ◌+◌, ◌^◌, ◌<◌, ◌≤◌, [], ◌∷◌, ◌++◌, ℕ, List, Some, length, arith, sym, subst}
 use Rattle.std.specs.Int.{w32, to_le_bytes}
 use Rattle.play_journal.specs.Content.{IsBeforeOrAfter, with_record}
 use Rattle.play_journal.specs.JournalState.{content_in, IsInUse, IsKept}
-use Rattle.play_journal.proofs.InUseLaws.{buffer_front, first_since, second_since, longer_in_use, longer_content}
+use Rattle.play_journal.proofs.InUseLaws.{first_since, second_since, longer_in_use, longer_content}
 use Rattle.play_journal.proofs.PlaceLaws.{honest_both, kept_now, added_since, still_since, before_or_after, later_here}
 use Rattle.play_journal.proofs.journal.Journal.append.Goals as goal
 
@@ -31,13 +30,8 @@ returns-in-Ok-clause-any_moment g c = rw (← c.self.view_is) (λ a b usable.
     let there = g.D.Disk.content j.there in
     let body = c.args.body.now in
     let kept = c.self.invariant.2 usable honest.0 honest.1 in
-    let added : List ℕ = take (5 + length body) c.deref.result.now in
-    let long : 5 + length body ≤ length c.put_record.new.buffer = omega
-    (arith, c.put_record.auto.buffer, c.deref_mut.ensures.len, c.self.invariant.0) in
-    let is_added : added ≡ to_le_bytes w32 (length body) ++ body ++ 0 ∷ [] =
-    ap (λ (l : List ℕ). take (5 + length body) l) c.deref.ensures.value
-    ∙ buffer_front c.put_record.new.buffer (drop (length c.put_record.new.buffer) j.buffer.items) (5 + length body) j.buffer.len (omega
-    (arith, c.self.invariant.0)) long ∙ c.put_record.ensures in
+    let added : List ℕ = c.deref.result.now in
+    let is_added : added ≡ to_le_bytes w32 (length body) ++ body ++ 0 ∷ [] = c.deref.ensures.value ∙ c.put_record.ensures.record in
     let short : length body ≤ 2097152 = omega arith in
     let number : j.base + j.count + 1 < 2 ^ 64 = omega (arith, c.self.invariant.1) in
     let since = c.in-Ok.ensures.any_moment honest.0 kept.here_settled kept.in_use.ends in
@@ -55,13 +49,8 @@ returns-in-Err-clause-any_moment g c = rw (← c.self.view_is) (λ a b usable.
     let there = g.D.Disk.content j.there in
     let body = c.args.body.now in
     let kept = c.self.invariant.2 usable honest.0 honest.1 in
-    let added : List ℕ = take (5 + length body) c.deref.result.now in
-    let long : 5 + length body ≤ length c.put_record.new.buffer = omega
-    (arith, c.put_record.auto.buffer, c.deref_mut.ensures.len, c.self.invariant.0) in
-    let is_added : added ≡ to_le_bytes w32 (length body) ++ body ++ 0 ∷ [] =
-    ap (λ (l : List ℕ). take (5 + length body) l) c.deref.ensures.value
-    ∙ buffer_front c.put_record.new.buffer (drop (length c.put_record.new.buffer) j.buffer.items) (5 + length body) j.buffer.len (omega
-    (arith, c.self.invariant.0)) long ∙ c.put_record.ensures in
+    let added : List ℕ = c.deref.result.now in
+    let is_added : added ≡ to_le_bytes w32 (length body) ++ body ++ 0 ∷ [] = c.deref.ensures.value ∙ c.put_record.ensures.record in
     let short : length body ≤ 2097152 = omega arith in
     let number : j.base + j.count + 1 < 2 ^ 64 = omega (arith, c.self.invariant.1) in
     let since = c.in-Err.ensures.any_moment honest.0 kept.here_settled kept.in_use.ends in
@@ -71,7 +60,7 @@ returns-in-Err-clause-any_moment g c = rw (← c.self.view_is) (λ a b usable.
     (second_since here there j.end j.generation j.base j.count kept.in_use body added is_added short number (g.D.Disk.history j.here)
     (g.D.Disk.history c.append_at.new.disk) (g.D.Disk.history j.there) kept.there_settled since))
 
-after : (g : _) (c : goal.After-self-in-Ok-2-1 g) → g.D.Disk.honest c.self.inside.here → g.D.Disk.honest c.self.inside.there
+after : (g : _) (c : goal.After-self-in-Ok-1 g) → g.D.Disk.honest c.self.inside.here → g.D.Disk.honest c.self.inside.there
     → IsKept (g.D.Disk.content c.append_at.new.disk) (g.D.Disk.content c.self.inside.there) (g.D.Disk.history c.append_at.new.disk)
     (g.D.Disk.history c.self.inside.there) c.saturating_add-self-inside.result c.self.inside.generation c.self.inside.base
     (c.self.inside.count + 1)
@@ -82,13 +71,8 @@ after g c first second =
     let there = g.D.Disk.content j.there in
     let body = c.args.body.now in
     let kept = c.self.invariant.2 c.if-self.false first second in
-    let added : List ℕ = take (5 + length body) c.deref.result.now in
-    let long : 5 + length body ≤ length c.put_record.new.buffer = omega
-    (arith, c.put_record.auto.buffer, c.deref_mut.ensures.len, c.self.invariant.0) in
-    let is_added : added ≡ to_le_bytes w32 (length body) ++ body ++ 0 ∷ [] =
-    ap (λ (l : List ℕ). take (5 + length body) l) c.deref.ensures.value
-    ∙ buffer_front c.put_record.new.buffer (drop (length c.put_record.new.buffer) j.buffer.items) (5 + length body) j.buffer.len (omega
-    (arith, c.self.invariant.0)) long ∙ c.put_record.ensures in
+    let added : List ℕ = c.deref.result.now in
+    let is_added : added ≡ to_le_bytes w32 (length body) ++ body ++ 0 ∷ [] = c.deref.ensures.value ∙ c.put_record.ensures.record in
     let short : length body ≤ 2097152 = omega arith in
     let number : j.base + j.count + 1 < 2 ^ 64 = omega (arith, c.self.invariant.1) in
     let written = c.in-Ok.ensures.written first kept.in_use.ends in
@@ -109,7 +93,7 @@ after g c first second =
 
 pub invariant_of-self : goal.invariant_of-self
 invariant_of-self g c = (
-  c.self.invariant.0,
+  omega (arith, c.self.invariant.0, c.put_record.ensures.room),
   omega (arith, c.self.invariant.1),
   λ usable a b. (after g c
       (c.append_at.ensures.later.honesty.1 a) b).0,
