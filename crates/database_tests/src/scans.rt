@@ -14,7 +14,8 @@ use wave_pcm::{
 
 /// A chunk with three bytes and a pad byte, the format, two frames, and two texts.
 const WAVE_A: [u8; 94] =
-    *b"RIFF\0\0\0\0WAVEjunk\x03\0\0\0\x01\x02\x03\0fmt \x10\0\0\0\x01\0\x01\0\x40\x1f\0\0\x80\x3e\0\0\x02\0\x10\0data\x04\0\0\0\x01\0\xfe\xffLIST\x1a\0\0\0INFOINAM\x03\0\0\0Hi\0\0IART\x02\0\0\0A\0";
+    *b"RIFF\0\0\0\0WAVEjunk\x03\0\0\0\x01\x02\x03\0fmt \x10\0\0\0\x01\0\x01\0\x40\x1f\0\0\x80\x3e\0\0\x02\0\x10\0\
+data\x04\0\0\0\x01\0\xfe\xffLIST\x1a\0\0\0INFOINAM\x03\0\0\0Hi\0\0IART\x02\0\0\0A\0";
 
 fn push_uris(uris: &mut Vec<Uri>, alloc: Global, texts: &str) -> Result<(), Fail> {
     for text in texts.split_whitespace() {

@@ -1,8 +1,8 @@
 // The database of songs.
 use crate::assertions::{case_is, equal, same_text};
 use song_db::{
-    Effect, Effects, Place, PushError, RowChange, ScanOrder, SongDb, SongDbError, SongRow, Texts,
-    Uri, is_uri,
+    Effect, Effects, Listed, Place, PushError, RowChange, ScanOrder, SongDb, SongDbError, SongRow,
+    Texts, Uri, is_uri,
 };
 use std::alloc::Global;
 use std::process::Abort;
@@ -15,6 +15,7 @@ mod memory;
 mod orders;
 mod rows;
 mod uris;
+mod walks;
 
 pub(crate) fn repeated(alloc: Global, piece: &str, count: usize) -> Result<String, Fail> {
     let mut text = String::new(alloc);
@@ -99,6 +100,23 @@ fn listed(alloc: Global, rows: &[SongRow]) -> Result<String, Fail> {
         write!(text, "{} ", row.uri())?;
     }
     Ok(text)
+}
+
+/// URIs and artists: folders that are songs, too, and songs between a folder and what stands below it.
+const NINE_SONGS: [(&str, &str); 9] = [
+    ("a.b/d.wav", "STRASSE"),
+    ("a.wav", ""),
+    ("a/b.wav", "Straße"),
+    ("a/c/d.wav", "b"),
+    ("a/c/e.wav", "b"),
+    ("a/c.d/e.wav", "b"),
+    ("ab/c.wav", "a"),
+    ("x.wav", "b"),
+    ("x.wav/y.wav", "b"),
+];
+
+fn nine_songs(alloc: Global) -> Result<SongDb, Fail> {
+    songs_of(alloc, &NINE_SONGS)
 }
 
 /// Texts, each followed by a space.

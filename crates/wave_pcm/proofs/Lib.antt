@@ -1,6 +1,7 @@
 pub mod ChunkList
 pub mod Finds
 mod FolderFiles
+pub mod KnownNames
 mod Listings
 pub mod Formats
 pub mod FrameList

@@ -1,5 +1,6 @@
 -- Entries of a folder in memory, one file after the other.
-use Rattle.std.proofs.Common.{◌≡◌, ℕ, suc, ◌+◌, ◌<◌, ◌≤◌, Bool, true, false, ◌&&◌, ◌||◌, cond, List, [], ◌∷◌, ◌++◌, length, take, drop, get_or, nat_eq, Some, None, refl, sym, ap, ◌∙◌, arith}
+use Rattle.std.proofs.Common.{◌≡◌, ℕ, suc, ◌+◌, ◌<◌, ◌≤◌, Bool, true, false, ◌&&◌, ◌||◌, cond, List, [], ◌∷◌, ◌++◌, length, take, drop}
+use Rattle.std.proofs.Common.{get_or, nat_eq, Some, None, refl, sym, ap, ◌∙◌, arith}
 use mathlib.Core.Bool.{beq}
 use denote.Ref.{Bor}
 use Rattle.std.specs.Prelude.{not, ◌==◌, Option, MatchOption, ◌≢◌, count_by, option_copied}
@@ -15,7 +16,8 @@ use Rattle.std.proofs.lemmas.List.Sums.{sum_by_push, sum_by-cons}
 use Rattle.std.proofs.lemmas.Slice.Eq.{bytes_eq-Decides}
 use Rattle.wave_pcm.specs.Added.{IsAdded}
 use Rattle.wave_pcm.specs.Folder.{File, bytes_at}
-use Rattle.wave_pcm.specs.Listing.{behind_folder, behind, has_slash, is_name, first_part, same_kind, is_entry, begins_with, has_first, is_over, IsListing, AreApart}
+use Rattle.wave_pcm.specs.Listing.{behind_folder, behind, has_slash, is_name, first_part, same_kind, is_entry, begins_with, has_first}
+use Rattle.wave_pcm.specs.Listing.{is_over, IsListing, AreApart}
 use Rattle.wave_pcm.specs.declared.folder.FolderEntry.{FolderEntry}
 
 -- what is left of a path behind its folder, without the slash
@@ -44,7 +46,8 @@ behind_splits [] (p ∷ path) rest h = by_cases (nat_eq p 47) refl h
 behind_splits (f ∷ folder) [] rest h = absurd (cc)
 behind_splits (f ∷ folder) (p ∷ path) rest h = by_cases (nat_eq f p) refl h (behind_splits folder path rest)
   where
-    by_cases : (b : Bool) → nat_eq f p ≡ b → ◌≡◌ {A = Option (List ℕ)} (cond b (behind_folder folder path) None) (Some rest) → (behind_folder folder path ≡ Some rest → path ≡ folder ++ 47 ∷ rest) → p ∷ path ≡ f ∷ (folder ++ 47 ∷ rest)
+    by_cases : (b : Bool) → nat_eq f p ≡ b → ◌≡◌ {A = Option (List ℕ)} (cond b (behind_folder folder path) None) (Some rest)
+        → (behind_folder folder path ≡ Some rest → path ≡ folder ++ 47 ∷ rest) → p ∷ path ≡ f ∷ (folder ++ 47 ∷ rest)
     by_cases true same h more =
         let first : p ≡ f = grind (arith, nat_tests) in
         let others : path ≡ folder ++ 47 ∷ rest = more h in
@@ -67,8 +70,10 @@ not_behind folder path some lacks = by_result (behind_folder folder path) refl �
     by_result None h = sym h
     by_result (Some rest) h = absurd (lacks (47 ∷ rest) (behind_splits folder path rest h))
 
-pub slash_behind : (folder path rest : List ℕ) (found : Option (List ℕ)) → nat_eq (length folder) 0 ≡ false → path ≡ folder ++ rest → found ≡ after_slash rest → found ≡ behind folder path
-slash_behind folder path rest found some is told = told ∙ sym (behind_append folder rest) ∙ ap (behind_folder folder) (sym is) ∙ sym (some_folder folder path some)
+pub slash_behind : (folder path rest : List ℕ) (found : Option (List ℕ)) → nat_eq (length folder) 0 ≡ false → path ≡ folder ++ rest
+    → found ≡ after_slash rest → found ≡ behind folder path
+slash_behind folder path rest found some is told = told ∙ sym (behind_append folder rest) ∙ ap (behind_folder folder) (sym is)
+    ∙ sym (some_folder folder path some)
 
 pub slash_none : (rest : List ℕ) → ((more : List ℕ) → rest ≢ 47 ∷ more) → None ≡ after_slash rest
 slash_none [] lacks = refl
@@ -82,7 +87,8 @@ pub slash_some : (rest more : List ℕ) → rest ≡ 47 ∷ more → Some more �
 slash_some rest more is = rw is refl
 
 -- what the second strip gives
-pub stripped : (B : Type 0) (folder path rest : List ℕ) (found : Option (Bor (List ℕ))) → nat_eq (length folder) 0 ≡ false → path ≡ folder ++ rest
+pub stripped : (B : Type 0) (folder path rest : List ℕ) (found : Option (Bor (List ℕ))) → nat_eq (length folder) 0 ≡ false
+    → path ≡ folder ++ rest
     → MatchOption found ((more : List ℕ) → rest ≢ 47 ∷ more)
     (λ x. (k : ℕ) × ((k ≡ 1) × (rest ≡ 47 ∷ drop k rest) × B) × (x.now ≡ drop k rest) × (length x.now + k ≡ length rest))
     → option_copied found ≡ behind folder path
@@ -130,7 +136,8 @@ first_plain (b ∷ path) = by_cases (nat_eq b 47) refl (first_plain path)
     one_more : (n : ℕ) → 1 + n ≡ suc n
     one_more n = omega arith
 
-    front : (n : ℕ) → nat_eq b 47 ≡ false → list_any (λ x. x == 47) (take n path) ≡ false → list_any (λ x. x == 47) (b ∷ take n path) ≡ false
+    front : (n : ℕ) → nat_eq b 47 ≡ false → list_any (λ x. x == 47) (take n path) ≡ false
+        → list_any (λ x. x == 47) (b ∷ take n path) ≡ false
     front n other rest = rw other rest
 
     by_cases : (c : Bool) → nat_eq b 47 ≡ c → has_slash (first_part path) ≡ false
@@ -157,39 +164,49 @@ none_added entries name kind empty = record { names = λ names. names; each = ea
         let empty : n ≡ [] = sym this ∙ none in
         not_empty n is empty
 
-    each : (n : List ℕ) → is_name n ≡ true → (k : Bool) → list_any (is_entry n k) entries ≡ (list_any (is_entry n k) entries || (bytes_eq name n && same_kind kind k))
-    each n is k = or_same (list_any (is_entry n k) entries) (bytes_eq name n && same_kind kind k) (λ h. absurd (apart n is (both (bytes_eq name n) (same_kind kind k) h).0))
+    each : (n : List ℕ) → is_name n ≡ true → (k : Bool)
+        → list_any (is_entry n k) entries ≡ (list_any (is_entry n k) entries || (bytes_eq name n && same_kind kind k))
+    each n is k = or_same (list_any (is_entry n k) entries) (bytes_eq name n && same_kind kind k)
+        (λ h. absurd (apart n is (both (bytes_eq name n) (same_kind kind k) h).0))
 
 -- what is there isn't added again
-pub there_added : (entries : List FolderEntry) (name : List ℕ) (kind : Bool) → list_any (is_entry name kind) entries ≡ true → IsAdded entries entries name kind
+pub there_added : (entries : List FolderEntry) (name : List ℕ) (kind : Bool) → list_any (is_entry name kind) entries ≡ true
+    → IsAdded entries entries name kind
 there_added entries name kind there = record { names = λ names. names; each = each; once = λ few. few }
   where
-    each : (n : List ℕ) → is_name n ≡ true → (k : Bool) → list_any (is_entry n k) entries ≡ (list_any (is_entry n k) entries || (bytes_eq name n && same_kind kind k))
+    each : (n : List ℕ) → is_name n ≡ true → (k : Bool)
+        → list_any (is_entry n k) entries ≡ (list_any (is_entry n k) entries || (bytes_eq name n && same_kind kind k))
     each n is k = or_same (list_any (is_entry n k) entries) (bytes_eq name n && same_kind kind k) (λ h.
         let parts = both (bytes_eq name n) (same_kind kind k) h in
         let this : name ≡ n = (bytes_eq-Decides name n).0 parts.0 in
         let own : kind ≡ k = kinds_same kind k parts.1 in
         rw (← this, ← own) there)
 
-pub pushed : (old : List FolderEntry) (entry : FolderEntry) (name : List ℕ) (kind : Bool) → string_bytes entry.name ≡ name → entry.is_folder ≡ kind → is_name name ≡ true → list_any (is_entry name kind) old ≡ false → IsAdded old (old ++ entry ∷ []) name kind
+pub pushed : (old : List FolderEntry) (entry : FolderEntry) (name : List ℕ) (kind : Bool) → string_bytes entry.name ≡ name
+    → entry.is_folder ≡ kind → is_name name ≡ true → list_any (is_entry name kind) old ≡ false → IsAdded old (old ++ entry ∷ []) name kind
 pushed old entry name kind name_is kind_is is absent = record { names = names; each = each; once = once }
   where
     own : (n : List ℕ) (k : Bool) → is_entry n k entry ≡ (bytes_eq name n && same_kind kind k)
     own n k = rw (name_is, kind_is) refl
 
-    names : All (λ (e : FolderEntry). is_name (string_bytes e.name) ≡ true) old → All (λ (e : FolderEntry). is_name (string_bytes e.name) ≡ true) (old ++ entry ∷ [])
+    names : All (λ (e : FolderEntry). is_name (string_bytes e.name) ≡ true) old
+        → All (λ (e : FolderEntry). is_name (string_bytes e.name) ≡ true) (old ++ entry ∷ [])
     names before = All-push (λ (e : FolderEntry). is_name (string_bytes e.name) ≡ true) old entry before (ap is_name name_is ∙ is)
 
-    each : (n : List ℕ) → is_name n ≡ true → (k : Bool) → list_any (is_entry n k) (old ++ entry ∷ []) ≡ (list_any (is_entry n k) old || (bytes_eq name n && same_kind kind k))
-    each n named k = list_any-append (is_entry n k) old (entry ∷ []) ∙ ap (λ b. list_any (is_entry n k) old || b) (or_false (is_entry n k entry) ∙ own n k)
+    each : (n : List ℕ) → is_name n ≡ true → (k : Bool)
+        → list_any (is_entry n k) (old ++ entry ∷ []) ≡ (list_any (is_entry n k) old || (bytes_eq name n && same_kind kind k))
+    each n named k = list_any-append (is_entry n k) old (entry ∷ [])
+        ∙ ap (λ b. list_any (is_entry n k) old || b) (or_false (is_entry n k entry) ∙ own n k)
 
-    once : ((n : List ℕ) (k : Bool) → count_by (is_entry n k) old ≤ 1) → (n : List ℕ) (k : Bool) → count_by (is_entry n k) (old ++ entry ∷ []) ≤ 1
+    once : ((n : List ℕ) (k : Bool) → count_by (is_entry n k) old ≤ 1) → (n : List ℕ) (k : Bool)
+        → count_by (is_entry n k) (old ++ entry ∷ []) ≤ 1
     once few n k = by_cases (is_entry n k entry) refl
       where
         by_cases : (b : Bool) → is_entry n k entry ≡ b → count_by (is_entry n k) (old ++ entry ∷ []) ≤ 1
         by_cases false other =
             let nothing : ◌≡◌ {A = ℕ} (cond (is_entry n k entry) 1 0) 0 = rw other refl in
-            let step : count_by (is_entry n k) (old ++ entry ∷ []) ≡ count_by (is_entry n k) old + cond (is_entry n k entry) 1 0 = sum_by_push (λ x. cond (is_entry n k x) 1 0) old entry in
+            let step : count_by (is_entry n k) (old ++ entry ∷ []) ≡ count_by (is_entry n k) old + cond (is_entry n k entry) 1 0 =
+            sum_by_push (λ x. cond (is_entry n k x) 1 0) old entry in
             let before : count_by (is_entry n k) old ≤ 1 = few n k in
             rw (step, nothing) (omega arith)
         by_cases true same =
@@ -198,36 +215,50 @@ pushed old entry name kind name_is kind_is is absent = record { names = names; e
             let kind_same : kind ≡ k = kinds_same kind k parts.1 in
             let none : list_any (is_entry n k) old ≡ false = rw (← name_same, ← kind_same) absent in
             let one : ◌≡◌ {A = ℕ} (cond (is_entry n k entry) 1 0) 1 = rw same refl in
-            let step : count_by (is_entry n k) (old ++ entry ∷ []) ≡ count_by (is_entry n k) old + cond (is_entry n k entry) 1 0 = sum_by_push (λ x. cond (is_entry n k x) 1 0) old entry in
+            let step : count_by (is_entry n k) (old ++ entry ∷ []) ≡ count_by (is_entry n k) old + cond (is_entry n k entry) 1 0 =
+            sum_by_push (λ x. cond (is_entry n k x) 1 0) old entry in
             rw (step, one, count_none (is_entry n k) old none) (omega arith)
 
 pub listed_none : (folder : List ℕ) → IsListing [] folder []
-listed_none folder = record { names = All-nil (λ (e : FolderEntry). is_name (string_bytes e.name) ≡ true); each = λ n is k. refl; once = λ n k. omega arith }
+listed_none folder = record {
+  names = All-nil (λ (e : FolderEntry). is_name (string_bytes e.name) ≡ true);
+  each = λ n is k. refl;
+  once =
+      λ n k. omega arith;
+}
 
 -- one file more
-first_more : (files : List File) (folder : List ℕ) (i : ℕ) (file : File) (n : List ℕ) (k : Bool) → i < length files → file ≡ get_or files i file
+first_more : (files : List File) (folder : List ℕ) (i : ℕ) (file : File) (n : List ℕ) (k : Bool) → i < length files
+    → file ≡ get_or files i file
     → has_first (take (i + 1) files) folder n k ≡ (has_first (take i files) folder n k || begins_with n k (behind folder file.path))
 first_more files folder i file n k within is =
-    ap (list_any (λ (f : File). begins_with n k (behind folder f.path))) (take_more files i file within ∙ ap (λ (f : File). take i files ++ f ∷ []) (sym is))
+    ap (list_any (λ (f : File). begins_with n k (behind folder f.path)))
+    (take_more files i file within ∙ ap (λ (f : File). take i files ++ f ∷ []) (sym is))
     ∙ list_any-append (λ (f : File). begins_with n k (behind folder f.path)) (take i files) (file ∷ [])
     ∙ ap (λ b. has_first (take i files) folder n k || b) (or_false (begins_with n k (behind folder file.path)))
 
-pub listed_more : (files : List File) (folder : List ℕ) (old new : List FolderEntry) (i : ℕ) (file : File) (rest : List ℕ) → i < length files → file ≡ get_or files i file → behind folder file.path ≡ Some rest
+pub listed_more : (files : List File) (folder : List ℕ) (old new : List FolderEntry) (i : ℕ) (file : File) (rest : List ℕ)
+    → i < length files → file ≡ get_or files i file → behind folder file.path ≡ Some rest
     → IsListing (take i files) folder old → IsAdded old new (first_part rest) (has_slash rest) → IsListing (take (i + 1) files) folder new
-listed_more files folder old new i file rest within is below listing added = record { names = added.names listing.names; each = each; once = added.once listing.once }
+listed_more files folder old new i file rest within is below listing added =
+    record { names = added.names listing.names; each = each; once = added.once listing.once }
   where
     each : (n : List ℕ) → is_name n ≡ true → (k : Bool) → list_any (is_entry n k) new ≡ has_first (take (i + 1) files) folder n k
     each n named k =
         added.each n named k ∙ ap (λ b. b || (bytes_eq (first_part rest) n && same_kind (has_slash rest) k)) (listing.each n named k)
-        ∙ ap (λ b. has_first (take i files) folder n k || b) (sym (ap (begins_with n k) below)) ∙ sym (first_more files folder i file n k within is)
+        ∙ ap (λ b. has_first (take i files) folder n k || b) (sym (ap (begins_with n k) below))
+        ∙ sym (first_more files folder i file n k within is)
 
-pub passed_more : (files : List File) (folder : List ℕ) (entries : List FolderEntry) (i : ℕ) (file : File) → i < length files → file ≡ get_or files i file → behind folder file.path ≡ None → IsListing (take i files) folder entries → IsListing (take (i + 1) files) folder entries
+pub passed_more : (files : List File) (folder : List ℕ) (entries : List FolderEntry) (i : ℕ) (file : File) → i < length files
+    → file ≡ get_or files i file → behind folder file.path ≡ None → IsListing (take i files) folder entries
+    → IsListing (take (i + 1) files) folder entries
 passed_more files folder entries i file within is below listing = record { names = listing.names; each = each; once = listing.once }
   where
     each : (n : List ℕ) → is_name n ≡ true → (k : Bool) → list_any (is_entry n k) entries ≡ has_first (take (i + 1) files) folder n k
     each n named k =
         listing.each n named k ∙ sym (or_false (has_first (take i files) folder n k))
-        ∙ ap (λ b. has_first (take i files) folder n k || b) (sym (ap (begins_with n k) below)) ∙ sym (first_more files folder i file n k within is)
+        ∙ ap (λ b. has_first (take i files) folder n k || b) (sym (ap (begins_with n k) below))
+        ∙ sym (first_more files folder i file n k within is)
 
 -- where something is listed, a file stands behind
 over_first : (files : List File) (folder n : List ℕ) (k : Bool) → has_first files folder n k ≡ true → list_any (is_over folder) files ≡ true
@@ -246,12 +277,15 @@ kind_self : (k : Bool) → same_kind k k ≡ true
 kind_self true = refl
 kind_self false = refl
 
-pub no_file : (files : List File) (folder : List ℕ) (entry : FolderEntry) (entries : List FolderEntry) → AreApart files → IsListing files folder (entry ∷ entries) → bytes_at files folder ≡ None
+pub no_file : (files : List File) (folder : List ℕ) (entry : FolderEntry) (entries : List FolderEntry) → AreApart files
+    → IsListing files folder (entry ∷ entries) → bytes_at files folder ≡ None
 no_file files folder entry entries apart listing =
     let name = string_bytes entry.name in
     let own : is_entry name entry.is_folder entry ≡ true = rw (same_self name, kind_self entry.is_folder) refl in
     let there : list_any (is_entry name entry.is_folder) (entry ∷ entries) ≡ true = rw own refl in
-    apart folder (over_first files folder name entry.is_folder (sym (listing.each name (All-head (λ (e : FolderEntry). is_name (string_bytes e.name) ≡ true) entry entries listing.names) entry.is_folder) ∙ there))
+    apart folder (over_first files folder name entry.is_folder
+    (sym (listing.each name (All-head (λ (e : FolderEntry). is_name (string_bytes e.name) ≡ true) entry entries listing.names)
+    entry.is_folder) ∙ there))
 
 -- a path without a slash has no more
 pub no_slash : (path : List ℕ) → position_or_len (λ b. b == 47) path ≡ length path → has_slash path ≡ false
@@ -264,15 +298,18 @@ no_slash (b ∷ path) none = by_cases (nat_eq b 47) refl none (no_slash path)
     by_cases false other none rest = rest (omega arith)
 
 -- the same of the listing of all files
-pub no_file_of : (files all : List File) (folder : List ℕ) (entries : List FolderEntry) (i : ℕ) → length files ≤ i → files ≡ all → AreApart all
+pub no_file_of : (files all : List File) (folder : List ℕ) (entries : List FolderEntry) (i : ℕ) → length files ≤ i → files ≡ all
+    → AreApart all
     → IsListing (take i files) folder entries → nat_eq (length entries) 0 ≡ false → bytes_at all folder ≡ None
 no_file_of files all folder [] i whole same apart listing some = absurd (cc)
 no_file_of files all folder (entry ∷ entries) i whole same apart listing some =
     no_file all folder entry entries apart (rw (take_all i files whole ∙ same) at listing)
 
 -- an entry that has the name
-pub found_at : (entries : List FolderEntry) (i : ℕ) (entry : FolderEntry) (own name : List ℕ) (kind : Bool) → i < length entries → entry ≡ get_or entries i entry
-    → own ≡ string_bytes entry.name → true ≡ bytes_eq own name → beq entry.is_folder kind ≡ true → list_any (is_entry name kind) entries ≡ true
+pub found_at : (entries : List FolderEntry) (i : ℕ) (entry : FolderEntry) (own name : List ℕ) (kind : Bool) → i < length entries
+    → entry ≡ get_or entries i entry
+    → own ≡ string_bytes entry.name → true ≡ bytes_eq own name → beq entry.is_folder kind ≡ true
+    → list_any (is_entry name kind) entries ≡ true
 found_at entries i entry own name kind within is own_is same kinds =
     list_any_at (is_entry name kind) entries i entry within (rw (← is) told)
   where
@@ -285,11 +322,13 @@ found_at entries i entry own name kind within is own_is same kinds =
     told : is_entry name kind entry ≡ true
     told = rw (← own_is, ← same) (same_kinds entry.is_folder kind kinds)
 
-pub added_behind : (old new : List FolderEntry) (entry : FolderEntry) (path name : List ℕ) (kind more : Bool) (items : List FolderEntry) (i : ℕ) → new ≡ old ++ entry ∷ []
+pub added_behind : (old new : List FolderEntry) (entry : FolderEntry) (path name : List ℕ) (kind more : Bool) (items : List FolderEntry)
+    (i : ℕ) → new ≡ old ++ entry ∷ []
     → string_bytes entry.name ≡ name → entry.is_folder ≡ kind → name ≡ first_part path → kind ≡ more → false ≡ nat_eq (length name) 0
     → items ≡ old → length items ≤ i → list_any (is_entry name kind) (take i items) ≡ false → IsAdded old new (first_part path) more
 added_behind old new entry path name kind more items i is name_is kind_is first mores some same whole none =
-    rw is (pushed old entry (first_part path) more (name_is ∙ first) (kind_is ∙ mores) (first_name path (not_none name (first_part path) first some))
+    rw is (pushed old entry (first_part path) more (name_is ∙ first) (kind_is ∙ mores)
+    (first_name path (not_none name (first_part path) first some))
     (rw (first, mores, take_all i items whole ∙ same) at none))
   where
     not_none : (name first : List ℕ) → name ≡ first → false ≡ nat_eq (length name) 0 → bytes_eq first [] ≡ false

@@ -2,6 +2,7 @@
 ghost use Rattle.std.specs.Prelude.{[]};
 
 use crate::file_source::FileSource;
+use crate::known_files::KnownFiles;
 use crate::{Folder, FolderEntry, FolderFault};
 use std::alloc::Global;
 use std::fs::{self, Metadata};
@@ -18,8 +19,8 @@ use std::os::unix::fs::MetadataExt;
 pub struct FileFolder<'a> {
     rt: &'a HostRuntime,
     root: String,
-    // The folder that was listed last: what it has as files needn't be looked at again.
-    listed: Option<String>,
+    // What the last listing had as files: they needn't be looked at again.
+    known: Option<KnownFiles>,
 }
 
 impl<'a> FileFolder<'a> {
@@ -28,7 +29,7 @@ impl<'a> FileFolder<'a> {
         FileFolder {
             rt,
             root,
-            listed: None,
+            known: None,
         }
     }
 
@@ -57,21 +58,20 @@ impl<'a> FileFolder<'a> {
         Ok(false)
     }
 
-    // Whether a path stands right in the folder that was listed last.
-    fn has_listed(&self, path: &str) -> bool {
-        let parent = match path.rsplit_once('/') {
-            Some((parent, _)) => parent,
-            None => "",
-        };
-        match &self.listed {
-            Some(listed) => listed.as_str() == parent,
+    // Whether the last listing had this as a file.
+    fn is_known(&self, path: &str) -> bool {
+        match &self.known {
+            Some(known) => known.has(path),
             None => false,
         }
     }
 
     // A file, if one stands there. What isn't known to be a file is looked at first: the opening of a pipe would wait for its other end.
     fn open_file(&self, alloc: Global, path: &str, place: &str) -> io::Result<Option<FileSource>> {
-        if !self.has_listed(path) && !fs::metadata(self.rt, place)?.is_file() {
+        if self.is_known(path) {
+            return FileSource::open_known(self.rt, alloc, place);
+        }
+        if !fs::metadata(self.rt, place)?.is_file() {
             return Ok(None);
         }
         FileSource::open(self.rt, alloc, place)
@@ -102,12 +102,11 @@ impl Folder for FileFolder<'_> {
     ghost steady = { λ _. ⊥ };
 
     fn list(&mut self, alloc: Global, path: &str) -> Result<Option<Vec<FolderEntry>>, FolderFault> {
+        self.known = None;
         let place = self.place(alloc, path)?;
-        let name = String::from_str(alloc, path)?;
-        self.listed = None;
         match self.entries(alloc, path, place.as_str()) {
             Ok(entries) => {
-                self.listed = Some(name);
+                self.known = Some(KnownFiles::of(alloc, path, &entries)?);
                 Ok(Some(entries))
             }
             Err(error) if is_absent(&error) && !path.is_empty() => Ok(None),

@@ -2,9 +2,9 @@
 ghost use Rattle.std.specs.Prelude.{◌≡◌, ◌≤◌, [], length, IfOk};
 
 use crate::{Source, SourceFault};
-use std::alloc::Global;
+use std::alloc::{AllocError, Global};
 use std::fs::File;
-use std::io;
+use std::io::{self, ErrorKind, Seek, SeekFrom};
 use std::os::unix::fs::FileExt;
 
 /// How many bytes are read at once where fewer are asked for.
@@ -32,14 +32,33 @@ impl FileSource {
         if !metadata.is_file() {
             return Ok(None);
         }
+        Ok(Some(FileSource::over(alloc, file, metadata.len())?))
+    }
+
+    /// The same of what was a plain file a moment ago. It is asked for its length alone, which a pipe hasn't.
+    pub(crate) fn open_known(
+        rt: &HostRuntime,
+        alloc: Global,
+        path: &str,
+    ) -> io::Result<Option<FileSource>> {
+        let mut file = File::open(rt, path)?;
+        match file.seek(SeekFrom::End(0)) {
+            Ok(len) => Ok(Some(FileSource::over(alloc, file, len)?)),
+            Err(error) if error.kind() == ErrorKind::NotSeekable => Ok(None),
+            Err(error) => Err(error),
+        }
+    }
+
+    // A source over an opened file of a length.
+    fn over(alloc: Global, file: File, len: u64) -> Result<FileSource, AllocError> {
         let window = vec![in alloc; 0u8; WINDOW_LEN]?;
-        Ok(Some(FileSource {
+        Ok(FileSource {
             file,
-            len: metadata.len(),
+            len,
             window,
             filled: 0,
             start: 0,
-        }))
+        })
     }
 
     // What the window has from an offset on.

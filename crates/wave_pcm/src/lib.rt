@@ -11,6 +11,7 @@ mod format;
 mod frames;
 mod head;
 mod info;
+mod known_files;
 mod listing;
 mod memory_folder;
 mod parts;

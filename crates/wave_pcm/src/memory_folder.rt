@@ -92,7 +92,7 @@ impl<'a> Folder for MemFolder<'a> {
 }
 
 // What a path has behind a folder and a slash, if it stands below it.
-fn rest_below<'a>(folder: &str, path: &'a str) -> Option<&'a str>
+pub(crate) fn rest_below<'a>(folder: &str, path: &'a str) -> Option<&'a str>
     ensures { option_copied result ≡ behind folder.now path.now }
 {
     if folder.is_empty() {

@@ -17,23 +17,6 @@ fn distinct(alloc: Global, songs: &SongDb, tag: Tag) -> Result<String, Fail> {
     joined(alloc, &values)
 }
 
-/// URIs and artists.
-const NINE_SONGS: [(&str, &str); 9] = [
-    ("a.b/d.wav", "STRASSE"),
-    ("a.wav", ""),
-    ("a/b.wav", "Straße"),
-    ("a/c/d.wav", "b"),
-    ("a/c/e.wav", "b"),
-    ("a/c.d/e.wav", "b"),
-    ("ab/c.wav", "a"),
-    ("x.wav", "b"),
-    ("x.wav/y.wav", "b"),
-];
-
-fn nine_songs(alloc: Global) -> Result<SongDb, Fail> {
-    songs_of(alloc, &NINE_SONGS)
-}
-
 #[test]
 fn nothing_in_the_root(rt: HostRuntime) -> Result<(), Fail> {
     let alloc = rt.alloc();

@@ -1,7 +1,9 @@
 // Folders of real files, below the folder in which the tests run.
 use super::folders::{frames_at, has_file, holds};
 use super::*;
+use std::os::fd::AsRawFd;
 use std::os::unix::fs::symlink;
+use std::os::unix::net::UnixListener;
 use std::{fs, io};
 
 /// Makes a folder with a song, and another song in a folder below it.
@@ -61,6 +63,44 @@ fn real_links(rt: HostRuntime) -> Result<(), Fail> {
     is_refused(&rt, alloc, &mut folder, "beside/root");
     equal(&rt, has_file(alloc, &mut folder, "d/e/c.wav")?, false);
     fs::remove_dir_all(&rt, "real_links")?;
+    Ok(())
+}
+
+/// A socket isn't listed, and no file to be opened: neither before its folder was listed nor right after.
+#[test]
+fn real_sockets(rt: HostRuntime) -> Result<(), Fail> {
+    let alloc = rt.alloc();
+    make_songs(&rt, "real_sockets", "real_sockets/d")?;
+    let _socket = UnixListener::bind(&rt, "real_sockets/d/s.wav")?;
+    let mut folder = folder(&rt, "real_sockets")?;
+    equal(&rt, has_file(alloc, &mut folder, "d/s.wav")?, false);
+    holds(&rt, alloc, &mut folder, "d", "b.wav ")?;
+    equal(&rt, has_file(alloc, &mut folder, "d/s.wav")?, false);
+    equal(&rt, frames_at(alloc, &mut folder, "d/b.wav")?, 2);
+    fs::remove_dir_all(&rt, "real_sockets")?;
+    Ok(())
+}
+
+/// Puts a link to a pipe in the place of a file.
+fn make_pipe(rt: &HostRuntime, pipe: &io::PipeReader, path: &str) -> io::Result<()> {
+    let place = format!(in rt.alloc(); "/proc/self/fd/{}", pipe.as_raw_fd())?;
+    fs::remove_file(rt, path)?;
+    symlink(rt, place.as_str(), path)
+}
+
+/// A file that became a pipe since it was listed is none; and the pipe isn't listed.
+#[test]
+fn real_pipes(rt: HostRuntime) -> Result<(), Fail> {
+    let alloc = rt.alloc();
+    make_songs(&rt, "real_pipes", "real_pipes/d")?;
+    let (pipe, _other_end) = io::pipe(&rt)?;
+    let mut folder = folder(&rt, "real_pipes")?;
+    holds(&rt, alloc, &mut folder, "d", "b.wav ")?;
+    make_pipe(&rt, &pipe, "real_pipes/d/b.wav")?;
+    equal(&rt, has_file(alloc, &mut folder, "d/b.wav")?, false);
+    holds(&rt, alloc, &mut folder, "d", "")?;
+    equal(&rt, has_file(alloc, &mut folder, "d/b.wav")?, false);
+    fs::remove_dir_all(&rt, "real_pipes")?;
     Ok(())
 }
 

@@ -10,7 +10,8 @@ abbrev pub invariant-chunks : goal.invariant-chunks
 invariant-chunks g l =
     (l.at ≤ l.end)
     × (vec_len l.parts ≤ MAX_CHUNKS + 1)
-    × (g.S.Source.honest l.initial.source → Keeps g.S.Source.bytes g.S.Source.honest g.S.Source.faults g.S.Source.steady l.initial.source l.source)
+    × (g.S.Source.honest l.initial.source
+    → Keeps g.S.Source.bytes g.S.Source.honest g.S.Source.faults g.S.Source.steady l.initial.source l.source)
     × (g.S.Source.honest l.initial.source → l.end ≤ length (g.S.Source.bytes l.initial.source)
     → take (MAX_CHUNKS + 1) (parts_at (g.S.Source.bytes l.initial.source) l.parts.items ++ parts_in (g.S.Source.bytes
     l.initial.source) l.at l.end)

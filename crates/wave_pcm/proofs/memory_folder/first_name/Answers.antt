@@ -4,4 +4,5 @@ use Rattle.wave_pcm.proofs.Listings.{no_slash}
 use Rattle.wave_pcm.proofs.memory_folder.first_name.Goals as goal
 
 pub returns-in-None-clause-kind : goal.returns-in-None-clause-kind
-returns-in-None-clause-kind c = sym (no_slash c.args.path.now (split_once_first 47 c.args.path.now None c.in-None.ensures.cases (omega arith)))
+returns-in-None-clause-kind c =
+    sym (no_slash c.args.path.now (split_once_first 47 c.args.path.now None c.in-None.ensures.cases (omega arith)))

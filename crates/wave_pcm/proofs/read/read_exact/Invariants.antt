@@ -6,7 +6,8 @@ use Rattle.wave_pcm.proofs.read.read_exact.Given as goal
 abbrev pub invariant-loop-filled : goal.invariant-loop-filled
 invariant-loop-filled g l =
     (l.filled ≤ length l.buffer)
-    × (g.S.Source.honest l.initial.source → Keeps g.S.Source.bytes g.S.Source.honest g.S.Source.faults g.S.Source.steady l.initial.source l.source)
+    × (g.S.Source.honest l.initial.source
+    → Keeps g.S.Source.bytes g.S.Source.honest g.S.Source.faults g.S.Source.steady l.initial.source l.source)
     × (g.S.Source.honest l.initial.source → take l.filled l.buffer ≡ slice_range (g.S.Source.bytes l.initial.source) l.at (l.at + l.filled))
 
 abbrev pub decreases-loop-filled : goal.decreases-loop-filled

@@ -5,7 +5,8 @@ use Rattle.wave_pcm.specs.Listing.{behind}
 use Rattle.wave_pcm.proofs.Listings.{listed_more, passed_more, no_file_of}
 use Rattle.wave_pcm.proofs.memory_folder.MemFolderFolder.list.Goals as goal
 use Rattle.wave_pcm.proofs.memory_folder.MemFolderFolder.list.Goals.{in-Some+in_ok-add_entry, in_default}
-use Rattle.wave_pcm.proofs.memory_folder.MemFolderFolder.list.Goals.{else-is_empty-via-then-is_empty+else-not-is_empty, else-is_empty-via-else-is_empty}
+use Rattle.wave_pcm.proofs.memory_folder.MemFolderFolder.list.Goals.{else-is_empty-via-then-is_empty+else-not-is_empty}
+use Rattle.wave_pcm.proofs.memory_folder.MemFolderFolder.list.Goals.{else-is_empty-via-else-is_empty}
 
 pub loop-file-preserved : goal.loop-file-preserved
 loop-file-preserved c =
@@ -13,10 +14,13 @@ loop-file-preserved c =
     elim c.match-rest_below.branch [
       | in-Some+in_ok-add_entry w ↦
           let below : behind c.args.path.now c.file-item.result.path ≡ Some w.in-Some.rest.now = rw path at (sym w.in-Some.ensures) in
-          rw w.entries-is (listed_more c.deref-file-items.result.now c.args.path.now c.loop-file.entries.items w.add_entry.new.entries.items c.loop-file.file-index c.file-item.result w.in-Some.rest.now (omega arith) c.file-item.is below c.loop-file.invariant w.in_ok-add_entry.ensures)
+          rw w.entries-is (listed_more c.deref-file-items.result.now c.args.path.now c.loop-file.entries.items w.add_entry.new.entries.items
+          c.loop-file.file-index c.file-item.result w.in-Some.rest.now (omega arith) c.file-item.is below c.loop-file.invariant
+          w.in_ok-add_entry.ensures)
       | in_default w ↦
           let below : behind c.args.path.now c.file-item.result.path ≡ None = rw path at (sym w.in_default.ensures) in
-          rw w.entries-is (passed_more c.deref-file-items.result.now c.args.path.now c.loop-file.entries.items c.loop-file.file-index c.file-item.result (omega arith) c.file-item.is below c.loop-file.invariant)
+          rw w.entries-is (passed_more c.deref-file-items.result.now c.args.path.now c.loop-file.entries.items c.loop-file.file-index
+          c.file-item.result (omega arith) c.file-item.is below c.loop-file.invariant)
     ]
 
 empty : (path : List ℕ) → true ≡ nat_eq (length path) 0 → path ≡ []
