@@ -1,5 +1,6 @@
 -- What stands between parentheses, as it is read.
-use Rattle.std.proofs.Common.{◌≡◌, ◌⊎◌, inl, inr, ℕ, zero, suc, Bool, true, false, cond, List, [], ◌∷◌, ◌++◌, length, Result, Ok, Err, Some, refl, sym, ap, ◌∙◌, subst, append_assoc}
+use Rattle.std.proofs.Common.{◌≡◌, ◌⊎◌, inl, inr, ℕ, zero, suc, Bool, true, false, cond, List, [], ◌∷◌, ◌++◌, length, Result, Ok, Err, Some}
+use Rattle.std.proofs.Common.{refl, sym, ap, ◌∙◌, subst, append_assoc}
 use Rattle.std.proofs.lemmas.List.{append-nil}
 use Rattle.std.specs.Prelude.{codes}
 use Rattle.filter_expr.specs.declared.name.Key.{Key}
@@ -7,9 +8,11 @@ use Rattle.filter_expr.specs.declared.name.Key.TheVariants as keys
 use Rattle.filter_expr.specs.declared.operator.Operator.{Operator}
 use Rattle.filter_expr.specs.Grammar.{AreBlanks, SpellsBase, SpellsTest, SpellsNegation, SpellsGroup, SpellsInside, Spells}
 use Rattle.filter_expr.specs.Names.{key_named}
-use Rattle.filter_expr.specs.Parts.{Fault, ◌>>=◌, opening, closing, exclamation, begins_so, without_blanks, byte_at, between_gaps, key_at, value_at}
+use Rattle.filter_expr.specs.Parts.{Fault, ◌>>=◌, opening, closing, exclamation, begins_so, without_blanks, byte_at, between_gaps, key_at}
+use Rattle.filter_expr.specs.Parts.{value_at}
 use Rattle.filter_expr.specs.Parts.Fault.{Bad, Deep}
-use Rattle.filter_expr.specs.Reading.{Reader, operator_at, test_tree, test_of, closed, test_at, negation_at, others_at, group_at, inside_at, expression_at, is_nil, alone, most_open, whole}
+use Rattle.filter_expr.specs.Reading.{Reader, operator_at, test_tree, test_of, closed, test_at, negation_at, others_at, group_at, inside_at}
+use Rattle.filter_expr.specs.Reading.{expression_at, is_nil, alone, most_open, whole}
 use Rattle.filter_expr.specs.Tree.{Tree}
 use Rattle.filter_expr.specs.Tree.Tree.{Base, Not, And}
 use Rattle.filter_expr.proofs.Comparisons.{regroup, spaced, operator_found}
@@ -24,44 +27,81 @@ FoundBy spells text x = (front : List ℕ) × spells x.0 front × (text ≡ fron
 abbrev pub FoundClosed : (Tree → List ℕ → Type 0) → List ℕ → Tree × List ℕ → Type 0
 FoundClosed spells text x = (front after : List ℕ) × spells x.0 front × AreBlanks after × (text ≡ front ++ (after ++ closing ∷ x.1))
 
-closed_found : (spells : Tree → List ℕ → Type 0) (text : List ℕ) (y x : Tree × List ℕ) → FoundBy spells text y → closed y ≡ Ok x → FoundClosed spells text x
+closed_found : (spells : Tree → List ℕ → Type 0) (text : List ℕ) (y x : Tree × List ℕ) → FoundBy spells text y → closed y ≡ Ok x
+    → FoundClosed spells text x
 unfolding closed
 closed_found spells text y x found h =
     let read = bind_ok {A = List ℕ} {B = Tree × List ℕ} (byte_at closing (without_blanks y.1)) (λ rest. Ok (y.0, rest)) x h in
     let blanks = blanks_found y.1 in
-    let behind : y.1 ≡ blanks.0 ++ closing ∷ read.0 = blanks.2 ∙ ap (λ (s : List ℕ). blanks.0 ++ s) (byte_found closing (without_blanks y.1) read.0 read.1) in
-    subst (FoundClosed spells text) (ok_same (y.0, read.0) x read.2) (found.0, blanks.0, found.1, blanks.1, found.2 ∙ ap (λ (s : List ℕ). found.0 ++ s) behind)
+    let behind : y.1 ≡ blanks.0 ++ closing ∷ read.0 =
+    blanks.2 ∙ ap (λ (s : List ℕ). blanks.0 ++ s) (byte_found closing (without_blanks y.1) read.0 read.1) in
+    subst (FoundClosed spells text) (ok_same (y.0, read.0) x read.2) (
+      found.0,
+      blanks.0,
+      found.1,
+      blanks.1,
+      found.2 ∙ ap (λ (s : List ℕ). found.0 ++ s) behind,
+    )
 
-wider : (these those : Tree → List ℕ → Type 0) (text : List ℕ) (x : Tree × List ℕ) → ((tree : Tree) (front : List ℕ) → these tree front → those tree front) → FoundClosed these text x → FoundClosed those text x
+wider : (these those : Tree → List ℕ → Type 0) (text : List ℕ) (x : Tree × List ℕ)
+    → ((tree : Tree) (front : List ℕ) → these tree front → those tree front) → FoundClosed these text x → FoundClosed those text x
 wider these those text x f found = (found.0, found.1, f x.0 found.0 found.2, found.3, found.4)
 
 -- a test, or `base V`
 abbrev pub SpellsSimple : Tree → List ℕ → Type 0
 SpellsSimple tree text = SpellsBase tree text ⊎ SpellsTest tree text
 
-glued : (name behind middle inner quoted rest : List ℕ) → behind ≡ middle ++ inner → inner ≡ quoted ++ rest → name ++ behind ≡ (name ++ (middle ++ quoted)) ++ rest
+glued : (name behind middle inner quoted rest : List ℕ) → behind ≡ middle ++ inner → inner ≡ quoted ++ rest
+    → name ++ behind ≡ (name ++ (middle ++ quoted)) ++ rest
 glued name behind middle inner quoted rest e f =
     ap (λ (s : List ℕ). name ++ s) (e ∙ ap (λ (s : List ℕ). middle ++ s) f) ∙ sym (regroup name middle quoted rest)
 
-named_found : (name : List ℕ) (key : Key) (behind : List ℕ) (x : Tree × List ℕ) → key_named name ≡ Some key → test_of key behind ≡ Ok x → FoundBy SpellsSimple (name ++ behind) x
+named_found : (name : List ℕ) (key : Key) (behind : List ℕ) (x : Tree × List ℕ) → key_named name ≡ Some key → test_of key behind ≡ Ok x
+    → FoundBy SpellsSimple (name ++ behind) x
 unfolding test_of
 named_found name keys.Base behind x named h =
-    let read = bind_ok {A = List ℕ × List ℕ} {B = Tree × List ℕ} (value_at (without_blanks behind)) (λ value. Ok (Base value.0, value.1)) x h in
+    let read = bind_ok {A = List ℕ × List ℕ} {B = Tree × List ℕ} (value_at (without_blanks behind)) (λ value. Ok (Base value.0, value.1)) x
+    h in
     let blanks = blanks_found behind in
     let value = value_found (without_blanks behind) read.0.0 read.0.1 read.1 in
     subst (FoundBy SpellsSimple (name ++ behind)) (ok_same (Base read.0.0, read.0.1) x read.2) (
       name ++ (blanks.0 ++ value.0),
-      inl (record { name = name; gap = blanks.0; quoted = value.0; value = read.0.0; named = named; blanks = blanks.1; spelled = value.1; parts = refl; says = refl }),
+      inl (record {
+        name = name;
+        gap = blanks.0;
+        quoted = value.0;
+        value = read.0.0;
+        named = named;
+        blanks = blanks.1;
+        spelled = value.1;
+        parts = refl;
+        says = refl;
+      }),
       glued name behind blanks.0 (without_blanks behind) value.0 read.0.1 blanks.2 value.2,
     )
 named_found name (keys.Of subject) behind x named h =
-    let first = bind_ok {A = Operator × List ℕ} {B = Tree × List ℕ} (operator_at subject behind) (λ operator. value_at (without_blanks operator.1) >>= λ value. Ok (test_tree subject operator.0 value.0, value.1)) x h in
-    let read = bind_ok {A = List ℕ × List ℕ} {B = Tree × List ℕ} (value_at (without_blanks first.0.1)) (λ value. Ok (test_tree subject first.0.0 value.0, value.1)) x first.2 in
+    let first = bind_ok {A = Operator × List ℕ} {B = Tree × List ℕ} (operator_at subject behind)
+    (λ operator. value_at (without_blanks operator.1) >>= λ value. Ok (test_tree subject operator.0 value.0, value.1)) x h in
+    let read = bind_ok {A = List ℕ × List ℕ} {B = Tree × List ℕ} (value_at (without_blanks first.0.1))
+    (λ value. Ok (test_tree subject first.0.0 value.0, value.1)) x first.2 in
     let operator = operator_found subject behind first.0 first.1 in
     let value = value_found (without_blanks first.0.1) read.0.0 read.0.1 read.1 in
     subst (FoundBy SpellsSimple (name ++ behind)) (ok_same (test_tree subject first.0.0 read.0.0, read.0.1) x read.2) (
       name ++ (operator.0 ++ value.0),
-      inr (record { name = name; subject = subject; middle = operator.0; operator = first.0.0; quoted = value.0; value = read.0.0; named = named; compared = operator.1; spelled = value.1; parts = refl; says = refl }),
+      inr (record {
+        name = name;
+        subject = subject;
+        middle = operator.0;
+        operator = first.0.0;
+        quoted = value.0;
+        value = read.0.0;
+        named =
+            named;
+        compared = operator.1;
+        spelled = value.1;
+        parts = refl;
+        says = refl;
+      }),
       glued name behind operator.0 (without_blanks first.0.1) value.0 read.0.1 operator.2 value.2,
     )
 
@@ -78,14 +118,17 @@ test_found text x h =
 abbrev pub IsSound : Reader → (Tree → List ℕ → Type 0) → Type 0
 IsSound read spells = (text : List ℕ) (x : Tree × List ℕ) → read text ≡ Ok x → FoundBy spells text x
 
-negation_found : (read : Reader) (spells : Tree → List ℕ → Type 0) → IsSound read spells → (text : List ℕ) (x : Tree × List ℕ) → negation_at read text ≡ Ok x → FoundClosed (SpellsNegation spells) text x
+negation_found : (read : Reader) (spells : Tree → List ℕ → Type 0) → IsSound read spells → (text : List ℕ) (x : Tree × List ℕ)
+    → negation_at read text ≡ Ok x → FoundClosed (SpellsNegation spells) text x
 unfolding negation_at
 negation_found read spells sound text x h =
-    let mark = bind_ok {A = List ℕ} {B = Tree × List ℕ} (byte_at exclamation text) (λ inner. read (without_blanks inner) >>= λ y. closed (Not y.0, y.1)) x h in
+    let mark = bind_ok {A = List ℕ} {B = Tree × List ℕ} (byte_at exclamation text)
+    (λ inner. read (without_blanks inner) >>= λ y. closed (Not y.0, y.1)) x h in
     let inner = bind_ok {A = Tree × List ℕ} {B = Tree × List ℕ} (read (without_blanks mark.0)) (λ y. closed (Not y.0, y.1)) x mark.2 in
     let blanks = blanks_found mark.0 in
     let found = sound (without_blanks mark.0) inner.0 inner.1 in
-    let behind : mark.0 ≡ (blanks.0 ++ found.0) ++ inner.0.1 = blanks.2 ∙ ap (λ (s : List ℕ). blanks.0 ++ s) found.2 ∙ sym (append_assoc blanks.0 found.0 inner.0.1) in
+    let behind : mark.0 ≡ (blanks.0 ++ found.0) ++ inner.0.1 = blanks.2 ∙ ap (λ (s : List ℕ). blanks.0 ++ s) found.2
+    ∙ sym (append_assoc blanks.0 found.0 inner.0.1) in
     closed_found (SpellsNegation spells) text (Not inner.0.0, inner.0.1) x (
       exclamation ∷ (blanks.0 ++ found.0),
       record { inner = inner.0.0; gap = blanks.0; spelling = found.0; blanks = blanks.1; spelled = found.1; parts = refl; says = refl },
@@ -100,46 +143,61 @@ pub group_parts : (f b w a l r : List ℕ) → (f ++ (b ++ (w ++ (a ++ l)))) ++ 
 group_parts f b w a l r = regroup f b (w ++ (a ++ l)) r ∙ ap (λ (s : List ℕ). f ++ (b ++ s)) (regroup w a l r)
 
 -- one EXPR more
-longer_found : (spells : Tree → List ℕ → Type 0) (text gap rest : List ℕ) (tree right : Tree) → FoundBy (SpellsSome spells) text (tree, gap) → between_gaps (codes "AND") gap ≡ Ok rest → (behind : List ℕ) → FoundBy spells rest (right, behind) → FoundBy (SpellsSome spells) text (And tree right, behind)
+longer_found : (spells : Tree → List ℕ → Type 0) (text gap rest : List ℕ) (tree right : Tree) → FoundBy (SpellsSome spells) text (tree, gap)
+    → between_gaps (codes "AND") gap ≡ Ok rest → (behind : List ℕ) → FoundBy spells rest (right, behind)
+    → FoundBy (SpellsSome spells) text (And tree right, behind)
 longer_found spells text gap rest tree right found h behind last =
     let sign = spaced (codes "AND") gap rest h in (
       found.0 ++ (sign.0 ++ (codes "AND" ++ (sign.1 ++ last.0))),
       (suc found.1.0, (tree, right, found.0, sign.0, sign.1, last.0, found.1.1, sign.2, sign.3, last.1, refl, refl)),
-      found.2 ∙ ap (λ (s : List ℕ). found.0 ++ s) (sign.4 ∙ ap (λ (s : List ℕ). sign.0 ++ (codes "AND" ++ (sign.1 ++ s))) last.2) ∙ sym (group_parts found.0 sign.0 (codes "AND") sign.1 last.0 behind),
+      found.2 ∙ ap (λ (s : List ℕ). found.0 ++ s) (sign.4 ∙ ap (λ (s : List ℕ). sign.0 ++ (codes "AND" ++ (sign.1 ++ s))) last.2)
+          ∙ sym (group_parts found.0 sign.0 (codes "AND") sign.1 last.0 behind),
     )
 
-others_found : (read : Reader) (spells : Tree → List ℕ → Type 0) → IsSound read spells → (most : ℕ) (text : List ℕ) (y x : Tree × List ℕ) → FoundBy (SpellsSome spells) text y → others_at read most y ≡ Ok x → FoundClosed (SpellsSome spells) text x
+others_found : (read : Reader) (spells : Tree → List ℕ → Type 0) → IsSound read spells → (most : ℕ) (text : List ℕ) (y x : Tree × List ℕ)
+    → FoundBy (SpellsSome spells) text y → others_at read most y ≡ Ok x → FoundClosed (SpellsSome spells) text x
 unfolding others_at
 others_found read spells sound zero text y x found h = closed_found (SpellsSome spells) text y x found h
-others_found read spells sound (suc most) text y x found h = by_cases (begins_so closing (without_blanks y.1)) h (λ z more k. others_found read spells sound most text z x more k)
+others_found read spells sound (suc most) text y x found h =
+    by_cases (begins_so closing (without_blanks y.1)) h (λ z more k. others_found read spells sound most text z x more k)
   where
-    by_cases : (c : Bool) → cond c (closed y) (between_gaps (codes "AND") y.1 >>= λ rest. read rest >>= λ z. others_at read most (And y.0 z.0, z.1)) ≡ Ok x
+    by_cases : (c : Bool)
+        → cond c (closed y) (between_gaps (codes "AND") y.1 >>= λ rest. read rest >>= λ z. others_at read most (And y.0 z.0, z.1)) ≡ Ok x
         → ((z : Tree × List ℕ) → FoundBy (SpellsSome spells) text z → others_at read most z ≡ Ok x → FoundClosed (SpellsSome spells) text x)
         → FoundClosed (SpellsSome spells) text x
     by_cases true k again = closed_found (SpellsSome spells) text y x found k
     by_cases false k again =
-        let gaps = bind_ok {A = List ℕ} {B = Tree × List ℕ} (between_gaps (codes "AND") y.1) (λ rest. read rest >>= λ z. others_at read most (And y.0 z.0, z.1)) x k in
+        let gaps = bind_ok {A = List ℕ} {B = Tree × List ℕ} (between_gaps (codes "AND") y.1)
+        (λ rest. read rest >>= λ z. others_at read most (And y.0 z.0, z.1)) x k in
         let right = bind_ok {A = Tree × List ℕ} {B = Tree × List ℕ} (read gaps.0) (λ z. others_at read most (And y.0 z.0, z.1)) x gaps.2 in
-        again (And y.0 right.0.0, right.0.1) (longer_found spells text y.1 gaps.0 y.0 right.0.0 found gaps.1 right.0.1 (sound gaps.0 right.0 right.1)) right.2
+        again (And y.0 right.0.0, right.0.1)
+        (longer_found spells text y.1 gaps.0 y.0 right.0.0 found gaps.1 right.0.1 (sound gaps.0 right.0 right.1)) right.2
 
-group_found : (read : Reader) (spells : Tree → List ℕ → Type 0) → IsSound read spells → (text : List ℕ) (x : Tree × List ℕ) → group_at read text ≡ Ok x → FoundClosed (SpellsSome spells) text x
+group_found : (read : Reader) (spells : Tree → List ℕ → Type 0) → IsSound read spells → (text : List ℕ) (x : Tree × List ℕ)
+    → group_at read text ≡ Ok x → FoundClosed (SpellsSome spells) text x
 unfolding group_at
 group_found read spells sound text x h =
     let first = bind_ok {A = Tree × List ℕ} {B = Tree × List ℕ} (read text) (λ y. others_at read (length y.1) y) x h in
     let found = sound text first.0 first.1 in
     others_found read spells sound (length first.0.1) text first.0 x (found.0, (zero, found.1), found.2) first.2
 
-inside_found : (read : Reader) (spells : Tree → List ℕ → Type 0) → IsSound read spells → (text : List ℕ) (x : Tree × List ℕ) → inside_at read text ≡ Ok x → FoundClosed (SpellsInside spells) text x
+inside_found : (read : Reader) (spells : Tree → List ℕ → Type 0) → IsSound read spells → (text : List ℕ) (x : Tree × List ℕ)
+    → inside_at read text ≡ Ok x → FoundClosed (SpellsInside spells) text x
 unfolding inside_at
 inside_found read spells sound text x h = by_cases (begins_so opening text) (begins_so exclamation text) h
   where
-    by_cases : (o e : Bool) → cond o (group_at read text) (cond e (negation_at read text) (test_at text)) ≡ Ok x → FoundClosed (SpellsInside spells) text x
-    by_cases true e k = wider (SpellsSome spells) (SpellsInside spells) text x (λ tree front s. inr (inr s)) (group_found read spells sound text x k)
-    by_cases false true k = wider (SpellsNegation spells) (SpellsInside spells) text x (λ tree front s. inr (inl s)) (negation_found read spells sound text x k)
+    by_cases : (o e : Bool) → cond o (group_at read text) (cond e (negation_at read text) (test_at text)) ≡ Ok x
+        → FoundClosed (SpellsInside spells) text x
+    by_cases true e k = wider (SpellsSome spells) (SpellsInside spells) text x (λ tree front s. inr (inr s))
+        (group_found read spells sound text x k)
+    by_cases false true k = wider (SpellsNegation spells) (SpellsInside spells) text x (λ tree front s. inr (inl s))
+        (negation_found read spells sound text x k)
     by_cases false false k = wider SpellsSimple (SpellsInside spells) text x (λ tree front s. inl s) (test_found text x k)
 
 pub enclosed_parts : (b i a x : List ℕ) → opening ∷ (b ++ (i ++ (a ++ closing ∷ x))) ≡ (opening ∷ (b ++ (i ++ (a ++ closing ∷ [])))) ++ x
-enclosed_parts b i a x = ap (λ (s : List ℕ). opening ∷ s) (sym (regroup b i (a ++ closing ∷ []) x ∙ ap (λ (s : List ℕ). b ++ (i ++ s)) (append_assoc a (closing ∷ []) x)))
+enclosed_parts b i a x =
+    ap (λ (s : List ℕ). opening ∷ s) (sym (regroup b i (a ++ closing ∷ []) x
+    ∙ ap (λ (s : List ℕ). b ++ (i ++ s)) (append_assoc a (closing ∷ []) x)))
 
 -- what is read is spelled
 pub expression_found : (room : ℕ) → IsSound (expression_at room) (Spells room)
@@ -148,13 +206,22 @@ expression_found zero text x h =
     let none = bind_ok {A = List ℕ} {B = Tree × List ℕ} (byte_at opening text) (λ rest. Err (Deep (length text))) x h in
     absurd (let refused : ◌≡◌ {A = Result (Tree × List ℕ) Fault} (Err (Deep (length text))) (Ok x) = none.2 in cc)
 expression_found (suc room) text x h =
-    let first = bind_ok {A = List ℕ} {B = Tree × List ℕ} (byte_at opening text) (λ rest. inside_at (expression_at room) (without_blanks rest)) x h in
+    let first = bind_ok {A = List ℕ} {B = Tree × List ℕ} (byte_at opening text)
+    (λ rest. inside_at (expression_at room) (without_blanks rest)) x h in
     let blanks = blanks_found first.0 in
     let found = inside_found (expression_at room) (Spells room) (expression_found room) (without_blanks first.0) x first.2 in
     let parts : text ≡ opening ∷ (blanks.0 ++ (found.0 ++ (found.1 ++ closing ∷ x.1))) =
     byte_found opening text first.0 first.1 ∙ ap (λ (s : List ℕ). opening ∷ s) (blanks.2 ∙ ap (λ (s : List ℕ). blanks.0 ++ s) found.4) in (
       opening ∷ (blanks.0 ++ (found.0 ++ (found.1 ++ closing ∷ []))),
-      record { before = blanks.0; inside = found.0; after = found.1; blanks_before = blanks.1; blanks_after = found.3; spelled = found.2; parts = refl },
+      record {
+        before = blanks.0;
+        inside = found.0;
+        after = found.1;
+        blanks_before = blanks.1;
+        blanks_after = found.3;
+        spelled = found.2;
+        parts = refl;
+      },
       parts ∙ enclosed_parts blanks.0 found.0 found.1 x.1,
     )
 

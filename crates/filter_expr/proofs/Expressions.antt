@@ -1,5 +1,6 @@
 -- How an expression is read, one step after the other.
-use Rattle.std.proofs.Common.{◌≡◌, ℕ, zero, suc, ◌-◌, ◌<◌, ◌≤◌, true, false, List, [], ◌∷◌, length, Result, Ok, Err, refl, sym, ap, ◌∙◌, subst, arith}
+use Rattle.std.proofs.Common.{◌≡◌, ℕ, zero, suc, ◌-◌, ◌<◌, ◌≤◌, true, false, List, [], ◌∷◌, length, Result, Ok, Err, refl, sym, ap, ◌∙◌}
+use Rattle.std.proofs.Common.{subst, arith}
 use Rattle.std.specs.Prelude.{codes}
 use Rattle.filter_expr.specs.declared.parts.Stop.{Stop}
 use Rattle.filter_expr.specs.Gives.{Stops}
@@ -14,31 +15,37 @@ less_one : (n : ℕ) → suc n - 1 ≡ n
 less_one n = omega arith
 
 -- it begins with a parenthesis, whatever may stand behind
-pub expression_form : (room : ℕ) (text : List ℕ) → (f : List ℕ → Result (Tree × List ℕ) Fault) × (expression_at room text ≡ (byte_at opening text >>= f))
+pub expression_form : (room : ℕ) (text : List ℕ) → (f : List ℕ → Result (Tree × List ℕ) Fault)
+    × (expression_at room text ≡ (byte_at opening text >>= f))
 unfolding expression_at
 expression_form zero text = (λ rest. Err (Deep (length text)), refl)
 expression_form (suc room) text = (λ rest. inside_at (expression_at room) (without_blanks rest), refl)
 
-pub expression_deep : (room : ℕ) (text rest : List ℕ) → room ≡ 0 → byte_at opening text ≡ Ok rest → expression_at room text ≡ Err (Deep (length text))
+pub expression_deep : (room : ℕ) (text rest : List ℕ) → room ≡ 0 → byte_at opening text ≡ Ok rest
+    → expression_at room text ≡ Err (Deep (length text))
 unfolding expression_at
 expression_deep zero text rest e h = ap (λ r. r >>= λ rest. Err (Deep (length text))) h
 expression_deep (suc room) text rest e h = absurd (omega (arith, e))
 
-pub expression_inside : (room : ℕ) (text rest inner : List ℕ) → (room ≡ 0 → ⊥) → byte_at opening text ≡ Ok rest → inner ≡ without_blanks rest → expression_at room text ≡ inside_at (expression_at (room - 1)) inner
+pub expression_inside : (room : ℕ) (text rest inner : List ℕ) → (room ≡ 0 → ⊥) → byte_at opening text ≡ Ok rest
+    → inner ≡ without_blanks rest → expression_at room text ≡ inside_at (expression_at (room - 1)) inner
 unfolding expression_at
 expression_inside zero text rest inner e h i = absurd (e refl)
 expression_inside (suc room) text rest inner e h i =
-    ap (λ r. r >>= λ rest. inside_at (expression_at room) (without_blanks rest)) h ∙ ap (inside_at (expression_at room)) (sym i) ∙ ap (λ n. inside_at (expression_at n) inner) (sym (less_one room))
+    ap (λ r. r >>= λ rest. inside_at (expression_at room) (without_blanks rest)) h ∙ ap (inside_at (expression_at room)) (sym i)
+    ∙ ap (λ n. inside_at (expression_at n) inner) (sym (less_one room))
 
 pub inside_group : (read : Reader) (inner : List ℕ) → begins_so opening inner ≡ true → inside_at read inner ≡ group_at read inner
 unfolding inside_at
 inside_group read inner h = rw h refl
 
-pub inside_negation : (read : Reader) (inner : List ℕ) → begins_so opening inner ≡ false → begins_so exclamation inner ≡ true → inside_at read inner ≡ negation_at read inner
+pub inside_negation : (read : Reader) (inner : List ℕ) → begins_so opening inner ≡ false → begins_so exclamation inner ≡ true
+    → inside_at read inner ≡ negation_at read inner
 unfolding inside_at
 inside_negation read inner h k = rw (h, k) refl
 
-pub inside_test : (read : Reader) (inner : List ℕ) → begins_so opening inner ≡ false → begins_so exclamation inner ≡ false → inside_at read inner ≡ test_at inner
+pub inside_test : (read : Reader) (inner : List ℕ) → begins_so opening inner ≡ false → begins_so exclamation inner ≡ false
+    → inside_at read inner ≡ test_at inner
 unfolding inside_at
 inside_test read inner h k = rw (h, k) refl
 
@@ -46,16 +53,20 @@ pub group_form : (read : Reader) (text : List ℕ) → group_at read text ≡ (r
 unfolding group_at
 group_form read text = refl
 
-pub others_end : (read : Reader) (most : ℕ) (x : Tree × List ℕ) → begins_so closing (without_blanks x.1) ≡ true → others_at read most x ≡ closed x
+pub others_end : (read : Reader) (most : ℕ) (x : Tree × List ℕ) → begins_so closing (without_blanks x.1) ≡ true
+    → others_at read most x ≡ closed x
 unfolding others_at
 others_end read zero x h = refl
 others_end read (suc most) x h = rw h refl
 
-pub others_step : (read : Reader) (most : ℕ) (tree : Tree) (rest next : List ℕ) → begins_so closing (without_blanks rest) ≡ false → between_gaps (codes "AND") rest ≡ Ok next → 0 < most → others_at read most (tree, rest) ≡ (read next >>= λ y. others_at read (most - 1) (And tree y.0, y.1))
+pub others_step : (read : Reader) (most : ℕ) (tree : Tree) (rest next : List ℕ) → begins_so closing (without_blanks rest) ≡ false
+    → between_gaps (codes "AND") rest ≡ Ok next → 0 < most
+    → others_at read most (tree, rest) ≡ (read next >>= λ y. others_at read (most - 1) (And tree y.0, y.1))
 unfolding others_at
 others_step read zero tree rest next h g lt = absurd (omega arith)
 others_step read (suc most) tree rest next h g lt =
-    rw h (ap (λ r. r >>= λ behind. read behind >>= λ y. others_at read most (And tree y.0, y.1)) g ∙ ap (λ n. read next >>= λ y. others_at read n (And tree y.0, y.1)) (sym (less_one most)))
+    rw h (ap (λ r. r >>= λ behind. read behind >>= λ y. others_at read most (And tree y.0, y.1)) g
+    ∙ ap (λ n. read next >>= λ y. others_at read n (And tree y.0, y.1)) (sym (less_one most)))
 
 -- nothing is no blank, and no parenthesis
 nothing_read : (tree : Tree) → closed (tree, []) ≡ Err (Bad 0)
@@ -66,14 +77,19 @@ nothing_between : between_gaps (codes "AND") [] ≡ Err (Bad 0)
 unfolding between_gaps gap_at
 nothing_between = refl
 
-same_stop : {A B : Type 0} (stop : Stop) (r : Result A Fault) (s : Result B Fault) → r ≡ Err (Bad 0) → s ≡ Err (Bad 0) → Stops stop r → Stops stop s
+same_stop : {A B : Type 0} (stop : Stop) (r : Result A Fault) (s : Result B Fault) → r ≡ Err (Bad 0) → s ≡ Err (Bad 0) → Stops stop r
+    → Stops stop s
 same_stop {A} {B} stop r s e f h =
     let none : A → Result B Fault = λ x. Err (Bad 0) in
     rw f (subst (λ (q : Result A Fault). Stops stop (q >>= none)) e (stops_then stop r none h))
 
 -- where no blank and no AND stands behind
-pub others_gap : (stop : Stop) (read : Reader) (most : ℕ) (tree : Tree) (rest : List ℕ) → length rest ≤ most → begins_so closing (without_blanks rest) ≡ false → Stops stop (between_gaps (codes "AND") rest) → Stops stop (others_at read most (tree, rest))
+pub others_gap : (stop : Stop) (read : Reader) (most : ℕ) (tree : Tree) (rest : List ℕ) → length rest ≤ most
+    → begins_so closing (without_blanks rest) ≡ false → Stops stop (between_gaps (codes "AND") rest)
+    → Stops stop (others_at read most (tree, rest))
 unfolding others_at
-others_gap stop read zero tree [] le h s = same_stop stop (between_gaps (codes "AND") []) (closed (tree, [])) nothing_between (nothing_read tree) s
+others_gap stop read zero tree [] le h s =
+    same_stop stop (between_gaps (codes "AND") []) (closed (tree, [])) nothing_between (nothing_read tree) s
 others_gap stop read zero tree (b ∷ rest) le h s = absurd (omega arith)
-others_gap stop read (suc most) tree rest le h s = rw h (stops_then stop (between_gaps (codes "AND") rest) (λ next. read next >>= λ y. others_at read most (And tree y.0, y.1)) s)
+others_gap stop read (suc most) tree rest le h s =
+    rw h (stops_then stop (between_gaps (codes "AND") rest) (λ next. read next >>= λ y. others_at read most (And tree y.0, y.1)) s)

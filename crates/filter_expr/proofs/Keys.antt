@@ -1,5 +1,6 @@
 -- A name has no byte that ends a name, so it is read whole.
-use Rattle.std.proofs.Common.{◌≡◌, inl, inr, ℕ, suc, ◌<◌, Bool, true, false, nat_lt, nat_eq, List, [], ◌∷◌, ◌++◌, length, map, Option, Some, None, Ok, refl, sym, ap, ◌∙◌, arith}
+use Rattle.std.proofs.Common.{◌≡◌, inl, inr, ℕ, suc, ◌<◌, Bool, true, false, nat_lt, nat_eq, List, [], ◌∷◌, ◌++◌, length, map, Option, Some}
+use Rattle.std.proofs.Common.{None, Ok, refl, sym, ap, ◌∙◌, arith}
 use Rattle.std.specs.Prelude.{codes}
 use Rattle.std.proofs.lemmas.Bool.{false≢true, cases_Bool, cases_lt, agree_below_at, or_parts, le-ltb, and_parts, eqb-true}
 use Rattle.std.specs.List.{list_any, list_all}
@@ -34,7 +35,8 @@ lower_length (b ∷ name) = ap suc (lower_length name)
 
 same_name : (name word : List ℕ) → str_eq_ignore_ascii_case name word ≡ true → IsName word → IsName name
 same_name name word h good =
-    let lower : map to_ascii_lowercase name ≡ map to_ascii_lowercase word = (bytes_eq-Decides (map to_ascii_lowercase name) (map to_ascii_lowercase word)).0 h in
+    let lower : map to_ascii_lowercase name ≡ map to_ascii_lowercase word =
+    (bytes_eq-Decides (map to_ascii_lowercase name) (map to_ascii_lowercase word)).0 h in
     record {
       whole = sym (lower_any name) ∙ ap (list_any ends_name) lower ∙ lower_any word ∙ good.whole;
       some = omega (arith, good.some, lower_length name, lower_length word, ap length lower);
@@ -63,10 +65,14 @@ key_name name key h =
       ]
     ]
   where
-    no_tag : (name : List ℕ) → str_eq_ignore_ascii_case name (codes "title") ≡ false → str_eq_ignore_ascii_case name (codes "artist") ≡ false → str_eq_ignore_ascii_case name (codes "album") ≡ false → str_eq_ignore_ascii_case name (codes "date") ≡ false → str_eq_ignore_ascii_case name (codes "genre") ≡ false → str_eq_ignore_ascii_case name (codes "comment") ≡ false → tag_named name ≡ None
+    no_tag : (name : List ℕ) → str_eq_ignore_ascii_case name (codes "title") ≡ false
+        → str_eq_ignore_ascii_case name (codes "artist") ≡ false → str_eq_ignore_ascii_case name (codes "album") ≡ false
+        → str_eq_ignore_ascii_case name (codes "date") ≡ false → str_eq_ignore_ascii_case name (codes "genre") ≡ false
+        → str_eq_ignore_ascii_case name (codes "comment") ≡ false → tag_named name ≡ None
     no_tag name n1 n2 n3 n4 n5 n6 = rw (n1, n2, n3, n4, n5, n6) refl
 
-    none_key : (name : List ℕ) → str_eq_ignore_ascii_case name (codes "any") ≡ false → str_eq_ignore_ascii_case name (codes "file") ≡ false → str_eq_ignore_ascii_case name (codes "base") ≡ false → key_of None name ≡ None
+    none_key : (name : List ℕ) → str_eq_ignore_ascii_case name (codes "any") ≡ false → str_eq_ignore_ascii_case name (codes "file") ≡ false
+        → str_eq_ignore_ascii_case name (codes "base") ≡ false → key_of None name ≡ None
     none_key name n1 n2 n3 = rw (n1, n2, n3) refl
 
     other_name : (name : List ℕ) (key : Key) → key_of None name ≡ Some key → IsName name
@@ -95,7 +101,8 @@ ends_blanks [] tail h e = e
 ends_blanks (b ∷ gap) tail h e = blank_ends b (and_parts (is_blank b) (list_all is_blank gap) h).0
 
 -- a name begins with none of the bytes that end it
-pub name_starts : (name : List ℕ) (key : Key) → key_named name ≡ Some key → (b : ℕ) × (more : List ℕ) × (name ≡ b ∷ more) × (ends_name b ≡ false)
+pub name_starts : (name : List ℕ) (key : Key) → key_named name ≡ Some key
+    → (b : ℕ) × (more : List ℕ) × (name ≡ b ∷ more) × (ends_name b ≡ false)
 name_starts name key h = by_cases name (key_name name key h)
   where
     by_cases : (name : List ℕ) → IsName name → (b : ℕ) × (more : List ℕ) × (name ≡ b ∷ more) × (ends_name b ≡ false)
@@ -106,7 +113,8 @@ pub no_blank : (b : ℕ) → ends_name b ≡ false → is_blank b ≡ false
 no_blank b h = elim (cases_Bool (is_blank b)) [ inl t ↦ absurd (false≢true (sym h ∙ blank_ends b t)) | inr f ↦ f ]
 
 pub no_byte : (byte b : ℕ) → ends_name byte ≡ true → ends_name b ≡ false → nat_eq b byte ≡ false
-no_byte byte b e h = elim (cases_Bool (nat_eq b byte)) [ inl t ↦ absurd (false≢true (sym h ∙ ap ends_name (eqb-true b byte t) ∙ e)) | inr f ↦ f ]
+no_byte byte b e h =
+    elim (cases_Bool (nat_eq b byte)) [ inl t ↦ absurd (false≢true (sym h ∙ ap ends_name (eqb-true b byte t) ∙ e)) | inr f ↦ f ]
 
 name_read : (name tail : List ℕ) → list_any ends_name name ≡ false → EndsName tail → name_in (name ++ tail) ≡ name
 unfolding name_in
@@ -129,11 +137,13 @@ unfolding name_in behind_name
 name_parts [] = refl
 name_parts (b ∷ text) = by_cases (ends_name b) refl (name_parts text)
   where
-    by_cases : (c : Bool) → ends_name b ≡ c → text ≡ name_in text ++ behind_name text → b ∷ text ≡ name_in (b ∷ text) ++ behind_name (b ∷ text)
+    by_cases : (c : Bool) → ends_name b ≡ c → text ≡ name_in text ++ behind_name text
+        → b ∷ text ≡ name_in (b ∷ text) ++ behind_name (b ∷ text)
     by_cases true e more = rw e refl
     by_cases false e more = rw e (ap (λ (s : List ℕ). b ∷ s) more)
 
-from_name : (name : List ℕ) (key : Key) (behind : List ℕ) → 0 < length name → key_named name ≡ Some key → key_from name behind ≡ Ok (key, behind)
+from_name : (name : List ℕ) (key : Key) (behind : List ℕ) → 0 < length name → key_named name ≡ Some key
+    → key_from name behind ≡ Ok (key, behind)
 from_name [] key behind lt h = absurd (omega arith)
 from_name (b ∷ name) key behind lt h = ap (λ found. key_found found (b ∷ name) behind) h
 
@@ -147,13 +157,15 @@ name_from : (name behind rest : List ℕ) (key : Key) → key_from name behind �
 name_from [] behind rest key h = absurd (cc)
 name_from (b ∷ name) behind rest key h = by_cases (key_named (b ∷ name)) refl h
   where
-    by_cases : (found : Option Key) → key_named (b ∷ name) ≡ found → key_found found (b ∷ name) behind ≡ Ok (key, rest) → (key_named (b ∷ name) ≡ Some key) × (behind ≡ rest)
+    by_cases : (found : Option Key) → key_named (b ∷ name) ≡ found → key_found found (b ∷ name) behind ≡ Ok (key, rest)
+        → (key_named (b ∷ name) ≡ Some key) × (behind ≡ rest)
     by_cases None e k = absurd (cc)
     by_cases (Some other) e k =
         let same : ◌≡◌ {A = Key × List ℕ} (other, behind) (key, rest) = cc in
         (e ∙ ap (λ (p : Key × List ℕ). Some p.0) same, ap (λ (p : Key × List ℕ). p.1) same)
 
-pub key_found_so : (text rest : List ℕ) (key : Key) → key_at text ≡ Ok (key, rest) → (name : List ℕ) × (key_named name ≡ Some key) × (text ≡ name ++ rest)
+pub key_found_so : (text rest : List ℕ) (key : Key) → key_at text ≡ Ok (key, rest)
+    → (name : List ℕ) × (key_named name ≡ Some key) × (text ≡ name ++ rest)
 unfolding key_at
 key_found_so text rest key h =
     let found = name_from (name_in text) (behind_name text) rest key h in

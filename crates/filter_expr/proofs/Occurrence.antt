@@ -1,5 +1,6 @@
 -- A part stands in a text where a search finds it.
-use Rattle.std.proofs.Common.{◌≡◌, ℕ, ◌+◌, ◌≤◌, true, nat_eq, List, [], ◌∷◌, ◌++◌, length, take, drop, Option, Some, None, refl, sym, ap, ◌∙◌, arith, inl, inr, length-append}
+use Rattle.std.proofs.Common.{◌≡◌, ℕ, ◌+◌, ◌≤◌, true, nat_eq, List, [], ◌∷◌, ◌++◌, length, take, drop, Option, Some, None, refl, sym, ap}
+use Rattle.std.proofs.Common.{◌∙◌, arith, inl, inr, length-append}
 use Rattle.std.proofs.lemmas.Bool.{false≢true, and_parts, and_from, or_cases, or_left, or_right, eqb-true, eq-eqb, false_from_ne_true}
 use Rattle.std.proofs.lemmas.List.Prefix.{at_from_reads, at_reads}
 use Rattle.std.proofs.lemmas.List.{take-append-drop}
@@ -37,13 +38,16 @@ amid_so part (t ∷ text) h = elim (or_cases (begins_with part (t ∷ text)) (oc
 occurs_amid : (part front rest : List ℕ) → occurs_in part (front ++ (part ++ rest)) ≡ true
 occurs_amid [] [] [] = refl
 occurs_amid [] [] (r ∷ rest) = refl
-occurs_amid (p ∷ part) [] rest = or_left (begins_with (p ∷ part) (p ∷ (part ++ rest))) (occurs_in (p ∷ part) (part ++ rest)) (begins_front (p ∷ part) rest)
-occurs_amid part (f ∷ front) rest = or_right (begins_with part (f ∷ (front ++ (part ++ rest)))) (occurs_in part (front ++ (part ++ rest))) (occurs_amid part front rest)
+occurs_amid (p ∷ part) [] rest = or_left (begins_with (p ∷ part) (p ∷ (part ++ rest))) (occurs_in (p ∷ part) (part ++ rest))
+    (begins_front (p ∷ part) rest)
+occurs_amid part (f ∷ front) rest =
+    or_right (begins_with part (f ∷ (front ++ (part ++ rest)))) (occurs_in part (front ++ (part ++ rest))) (occurs_amid part front rest)
 
 occurs_where : (part text : List ℕ) (k : ℕ) → OccursAt text part k → occurs_in part text ≡ true
 occurs_where part text k h =
     let at : drop k text ≡ part ++ drop (k + length part) text = at_from_reads 0 text part k h.fits h.reads in
-    let whole : text ≡ take k text ++ (part ++ drop (k + length part) text) = sym (take-append-drop k text) ∙ ap (λ (s : List ℕ). take k text ++ s) at in
+    let whole : text ≡ take k text ++ (part ++ drop (k + length part) text) =
+    sym (take-append-drop k text) ∙ ap (λ (s : List ℕ). take k text ++ s) at in
     ap (occurs_in part) whole ∙ occurs_amid part (take k text) (drop (k + length part) text)
 
 drop_front : (front rest : List ℕ) → drop (length front) (front ++ rest) ≡ rest
@@ -54,11 +58,13 @@ where_amid : (part text : List ℕ) → IsAmid part text → (k : ℕ) × (k ≤
 where_amid part text at =
     let front = at.0 in
     let rest = at.1 in
-    let lengths : length text ≡ length front + (length part + length rest) = ap length at.2 ∙ length-append front (part ++ rest) ∙ ap (λ n. length front + n) (length-append part rest) in
+    let lengths : length text ≡ length front + (length part + length rest) =
+    ap length at.2 ∙ length-append front (part ++ rest) ∙ ap (λ n. length front + n) (length-append part rest) in
     let behind : drop (length front) text ≡ part ++ rest = ap (drop (length front)) at.2 ∙ drop_front front (part ++ rest) in
     (length front, omega arith, record { fits = omega arith; reads = at_reads 0 text part (length front) rest behind })
 
 pub found_occurs : (part text : List ℕ) (r : Option ℕ) → FindsNeedle text part 0 r → is_some r ≡ occurs_in part text
 found_occurs part text (Some k) h = sym (occurs_where part text k h.1)
 found_occurs part text None h =
-    sym (false_from_ne_true (occurs_in part text) (λ yes. let at = where_amid part text (amid_so part text yes) in h at.0 (omega arith) (omega (arith, at.1)) at.2))
+    sym (false_from_ne_true (occurs_in part text)
+    (λ yes. let at = where_amid part text (amid_so part text yes) in h at.0 (omega arith) (omega (arith, at.1)) at.2))

@@ -1,5 +1,6 @@
 -- How pairs are read, one after the other.
-use Rattle.std.proofs.Common.{◌≡◌, ℕ, zero, suc, ◌+◌, ◌-◌, ◌<◌, ◌≤◌, List, [], ◌∷◌, length, take, drop, Result, Ok, Err, refl, ap, ◌∙◌, arith, length-drop}
+use Rattle.std.proofs.Common.{◌≡◌, ℕ, zero, suc, ◌+◌, ◌-◌, ◌<◌, ◌≤◌, List, [], ◌∷◌, length, take, drop, Result, Ok, Err, refl, ap, ◌∙◌}
+use Rattle.std.proofs.Common.{arith, length-drop}
 use Rattle.filter_expr.specs.declared.name.Key.{Key}
 use Rattle.filter_expr.specs.declared.refusal.FilterError.{FilterError}
 use Rattle.filter_expr.specs.declared.refusal.FilterError.TheVariants as errors
@@ -10,21 +11,24 @@ use Rattle.filter_expr.specs.Words.{Refusal, ◌>>=◌, Gives, Refuses, keyed, h
 use Rattle.filter_expr.specs.Words.Refusal.{BadFilter}
 use Rattle.filter_expr.proofs.Windows.{all_taken}
 
-pub refuses_then : {A B : Type 0} (error : FilterError) (read : Result A Refusal) (f : A → Result B Refusal) → Refuses error read → Refuses error (read >>= f)
+pub refuses_then : {A B : Type 0} (error : FilterError) (read : Result A Refusal) (f : A → Result B Refusal) → Refuses error read
+    → Refuses error (read >>= f)
 refuses_then (errors.BadFilter place) read f h = ap (λ r. r >>= f) h
 refuses_then (errors.UnknownTag name) read f h = ap (λ r. r >>= f) h
 refuses_then (errors.TooDeep place) read f h = ap (λ r. r >>= f) h
 refuses_then errors.NoMemory read f h = tt
 
 -- the exit of a `?`
-pub gives_error : {X Y : Type 0} (view : X → Y) (error : FilterError) (r : Result X FilterError) (read : Result Y Refusal) → (e : FilterError) × (r ≡ Err e) × (e ≡ error) → Refuses error read → Gives view r read
+pub gives_error : {X Y : Type 0} (view : X → Y) (error : FilterError) (r : Result X FilterError) (read : Result Y Refusal)
+    → (e : FilterError) × (r ≡ Err e) × (e ≡ error) → Refuses error read → Gives view r read
 gives_error view error r read err h = rw (err.1, err.2) h
 
 half_then : (number : ℕ) (name : List ℕ) (f : Tree → Result Tree Refusal) → half_pair number name ≡ (half_pair number name >>= f)
 unfolding half_pair
 half_then number name f = by_cases (keyed (key_named name) name)
   where
-    by_cases : (read : Result Key Refusal) → (read >>= λ key. Err (BadFilter (number + 1) 0)) ≡ ((read >>= λ key. Err (BadFilter (number + 1) 0)) >>= f)
+    by_cases : (read : Result Key Refusal)
+        → (read >>= λ key. Err (BadFilter (number + 1) 0)) ≡ ((read >>= λ key. Err (BadFilter (number + 1) 0)) >>= f)
     by_cases (Ok key) = refl
     by_cases (Err error) = refl
 
@@ -32,13 +36,15 @@ pub pairs_form : (words : List (List ℕ)) → pairs_of words ≡ (pair_at 0 wor
 unfolding pairs_of
 pairs_form words = refl
 
-pub pairs_step : (number : ℕ) (tree : Tree) (words : List (List ℕ)) → 0 < length words → more_pairs number tree words ≡ (pair_at number words >>= λ pair. more_pairs (number + 2) (And tree pair) (drop 2 words))
+pub pairs_step : (number : ℕ) (tree : Tree) (words : List (List ℕ)) → 0 < length words
+    → more_pairs number tree words ≡ (pair_at number words >>= λ pair. more_pairs (number + 2) (And tree pair) (drop 2 words))
 unfolding more_pairs
 pairs_step number tree [] lt = absurd (omega arith)
 pairs_step number tree (name ∷ []) lt = half_then number name (λ pair. more_pairs (number + 2) (And tree pair) [])
 pairs_step number tree (name ∷ value ∷ words) lt = refl
 
-pub pairs_end : (number : ℕ) (tree : Tree) (words : List (List ℕ)) → length words ≤ number → more_pairs number tree (drop number words) ≡ Ok tree
+pub pairs_end : (number : ℕ) (tree : Tree) (words : List (List ℕ)) → length words ≤ number
+    → more_pairs number tree (drop number words) ≡ Ok tree
 unfolding more_pairs
 pairs_end number tree words le = ap (more_pairs number tree) (none_left number words le)
   where

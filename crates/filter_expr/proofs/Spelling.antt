@@ -19,28 +19,33 @@ use Rattle.filter_expr.proofs.Pieces.{byte_again, blanks_again, blanks_stop, val
 pub closed_again : (tree : Tree) (after rest : List ℕ) → AreBlanks after → closed (tree, after ++ closing ∷ rest) ≡ Ok (tree, rest)
 unfolding closed
 closed_again tree after rest h =
-    ap (λ (s : List ℕ). byte_at closing s >>= λ behind. Ok (tree, behind)) (blanks_again after (closing ∷ rest) h ∙ blanks_stop closing rest refl)
+    ap (λ (s : List ℕ). byte_at closing s >>= λ behind. Ok (tree, behind))
+    (blanks_again after (closing ∷ rest) h ∙ blanks_stop closing rest refl)
     ∙ ap (λ (r : Result (List ℕ) Fault). r >>= λ behind. Ok (tree, behind)) (byte_again closing rest)
 
 value_ends : (spelling value tail : List ℕ) → SpellsValue spelling value → EndsName (spelling ++ tail)
 value_ends spelling value tail h = subst (λ (s : List ℕ). EndsName (s ++ tail)) (sym h.parts) (quote_ends h.quote h.a_quote)
 
-base_again : (gap quoted value tail : List ℕ) → AreBlanks gap → SpellsValue quoted value → test_of keys.Base (gap ++ (quoted ++ tail)) ≡ Ok (Base value, tail)
+base_again : (gap quoted value tail : List ℕ) → AreBlanks gap → SpellsValue quoted value
+    → test_of keys.Base (gap ++ (quoted ++ tail)) ≡ Ok (Base value, tail)
 unfolding test_of
 base_again gap quoted value tail blanks spelled =
     let here = blanks_again gap (quoted ++ tail) blanks ∙ value_bare quoted value tail spelled in
     let read = ap value_at here ∙ value_again quoted value tail spelled in
     ap (λ (r : Result (List ℕ × List ℕ) Fault). r >>= λ v. Ok (Base v.0, v.1)) read
 
-compared_again : (subject : Subject) (operator : Operator) (middle quoted value tail : List ℕ) → IsOperator subject operator middle → SpellsValue quoted value → test_of (keys.Of subject) (middle ++ (quoted ++ tail)) ≡ Ok (test_tree subject operator value, tail)
+compared_again : (subject : Subject) (operator : Operator) (middle quoted value tail : List ℕ) → IsOperator subject operator middle
+    → SpellsValue quoted value → test_of (keys.Of subject) (middle ++ (quoted ++ tail)) ≡ Ok (test_tree subject operator value, tail)
 unfolding test_of
 compared_again subject operator middle quoted value tail compared spelled =
     let sign = operator_again subject operator middle (quoted ++ tail) compared in
     let read = ap value_at (sign.2 ∙ value_bare quoted value tail spelled) ∙ value_again quoted value tail spelled in
-    ap (λ (r : Result (Operator × List ℕ) Fault). r >>= λ o. value_at (without_blanks o.1) >>= λ v. Ok (test_tree subject o.0 v.0, v.1)) sign.1
+    ap (λ (r : Result (Operator × List ℕ) Fault). r >>= λ o. value_at (without_blanks o.1) >>= λ v. Ok (test_tree subject o.0 v.0, v.1))
+    sign.1
     ∙ ap (λ (r : Result (List ℕ × List ℕ) Fault). r >>= λ v. Ok (test_tree subject operator v.0, v.1)) read
 
-named_again : (name behind : List ℕ) (key : Key) (x : Tree × List ℕ) → key_named name ≡ Some key → EndsName behind → test_of key behind ≡ Ok x → test_at (name ++ behind) ≡ closed x
+named_again : (name behind : List ℕ) (key : Key) (x : Tree × List ℕ) → key_named name ≡ Some key → EndsName behind
+    → test_of key behind ≡ Ok x → test_at (name ++ behind) ≡ closed x
 unfolding test_at
 named_again name behind key x named ends h =
     ap (λ (r : Result (Key × List ℕ) Fault). r >>= λ k. test_of k.0 k.1 >>= closed) (key_again name behind key named ends)
@@ -51,12 +56,14 @@ simple_again tree front tail (inl h) =
     let read = base_again h.gap h.quoted h.value tail h.blanks h.spelled in
     let ends = ends_blanks h.gap (h.quoted ++ tail) h.blanks (value_ends h.quoted h.value tail h.spelled) in
     ap (λ (s : List ℕ). test_at (s ++ tail)) h.parts ∙ ap test_at (regroup h.name h.gap h.quoted tail)
-    ∙ named_again h.name (h.gap ++ (h.quoted ++ tail)) keys.Base (Base h.value, tail) h.named ends read ∙ ap (λ (t : Tree). closed (t, tail)) (sym h.says)
+    ∙ named_again h.name (h.gap ++ (h.quoted ++ tail)) keys.Base (Base h.value, tail) h.named ends read
+    ∙ ap (λ (t : Tree). closed (t, tail)) (sym h.says)
 simple_again tree front tail (inr h) =
     let read = compared_again h.subject h.operator h.middle h.quoted h.value tail h.compared h.spelled in
     let ends = operator_ends h.subject h.operator h.middle (h.quoted ++ tail) h.compared in
     ap (λ (s : List ℕ). test_at (s ++ tail)) h.parts ∙ ap test_at (regroup h.name h.middle h.quoted tail)
-    ∙ named_again h.name (h.middle ++ (h.quoted ++ tail)) (keys.Of h.subject) (test_tree h.subject h.operator h.value, tail) h.named ends read ∙ ap (λ (t : Tree). closed (t, tail)) (sym h.says)
+    ∙ named_again h.name (h.middle ++ (h.quoted ++ tail)) (keys.Of h.subject) (test_tree h.subject h.operator h.value, tail) h.named ends
+    read ∙ ap (λ (t : Tree). closed (t, tail)) (sym h.says)
 
 -- a test begins with no blank, parenthesis or exclamation mark
 abbrev StartsName : List ℕ → Type 0
@@ -67,7 +74,8 @@ starts_longer name front behind e h = (h.0, h.1 ++ behind, e ∙ ap (λ (s : Lis
 
 simple_starts : (tree : Tree) (front : List ℕ) → SpellsSimple tree front → StartsName front
 simple_starts tree front (inl h) = starts_longer h.name front (h.gap ++ h.quoted) h.parts (name_starts h.name keys.Base h.named)
-simple_starts tree front (inr h) = starts_longer h.name front (h.middle ++ h.quoted) h.parts (name_starts h.name (keys.Of h.subject) h.named)
+simple_starts tree front (inr h) = starts_longer h.name front (h.middle ++ h.quoted) h.parts
+    (name_starts h.name (keys.Of h.subject) h.named)
 
 -- it stands behind an opening parenthesis and no blank, and is read up to what stands behind it
 abbrev pub ReadInside : Reader → Tree → List ℕ → List ℕ → Type 0
@@ -76,12 +84,14 @@ ReadInside read tree text tail = (without_blanks text ≡ text) × (inside_at re
 pub bare_from : (b : ℕ) (text more : List ℕ) → text ≡ b ∷ more → without_blanks (b ∷ more) ≡ b ∷ more → without_blanks text ≡ text
 bare_from b text more e h = subst (λ (s : List ℕ). without_blanks s ≡ s) (sym e) h
 
-pub simple_inside : (read : Reader) (tree : Tree) (front tail : List ℕ) → SpellsSimple tree front → ReadInside read tree (front ++ tail) tail
+pub simple_inside : (read : Reader) (tree : Tree) (front tail : List ℕ) → SpellsSimple tree front
+    → ReadInside read tree (front ++ tail) tail
 simple_inside read tree front tail h =
     let start = simple_starts tree front h in
     let text : front ++ tail ≡ start.0 ∷ (start.1 ++ tail) = ap (λ (s : List ℕ). s ++ tail) start.2 in (
       bare_from start.0 (front ++ tail) (start.1 ++ tail) text (blanks_stop start.0 (start.1 ++ tail) (no_blank start.0 start.3)),
-      inside_test read (front ++ tail) (ap (begins_so opening) text ∙ no_byte opening start.0 refl start.3) (ap (begins_so exclamation) text ∙ no_byte exclamation start.0 refl start.3)
+      inside_test read (front ++ tail) (ap (begins_so opening) text ∙ no_byte opening start.0 refl start.3)
+          (ap (begins_so exclamation) text ∙ no_byte exclamation start.0 refl start.3)
           ∙ simple_again tree front tail h,
     )
 
@@ -92,23 +102,32 @@ IsComplete read spells = (tree : Tree) (front rest : List ℕ) → spells tree f
 abbrev pub Opens : (Tree → List ℕ → Type 0) → Type 0
 Opens spells = (tree : Tree) (front : List ℕ) → spells tree front → (more : List ℕ) × (front ≡ opening ∷ more)
 
-pub opened_bare : (spells : Tree → List ℕ → Type 0) → Opens spells → (tree : Tree) (front tail : List ℕ) → spells tree front → without_blanks (front ++ tail) ≡ front ++ tail
+pub opened_bare : (spells : Tree → List ℕ → Type 0) → Opens spells → (tree : Tree) (front tail : List ℕ) → spells tree front
+    → without_blanks (front ++ tail) ≡ front ++ tail
 opened_bare spells opens tree front tail h =
     let start = opens tree front h in
-    bare_from opening (front ++ tail) (start.0 ++ tail) (ap (λ (s : List ℕ). s ++ tail) start.1) (blanks_stop opening (start.0 ++ tail) refl)
+    bare_from opening (front ++ tail) (start.0 ++ tail) (ap (λ (s : List ℕ). s ++ tail) start.1)
+    (blanks_stop opening (start.0 ++ tail) refl)
 
-negated_again : (read : Reader) (inner : Tree) (gap spelling tail : List ℕ) → AreBlanks gap → without_blanks (spelling ++ tail) ≡ spelling ++ tail → read (spelling ++ tail) ≡ Ok (inner, tail) → negation_at read (exclamation ∷ (gap ++ (spelling ++ tail))) ≡ closed (Not inner, tail)
+negated_again : (read : Reader) (inner : Tree) (gap spelling tail : List ℕ) → AreBlanks gap
+    → without_blanks (spelling ++ tail) ≡ spelling ++ tail → read (spelling ++ tail) ≡ Ok (inner, tail)
+    → negation_at read (exclamation ∷ (gap ++ (spelling ++ tail))) ≡ closed (Not inner, tail)
 unfolding negation_at
 negated_again read inner gap spelling tail blanks stop h =
-    ap (λ (r : Result (List ℕ) Fault). r >>= λ s. read (without_blanks s) >>= λ y. closed (Not y.0, y.1)) (byte_again exclamation (gap ++ (spelling ++ tail)))
-    ∙ ap (λ (r : Result (Tree × List ℕ) Fault). r >>= λ y. closed (Not y.0, y.1)) (ap read (blanks_again gap (spelling ++ tail) blanks ∙ stop) ∙ h)
+    ap (λ (r : Result (List ℕ) Fault). r >>= λ s. read (without_blanks s) >>= λ y. closed (Not y.0, y.1))
+    (byte_again exclamation (gap ++ (spelling ++ tail)))
+    ∙ ap (λ (r : Result (Tree × List ℕ) Fault). r >>= λ y. closed (Not y.0, y.1))
+    (ap read (blanks_again gap (spelling ++ tail) blanks ∙ stop) ∙ h)
 
-pub negation_inside : (read : Reader) (spells : Tree → List ℕ → Type 0) → IsComplete read spells → Opens spells → (tree : Tree) (front tail : List ℕ) → SpellsNegation spells tree front → ReadInside read tree (front ++ tail) tail
+pub negation_inside : (read : Reader) (spells : Tree → List ℕ → Type 0) → IsComplete read spells → Opens spells
+    → (tree : Tree) (front tail : List ℕ) → SpellsNegation spells tree front → ReadInside read tree (front ++ tail) tail
 negation_inside read spells complete opens tree front tail h =
     let text : front ++ tail ≡ exclamation ∷ (h.gap ++ (h.spelling ++ tail)) =
     ap (λ (s : List ℕ). s ++ tail) h.parts ∙ ap (λ (s : List ℕ). exclamation ∷ s) (append_assoc h.gap h.spelling tail) in
     let stop = opened_bare spells opens h.inner h.spelling tail h.spelled in
     let again = negated_again read h.inner h.gap h.spelling tail h.blanks stop (complete h.inner h.spelling tail h.spelled) in (
-      bare_from exclamation (front ++ tail) (h.gap ++ (h.spelling ++ tail)) text (blanks_stop exclamation (h.gap ++ (h.spelling ++ tail)) refl),
-      inside_negation read (front ++ tail) (ap (begins_so opening) text) (ap (begins_so exclamation) text) ∙ ap (negation_at read) text ∙ again ∙ ap (λ (t : Tree). closed (t, tail)) (sym h.says),
+      bare_from exclamation (front ++ tail) (h.gap ++ (h.spelling ++ tail)) text
+          (blanks_stop exclamation (h.gap ++ (h.spelling ++ tail)) refl),
+      inside_negation read (front ++ tail) (ap (begins_so opening) text) (ap (begins_so exclamation) text) ∙ ap (negation_at read) text
+          ∙ again ∙ ap (λ (t : Tree). closed (t, tail)) (sym h.says),
     )

@@ -1,5 +1,7 @@
 -- How the parts of a text are read a byte at a time.
-use Rattle.std.proofs.Common.{◌≡◌, ℕ, zero, suc, ◌+◌, ◌-◌, ◌<◌, ◌≤◌, Bool, true, false, not, ◌||◌, nat_eq, List, [], ◌∷◌, ◌++◌, length, get_or, take, drop, Result, Ok, Err, refl, sym, ap, ◌∙◌, arith, add-one, drop-cons, take-suc, append_assoc, length-drop}
+use Rattle.std.proofs.Common.{◌≡◌, ℕ, zero, suc, ◌+◌, ◌-◌, ◌<◌, ◌≤◌, Bool, true, false, not, ◌||◌, nat_eq, List, [], ◌∷◌, ◌++◌, length}
+use Rattle.std.proofs.Common.{get_or, take, drop, Result, Ok, Err, refl, sym, ap, ◌∙◌, arith, add-one, drop-cons, take-suc, append_assoc}
+use Rattle.std.proofs.Common.{length-drop}
 use Rattle.std.proofs.Common.{cond, Some, None, subst}
 use Rattle.std.proofs.lemmas.List.{append-nil}
 use Rattle.std.proofs.lemmas.Bool.{false_from_ne_true}
@@ -11,7 +13,8 @@ use Rattle.std.proofs.lemmas.Bool.{eq-eqb, ne_eqb, not-false}
 use Rattle.filter_expr.specs.declared.parts.Stop.{Stop}
 use Rattle.filter_expr.specs.declared.parts.Stop.TheVariants as stops
 use Rattle.filter_expr.specs.Gives.{Gives, Stops}
-use Rattle.filter_expr.specs.Parts.{Fault, ◌>>=◌, is_blank, ends_name, backslash, without_blanks, byte_at, word_at, name_in, behind_name, with_front, quoted}
+use Rattle.filter_expr.specs.Parts.{Fault, ◌>>=◌, is_blank, ends_name, backslash, without_blanks, byte_at, word_at, name_in, behind_name}
+use Rattle.filter_expr.specs.Parts.{with_front, quoted}
 use Rattle.filter_expr.specs.Parts.Fault.{Bad}
 
 pub drop_at : (s : List ℕ) (q : ℕ) → q < length s → drop q s ≡ get_or s q 0 ∷ drop (q + 1) s
@@ -43,7 +46,8 @@ stops_then (stops.Unknown name) read f h = ap (λ r. r >>= f) h
 stops_then (stops.Deep left) read f h = ap (λ r. r >>= f) h
 stops_then stops.NoMemory read f h = tt
 
-pub blank_more : (text : List ℕ) (i : ℕ) → i < length text → is_blank (get_or text i 0) ≡ true → without_blanks (drop (i + 1) text) ≡ without_blanks (drop i text)
+pub blank_more : (text : List ℕ) (i : ℕ) → i < length text → is_blank (get_or text i 0) ≡ true
+    → without_blanks (drop (i + 1) text) ≡ without_blanks (drop i text)
 unfolding without_blanks
 blank_more text i lt h = sym (ap without_blanks (drop_at text i lt) ∙ rw h refl)
 
@@ -55,7 +59,8 @@ pub blank_end : without_blanks [] ≡ []
 unfolding without_blanks
 blank_end = refl
 
-pub word_more : (word rest : List ℕ) (i : ℕ) → i < length word → word_at (drop i word) rest ≡ byte_at (get_or word i 0) rest >>= λ behind. word_at (drop (i + 1) word) behind
+pub word_more : (word rest : List ℕ) (i : ℕ) → i < length word
+    → word_at (drop i word) rest ≡ byte_at (get_or word i 0) rest >>= λ behind. word_at (drop (i + 1) word) behind
 unfolding word_at
 word_more word rest i lt = ap (λ (w : List ℕ). word_at w rest) (drop_at word i lt)
 
@@ -66,13 +71,16 @@ word_end rest = refl
 take_more : (s : List ℕ) (i : ℕ) → i < length s → take (i + 1) s ≡ take i s ++ get_or s i 0 ∷ []
 take_more s i h = rw (add-one, take-suc s i 0) refl
 
-pub name_more : (text : List ℕ) (i : ℕ) → i < length text → ends_name (get_or text i 0) ≡ false → take (i + 1) text ++ name_in (drop (i + 1) text) ≡ take i text ++ name_in (drop i text)
+pub name_more : (text : List ℕ) (i : ℕ) → i < length text → ends_name (get_or text i 0) ≡ false
+    → take (i + 1) text ++ name_in (drop (i + 1) text) ≡ take i text ++ name_in (drop i text)
 unfolding name_in
 name_more text i lt h =
     let here : name_in (drop i text) ≡ get_or text i 0 ∷ name_in (drop (i + 1) text) = ap name_in (drop_at text i lt) ∙ rw h refl in
-    ap (λ (s : List ℕ). s ++ name_in (drop (i + 1) text)) (take_more text i lt) ∙ append_assoc (take i text) (get_or text i 0 ∷ []) (name_in (drop (i + 1) text)) ∙ ap (λ (s : List ℕ). take i text ++ s) (sym here)
+    ap (λ (s : List ℕ). s ++ name_in (drop (i + 1) text)) (take_more text i lt)
+    ∙ append_assoc (take i text) (get_or text i 0 ∷ []) (name_in (drop (i + 1) text)) ∙ ap (λ (s : List ℕ). take i text ++ s) (sym here)
 
-pub name_none : (text : List ℕ) (i : ℕ) → i < length text → ends_name (get_or text i 0) ≡ true → take i text ≡ take i text ++ name_in (drop i text)
+pub name_none : (text : List ℕ) (i : ℕ) → i < length text → ends_name (get_or text i 0) ≡ true
+    → take i text ≡ take i text ++ name_in (drop i text)
 unfolding name_in
 name_none text i lt h =
     let here : name_in (drop i text) ≡ [] = ap name_in (drop_at text i lt) ∙ rw h refl in
@@ -82,7 +90,8 @@ pub name_end : (text : List ℕ) → text ≡ text ++ name_in []
 unfolding name_in
 name_end text = sym (append-nil text)
 
-pub behind_more : (text : List ℕ) (i : ℕ) → i < length text → ends_name (get_or text i 0) ≡ false → behind_name (drop (i + 1) text) ≡ behind_name (drop i text)
+pub behind_more : (text : List ℕ) (i : ℕ) → i < length text → ends_name (get_or text i 0) ≡ false
+    → behind_name (drop (i + 1) text) ≡ behind_name (drop i text)
 unfolding behind_name
 behind_more text i lt h = sym (ap behind_name (drop_at text i lt) ∙ rw h refl)
 
@@ -98,7 +107,8 @@ behind_end = refl
 abbrev pub after_front : List ℕ → Result (List ℕ × List ℕ) Fault → Result (List ℕ × List ℕ) Fault
 after_front front read = read >>= λ x. Ok (front ++ x.0, x.1)
 
-front_longer : (front : List ℕ) (b : ℕ) (read : Result (List ℕ × List ℕ) Fault) → after_front (front ++ b ∷ []) read ≡ after_front front (with_front b read)
+front_longer : (front : List ℕ) (b : ℕ) (read : Result (List ℕ × List ℕ) Fault)
+    → after_front (front ++ b ∷ []) read ≡ after_front front (with_front b read)
 front_longer front b (Ok x) = ap (λ (v : List ℕ). Ok (v, x.1)) (append_assoc front (b ∷ []) x.0)
 front_longer front b (Err fault) = refl
 
@@ -107,26 +117,38 @@ no_front (Ok x) = refl
 no_front (Err fault) = refl
 
 -- a byte that stands for itself
-pub quoted_plain : (quote : ℕ) (escaped : Bool) (front text : List ℕ) (i : ℕ) → i < length text → (escaped || not (nat_eq (get_or text i 0) quote || nat_eq (get_or text i 0) backslash)) ≡ true → after_front (front ++ get_or text i 0 ∷ []) (quoted quote false (drop (i + 1) text)) ≡ after_front front (quoted quote escaped (drop i text))
+pub quoted_plain : (quote : ℕ) (escaped : Bool) (front text : List ℕ) (i : ℕ) → i < length text
+    → (escaped || not (nat_eq (get_or text i 0) quote || nat_eq (get_or text i 0) backslash)) ≡ true
+    → after_front (front ++ get_or text i 0 ∷ []) (quoted quote false (drop (i + 1) text))
+    ≡ after_front front (quoted quote escaped (drop i text))
 unfolding quoted
 quoted_plain quote true front text i lt h =
-    front_longer front (get_or text i 0) (quoted quote false (drop (i + 1) text)) ∙ ap (λ (t : List ℕ). after_front front (quoted quote true t)) (sym (drop_at text i lt))
+    front_longer front (get_or text i 0) (quoted quote false (drop (i + 1) text))
+    ∙ ap (λ (t : List ℕ). after_front front (quoted quote true t)) (sym (drop_at text i lt))
 quoted_plain quote false front text i lt h =
-    front_longer front (get_or text i 0) (quoted quote false (drop (i + 1) text)) ∙ ap (after_front front) (by_cases (nat_eq (get_or text i 0) quote) refl (nat_eq (get_or text i 0) backslash) refl h) ∙ ap (λ (t : List ℕ). after_front front (quoted quote false t)) (sym (drop_at text i lt))
+    front_longer front (get_or text i 0) (quoted quote false (drop (i + 1) text))
+    ∙ ap (after_front front) (by_cases (nat_eq (get_or text i 0) quote) refl (nat_eq (get_or text i 0) backslash) refl h)
+    ∙ ap (λ (t : List ℕ). after_front front (quoted quote false t)) (sym (drop_at text i lt))
   where
-    by_cases : (q : Bool) → nat_eq (get_or text i 0) quote ≡ q → (b : Bool) → nat_eq (get_or text i 0) backslash ≡ b → not (q || b) ≡ true → with_front (get_or text i 0) (quoted quote false (drop (i + 1) text)) ≡ quoted quote false (get_or text i 0 ∷ drop (i + 1) text)
+    by_cases : (q : Bool) → nat_eq (get_or text i 0) quote ≡ q → (b : Bool) → nat_eq (get_or text i 0) backslash ≡ b → not (q || b) ≡ true
+        → with_front (get_or text i 0) (quoted quote false (drop (i + 1) text)) ≡ quoted quote false (get_or text i 0 ∷ drop (i + 1) text)
     by_cases true e b f g = absurd (cc)
     by_cases false e true f g = absurd (cc)
     by_cases false e false f g = rw (e, f) refl
 
-pub quoted_end : (quote : ℕ) (escaped : Bool) (front text : List ℕ) (i : ℕ) → i < length text → (escaped || not (nat_eq (get_or text i 0) quote || nat_eq (get_or text i 0) backslash)) ≡ false → get_or text i 0 ≡ quote → after_front front (quoted quote escaped (drop i text)) ≡ Ok (front, drop (i + 1) text)
+pub quoted_end : (quote : ℕ) (escaped : Bool) (front text : List ℕ) (i : ℕ) → i < length text
+    → (escaped || not (nat_eq (get_or text i 0) quote || nat_eq (get_or text i 0) backslash)) ≡ false → get_or text i 0 ≡ quote
+    → after_front front (quoted quote escaped (drop i text)) ≡ Ok (front, drop (i + 1) text)
 unfolding quoted
 quoted_end quote true front text i lt h e = absurd (cc)
 quoted_end quote false front text i lt h e =
     let same : nat_eq (get_or text i 0) quote ≡ true = eq-eqb _ _ e in
-    ap (λ (t : List ℕ). after_front front (quoted quote false t)) (drop_at text i lt) ∙ rw same (ap (λ (v : List ℕ). Ok (v, drop (i + 1) text)) (append-nil front))
+    ap (λ (t : List ℕ). after_front front (quoted quote false t)) (drop_at text i lt)
+    ∙ rw same (ap (λ (v : List ℕ). Ok (v, drop (i + 1) text)) (append-nil front))
 
-pub quoted_escape : (quote : ℕ) (escaped : Bool) (text : List ℕ) (i : ℕ) → i < length text → (escaped || not (nat_eq (get_or text i 0) quote || nat_eq (get_or text i 0) backslash)) ≡ false → (get_or text i 0 ≡ quote → ⊥) → quoted quote true (drop (i + 1) text) ≡ quoted quote escaped (drop i text)
+pub quoted_escape : (quote : ℕ) (escaped : Bool) (text : List ℕ) (i : ℕ) → i < length text
+    → (escaped || not (nat_eq (get_or text i 0) quote || nat_eq (get_or text i 0) backslash)) ≡ false → (get_or text i 0 ≡ quote → ⊥)
+    → quoted quote true (drop (i + 1) text) ≡ quoted quote escaped (drop i text)
 unfolding quoted
 quoted_escape quote true text i lt h e = absurd (cc)
 quoted_escape quote false text i lt h e =
@@ -141,12 +163,14 @@ quoted_open quote escaped front = refl
 utf8_text : (bytes : List ℕ) → IsUtf8 bytes → cond (is_utf8 bytes) (Some bytes) None ≡ Some bytes
 utf8_text bytes h = rw (is_utf8-from_IsUtf8 bytes h) refl
 
-pub read_utf8 : {Z : Type 0} (text : String Z) (bytes : List ℕ) → string_bytes text ≡ bytes → Some (string_bytes text) ≡ cond (is_utf8 bytes) (Some bytes) None
+pub read_utf8 : {Z : Type 0} (text : String Z) (bytes : List ℕ) → string_bytes text ≡ bytes
+    → Some (string_bytes text) ≡ cond (is_utf8 bytes) (Some bytes) None
 read_utf8 text bytes e = ap Some e ∙ sym (utf8_text bytes (subst IsUtf8 e (IsUtf8-string_bytes text)))
 
 pub not_utf8 : (bytes : List ℕ) → (IsUtf8 bytes → ⊥) → None ≡ cond (is_utf8 bytes) (Some bytes) None
 not_utf8 bytes h = rw (false_from_ne_true (is_utf8 bytes) (λ t. h (IsUtf8-from_is_utf8 bytes t))) refl
 
 -- the exit of a `?` gives what the call gave that stopped
-pub gives_stop : {X Y : Type 0} (view : X → Y) (stop : Stop) (r : Result X Stop) (read : Result Y Fault) → (y : Stop) × (r ≡ Err y) × (y ≡ stop) → Stops stop read → Gives view r read
+pub gives_stop : {X Y : Type 0} (view : X → Y) (stop : Stop) (r : Result X Stop) (read : Result Y Fault)
+    → (y : Stop) × (r ≡ Err y) × (y ≡ stop) → Stops stop read → Gives view r read
 gives_stop view stop r read err h = rw (err.1, err.2) h

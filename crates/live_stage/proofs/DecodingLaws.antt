@@ -16,11 +16,13 @@ pub record IsReadTo (counted : ℕ) (s : SavedState) (rest : List (List ℕ)) (a
   pub is : all ≡ records_reading gate rest s
 
 pub begins : (snapshot : List ℕ) (records : List (List ℕ)) (s : SavedState) (counted : ℕ)
-    → saved_reading snapshot ≡ Ok s → counted ≡ min (32 + length snapshot) (2 ^ 64 - 1) → IsReadTo counted s records (stored_reading snapshot records)
+    → saved_reading snapshot ≡ Ok s → counted ≡ min (32 + length snapshot) (2 ^ 64 - 1)
+    → IsReadTo counted s records (stored_reading snapshot records)
 unfolding stored_reading
 begins snapshot records s counted read counts = record { gate = 32 + length snapshot; counts = counts; is = rw read refl }
 
-pub bad_snapshot : (snapshot : List ℕ) (records : List (List ℕ)) (at : ℕ) → saved_reading snapshot ≡ Err at → stored_reading snapshot records ≡ Err 32
+pub bad_snapshot : (snapshot : List ℕ) (records : List (List ℕ)) (at : ℕ) → saved_reading snapshot ≡ Err at
+    → stored_reading snapshot records ≡ Err 32
 unfolding stored_reading
 bad_snapshot snapshot records at read = rw read refl
 
@@ -41,7 +43,8 @@ pub is_done : (counted : ℕ) (s : SavedState) (all : Result SavedState ℕ) →
 is_done counted s all h = h.is
 
 -- what reading a snapshot answers, where it is refused
-pub refused_snapshot : (snapshot : List ℕ) (records : List (List ℕ)) (e : CodecError) → GivesSaved (Err e) (saved_reading snapshot) → GivesState (Err (snapshot_error e)) (stored_reading snapshot records)
+pub refused_snapshot : (snapshot : List ℕ) (records : List (List ℕ)) (e : CodecError) → GivesSaved (Err e) (saved_reading snapshot)
+    → GivesState (Err (snapshot_error e)) (stored_reading snapshot records)
 refused_snapshot snapshot records NoMemory gives = tt
 refused_snapshot snapshot records (BadOp at) gives = elim gives [ ]
 refused_snapshot snapshot records (BadSnapshot at) gives =

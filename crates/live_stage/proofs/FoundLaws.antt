@@ -1,5 +1,6 @@
 -- The state that is found, as records are added.
-use Rattle.std.proofs.Common.{◌≡◌, ◌≢◌, ◌⊎◌, inl, inr, ℕ, ◌+◌, ◌<◌, List, [], ◌∷◌, ◌++◌, length, Some, None, Result, Ok, Err, refl, ap, subst, ◌∙◌, arith}
+use Rattle.std.proofs.Common.{◌≡◌, ◌≢◌, ◌⊎◌, inl, inr, ℕ, ◌+◌, ◌<◌, List, [], ◌∷◌, ◌++◌, length, Some, None, Result, Ok, Err, refl, ap}
+use Rattle.std.proofs.Common.{subst, ◌∙◌, arith}
 use Rattle.std.specs.Option.{option_and_then, ok_or}
 use Rattle.std.specs.Result.{result_ok}
 use Rattle.std.specs.List.{AllByRecursion}
@@ -25,10 +26,12 @@ result_is_ok (Err at) x e = cc
 
 -- one record more
 records_added : (gate : ℕ) (bodies : List (List ℕ)) (body : List ℕ) (first s after : SavedState)
-    → records_reading gate bodies first ≡ Ok s → after_record body s ≡ Some after → records_reading gate (bodies ++ body ∷ []) first ≡ Ok after
+    → records_reading gate bodies first ≡ Ok s → after_record body s ≡ Some after
+    → records_reading gate (bodies ++ body ∷ []) first ≡ Ok after
 records_added gate [] body first s after read applies = let same : first ≡ s = (cc) in rw same (rw applies refl)
 records_added gate (b ∷ bodies) body first s after read applies =
-    (elim (after_record b first) as (λ o. (ok_or o gate >>= λ t. records_reading (gate + (5 + length b)) bodies t) ≡ Ok s → (ok_or o gate >>= λ t. records_reading (gate + (5 + length b)) (bodies ++ body ∷ []) t) ≡ Ok after) [
+    (elim (after_record b first) as (λ o. (ok_or o gate >>= λ t. records_reading (gate + (5 + length b)) bodies t) ≡ Ok s
+    → (ok_or o gate >>= λ t. records_reading (gate + (5 + length b)) (bodies ++ body ∷ []) t) ≡ Ok after) [
       | None ↦ λ e. cc
       | Some t ↦ λ e. records_added (gate + (5 + length b)) bodies body t s after e applies
     ]) read
@@ -37,13 +40,16 @@ stored_added : (snapshot : List ℕ) (bodies : List (List ℕ)) (body : List ℕ
     → stored_reading snapshot bodies ≡ Ok s → after_record body s ≡ Some after → stored_reading snapshot (bodies ++ body ∷ []) ≡ Ok after
 unfolding stored_reading
 stored_added snapshot bodies body s after read applies =
-    (elim (ok_or {E = ℕ} (result_ok (saved_reading snapshot)) 32) as (λ (o : Result SavedState ℕ). (o >>= λ t. records_reading (32 + length snapshot) bodies t) ≡ Ok s → (o >>= λ t. records_reading (32 + length snapshot) (bodies ++ body ∷ []) t) ≡ Ok after) [
+    (elim (ok_or {E = ℕ} (result_ok (saved_reading snapshot)) 32) as
+    (λ (o : Result SavedState ℕ). (o >>= λ t. records_reading (32 + length snapshot) bodies t) ≡ Ok s
+    → (o >>= λ t. records_reading (32 + length snapshot) (bodies ++ body ∷ []) t) ≡ Ok after) [
       | Ok t ↦ λ e. records_added (32 + length snapshot) bodies body t s after e applies
       | Err at ↦ λ e. cc
     ]) read
 
 -- a record of these ops
-ops_applied : (op : Op) (ops : List Op) (s after : SavedState) → AllByRecursion IsOp (op ∷ ops) → all_applied (op ∷ ops) s ≡ Some after → after_record (ops_bytes (op ∷ ops)) s ≡ Some after
+ops_applied : (op : Op) (ops : List Op) (s after : SavedState) → AllByRecursion IsOp (op ∷ ops) → all_applied (op ∷ ops) s ≡ Some after
+    → after_record (ops_bytes (op ∷ ops)) s ≡ Some after
 ops_applied op ops s after valid applies =
     let some : 0 < length (op ∷ ops) = omega arith in
     let read : ops_reading (ops_bytes (op ∷ ops)) ≡ Ok (op ∷ ops) = body_again (op ∷ ops) (some, valid) in
@@ -53,7 +59,8 @@ pub record_added : (content : Content) (op : Op) (ops : List Op) (s after : Save
     → state_of (Some content) ≡ Some s → AllByRecursion IsOp (op ∷ ops) → all_applied (op ∷ ops) s ≡ Some after
     → state_of (Some (with_record content (ops_bytes (op ∷ ops)))) ≡ Some after
 record_added content op ops s after stands valid applies =
-    ap result_ok (stored_added content.snapshot content.records (ops_bytes (op ∷ ops)) s after (result_is_ok (content_reading content) s stands) (ops_applied op ops s after valid applies))
+    ap result_ok (stored_added content.snapshot content.records (ops_bytes (op ∷ ops)) s after
+    (result_is_ok (content_reading content) s stands) (ops_applied op ops s after valid applies))
 
 -- no op changes nothing
 none_applied : (s after : SavedState) → all_applied [] s ≡ Some after → s ≡ after
@@ -115,4 +122,5 @@ find_after old_a old_b new_a new_b content after_content [] s after pairs stands
     let at_y' : IsImage (window old_b) y = subst (λ h. IsImage (window h) y) (none refl).1 at_y in
     find_now old_a old_b content s pairs stands x y at_x' at_y' ∙ applies
 find_after old_a old_b new_a new_b content after_content (op ∷ ops) s after pairs stands valid applies none added kept x y at_x at_y =
-    ap state_of (kept (λ e. cc) x y at_x at_y) ∙ ap (λ c. state_of (Some c)) (added (λ e. cc)) ∙ record_added content op ops s after stands valid applies
+    ap state_of (kept (λ e. cc) x y at_x at_y) ∙ ap (λ c. state_of (Some c)) (added (λ e. cc))
+    ∙ record_added content op ops s after stands valid applies

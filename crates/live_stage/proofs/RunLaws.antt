@@ -1,5 +1,6 @@
 -- A run, one event more at a time.
-use Rattle.std.proofs.Common.{◌≡◌, ◌≢◌, ◌⊎◌, inl, inr, ◌↔◌, ℕ, ◌+◌, ◌≤◌, Bool, true, false, List, [], ◌∷◌, ◌++◌, length, length-append, Option, Some, None, Result, Ok, Err, refl, sym, ap, subst, ◌∙◌, arith}
+use Rattle.std.proofs.Common.{◌≡◌, ◌≢◌, ◌⊎◌, inl, inr, ◌↔◌, ℕ, ◌+◌, ◌≤◌, Bool, true, false, List, [], ◌∷◌, ◌++◌, length, length-append}
+use Rattle.std.proofs.Common.{Option, Some, None, Result, Ok, Err, refl, sym, ap, subst, ◌∙◌, arith}
 use Rattle.std.specs.Prelude.{IfOk, OnOk, OnErr, MatchBool}
 use Rattle.std.proofs.lemmas.List.{nil_from_length}
 use Rattle.disk_model.specs.Faults.{HasGrown}
@@ -19,48 +20,62 @@ use Rattle.live_stage.specs.Numbers.{Numbers, next_numbers, AreSpent}
 use Rattle.state_codec.specs.declared.op.Op.{Op}
 use Rattle.live_stage.specs.LiveState.{LiveState}
 use Rattle.live_stage.specs.Found.{found_state, AllFindNow, AllFindSince}
-use Rattle.live_stage.specs.Transcript.{entry_of, history_of, replayed, numbers_after, IsTranscript, broken_by, broken_after, SpendsNumbers, AreReplies, StaysBroken, first_broken, IsWhole, FindsWhole, FindsPrefix}
+use Rattle.live_stage.specs.Transcript.{entry_of, history_of, replayed, numbers_after, IsTranscript, broken_by, broken_after, SpendsNumbers}
+use Rattle.live_stage.specs.Transcript.{AreReplies, StaysBroken, first_broken, IsWhole, FindsWhole, FindsPrefix}
 
 abbrev Reply : Type 0
 Reply = Result Answer LiveError
 
 -- ---- one event more
 
-pub history_more : (earlier : List Entry) (events : List Event) (answers : List Reply) (event : Event) (answer : Reply) → length answers ≡ length events
-    → history_of earlier (events ++ event ∷ []) (answers ++ answer ∷ []) ≡ history_of (history_of earlier events answers) (event ∷ []) (answer ∷ [])
+pub history_more : (earlier : List Entry) (events : List Event) (answers : List Reply) (event : Event) (answer : Reply)
+    → length answers ≡ length events
+    → history_of earlier (events ++ event ∷ []) (answers ++ answer ∷ [])
+    ≡ history_of (history_of earlier events answers) (event ∷ []) (answer ∷ [])
 history_more earlier [] [] event answer same = refl
 history_more earlier [] (a ∷ answers) event answer same = absurd (omega arith)
 history_more earlier (e ∷ events) [] event answer same = absurd (omega arith)
-history_more earlier (e ∷ events) (Ok t ∷ answers) event answer same = history_more (entry_of e t ∷ earlier) events answers event answer (omega arith)
+history_more earlier (e ∷ events) (Ok t ∷ answers) event answer same =
+    history_more (entry_of e t ∷ earlier) events answers event answer (omega arith)
 history_more earlier (e ∷ events) (Err x ∷ answers) event answer same = history_more earlier events answers event answer (omega arith)
 
-pub transcript_more : {D : Type 0} (first : LiveState D) (earlier : List Entry) (events : List Event) (answers : List Reply) (event : Event) (answer : Reply)
+pub transcript_more : {D : Type 0} (first : LiveState D) (earlier : List Entry) (events : List Event) (answers : List Reply) (event : Event)
+    (answer : Reply)
     → IsTranscript first earlier events answers → IsTranscript first (history_of earlier events answers) (event ∷ []) (answer ∷ [])
     → IsTranscript first earlier (events ++ event ∷ []) (answers ++ answer ∷ [])
 transcript_more first earlier [] [] event answer so_far one = one
 transcript_more first earlier [] (a ∷ answers) event answer so_far one = elim so_far [ ]
 transcript_more first earlier (e ∷ events) [] event answer so_far one = elim so_far [ ]
-transcript_more first earlier (e ∷ events) (Ok t ∷ answers) event answer so_far one = (so_far.0, transcript_more first (entry_of e t ∷ earlier) events answers event answer so_far.1 one)
-transcript_more first earlier (e ∷ events) (Err x ∷ answers) event answer so_far one = transcript_more first earlier events answers event answer so_far one
+transcript_more first earlier (e ∷ events) (Ok t ∷ answers) event answer so_far one =
+    (so_far.0, transcript_more first (entry_of e t ∷ earlier) events answers event answer so_far.1 one)
+transcript_more first earlier (e ∷ events) (Err x ∷ answers) event answer so_far one =
+    transcript_more first earlier events answers event answer so_far one
 
-broken_after_more : (was : Bool) (answers : List Reply) (answer : Reply) → broken_after was (answers ++ answer ∷ []) ≡ broken_by (broken_after was answers) answer
+broken_after_more : (was : Bool) (answers : List Reply) (answer : Reply)
+    → broken_after was (answers ++ answer ∷ []) ≡ broken_by (broken_after was answers) answer
 broken_after_more was [] answer = refl
 broken_after_more was (a ∷ answers) answer = broken_after_more (broken_by was a) answers answer
 
-stays_more : (was : Bool) (answers : List Reply) (answer : Reply) → StaysBroken was answers → (broken_after was answers ≡ true → answer ≡ Err Broken) → StaysBroken was (answers ++ answer ∷ [])
+stays_more : (was : Bool) (answers : List Reply) (answer : Reply) → StaysBroken was answers
+    → (broken_after was answers ≡ true → answer ≡ Err Broken) → StaysBroken was (answers ++ answer ∷ [])
 stays_more was [] answer so_far one = (one, tt)
 stays_more was (a ∷ answers) answer so_far one = (so_far.0, stays_more (broken_by was a) answers answer so_far.1 one)
 
-spends_more : {D : Type 0} (first : LiveState D) (earlier : List Entry) (was : Bool) (events : List Event) (answers : List Reply) (event : Event) (answer : Reply) → length answers ≡ length events
-    → SpendsNumbers first earlier was events answers → SpendsNumbers first (history_of earlier events answers) (broken_after was answers) (event ∷ []) (answer ∷ [])
+spends_more : {D : Type 0} (first : LiveState D) (earlier : List Entry) (was : Bool) (events : List Event) (answers : List Reply)
+    (event : Event) (answer : Reply) → length answers ≡ length events
+    → SpendsNumbers first earlier was events answers
+    → SpendsNumbers first (history_of earlier events answers) (broken_after was answers) (event ∷ []) (answer ∷ [])
     → SpendsNumbers first earlier was (events ++ event ∷ []) (answers ++ answer ∷ [])
 spends_more first earlier was [] [] event answer same so_far one = one
 spends_more first earlier was [] (a ∷ answers) event answer same so_far one = absurd (omega arith)
 spends_more first earlier was (e ∷ events) [] event answer same so_far one = absurd (omega arith)
-spends_more first earlier was (e ∷ events) (Ok t ∷ answers) event answer same so_far one = (so_far.0, spends_more first (entry_of e t ∷ earlier) was events answers event answer (omega arith) so_far.1 one)
-spends_more first earlier was (e ∷ events) (Err x ∷ answers) event answer same so_far one = (so_far.0, spends_more first earlier (broken_by was (Err x)) events answers event answer (omega arith) so_far.1 one)
+spends_more first earlier was (e ∷ events) (Ok t ∷ answers) event answer same so_far one =
+    (so_far.0, spends_more first (entry_of e t ∷ earlier) was events answers event answer (omega arith) so_far.1 one)
+spends_more first earlier was (e ∷ events) (Err x ∷ answers) event answer same so_far one =
+    (so_far.0, spends_more first earlier (broken_by was (Err x)) events answers event answer (omega arith) so_far.1 one)
 
-first_kept : (events : List Event) (answers : List Reply) (event : Event) (answer : Reply) (found : Event) → first_broken events answers ≡ Some found → first_broken (events ++ event ∷ []) (answers ++ answer ∷ []) ≡ Some found
+first_kept : (events : List Event) (answers : List Reply) (event : Event) (answer : Reply) (found : Event)
+    → first_broken events answers ≡ Some found → first_broken (events ++ event ∷ []) (answers ++ answer ∷ []) ≡ Some found
 first_kept [] answers event answer found is = absurd cc
 first_kept (e ∷ events) [] event answer found is = absurd cc
 first_kept (e ∷ events) (Ok t ∷ answers) event answer found is = first_kept events answers event answer found is
@@ -68,7 +83,9 @@ first_kept (e ∷ events) (Err Broken ∷ answers) event answer found is = is
 first_kept (e ∷ events) (Err NoMemory ∷ answers) event answer found is = first_kept events answers event answer found is
 first_kept (e ∷ events) (Err NumbersSpent ∷ answers) event answer found is = first_kept events answers event answer found is
 
-first_more : (events : List Event) (answers : List Reply) (event : Event) (answer : Reply) → length answers ≡ length events → first_broken events answers ≡ None → first_broken (events ++ event ∷ []) (answers ++ answer ∷ []) ≡ first_broken (event ∷ []) (answer ∷ [])
+first_more : (events : List Event) (answers : List Reply) (event : Event) (answer : Reply) → length answers ≡ length events
+    → first_broken events answers ≡ None
+    → first_broken (events ++ event ∷ []) (answers ++ answer ∷ []) ≡ first_broken (event ∷ []) (answer ∷ [])
 first_more [] [] event answer same is = refl
 first_more [] (a ∷ answers) event answer same is = absurd (omega arith)
 first_more (e ∷ events) [] event answer same is = absurd (omega arith)
@@ -79,11 +96,15 @@ first_more (e ∷ events) (Err NumbersSpent ∷ answers) event answer same is = 
 
 -- ---- what one turn says
 
-pub record IsTurnMade {D : Type 0} (honest : D → Type 0) (history : D → List Change) (old new : LiveState D) (event : Event) (answer : Reply) : Type 0 where
+pub record IsTurnMade {D : Type 0} (honest : D → Type 0) (history : D → List Change) (old new : LiveState D) (event : Event)
+    (answer : Reply) : Type 0 where
   pub made : IfOk answer (λ t. IsTurn old event t new)
   pub any_moment : honest old.a → honest old.b → old.is_broken ≡ false
-      → (k : Option ℕ) × IfOk answer (λ t. t.refused_at ≡ k) × AllFindSince (λ f. (f ≡ Some old.state.machine.saved) ⊎ (let now = step old.state event k in f ≡ Some now.after.machine.saved)) (history new.a) (length (history old.a)) (history new.b) (length (history old.b))
-  pub kept : honest old.a → honest old.b → new.is_broken ≡ false → AllFindNow (λ f. f ≡ Some new.state.machine.saved) (history new.a) (history new.b)
+      → (k : Option ℕ) × IfOk answer (λ t. t.refused_at ≡ k)
+      × AllFindSince (λ f. (f ≡ Some old.state.machine.saved) ⊎ (let now = step old.state event k in f ≡ Some now.after.machine.saved))
+      (history new.a) (length (history old.a)) (history new.b) (length (history old.b))
+  pub kept : honest old.a → honest old.b → new.is_broken ≡ false
+      → AllFindNow (λ f. f ≡ Some new.state.machine.saved) (history new.a) (history new.b)
   pub usable : OnOk answer (new.is_broken ≡ false)
   pub other_file : MatchBool old.is_in_b (new.a ≡ old.a) (new.b ≡ old.b)
   pub same_file : new.is_in_b ≡ old.is_in_b
@@ -109,17 +130,20 @@ other_same : {D : Type 0} (in_b : Bool) (old : LiveState D) → IsOtherKept in_b
 other_same true old = refl
 other_same false old = refl
 
-other_join : {D : Type 0} (in_b : Bool) (first old new : LiveState D) → IsOtherKept in_b first old → IsOtherKept in_b old new → IsOtherKept in_b first new
+other_join : {D : Type 0} (in_b : Bool) (first old new : LiveState D) → IsOtherKept in_b first old → IsOtherKept in_b old new
+    → IsOtherKept in_b first new
 other_join true first old new before now = now ∙ before
 other_join false first old new before now = now ∙ before
 
-pub one_file : {D : Type 0} (history : D → List Change) (in_b : Bool) (first now : LiveState D) → IsOtherKept in_b first now → OneFile (history first.a) (history first.b) (history now.a) (history now.b)
+pub one_file : {D : Type 0} (history : D → List Change) (in_b : Bool) (first now : LiveState D) → IsOtherKept in_b first now
+    → OneFile (history first.a) (history first.b) (history now.a) (history now.b)
 one_file history true first now kept = inl (ap history kept)
 one_file history false first now kept = inr (ap history kept)
 
 -- ---- a run so far
 
-pub record IsRunSoFar {D : Type 0} (honest : D → Type 0) (history : D → List Change) (first now : LiveState D) (events : List Event) (answers : List Reply) : Type 0 where
+pub record IsRunSoFar {D : Type 0} (honest : D → Type 0) (history : D → List Change) (first now : LiveState D) (events : List Event)
+    (answers : List Reply) : Type 0 where
   pub counted : length answers ≡ length events
   pub transcript : IsTranscript first [] events answers
   pub orderly : StaysBroken first.is_broken answers
@@ -131,10 +155,14 @@ pub record IsRunSoFar {D : Type 0} (honest : D → Type 0) (history : D → List
   pub numbers : now.is_broken ≡ false → now.numbers ≡ numbers_after first.state first.numbers (history_of [] events answers)
   pub other_file : MatchBool first.is_in_b (now.a ≡ first.a) (now.b ≡ first.b)
   pub same_file : now.is_in_b ≡ first.is_in_b
-  pub kept : honest first.a → honest first.b → now.is_broken ≡ false → AllFindNow (λ f. f ≡ Some now.state.machine.saved) (history now.a) (history now.b)
-  pub given_out : honest first.a → honest first.b → first.is_broken ≡ false → now.is_broken ≡ true → AllFindNow (FindsWhole first.state events answers) (history now.a) (history now.b)
-  pub any_moment : honest first.a → honest first.b → first.is_broken ≡ false → OneFile (history first.a) (history first.b) (history now.a) (history now.b)
-      → AllFindSince (FindsPrefix first.state events answers) (history now.a) (length (history first.a)) (history now.b) (length (history first.b))
+  pub kept : honest first.a → honest first.b → now.is_broken ≡ false
+      → AllFindNow (λ f. f ≡ Some now.state.machine.saved) (history now.a) (history now.b)
+  pub given_out : honest first.a → honest first.b → first.is_broken ≡ false → now.is_broken ≡ true
+      → AllFindNow (FindsWhole first.state events answers) (history now.a) (history now.b)
+  pub any_moment : honest first.a → honest first.b → first.is_broken ≡ false
+      → OneFile (history first.a) (history first.b) (history now.a) (history now.b)
+      → AllFindSince (FindsPrefix first.state events answers) (history now.a) (length (history first.a)) (history now.b)
+      (length (history first.b))
   pub continues_a : honest first.a → Continues (history first.a) (history now.a)
   pub continues_b : honest first.b → Continues (history first.b) (history now.b)
   pub honest_a : honest first.a ↔ honest now.a
@@ -143,12 +171,15 @@ pub record IsRunSoFar {D : Type 0} (honest : D → Type 0) (history : D → List
 abbrev whole_of : List Event → List Reply → List Entry
 whole_of events answers = history_of [] events answers
 
-pub finds_prefix_of_whole : (s : State) (events : List Event) (answers : List Reply) (f : Option SavedState) → FindsWhole s events answers f → FindsPrefix s events answers f
-finds_prefix_of_whole s events answers f w = record { whole = w.whole; is_whole = w.is_whole; later = []; prefix = w.whole; parts = refl; finds = w.finds }
+pub finds_prefix_of_whole : (s : State) (events : List Event) (answers : List Reply) (f : Option SavedState) → FindsWhole s events answers f
+    → FindsPrefix s events answers f
+finds_prefix_of_whole s events answers f w =
+    record { whole = w.whole; is_whole = w.is_whole; later = []; prefix = w.whole; parts = refl; finds = w.finds }
 
 -- nothing has happened yet
 pub begins : {D : Type 0} (honest : D → Type 0) (history : D → List Change) (first : LiveState D)
-    → (honest first.a → honest first.b → first.is_broken ≡ false → AllFindNow (λ f. f ≡ Some first.state.machine.saved) (history first.a) (history first.b))
+    → (honest first.a → honest first.b → first.is_broken ≡ false
+    → AllFindNow (λ f. f ≡ Some first.state.machine.saved) (history first.a) (history first.b))
     → IsRunSoFar honest history first first [] []
 begins honest history first kept = record {
   counted = refl;
@@ -181,17 +212,20 @@ begins honest history first kept = record {
 
 -- ---- the whole history grows
 
-whole_refused : (events : List Event) (answers : List Reply) (event : Event) (e : LiveError) (whole : List Entry) → length answers ≡ length events
+whole_refused : (events : List Event) (answers : List Reply) (event : Event) (e : LiveError) (whole : List Entry)
+    → length answers ≡ length events
     → IsWhole events answers whole → IsWhole (events ++ event ∷ []) (answers ++ Err e ∷ []) whole
 whole_refused events answers event e whole same (inl is) = inl (is ∙ sym (history_more [] events answers event (Err e) same))
 whole_refused events answers event e whole same (inr h) = inr (record {
   event = h.event;
   refused = h.refused;
   first = first_kept events answers event (Err e) h.event h.first;
-  on_top = h.on_top ∙ ap (λ (w : List Entry). record { event = h.event; refused = h.refused } ∷ w) (sym (history_more [] events answers event (Err e) same));
+  on_top = h.on_top ∙ ap (λ (w : List Entry). record { event = h.event; refused = h.refused } ∷ w)
+      (sym (history_more [] events answers event (Err e) same));
 })
 
-prefix_refused : (s : State) (events : List Event) (answers : List Reply) (event : Event) (e : LiveError) (f : Option SavedState) → length answers ≡ length events
+prefix_refused : (s : State) (events : List Event) (answers : List Reply) (event : Event) (e : LiveError) (f : Option SavedState)
+    → length answers ≡ length events
     → FindsPrefix s events answers f → FindsPrefix s (events ++ event ∷ []) (answers ++ Err e ∷ []) f
 prefix_refused s events answers event e f same h = record {
   whole = h.whole;
@@ -202,7 +236,8 @@ prefix_refused s events answers event e f same h = record {
   finds = h.finds;
 }
 
-whole_kept_refused : (s : State) (events : List Event) (answers : List Reply) (event : Event) (e : LiveError) (f : Option SavedState) → length answers ≡ length events
+whole_kept_refused : (s : State) (events : List Event) (answers : List Reply) (event : Event) (e : LiveError) (f : Option SavedState)
+    → length answers ≡ length events
     → FindsWhole s events answers f → FindsWhole s (events ++ event ∷ []) (answers ++ Err e ∷ []) f
 whole_kept_refused s events answers event e f same h = record {
   whole = h.whole;
@@ -211,7 +246,8 @@ whole_kept_refused s events answers event e f same h = record {
 }
 
 -- an event was answered, and none was broken before
-prefix_answered : (s : State) (events : List Event) (answers : List Reply) (event : Event) (t : Answer) (f : Option SavedState) → length answers ≡ length events → first_broken events answers ≡ None
+prefix_answered : (s : State) (events : List Event) (answers : List Reply) (event : Event) (t : Answer) (f : Option SavedState)
+    → length answers ≡ length events → first_broken events answers ≡ None
     → FindsPrefix s events answers f → FindsPrefix s (events ++ event ∷ []) (answers ++ Ok t ∷ []) f
 prefix_answered s events answers event t f same none h = elim h.is_whole [
   | inl is ↦ record {
@@ -226,17 +262,27 @@ prefix_answered s events answers event t f same none h = elim h.is_whole [
 ]
 
 -- the state before an event that was answered or broke the stage, and the state after it
-prefix_before : (s : State) (events : List Event) (answers : List Reply) (f : Option SavedState) → (let now = replayed s (whole_of events answers) in f ≡ Some now.machine.saved) → FindsPrefix s events answers f
-prefix_before s events answers f is = record { whole = whole_of events answers; is_whole = inl refl; later = []; prefix = whole_of events answers; parts = refl; finds = is }
+prefix_before : (s : State) (events : List Event) (answers : List Reply) (f : Option SavedState)
+    → (let now = replayed s (whole_of events answers) in f ≡ Some now.machine.saved) → FindsPrefix s events answers f
+prefix_before s events answers f is =
+    record { whole = whole_of events answers; is_whole = inl refl; later = []; prefix = whole_of events answers; parts = refl; finds = is }
 
 -- ---- pairs of images, over one run after another
 
 between : (a b c : List Change) → Continues a b → Continues b c → c ≡ a → b ≡ a
 between a b c first second same =
-    let none : length first.0 ≡ 0 = omega (arith, ap length first.1, ap length second.1, ap length same, length-append first.0 a, length-append second.0 b) in
+    let none : length first.0 ≡ 0 = omega (
+      arith,
+      ap length first.1,
+      ap length second.1,
+      ap length same,
+      length-append first.0 a,
+      length-append second.0 b,
+    ) in
     first.1 ∙ ap (λ (l : List Change). l ++ a) (nil_from_length first.0 none)
 
-left_of : (old new : List Change) (t : ℕ) (x : List ℕ) → Continues old new → LeftSince new t x → LeftSince new (length old) x ⊎ LeftSince old t x
+left_of : (old new : List Change) (t : ℕ) (x : List ℕ) → Continues old new → LeftSince new t x
+    → LeftSince new (length old) x ⊎ LeftSince old t x
 left_of old new t x run left = elim (left_split run.0 old t x (subst (λ h. LeftSince h t x) run.1 left)) [
   | inl during ↦ inl (subst (λ h. LeftSince h (length old) x) (sym run.1) during)
   | inr before ↦ inr before
@@ -271,11 +317,13 @@ first_refused event Broken h = absurd (h refl)
 first_refused event NoMemory h = refl
 first_refused event NumbersSpent h = refl
 
-counts_on : (events : List Event) (answers : List Reply) (event : Event) (answer : Reply) → length answers ≡ length events → length (answers ++ answer ∷ []) ≡ length (events ++ event ∷ [])
+counts_on : (events : List Event) (answers : List Reply) (event : Event) (answer : Reply) → length answers ≡ length events
+    → length (answers ++ answer ∷ []) ≡ length (events ++ event ∷ [])
 counts_on events answers event answer same = omega (arith, same, length-append answers (answer ∷ []), length-append events (event ∷ []))
 
 -- an event that changed nothing was refused
-refused_still : {D : Type 0} (honest : D → Type 0) (history : D → List Change) (first old : LiveState D) (events : List Event) (answers : List Reply) (event : Event) (e : LiveError)
+refused_still : {D : Type 0} (honest : D → Type 0) (history : D → List Change) (first old : LiveState D) (events : List Event)
+    (answers : List Reply) (event : Event) (e : LiveError)
     → IsRunSoFar honest history first old events answers → (old.is_broken ≡ true → e ≡ Broken) → (e ≡ Broken → old.is_broken ≡ true)
     → SpendsNumbers first [] first.is_broken (events ++ event ∷ []) (answers ++ Err e ∷ [])
     → IsRunSoFar honest history first old (events ++ event ∷ []) (answers ++ Err e ∷ [])
@@ -285,8 +333,13 @@ refused_still honest history first old events answers event e r so_broken was_br
       counted = counts_on events answers event (Err e) r.counted;
       transcript = transcript_more first [] events answers event (Err e) r.transcript tt;
       orderly = stays_more first.is_broken answers (Err e) r.orderly (λ b. ap Err (so_broken (r.broken ∙ b)));
-      broken = r.broken ∙ sym (by_refused (broken_after first.is_broken answers) e (λ is. sym r.broken ∙ was_broken is)) ∙ sym (broken_after_more first.is_broken answers (Err e));
-      unbroken = λ is. (first_more events answers event (Err e) r.counted (r.unbroken is).0 ∙ first_refused event e (λ b. let no = was_broken b in cc), (r.unbroken is).1);
+      broken = r.broken ∙ sym (by_refused (broken_after first.is_broken answers) e (λ is. sym r.broken ∙ was_broken is))
+          ∙ sym (broken_after_more first.is_broken answers (Err e));
+      unbroken = λ is. (
+        first_more events answers event (Err e) r.counted (r.unbroken is).0
+            ∙ first_refused event e (λ b. let no = was_broken b in cc),
+        (r.unbroken is).1,
+      );
       state = λ is. r.state is ∙ ap (replayed first.state) longer;
       spends = spends;
       event = r.event ∙ ap (λ (h : List Entry). first.numbers.event + length h) longer;
@@ -294,23 +347,29 @@ refused_still honest history first old events answers event e r so_broken was_br
       other_file = r.other_file;
       same_file = r.same_file;
       kept = r.kept;
-      given_out = λ ha hb usable b x y at_x at_y. whole_kept_refused first.state events answers event e _ r.counted (r.given_out ha hb usable b x y at_x at_y);
-      any_moment = λ ha hb usable one x y at_x at_y. prefix_refused first.state events answers event e _ r.counted (r.any_moment ha hb usable one x y at_x at_y);
+      given_out = λ ha hb usable b x y at_x at_y. whole_kept_refused first.state events answers event e _ r.counted
+          (r.given_out ha hb usable b x y at_x at_y);
+      any_moment = λ ha hb usable one x y at_x at_y. prefix_refused first.state events answers event e _ r.counted
+          (r.any_moment ha hb usable one x y at_x at_y);
       continues_a = r.continues_a;
       continues_b = r.continues_b;
       honest_a = r.honest_a;
       honest_b = r.honest_b;
     }
 
-refused : {D : Type 0} (honest : D → Type 0) (history : D → List Change) (first old new : LiveState D) (events : List Event) (answers : List Reply) (event : Event) (e : LiveError)
-    → new ≡ old → IsRunSoFar honest history first old events answers → (old.is_broken ≡ true → e ≡ Broken) → (e ≡ Broken → old.is_broken ≡ true)
+refused : {D : Type 0} (honest : D → Type 0) (history : D → List Change) (first old new : LiveState D) (events : List Event)
+    (answers : List Reply) (event : Event) (e : LiveError)
+    → new ≡ old → IsRunSoFar honest history first old events answers → (old.is_broken ≡ true → e ≡ Broken)
+    → (e ≡ Broken → old.is_broken ≡ true)
     → SpendsNumbers first [] first.is_broken (events ++ event ∷ []) (answers ++ Err e ∷ [])
     → IsRunSoFar honest history first new (events ++ event ∷ []) (answers ++ Err e ∷ [])
 refused honest history first old new events answers event e same r so_broken was_broken spends =
-    subst (λ v. IsRunSoFar honest history first v (events ++ event ∷ []) (answers ++ Err e ∷ [])) (sym same) (refused_still honest history first old events answers event e r so_broken was_broken spends)
+    subst (λ v. IsRunSoFar honest history first v (events ++ event ∷ []) (answers ++ Err e ∷ [])) (sym same)
+    (refused_still honest history first old events answers event e r so_broken was_broken spends)
 
 -- the numbers of the last event and the last record are those of the history, as long as no disk failed
-spends_now : {D : Type 0} (honest : D → Type 0) (history : D → List Change) (first old new : LiveState D) (events : List Event) (answers : List Reply) (event : Event) (answer : Reply)
+spends_now : {D : Type 0} (honest : D → Type 0) (history : D → List Change) (first old new : LiveState D) (events : List Event)
+    (answers : List Reply) (event : Event) (answer : Reply)
     → IsRunSoFar honest history first old events answers → IsTurnMade honest history old new event answer
     → SpendsNumbers first [] first.is_broken (events ++ event ∷ []) (answers ++ answer ∷ [])
 spends_now honest history first old new events answers event answer r m =
@@ -322,27 +381,40 @@ spends_now honest history first old new events answers event answer r m =
     )
 
 -- the state before an event, as the history has it, is that from before or after it
-found_before : {D : Type 0} (first old : LiveState D) (whole : List Entry) (f : Option SavedState) → old.state ≡ replayed first.state whole → f ≡ Some old.state.machine.saved → (let now = replayed first.state whole in f ≡ Some now.machine.saved)
+found_before : {D : Type 0} (first old : LiveState D) (whole : List Entry) (f : Option SavedState) → old.state ≡ replayed first.state whole
+    → f ≡ Some old.state.machine.saved → (let now = replayed first.state whole in f ≡ Some now.machine.saved)
 found_before first old whole f is found = found ∙ ap (λ (s : State). Some s.machine.saved) is
 
-found_after : {D : Type 0} (first old : LiveState D) (whole : List Entry) (event : Event) (k : Option ℕ) (f : Option SavedState) → old.state ≡ replayed first.state whole → (let now = step old.state event k in f ≡ Some now.after.machine.saved)
+found_after : {D : Type 0} (first old : LiveState D) (whole : List Entry) (event : Event) (k : Option ℕ) (f : Option SavedState)
+    → old.state ≡ replayed first.state whole → (let now = step old.state event k in f ≡ Some now.after.machine.saved)
     → (let now = stepped (replayed first.state whole) (record { event = event; refused = k }) in f ≡ Some now.after.machine.saved)
-found_after first old whole event k f is found = found ∙ ap (λ (s : State). let now : Stepped = step s event k in Some now.after.machine.saved) is
+found_after first old whole event k f is found =
+    found ∙ ap (λ (s : State). let now : Stepped = step s event k in Some now.after.machine.saved) is
 
 -- a disk fault came in an event
-broke : {D : Type 0} (honest : D → Type 0) (history : D → List Change) (first old new : LiveState D) (events : List Event) (answers : List Reply) (event : Event)
+broke : {D : Type 0} (honest : D → Type 0) (history : D → List Change) (first old new : LiveState D) (events : List Event)
+    (answers : List Reply) (event : Event)
     → old.is_broken ≡ false → IsRunSoFar honest history first old events answers → IsTurnMade honest history old new event (Err Broken)
     → IsRunSoFar honest history first new (events ++ event ∷ []) (answers ++ Err Broken ∷ [])
 broke {D} honest history first old new events answers event usable r m =
     let now_broken : new.is_broken ≡ true = m.breaks refl in
     let longer = sym (history_more [] events answers event (Err Broken) r.counted) in
     let whole : List Entry = whole_of events answers in
-    let finds : (k : Option ℕ) (f : Option SavedState) → ((f ≡ Some old.state.machine.saved) ⊎ (let now = step old.state event k in f ≡ Some now.after.machine.saved)) → FindsWhole first.state (events ++ event ∷ []) (answers ++ Err Broken ∷ []) f =
+    let finds : (k : Option ℕ) (f : Option SavedState)
+    → ((f ≡ Some old.state.machine.saved) ⊎ (let now = step old.state event k in f ≡ Some now.after.machine.saved))
+    → FindsWhole first.state (events ++ event ∷ []) (answers ++ Err Broken ∷ []) f =
     λ k f either. elim either [
       | inl before ↦ record { whole = whole; is_whole = inl longer; finds = found_before first old whole f (r.state usable) before }
       | inr after ↦ record {
         whole = record { event = event; refused = k } ∷ whole;
-        is_whole = inr (record { event = event; refused = k; first = first_more events answers event (Err Broken) r.counted (r.unbroken usable).0; on_top = ap (λ (w : List Entry). record { event = event; refused = k } ∷ w) longer });
+        is_whole = inr (record {
+          event = event;
+          refused = k;
+          first =
+              first_more events answers event (Err Broken) r.counted (r.unbroken usable).0;
+          on_top =
+              ap (λ (w : List Entry). record { event = event; refused = k } ∷ w) longer;
+        });
         finds = found_after first old whole event k f (r.state usable) after;
       }
     ] in
@@ -361,15 +433,21 @@ broke {D} honest history first old new events answers event usable r m =
       kept = λ ha hb is. absurd cc;
       given_out = λ ha hb first_usable b x y at_x at_y.
           let turn = m.any_moment (r.honest_a.0 ha) (r.honest_b.0 hb) usable in
-          finds turn.0 (found_state x y) (turn.2 x y (counts_now (history new.a) (length (history old.a)) x at_x) (counts_now (history new.b) (length (history old.b)) y at_y));
+          finds turn.0 (found_state x y) (turn.2 x y (counts_now (history new.a) (length (history old.a)) x at_x)
+          (counts_now (history new.b) (length (history old.b)) y at_y));
       any_moment = λ ha hb first_usable one.
           let turn = m.any_moment (r.honest_a.0 ha) (r.honest_b.0 hb) usable in
-          join_pairs (FindsPrefix first.state (events ++ event ∷ []) (answers ++ Err Broken ∷ [])) (history first.a) (history old.a) (history new.a) (history first.b) (history old.b) (history new.b)
+          join_pairs (FindsPrefix first.state (events ++ event ∷ []) (answers ++ Err Broken ∷ [])) (history first.a) (history old.a)
+          (history new.a) (history first.b) (history old.b) (history new.b)
           (r.continues_a ha) (m.continues_a (r.honest_a.0 ha)) (r.continues_b hb) (m.continues_b (r.honest_b.0 hb)) one
-          (λ still x y at_x at_y. prefix_refused first.state events answers event Broken (found_state x y) r.counted (r.any_moment ha hb first_usable still x y at_x at_y))
-          (λ x y at_x at_y. finds_prefix_of_whole first.state (events ++ event ∷ []) (answers ++ Err Broken ∷ []) (found_state x y) (finds turn.0 (found_state x y) (turn.2 x y at_x at_y)));
-      continues_a = λ ha. continues_join (history first.a) (history old.a) (history new.a) (r.continues_a ha) (m.continues_a (r.honest_a.0 ha));
-      continues_b = λ hb. continues_join (history first.b) (history old.b) (history new.b) (r.continues_b hb) (m.continues_b (r.honest_b.0 hb));
+          (λ still x y at_x at_y. prefix_refused first.state events answers event Broken (found_state x y) r.counted
+          (r.any_moment ha hb first_usable still x y at_x at_y))
+          (λ x y at_x at_y. finds_prefix_of_whole first.state (events ++ event ∷ []) (answers ++ Err Broken ∷ []) (found_state x y)
+          (finds turn.0 (found_state x y) (turn.2 x y at_x at_y)));
+      continues_a = λ ha. continues_join (history first.a) (history old.a) (history new.a) (r.continues_a ha)
+          (m.continues_a (r.honest_a.0 ha));
+      continues_b = λ hb. continues_join (history first.b) (history old.b) (history new.b) (r.continues_b hb)
+          (m.continues_b (r.honest_b.0 hb));
       honest_a = (λ h. m.honest_a.0 (r.honest_a.0 h), λ h. r.honest_a.1 (m.honest_a.1 h));
       honest_b = (λ h. m.honest_b.0 (r.honest_b.0 h), λ h. r.honest_b.1 (m.honest_b.1 h));
     }
@@ -379,15 +457,19 @@ counts_one before [] = refl
 counts_one before (op ∷ ops) = refl
 
 -- an event was answered
-answered : {D : Type 0} (honest : D → Type 0) (history : D → List Change) (first old new : LiveState D) (events : List Event) (answers : List Reply) (event : Event) (t : Answer)
+answered : {D : Type 0} (honest : D → Type 0) (history : D → List Change) (first old new : LiveState D) (events : List Event)
+    (answers : List Reply) (event : Event) (t : Answer)
     → old.is_broken ≡ false → IsRunSoFar honest history first old events answers → IsTurnMade honest history old new event (Ok t)
     → IsRunSoFar honest history first new (events ++ event ∷ []) (answers ++ Ok t ∷ [])
 answered {D} honest history first old new events answers event t usable r m =
     let longer = sym (history_more [] events answers event (Ok t) r.counted) in
     let whole : List Entry = whole_of events answers in
-    let same : step old.state event t.refused_at ≡ stepped (replayed first.state whole) (entry_of event t) = ap (λ (s : State). step s event t.refused_at) (r.state usable) in
+    let same : step old.state event t.refused_at ≡ stepped (replayed first.state whole) (entry_of event t) =
+    ap (λ (s : State). step s event t.refused_at) (r.state usable) in
     let made = m.made in
-    let finds : (k : Option ℕ) (f : Option SavedState) → t.refused_at ≡ k → ((f ≡ Some old.state.machine.saved) ⊎ (let now = step old.state event k in f ≡ Some now.after.machine.saved)) → FindsPrefix first.state (events ++ event ∷ []) (answers ++ Ok t ∷ []) f =
+    let finds : (k : Option ℕ) (f : Option SavedState) → t.refused_at ≡ k
+    → ((f ≡ Some old.state.machine.saved) ⊎ (let now = step old.state event k in f ≡ Some now.after.machine.saved))
+    → FindsPrefix first.state (events ++ event ∷ []) (answers ++ Ok t ∷ []) f =
     λ k f place either. elim either [
       | inl before ↦ record {
         whole = entry_of event t ∷ whole;
@@ -403,7 +485,8 @@ answered {D} honest history first old new events answers event t usable r m =
         later = [];
         prefix = entry_of event t ∷ whole;
         parts = refl;
-        finds = found_after first old whole event t.refused_at f (r.state usable) (after ∙ ap (λ (p : Option ℕ). let now : Stepped = step old.state event p in Some now.after.machine.saved) (sym place));
+        finds = found_after first old whole event t.refused_at f (r.state usable)
+            (after ∙ ap (λ (p : Option ℕ). let now : Stepped = step old.state event p in Some now.after.machine.saved) (sym place));
       }
     ] in
     record {
@@ -414,7 +497,8 @@ answered {D} honest history first old new events answers event t usable r m =
           closes = made.closes ∙ ap (λ (st : Stepped). st.closes) same;
           ended = made.ended ∙ ap (λ (st : Stepped). st.ended) same;
           refused_at = made.refused_at ∙ ap (λ (st : Stepped). st.refused_at) same;
-          numbered = subst (λ (n : Numbers). let now : Stepped = stepped (replayed first.state whole) (entry_of event t) in IsNumbered n now.ops t)
+          numbered = subst (λ (n : Numbers). let now : Stepped = stepped (replayed first.state whole) (entry_of event t) in IsNumbered n
+              now.ops t)
               (r.numbers usable) (subst (λ (st : Stepped). IsNumbered old.numbers st.ops t) same made.numbered);
         },
         tt,
@@ -440,12 +524,16 @@ answered {D} honest history first old new events answers event t usable r m =
       given_out = λ ha hb first_usable b. (let not = m.usable in absurd cc);
       any_moment = λ ha hb first_usable one.
           let turn = m.any_moment (r.honest_a.0 ha) (r.honest_b.0 hb) usable in
-          join_pairs (FindsPrefix first.state (events ++ event ∷ []) (answers ++ Ok t ∷ [])) (history first.a) (history old.a) (history new.a) (history first.b) (history old.b) (history new.b)
+          join_pairs (FindsPrefix first.state (events ++ event ∷ []) (answers ++ Ok t ∷ [])) (history first.a) (history old.a)
+          (history new.a) (history first.b) (history old.b) (history new.b)
           (r.continues_a ha) (m.continues_a (r.honest_a.0 ha)) (r.continues_b hb) (m.continues_b (r.honest_b.0 hb)) one
-          (λ still x y at_x at_y. prefix_answered first.state events answers event t (found_state x y) r.counted (r.unbroken usable).0 (r.any_moment ha hb first_usable still x y at_x at_y))
+          (λ still x y at_x at_y. prefix_answered first.state events answers event t (found_state x y) r.counted (r.unbroken usable).0
+          (r.any_moment ha hb first_usable still x y at_x at_y))
           (λ x y at_x at_y. finds turn.0 (found_state x y) turn.1 (turn.2 x y at_x at_y));
-      continues_a = λ ha. continues_join (history first.a) (history old.a) (history new.a) (r.continues_a ha) (m.continues_a (r.honest_a.0 ha));
-      continues_b = λ hb. continues_join (history first.b) (history old.b) (history new.b) (r.continues_b hb) (m.continues_b (r.honest_b.0 hb));
+      continues_a = λ ha. continues_join (history first.a) (history old.a) (history new.a) (r.continues_a ha)
+          (m.continues_a (r.honest_a.0 ha));
+      continues_b = λ hb. continues_join (history first.b) (history old.b) (history new.b) (r.continues_b hb)
+          (m.continues_b (r.honest_b.0 hb));
       honest_a = (λ h. m.honest_a.0 (r.honest_a.0 h), λ h. r.honest_a.1 (m.honest_a.1 h));
       honest_b = (λ h. m.honest_b.0 (r.honest_b.0 h), λ h. r.honest_b.1 (m.honest_b.1 h));
     }
@@ -462,20 +550,25 @@ ok_is_no_err : (t : Answer) (r : Reply) → r ≡ Ok t → r ≡ Err Broken → 
 ok_is_no_err t r is is_not = cc
 
 -- a run goes on by one turn
-pub goes_on : {D : Type 0} (honest : D → Type 0) (history : D → List Change) (first old new : LiveState D) (events : List Event) (answers : List Reply) (event : Event) (answer : Reply)
+pub goes_on : {D : Type 0} (honest : D → Type 0) (history : D → List Change) (first old new : LiveState D) (events : List Event)
+    (answers : List Reply) (event : Event) (answer : Reply)
     → IsRunSoFar honest history first old events answers → IsTurnMade honest history old new event answer
     → IsRunSoFar honest history first new (events ++ event ∷ []) (answers ++ answer ∷ [])
 goes_on honest history first old new events answers event (Ok t) r m =
-    answered honest history first old new events answers event t (not_broken old.is_broken (λ b. ok_is_no_err t (Ok t) refl (m.broken b).0)) r m
+    answered honest history first old new events answers event t (not_broken old.is_broken (λ b. ok_is_no_err t (Ok t) refl (m.broken b).0))
+    r m
 goes_on honest history first old new events answers event (Err Broken) r m =
     elim (broken_or_not old.is_broken) [
-      | inl was ↦ refused honest history first old new events answers event Broken (m.broken was).1 r (λ b. refl) (λ b. was) (spends_now honest history first old new events answers event (Err Broken) r m)
+      | inl was ↦ refused honest history first old new events answers event Broken (m.broken was).1 r (λ b. refl) (λ b. was)
+          (spends_now honest history first old new events answers event (Err Broken) r m)
       | inr usable ↦ broke honest history first old new events answers event usable r m
     ]
 goes_on honest history first old new events answers event (Err NoMemory) r m =
-    refused honest history first old new events answers event NoMemory (m.stays (λ is. cc)) r (λ b. let no = (m.broken b).0 in cc) (λ is. absurd cc) (spends_now honest history first old new events answers event (Err NoMemory) r m)
+    refused honest history first old new events answers event NoMemory (m.stays (λ is. cc)) r (λ b. let no = (m.broken b).0 in cc)
+    (λ is. absurd cc) (spends_now honest history first old new events answers event (Err NoMemory) r m)
 goes_on honest history first old new events answers event (Err NumbersSpent) r m =
-    refused honest history first old new events answers event NumbersSpent (m.stays (λ is. cc)) r (λ b. let no = (m.broken b).0 in cc) (λ is. absurd cc) (spends_now honest history first old new events answers event (Err NumbersSpent) r m)
+    refused honest history first old new events answers event NumbersSpent (m.stays (λ is. cc)) r (λ b. let no = (m.broken b).0 in cc)
+    (λ is. absurd cc) (spends_now honest history first old new events answers event (Err NumbersSpent) r m)
 
 -- ---- faults
 
@@ -483,12 +576,14 @@ goes_on honest history first old new events answers event (Err NumbersSpent) r m
 abbrev pub HasFailed : {D : Type 0} → (D → ℕ) → LiveState D → LiveState D → Type 0
 HasFailed faults old new = HasGrown (faults old.a) (faults new.a) ⊎ HasGrown (faults old.b) (faults new.b)
 
-failed_since : {D : Type 0} (faults : D → ℕ) (first old new : LiveState D) → faults first.a ≤ faults old.a → faults first.b ≤ faults old.b → HasFailed faults old new → HasFailed faults first new
+failed_since : {D : Type 0} (faults : D → ℕ) (first old new : LiveState D) → faults first.a ≤ faults old.a → faults first.b ≤ faults old.b
+    → HasFailed faults old new → HasFailed faults first new
 failed_since faults first old new later_a later_b (inl grown) = inl (λ fits. omega (arith, later_a, grown fits))
 failed_since faults first old new later_a later_b (inr grown) = inr (λ fits. omega (arith, later_b, grown fits))
 
 -- a stage that broke in a run has met a disk fault in it
-pub fails_on : {D : Type 0} (honest : D → Type 0) (history : D → List Change) (faults : D → ℕ) (first old new : LiveState D) (event : Event) (answer : Reply)
+pub fails_on : {D : Type 0} (honest : D → Type 0) (history : D → List Change) (faults : D → ℕ) (first old new : LiveState D) (event : Event)
+    (answer : Reply)
     → IsTurnMade honest history old new event answer → faults first.a ≤ faults old.a → faults first.b ≤ faults old.b
     → (old.is_broken ≡ true → HasFailed faults first old) → (old.is_broken ≡ false → answer ≡ Err Broken → HasFailed faults old new)
     → new.is_broken ≡ true → HasFailed faults first new
@@ -507,13 +602,19 @@ fails_on honest history faults first old new event (Err NumbersSpent) m later_a 
 -- ---- the whole run
 
 -- at its end a restart finds the whole history
-pub run_finds : {D : Type 0} (honest : D → Type 0) (history : D → List Change) (first now : LiveState D) (events : List Event) (answers : List Reply)
+pub run_finds : {D : Type 0} (honest : D → Type 0) (history : D → List Change) (first now : LiveState D) (events : List Event)
+    (answers : List Reply)
     → IsRunSoFar honest history first now events answers → honest first.a → honest first.b → first.is_broken ≡ false
     → AllFindNow (FindsWhole first.state events answers) (history now.a) (history now.b)
 run_finds honest history first now events answers r ha hb usable x y at_x at_y =
     elim (broken_or_not now.is_broken) [
       | inl broken ↦ r.given_out ha hb usable broken x y at_x at_y
-      | inr fine ↦ record { whole = whole_of events answers; is_whole = inl refl; finds = r.kept ha hb fine x y at_x at_y ∙ ap (λ (s : State). Some s.machine.saved) (r.state fine) }
+      | inr fine ↦ record {
+        whole = whole_of events answers;
+        is_whole = inl refl;
+        finds =
+            r.kept ha hb fine x y at_x at_y ∙ ap (λ (s : State). Some s.machine.saved) (r.state fine);
+      }
     ]
 
 -- ---- from the start of a life
@@ -521,7 +622,8 @@ run_finds honest history first now events answers r ha hb usable x y at_x at_y =
 pub replayed_from_start : (kept : SavedState) (history : List Entry) → replayed (start kept) history ≡ replay kept history
 unfolding replay
 replayed_from_start kept [] = refl
-replayed_from_start kept (entry ∷ earlier) = ap (λ (s : State). let now : Stepped = stepped s entry in now.after) (replayed_from_start kept earlier)
+replayed_from_start kept (entry ∷ earlier) =
+    ap (λ (s : State). let now : Stepped = stepped s entry in now.after) (replayed_from_start kept earlier)
 
 pub run_replies : {D : Type 0} (first : LiveState D) (kept : SavedState) (earlier : List Entry) (events : List Event) (answers : List Reply)
     → first.state ≡ start kept → IsTranscript first earlier events answers → AreReplies kept earlier events answers

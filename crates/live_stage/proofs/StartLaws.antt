@@ -1,5 +1,6 @@
 -- Two files as a stage is made or opened over them.
-use Rattle.std.proofs.Common.{◌≡◌, ◌⊎◌, inl, inr, ℕ, ◌+◌, ◌-◌, ◌^◌, ◌<◌, ◌≤◌, min, List, [], ◌∷◌, length, length-append, Some, None, Result, Ok, Err, refl, sym, ap, ◌∙◌, arith}
+use Rattle.std.proofs.Common.{◌≡◌, ◌⊎◌, inl, inr, ℕ, ◌+◌, ◌-◌, ◌^◌, ◌<◌, ◌≤◌, min, List, [], ◌∷◌, length, length-append, Some, None, Result}
+use Rattle.std.proofs.Common.{Ok, Err, refl, sym, ap, ◌∙◌, arith}
 use Rattle.std.specs.Prelude.{IsSome, flat_map}
 use Rattle.std.specs.Option.{ok_or}
 use Rattle.std.specs.Result.{result_ok}
@@ -39,11 +40,13 @@ stands content snapshot records s own_snapshot own_records read =
     let whole : content_reading content ≡ Ok s = rw (← own_snapshot, ← own_records) read in
     ap result_ok whole
 
-pub found_so : (x y : List ℕ) (content : Content) (s : SavedState) → reading x y ≡ Ok content → state_of (Some content) ≡ Some s → found_state x y ≡ Some s
+pub found_so : (x y : List ℕ) (content : Content) (s : SavedState) → reading x y ≡ Ok content → state_of (Some content) ≡ Some s
+    → found_state x y ≡ Some s
 found_so x y content s read stood = ap state_of (found_as_read x y content read) ∙ stood
 
 -- a new journal stands for the state that its snapshot spells
-pub fresh_stands : (content : Content) (snapshot : List ℕ) (s : SavedState) → content ≡ fresh snapshot → snapshot ≡ saved_bytes s → IsSavedState s → state_of (Some content) ≡ Some s
+pub fresh_stands : (content : Content) (snapshot : List ℕ) (s : SavedState) → content ≡ fresh snapshot → snapshot ≡ saved_bytes s
+    → IsSavedState s → state_of (Some content) ≡ Some s
 unfolding stored_reading
 fresh_stands content snapshot s is spelled good =
     let read : saved_reading snapshot ≡ Ok s = ap saved_reading spelled ∙ snapshot_again s good in
@@ -52,24 +55,34 @@ fresh_stands content snapshot s is spelled good =
 -- ---- how large a file is
 
 -- the gate of the record that stands for none lies in the file
-records_within : (gate : ℕ) (bodies : List (List ℕ)) (s : SavedState) (at : ℕ) → records_reading gate bodies s ≡ Err at → at ≤ gate + length (flat_map gated bodies)
+records_within : (gate : ℕ) (bodies : List (List ℕ)) (s : SavedState) (at : ℕ) → records_reading gate bodies s ≡ Err at
+    → at ≤ gate + length (flat_map gated bodies)
 records_within gate [] s at is = absurd cc
 records_within gate (body ∷ bodies) s at is =
-    (elim (after_record body s) as (λ o. (ok_or {E = ℕ} o gate >>= λ t. records_reading (gate + (5 + length body)) bodies t) ≡ Err at → at ≤ gate + length (flat_map gated (body ∷ bodies))) [
+    (elim (after_record body s) as (λ o. (ok_or {E = ℕ} o gate >>= λ t. records_reading (gate + (5 + length body)) bodies t) ≡ Err at
+    → at ≤ gate + length (flat_map gated (body ∷ bodies))) [
       | None ↦ λ e. let same : gate ≡ at = (cc) in omega arith
-      | Some t ↦ λ e. let behind = records_within (gate + (5 + length body)) bodies t at e in omega (arith, behind, length-append (gated body) (flat_map gated bodies))
+      | Some t ↦ λ e. let behind = records_within (gate + (5 + length body)) bodies t at e in omega (
+        arith,
+        behind,
+        length-append (gated body) (flat_map gated bodies),
+      )
     ]) is
 
-stored_within : (snapshot : List ℕ) (bodies : List (List ℕ)) (at : ℕ) → stored_reading snapshot bodies ≡ Err at → at ≤ 32 + length snapshot + length (flat_map gated bodies)
+stored_within : (snapshot : List ℕ) (bodies : List (List ℕ)) (at : ℕ) → stored_reading snapshot bodies ≡ Err at
+    → at ≤ 32 + length snapshot + length (flat_map gated bodies)
 unfolding stored_reading
 stored_within snapshot bodies at is =
-    (elim (result_ok (saved_reading snapshot)) as (λ o. (ok_or {E = ℕ} o 32 >>= λ t. records_reading (32 + length snapshot) bodies t) ≡ Err at → at ≤ 32 + length snapshot + length (flat_map gated bodies)) [
+    (elim (result_ok (saved_reading snapshot)) as
+    (λ o. (ok_or {E = ℕ} o 32 >>= λ t. records_reading (32 + length snapshot) bodies t) ≡ Err at
+    → at ≤ 32 + length snapshot + length (flat_map gated bodies)) [
       | None ↦ λ e. let same : 32 ≡ at = (cc) in omega arith
       | Some t ↦ λ e. records_within (32 + length snapshot) bodies t at e
     ]) is
 
 -- one of two files is this one
-file_size : (bytes : List ℕ) (file : Content) → IsFile bytes file → 32 + length file.snapshot + length (flat_map gated file.records) ≤ length bytes
+file_size : (bytes : List ℕ) (file : Content) → IsFile bytes file
+    → 32 + length file.snapshot + length (flat_map gated file.records) ≤ length bytes
 file_size bytes file is =
     omega (arith, ap length is.spelled, length-append (spelling file) (is.gate ∷ is.free), length-spelling file)
 
@@ -85,13 +98,15 @@ small_pair a b file short_a short_b (inl first) = small_file a file short_a firs
 small_pair a b file short_a short_b (inr second) = small_file b file short_b second.0
 
 -- content that is found in files that are not too long has small numbers
-pub found_small : (a b : List ℕ) (content : Content) → IsBytes a → IsBytes b → length a < 2 ^ 63 → length b < 2 ^ 63 → reading a b ≡ Ok content → IsSmall content
+pub found_small : (a b : List ℕ) (content : Content) → IsBytes a → IsBytes b → length a < 2 ^ 63 → length b < 2 ^ 63
+    → reading a b ≡ Ok content → IsSmall content
 found_small a b content bytes_a bytes_b short_a short_b read =
     small_pair a b content short_a short_b (pair-found a b content bytes_a bytes_b (found_as_read a b content read))
 
 -- ---- content that stands for no state
 
-damaged_at : (offset : ℕ) (r : Result SavedState ℕ) → GivesState (Err (Damaged offset)) r → (at : ℕ) × (r ≡ Err at) × (offset ≡ min at (2 ^ 64 - 1))
+damaged_at : (offset : ℕ) (r : Result SavedState ℕ) → GivesState (Err (Damaged offset)) r
+    → (at : ℕ) × (r ≡ Err at) × (offset ≡ min at (2 ^ 64 - 1))
 damaged_at offset (Ok s) gives = elim gives [ ]
 damaged_at offset (Err at) gives = (at, refl, gives)
 
@@ -117,7 +132,8 @@ refused_content a b content snapshot records Broken was gives = tt
 
 -- a pair that gives a state is refused for want of memory or by a fault alone
 pub refused_good : (a b : List ℕ) (content : Content) (snapshot : List ℕ) (records : List (List ℕ)) (e : StartError)
-    → WasRead a b content snapshot records → IsSome (found_state a b) → GivesState (Err e) (stored_reading snapshot records) → (e ≡ NoMemory) ⊎ (e ≡ Broken)
+    → WasRead a b content snapshot records → IsSome (found_state a b) → GivesState (Err e) (stored_reading snapshot records)
+    → (e ≡ NoMemory) ⊎ (e ≡ Broken)
 refused_good a b content snapshot records NotEmpty was some gives = elim gives [ ]
 refused_good a b content snapshot records NoJournal was some gives = elim gives [ ]
 refused_good a b content snapshot records (Damaged offset) was some gives =

@@ -1,5 +1,6 @@
 -- What a crash leaves while a record is added.
-use Rattle.std.proofs.Common.{◌≡◌, inl, inr, ℕ, ◌+◌, ◌<◌, List, [], ◌∷◌, ◌++◌, length, length-append, take, drop, drop-cons, get_or, add-one, append_assoc, arith, sym, ap, ◌∙◌}
+use Rattle.std.proofs.Common.{◌≡◌, inl, inr, ℕ, ◌+◌, ◌<◌, List, [], ◌∷◌, ◌++◌, length, length-append, take, drop, drop-cons, get_or}
+use Rattle.std.proofs.Common.{add-one, append_assoc, arith, sym, ap, ◌∙◌}
 use Rattle.std.specs.Prelude.{slice_index}
 use Rattle.std.proofs.lemmas.List.{append-nil, take_at, drop_at, take_all, drop_all, length-take-le, take-append-drop}
 use Rattle.disk_model.specs.Calls.{overwritten}

@@ -1,5 +1,6 @@
 -- A file that is spelled is read, and a file that is read was spelled.
-use Rattle.std.proofs.Common.{◌≡◌, ℕ, ◌+◌, ◌-◌, ◌^◌, ◌<◌, ◌≤◌, false, ltb, List, [], ◌∷◌, ◌++◌, length, length-append, length-drop, take, drop, append_assoc, Result, Ok, Err, arith, refl, sym, ap, subst, ◌∙◌}
+use Rattle.std.proofs.Common.{◌≡◌, ℕ, ◌+◌, ◌-◌, ◌^◌, ◌<◌, ◌≤◌, false, ltb, List, [], ◌∷◌, ◌++◌, length, length-append, length-drop, take}
+use Rattle.std.proofs.Common.{drop, append_assoc, Result, Ok, Err, arith, refl, sym, ap, subst, ◌∙◌}
 use Rattle.std.specs.Prelude.{flat_map, slice_range}
 use Rattle.std.specs.Int.{w32, w64}
 use Rattle.std.proofs.lemmas.Bool.{ltb-false, le-ltb}
@@ -8,7 +9,8 @@ use Rattle.play_journal.specs.Content.{Content, present_layout}
 use Rattle.play_journal.specs.File.{open_gate, head, gated, spelling, IsFile, IsOpenAt}
 use Rattle.play_journal.specs.Reading.{Open, number_at, records_at, with_records, before_records, front, read}
 use Rattle.play_journal.proofs.RecordLaws.{at_number, IsBytes, IsBytes-drop, guard_ok, records_at-gated, records_at-inverse}
-use Rattle.play_journal.proofs.HeadLaws.{length-head, spelled_rest, spelled_layout, spelled_generation, spelled_base, spelled_size, front-open, passed, spelled_head, head_number_8, head_number_4}
+use Rattle.play_journal.proofs.HeadLaws.{length-head, spelled_rest, spelled_layout, spelled_generation, spelled_base, spelled_size}
+use Rattle.play_journal.proofs.HeadLaws.{front-open, passed, spelled_head, head_number_8, head_number_4}
 
 -- a file and what follows it, from the snapshot on
 pub spelling_parts : (file : Content) (tail : List ℕ) → spelling file

@@ -1,5 +1,6 @@
 -- A journal whose files are settled, and one record more.
-use Rattle.std.proofs.Common.{◌≡◌, ◌⊎◌, inl, inr, ℕ, ◌+◌, ◌^◌, ◌<◌, ◌≤◌, List, [], ◌∷◌, ◌++◌, length, length-append, take, append_assoc, Some, arith, lit<, refl, sym, ap, subst, ◌∙◌}
+use Rattle.std.proofs.Common.{◌≡◌, ◌⊎◌, inl, inr, ℕ, ◌+◌, ◌^◌, ◌<◌, ◌≤◌, List, [], ◌∷◌, ◌++◌, length, length-append, take, append_assoc}
+use Rattle.std.proofs.Common.{Some, arith, lit<, refl, sym, ap, subst, ◌∙◌}
 use Rattle.std.specs.Prelude.{slice_index, flat_map, unwrap_or}
 use Rattle.std.specs.Int.{w32, to_le_bytes}
 use Rattle.std.specs.Result.{result_ok}

@@ -1,5 +1,6 @@
 -- What two files give together.
-use Rattle.std.proofs.Common.{◌≡◌, ◌⊎◌, inl, inr, ℕ, ◌<◌, Bool, true, false, eqb, ltb, List, ◌∷◌, length, Some, Result, Ok, Err, arith, refl, sym, ap, subst, ◌∙◌}
+use Rattle.std.proofs.Common.{◌≡◌, ◌⊎◌, inl, inr, ℕ, ◌<◌, Bool, true, false, eqb, ltb, List, ◌∷◌, length, Some, Result, Ok, Err, arith}
+use Rattle.std.proofs.Common.{refl, sym, ap, subst, ◌∙◌}
 use Rattle.std.specs.Prelude.{IsSome}
 use Rattle.std.specs.Result.{result_ok}
 use Rattle.std.proofs.lemmas.Bool.{false≢true, le-ltb, lt-ltb, ne_eqb, eqb-false, ltb-true, ltb-false}
@@ -10,7 +11,8 @@ use Rattle.disk_model.specs.Moments.{AllSince, Continues}
 use Rattle.disk_model.proofs.MomentLaws.{all_begin, all_step_or, all_join}
 use Rattle.disk_model.proofs.WindowLaws.{settled_all}
 use Rattle.play_journal.specs.declared.refusal.JournalError.{JournalError}
-use Rattle.play_journal.specs.declared.refusal.JournalError.TheVariants.{NotEmpty, NoJournal, Damaged, DiskFault, NoMemory, TooLong, NumbersSpent}
+use Rattle.play_journal.specs.declared.refusal.JournalError.TheVariants.{NotEmpty, NoJournal, Damaged, DiskFault, NoMemory, TooLong}
+use Rattle.play_journal.specs.declared.refusal.JournalError.TheVariants.{NumbersSpent}
 use Rattle.play_journal.specs.Content.{Content}
 use Rattle.play_journal.specs.File.{IsFile}
 use Rattle.play_journal.specs.Opening.{ReadsSame, KeepsFile, IsCause}

@@ -1,5 +1,6 @@
 -- Ranges of positions, and the same positions as ranges that don't meet.
-use Rattle.std.proofs.Common.{◌≡◌, ℕ, ◌+◌, ◌-◌, ◌<◌, ◌≤◌, Bool, true, false, cond, ◌==◌, ◌||◌, ◌⊎◌, inl, inr, List, [], ◌∷◌, length, get_or, map, take, max, refl, sym, ap, ◌∙◌, arith}
+use Rattle.std.proofs.Common.{◌≡◌, ℕ, ◌+◌, ◌-◌, ◌<◌, ◌≤◌, Bool, true, false, cond, ◌==◌, ◌||◌, ◌⊎◌, inl, inr, List, [], ◌∷◌, length, get_or}
+use Rattle.std.proofs.Common.{map, take, max, refl, sym, ap, ◌∙◌, arith}
 use Rattle.std.specs.List.Sorted.{IsPermutation}
 use Rattle.std.proofs.lemmas.Bool.{cases_lt}
 use Rattle.std.proofs.lemmas.List.Elements.{All-tail}
@@ -34,16 +35,22 @@ or_false true = refl
 or_false false = refl
 
 -- a range that another one goes on
-pub grown : (start end : ℕ) (range : ℕ × ℕ) (at : ℕ) → start ≤ range.0 → range.0 ≤ end → is_in_range (start, max end range.1) at ≡ (is_in_range (start, end) at || is_in_range range at)
-grown start end range at low fits = same_test _ _ (λ yes. there (range_parts (start, max end range.1) at yes) (cases_lt at end)) (λ yes. back (or_cases (is_in_range (start, end) at) (is_in_range range at) yes))
+pub grown : (start end : ℕ) (range : ℕ × ℕ) (at : ℕ) → start ≤ range.0 → range.0 ≤ end
+    → is_in_range (start, max end range.1) at ≡ (is_in_range (start, end) at || is_in_range range at)
+grown start end range at low fits =
+    same_test _ _ (λ yes. there (range_parts (start, max end range.1) at yes) (cases_lt at end))
+    (λ yes. back (or_cases (is_in_range (start, end) at) (is_in_range range at) yes))
   where
     there : (start ≤ at) × (at < max end range.1) → (at < end) ⊎ (end ≤ at) → (is_in_range (start, end) at || is_in_range range at) ≡ true
     there parts (inl below) = or_left (is_in_range (start, end) at) (is_in_range range at) (in_range-from (start, end) at parts.0 below)
-    there parts (inr above) = or_right (is_in_range (start, end) at) (is_in_range range at) (in_range-from range at (omega arith) (omega (arith, parts.1)))
+    there parts (inr above) = or_right (is_in_range (start, end) at) (is_in_range range at)
+        (in_range-from range at (omega arith) (omega (arith, parts.1)))
 
     back : (is_in_range (start, end) at ≡ true) ⊎ (is_in_range range at ≡ true) → is_in_range (start, max end range.1) at ≡ true
-    back (inl first) = let parts = range_parts (start, end) at first in in_range-from (start, max end range.1) at parts.0 (omega (arith, parts.1))
-    back (inr second) = let parts = range_parts range at second in in_range-from (start, max end range.1) at (omega (arith, parts.0)) (omega (arith, parts.1))
+    back (inl first) = let parts = range_parts (start, end) at first in in_range-from (start, max end range.1)
+        at parts.0 (omega (arith, parts.1))
+    back (inr second) = let parts = range_parts range at second in in_range-from (start, max end range.1)
+        at (omega (arith, parts.0)) (omega (arith, parts.1))
 
 -- an empty range has no position
 pub empty_range : (range : ℕ × ℕ) (at : ℕ) → range.1 ≤ range.0 → is_in_range range at ≡ false
@@ -53,24 +60,34 @@ empty_range range at none = of (is_in_range range at) refl
     of false is = refl
     of true is = let parts = range_parts range at is in absurd (omega (arith, parts.0, parts.1))
 
-pub not_pushed : (ranges : List (ℕ × ℕ)) (range : ℕ × ℕ) (at : ℕ) → range.1 ≤ range.0 → is_in_some ranges at ≡ (is_in_some ranges at || is_in_range range at)
+pub not_pushed : (ranges : List (ℕ × ℕ)) (range : ℕ × ℕ) (at : ℕ) → range.1 ≤ range.0
+    → is_in_some ranges at ≡ (is_in_some ranges at || is_in_range range at)
 not_pushed ranges range at none = sym (rw (empty_range range at none) (or_false (is_in_some ranges at)))
 
 -- one more range of a list is looked at: it goes on the last one, or the last one is added
-pub grow_more : (sorted merged : List (ℕ × ℕ)) (start end i at : ℕ) (d : ℕ × ℕ) → i < length sorted → start ≤ (get_or sorted i d).0 → (get_or sorted i d).0 ≤ end → (is_in_some merged at || is_in_range (start, end) at) ≡ is_in_some (take i sorted) at → (is_in_some merged at || is_in_range (start, max end (get_or sorted i d).1) at) ≡ is_in_some (take (i + 1) sorted) at
+pub grow_more : (sorted merged : List (ℕ × ℕ)) (start end i at : ℕ) (d : ℕ × ℕ) → i < length sorted → start ≤ (get_or sorted i d).0
+    → (get_or sorted i d).0 ≤ end → (is_in_some merged at || is_in_range (start, end) at) ≡ is_in_some (take i sorted) at
+    → (is_in_some merged at || is_in_range (start, max end (get_or sorted i d).1) at) ≡ is_in_some (take (i + 1) sorted) at
 grow_more sorted merged start end i at d within low fits covers =
-    rw (grown start end (get_or sorted i d) at low fits, is_in_some-more sorted i d at within, ← covers) (or_assoc (is_in_some merged at) (is_in_range (start, end) at) (is_in_range (get_or sorted i d) at))
+    rw (grown start end (get_or sorted i d) at low fits, is_in_some-more sorted i d at within, ← covers)
+    (or_assoc (is_in_some merged at) (is_in_range (start, end) at) (is_in_range (get_or sorted i d) at))
 
-pub push_more : (sorted merged pushed : List (ℕ × ℕ)) (start end i at : ℕ) (d : ℕ × ℕ) → i < length sorted → is_in_some pushed at ≡ (is_in_some merged at || is_in_range (start, end) at) → (is_in_some merged at || is_in_range (start, end) at) ≡ is_in_some (take i sorted) at → (is_in_some pushed at || is_in_range ((get_or sorted i d).0, (get_or sorted i d).1) at) ≡ is_in_some (take (i + 1) sorted) at
+pub push_more : (sorted merged pushed : List (ℕ × ℕ)) (start end i at : ℕ) (d : ℕ × ℕ) → i < length sorted
+    → is_in_some pushed at ≡ (is_in_some merged at || is_in_range (start, end) at)
+    → (is_in_some merged at || is_in_range (start, end) at) ≡ is_in_some (take i sorted) at
+    → (is_in_some pushed at || is_in_range ((get_or sorted i d).0, (get_or sorted i d).1) at) ≡ is_in_some (take (i + 1) sorted) at
 push_more sorted merged pushed start end i at d within made covers = rw (is_in_some-more sorted i d at within, ← covers, made) refl
 
 -- the same ranges in another order
-pub is_in_some-permutation : (ranges others : List (ℕ × ℕ)) (at : ℕ) → IsPermutation ranges others → is_in_some ranges at ≡ is_in_some others at
+pub is_in_some-permutation : (ranges others : List (ℕ × ℕ)) (at : ℕ) → IsPermutation ranges others
+    → is_in_some ranges at ≡ is_in_some others at
 is_in_some-permutation ranges others at moved = list_any-IsPermutation (λ range. is_in_range range at) ranges others moved
 
 below_count : (list : List (ℕ × ℕ)) (n at : ℕ) → AreRanges list n → is_in_some list at ≡ true → at < n
 below_count [] n at all is = absurd (cc)
-below_count (range ∷ list) n at all is = of (or_cases (is_in_range range at) (is_in_some list at) is) (λ there. below_count list n at (All-tail (λ r. (r.0 ≤ r.1) × (r.1 ≤ n)) range list all) there)
+below_count (range ∷ list) n at all is =
+    of (or_cases (is_in_range range at) (is_in_some list at) is)
+    (λ there. below_count list n at (All-tail (λ r. (r.0 ≤ r.1) × (r.1 ≤ n)) range list all) there)
   where
     of : (is_in_range range at ≡ true) ⊎ (is_in_some list at ≡ true) → (is_in_some list at ≡ true → at < n) → at < n
     of (inl here) rest = let parts = range_parts range at here in let fits = all 0 range (omega arith) in omega (arith, parts.1, fits.1)
@@ -80,19 +97,24 @@ below_count (range ∷ list) n at all is = of (or_cases (is_in_range range at) (
 pub merged_ranges : (ranges merged : List (ℕ × ℕ)) (count : ℕ) → AreMerged ranges merged → AreRanges ranges count → AreRanges merged count
 merged_ranges ranges merged count made good = λ k d within.
     let some : (get_or merged k d).0 < (get_or merged k d).1 = made.some k d within in
-    let last : is_in_range (get_or merged k d) ((get_or merged k d).1 - 1) ≡ true = in_range-from (get_or merged k d) ((get_or merged k d).1 - 1) (omega arith) (omega arith) in
-    let inside : is_in_some ranges ((get_or merged k d).1 - 1) ≡ true = sym (made.same ((get_or merged k d).1 - 1)) ∙ is_in_some-at merged k d ((get_or merged k d).1 - 1) within last in
+    let last : is_in_range (get_or merged k d) ((get_or merged k d).1 - 1) ≡ true =
+    in_range-from (get_or merged k d) ((get_or merged k d).1 - 1) (omega arith) (omega arith) in
+    let inside : is_in_some ranges ((get_or merged k d).1 - 1) ≡ true = sym (made.same ((get_or merged k d).1 - 1))
+    ∙ is_in_some-at merged k d ((get_or merged k d).1 - 1) within last in
     let fits : (get_or merged k d).1 - 1 < count = below_count ranges count ((get_or merged k d).1 - 1) good inside in
     (omega arith, omega arith)
 
 -- what is done at the positions of ranges is the same at those of others that have the same
-pub changed_in-same : (test other : ℕ → Bool) (f : Entry → Entry) (n : ℕ) (entries : List Entry) → ((at : ℕ) → test at ≡ other at) → changed_in test f n entries ≡ changed_in other f n entries
+pub changed_in-same : (test other : ℕ → Bool) (f : Entry → Entry) (n : ℕ) (entries : List Entry) → ((at : ℕ) → test at ≡ other at)
+    → changed_in test f n entries ≡ changed_in other f n entries
 changed_in-same test other f n [] same = refl
 changed_in-same test other f n (entry ∷ entries) same = rw (same n, changed_in-same test other f (n + 1) entries same) refl
 
-pub reprioritized-same : (version priority : ℕ) (ranges merged : List (ℕ × ℕ)) (entries : List Entry) → HaveSamePositions merged ranges → reprioritized version merged priority entries ≡ reprioritized version ranges priority entries
+pub reprioritized-same : (version priority : ℕ) (ranges merged : List (ℕ × ℕ)) (entries : List Entry) → HaveSamePositions merged ranges
+    → reprioritized version merged priority entries ≡ reprioritized version ranges priority entries
 reprioritized-same version priority ranges merged entries same = of (version == MAX_VERSION)
   where
-    of : (b : Bool) → cond b (map (with_stamp 1) (raised_in merged priority 1 entries)) (raised_in merged priority (version + 1) entries) ≡ cond b (map (with_stamp 1) (raised_in ranges priority 1 entries)) (raised_in ranges priority (version + 1) entries)
+    of : (b : Bool) → cond b (map (with_stamp 1) (raised_in merged priority 1 entries)) (raised_in merged priority (version + 1) entries)
+        ≡ cond b (map (with_stamp 1) (raised_in ranges priority 1 entries)) (raised_in ranges priority (version + 1) entries)
     of true = ap (map (with_stamp 1)) (changed_in-same (is_in_some merged) (is_in_some ranges) (raised priority 1) 0 entries same)
     of false = changed_in-same (is_in_some merged) (is_in_some ranges) (raised priority (version + 1)) 0 entries same

@@ -1,5 +1,6 @@
 -- What every queue keeps is kept by each edit and its stamps.
-use Rattle.std.proofs.Common.{◌≡◌, ℕ, ◌+◌, ◌-◌, ◌≤◌, Bool, true, false, cond, ◌==◌, List, [], ◌∷◌, ◌++◌, length, map, take, drop, slice_range, refl, sym, ap, ◌∙◌, subst, arith}
+use Rattle.std.proofs.Common.{◌≡◌, ℕ, ◌+◌, ◌-◌, ◌≤◌, Bool, true, false, cond, ◌==◌, List, [], ◌∷◌, ◌++◌, length, map, take, drop}
+use Rattle.std.proofs.Common.{slice_range, refl, sym, ap, ◌∙◌, subst, arith}
 use Rattle.std.specs.List.{All}
 use Rattle.std.specs.List.Sorted.{IsPermutation}
 use Rattle.std.proofs.lemmas.Bool.{eqb-false}
@@ -27,9 +28,18 @@ ids-with_stamp stamp (entry ∷ entries) = ap (λ ids. entry.id ∷ ids) (ids-wi
 ids-append : (front back : List Entry) → ids_of (front ++ back) ≡ ids_of front ++ ids_of back
 ids-append front back = map-append (λ entry. entry.id) front back
 
-ids-restamped_part : (stamp start end : ℕ) (entries : List Entry) → start ≤ end → ids_of (take start entries ++ (map (with_stamp stamp) (slice_range entries start end) ++ drop end entries)) ≡ ids_of entries
+ids-restamped_part : (stamp start end : ℕ) (entries : List Entry) → start ≤ end
+    → ids_of (take start entries ++ (map (with_stamp stamp) (slice_range entries start end) ++ drop end entries)) ≡ ids_of entries
 ids-restamped_part stamp start end entries forward =
-    rw (ids-append (take start entries) (map (with_stamp stamp) (slice_range entries start end) ++ drop end entries), ids-append (map (with_stamp stamp) (slice_range entries start end)) (drop end entries), ids-with_stamp stamp (slice_range entries start end), ← ids-append (slice_range entries start end) (drop end entries), ← ids-append (take start entries) (slice_range entries start end ++ drop end entries), ← split_between entries start end forward) refl
+    rw (
+      ids-append (take start entries) (map (with_stamp stamp) (slice_range entries start end) ++ drop end entries),
+      ids-append (map (with_stamp stamp) (slice_range entries start end)) (drop end entries),
+      ids-with_stamp stamp (slice_range entries start end),
+      ← ids-append (slice_range entries start end) (drop end entries),
+      ← ids-append (take start entries) (slice_range entries start end ++ drop end entries),
+      ← split_between entries start end forward,
+    )
+    refl
 
 same_length : (entries others : List Entry) → ids_of entries ≡ ids_of others → length entries ≡ length others
 same_length entries others same = sym (length-map entries (λ entry. entry.id)) ∙ ap length same ∙ length-map others (λ entry. entry.id)
@@ -37,17 +47,39 @@ same_length entries others same = sym (length-map entries (λ entry. entry.id)) 
 pub own_ids-same : (entries others : List Entry) → ids_of entries ≡ ids_of others → HaveOwnIds others → HaveOwnIds entries
 own_ids-same entries others same own = rw same own
 
-pub with_new_stamp : (next_id version stamp : ℕ) → 1 ≤ stamp → (entries : List Entry) → All (IsEntry next_id version) entries → All (IsEntry next_id stamp) (map (with_stamp stamp) entries)
+pub with_new_stamp : (next_id version stamp : ℕ) → 1 ≤ stamp → (entries : List Entry) → All (IsEntry next_id version) entries
+    → All (IsEntry next_id stamp) (map (with_stamp stamp) entries)
 with_new_stamp next_id version stamp low entries all =
-    All-map (IsEntry next_id stamp) (with_stamp stamp) entries (All-weaker (IsEntry next_id version) (λ entry. IsEntry next_id stamp (with_stamp stamp entry)) (λ entry fit. record { id_low = fit.id_low; id_used = fit.id_used; stamp_low = low; stamp_high = omega arith }) entries all)
+    All-map (IsEntry next_id stamp) (with_stamp stamp) entries
+    (All-weaker (IsEntry next_id version) (λ entry. IsEntry next_id stamp (with_stamp stamp entry))
+    (λ entry fit. record { id_low = fit.id_low; id_used = fit.id_used; stamp_low = low; stamp_high = omega arith }) entries all)
 
-pub grown : (next_id version later : ℕ) → version ≤ later → (entries : List Entry) → All (IsEntry next_id version) entries → All (IsEntry next_id later) entries
-grown next_id version later le entries all = All-weaker (IsEntry next_id version) (IsEntry next_id later) (λ entry fit. record { id_low = fit.id_low; id_used = fit.id_used; stamp_low = fit.stamp_low; stamp_high = omega (arith, fit.stamp_high) }) entries all
+pub grown : (next_id version later : ℕ) → version ≤ later → (entries : List Entry) → All (IsEntry next_id version) entries
+    → All (IsEntry next_id later) entries
+grown next_id version later le entries all =
+    All-weaker (IsEntry next_id version) (IsEntry next_id later)
+    (λ entry fit. record {
+      id_low = fit.id_low;
+      id_used = fit.id_used;
+      stamp_low = fit.stamp_low;
+      stamp_high =
+          omega (arith, fit.stamp_high);
+    }) entries all
 
-pub sound-restamped : (next_id version start end : ℕ) (entries : List Entry) → 1 ≤ version → version ≤ MAX_VERSION → 1 ≤ next_id → next_id ≤ MAX_ID + 1 → AreFit next_id version entries → start ≤ end → IsQueue (record { entries = restamped version start end entries; version = next_version version; next_id = next_id })
+pub sound-restamped : (next_id version start end : ℕ) (entries : List Entry) → 1 ≤ version → version ≤ MAX_VERSION → 1 ≤ next_id
+    → next_id ≤ MAX_ID + 1 → AreFit next_id version entries → start ≤ end
+    → IsQueue (record { entries = restamped version start end entries; version = next_version version; next_id = next_id })
 sound-restamped next_id version start end entries low high next_low next_high fit forward = by_cases (version == MAX_VERSION) refl
   where
-    by_cases : (b : Bool) → (version == MAX_VERSION) ≡ b → IsQueue (record { entries = cond b (map (with_stamp 1) entries) (take start entries ++ (map (with_stamp (version + 1)) (slice_range entries start end) ++ drop end entries)); version = cond b 1 (version + 1); next_id = next_id })
+    by_cases : (b : Bool) → (version == MAX_VERSION) ≡ b
+        → IsQueue (record {
+          entries =
+              cond b (map (with_stamp 1) entries)
+              (take start entries ++ (map (with_stamp (version + 1)) (slice_range entries start end) ++ drop end entries));
+          version =
+              cond b 1 (version + 1);
+          next_id = next_id;
+        })
     by_cases true is = record {
       few = omega (arith, fit.few, length-map entries (with_stamp 1));
       version_low = omega arith;
@@ -67,17 +99,24 @@ sound-restamped next_id version start end entries low high next_low next_high fi
           version_high = omega arith;
           next_low = next_low;
           next_high = next_high;
-          entry = All-append (IsEntry next_id (version + 1)) (take start entries) _ (All-take (IsEntry next_id (version + 1)) start entries all) (All-append (IsEntry next_id (version + 1)) _ (drop end entries) (with_new_stamp next_id (version + 1) (version + 1) (omega arith) (slice_range entries start end) (All-take (IsEntry next_id (version + 1)) (end - start) (drop start entries) (All-drop (IsEntry next_id (version + 1)) start entries all))) (All-drop (IsEntry next_id (version + 1)) end entries all));
+          entry = All-append (IsEntry next_id (version + 1)) (take start entries) _
+              (All-take (IsEntry next_id (version + 1)) start entries all)
+              (All-append (IsEntry next_id (version + 1)) _ (drop end entries)
+              (with_new_stamp next_id (version + 1) (version + 1) (omega arith) (slice_range entries start end)
+              (All-take (IsEntry next_id (version + 1)) (end - start) (drop start entries)
+              (All-drop (IsEntry next_id (version + 1)) start entries all))) (All-drop (IsEntry next_id (version + 1)) end entries all));
           own_ids = own_ids-same _ entries ids fit.own_ids;
         }
 
 -- entries in another order, of which the first ones are taken out
-pub fit-reordered : (next_id version : ℕ) (entries gone left : List Entry) → AreFit next_id version entries → IsPermutation entries (gone ++ left) → AreFit next_id version left
+pub fit-reordered : (next_id version : ℕ) (entries gone left : List Entry) → AreFit next_id version entries
+    → IsPermutation entries (gone ++ left) → AreFit next_id version left
 fit-reordered next_id version entries gone left fit moved =
     let all = All-permutation (IsEntry next_id version) entries (gone ++ left) moved fit.entry in
     record {
       few = omega (arith, fit.few, length_permutation entries (gone ++ left) moved, length-append gone left);
-      entry = λ k d within. let at = all (length gone + k) d (omega (arith, length-append gone left)) in subst (IsEntry next_id version) (get_or-append-add gone left k d) at;
+      entry = λ k d within. let at = all (length gone + k) d (omega (arith, length-append gone left)) in subst (IsEntry next_id version)
+          (get_or-append-add gone left k d) at;
       own_ids = own_ids-back gone left (own_ids-permutation entries (gone ++ left) moved fit.own_ids);
     }
 
@@ -91,13 +130,25 @@ fit-deleted q sound start end forward =
     let middle = slice_range q.entries start end in
     let back = drop end q.entries in
     let parts : q.entries ≡ (front ++ middle) ++ back = split_between q.entries start end forward ∙ sym (append_assoc front middle back) in
-    let turned : IsPermutation ((front ++ middle) ++ back) ((middle ++ front) ++ back) = IsPermutation-append_left back _ _ (IsPermutation-append_comm front middle) in
-    fit-reordered q.next_id q.version q.entries middle (front ++ back) (fit-queue q sound) (subst (IsPermutation q.entries) (append_assoc middle front back) (rw (← parts) at turned))
+    let turned : IsPermutation ((front ++ middle) ++ back) ((middle ++ front) ++ back) =
+    IsPermutation-append_left back _ _ (IsPermutation-append_comm front middle) in
+    fit-reordered q.next_id q.version q.entries middle (front ++ back) (fit-queue q sound)
+    (subst (IsPermutation q.entries) (append_assoc middle front back) (rw (← parts) at turned))
 
 -- the queue after an edit of the entries from one position on
-pub sound-tail : (q : QueueState) (next_id start : ℕ) (afters : List Entry) → IsQueue q → AreFit next_id q.version afters → 1 ≤ next_id → next_id ≤ MAX_ID + 1 → start ≤ length afters → IsQueue (record { entries = restamped q.version start (length afters) afters; version = next_version q.version; next_id = next_id })
-sound-tail q next_id start afters sound fit low high within = sound-restamped next_id q.version start (length afters) afters sound.version_low sound.version_high low high fit within
+pub sound-tail : (q : QueueState) (next_id start : ℕ) (afters : List Entry) → IsQueue q → AreFit next_id q.version afters → 1 ≤ next_id
+    → next_id ≤ MAX_ID + 1 → start ≤ length afters
+    → IsQueue (record { entries = restamped q.version start (length afters) afters; version = next_version q.version; next_id = next_id })
+sound-tail q next_id start afters sound fit low high within =
+    sound-restamped next_id q.version start (length afters) afters sound.version_low sound.version_high low high fit within
 
-pub sound-deleted : (q : QueueState) → IsQueue q → (start end : ℕ) → start ≤ end → end ≤ length q.entries → IsQueue (record { entries = restamped q.version start (length (deleted q.entries start end)) (deleted q.entries start end); version = next_version q.version; next_id = q.next_id })
+pub sound-deleted : (q : QueueState) → IsQueue q → (start end : ℕ) → start ≤ end → end ≤ length q.entries
+    → IsQueue (record {
+      entries = restamped q.version start (length (deleted q.entries start end)) (deleted q.entries start end);
+      version =
+          next_version q.version;
+      next_id = q.next_id;
+    })
 sound-deleted q sound start end forward within =
-    sound-tail q q.next_id start (deleted q.entries start end) sound (fit-deleted q sound start end forward) sound.next_low sound.next_high (omega (arith, length-append (take start q.entries) (drop end q.entries), length-take-le start q.entries (omega arith)))
+    sound-tail q q.next_id start (deleted q.entries start end) sound (fit-deleted q sound start end forward) sound.next_low sound.next_high
+    (omega (arith, length-append (take start q.entries) (drop end q.entries), length-take-le start q.entries (omega arith)))

@@ -1,5 +1,6 @@
 -- How often a path is still to be read, and how often it is put.
-use Rattle.std.proofs.Common.{◌≡◌, ℕ, ◌+◌, Bool, true, false, ◌&&◌, ◌||◌, List, [], ◌∷◌, ◌++◌, filter, cond, refl, sym, ap, ◌∙◌, arith, Option}
+use Rattle.std.proofs.Common.{◌≡◌, ℕ, ◌+◌, Bool, true, false, ◌&&◌, ◌||◌, List, [], ◌∷◌, ◌++◌, filter, cond, refl, sym, ap, ◌∙◌, arith}
+use Rattle.std.proofs.Common.{Option}
 use Rattle.std.specs.Prelude.{count_by}
 use Rattle.std.specs.List.{list_any}
 use Rattle.std.specs.Str.{bytes_eq}
@@ -21,17 +22,20 @@ count-cons p x xs = sum_by-cons (λ y. cond (p y) 1 0) x xs
 pub count-append : {X : Type 0} (p : X → Bool) (xs ys : List X) → count_by p (xs ++ ys) ≡ count_by p xs + count_by p ys
 count-append p xs ys = sum_by-append (λ y. cond (p y) 1 0) xs ys
 
-pub times-cons : (p : Pending) (ps : List Pending) (uri : List ℕ) → times_pending (p ∷ ps) uri ≡ cond (covers uri p) 1 0 + times_pending ps uri
+pub times-cons : (p : Pending) (ps : List Pending) (uri : List ℕ)
+    → times_pending (p ∷ ps) uri ≡ cond (covers uri p) 1 0 + times_pending ps uri
 times-cons p ps uri = count-cons (covers uri) p ps
 
 pub times-append : (ps qs : List Pending) (uri : List ℕ) → times_pending (ps ++ qs) uri ≡ times_pending ps uri + times_pending qs uri
 times-append ps qs uri = count-append (covers uri) ps qs
 
-pub put-one : (changes : List RowChange) (row : Row) (uri : List ℕ) → times_put (changes ++ Put row ∷ []) uri ≡ times_put changes uri + cond (bytes_eq uri row.uri) 1 0
+pub put-one : (changes : List RowChange) (row : Row) (uri : List ℕ)
+    → times_put (changes ++ Put row ∷ []) uri ≡ times_put changes uri + cond (bytes_eq uri row.uri) 1 0
 put-one changes row uri =
     ap (count_by (λ (r : Row). bytes_eq uri r.uri)) (puts-append changes (Put row ∷ []))
     ∙ count-append (λ (r : Row). bytes_eq uri r.uri) (puts_of changes) (row ∷ [])
-    ∙ ap (λ n. times_put changes uri + n) (count-cons (λ (r : Row). bytes_eq uri r.uri) row [] ∙ plus_none (cond (bytes_eq uri row.uri) 1 0))
+    ∙ ap (λ n. times_put changes uri + n) (count-cons (λ (r : Row). bytes_eq uri r.uri) row []
+    ∙ plus_none (cond (bytes_eq uri row.uri) 1 0))
   where
     plus_none : (n : ℕ) → n + count_by (λ (r : Row). bytes_eq uri r.uri) [] ≡ n
     plus_none n = omega arith
@@ -60,7 +64,8 @@ and_false true = refl
 and_false false = refl
 
 -- what is among some that pass a test
-pub among_filter : (test : List ℕ → Bool) (uri : List ℕ) (uris : List (List ℕ)) → is_among (filter test uris) uri ≡ (is_among uris uri && test uri)
+pub among_filter : (test : List ℕ → Bool) (uri : List ℕ) (uris : List (List ℕ))
+    → is_among (filter test uris) uri ≡ (is_among uris uri && test uri)
 among_filter test uri [] = refl
 among_filter test uri (x ∷ xs) = by_cases (bytes_eq uri x) refl (test x) refl (among_filter test uri xs)
   where

@@ -1,5 +1,6 @@
 -- The answers of a scan together tell the difference.
-use Rattle.std.proofs.Common.{◌≡◌, ℕ, ◌+◌, ◌≤◌, Bool, true, false, not, ◌&&◌, ◌||◌, List, [], ◌∷◌, ◌++◌, Option, Some, None, cond, length, refl, sym, ap, ◌∙◌, arith, append-nil, append_assoc}
+use Rattle.std.proofs.Common.{◌≡◌, ℕ, ◌+◌, ◌≤◌, Bool, true, false, not, ◌&&◌, ◌||◌, List, [], ◌∷◌, ◌++◌, Option, Some, None, cond, length}
+use Rattle.std.proofs.Common.{refl, sym, ap, ◌∙◌, arith, append-nil, append_assoc}
 use Rattle.std.specs.Prelude.{count_by, if◌then◌else◌}
 use Rattle.std.specs.List.{All}
 use Rattle.std.specs.Str.{bytes_eq}
@@ -19,12 +20,14 @@ use Rattle.song_db.proofs.OwnSteps.{own_times, root_times}
 
 pub record Sums (files : List File) (place : Option (List ℕ)) (before after : Progress) (changes : List RowChange) : Type 0 where
   pub less : (uri : List ℕ) → times_put changes uri + times_pending after.pending uri ≤ times_pending before.pending uri
-  pub more : (uri : List ℕ) → has_song files place uri ≡ true → times_pending before.pending uri ≤ times_put changes uri + times_pending after.pending uri
+  pub more : (uri : List ℕ) → has_song files place uri ≡ true
+      → times_pending before.pending uri ≤ times_put changes uri + times_pending after.pending uri
   pub puts : All (λ (row : Row). has_song files place row.uri ≡ true) (puts_of changes)
   pub songs : AreSongs files changes
   pub parts : (uri : List ℕ) → is_among (drops_of changes ++ after.droppable) uri ≡ true → is_among before.droppable uri ≡ true
   pub none : All (λ uri. has_song files place uri ≡ false) (drops_of changes)
-  pub gone : (uri : List ℕ) → has_song files place uri ≡ false → is_among before.droppable uri ≡ true → is_among (drops_of changes ++ after.droppable) uri ≡ true
+  pub gone : (uri : List ℕ) → has_song files place uri ≡ false → is_among before.droppable uri ≡ true
+      → is_among (drops_of changes ++ after.droppable) uri ≡ true
 
 among-append : (xs ys : List (List ℕ)) (uri : List ℕ) → is_among (xs ++ ys) uri ≡ (is_among xs uri || is_among ys uri)
 among-append xs ys uri = list_any-append (bytes_eq uri) xs ys
@@ -46,7 +49,8 @@ part_among part uris uri (test, is) among =
     (both (is_among uris uri) (test uri) (sym (ap (λ l. is_among l uri) is ∙ among_filter test uri uris) ∙ among)).0
 
 put-append : (xs ys : List RowChange) (uri : List ℕ) → times_put (xs ++ ys) uri ≡ times_put xs uri + times_put ys uri
-put-append xs ys uri = ap (count_by (λ (r : Row). bytes_eq uri r.uri)) (puts-append xs ys) ∙ count-append (λ (r : Row). bytes_eq uri r.uri) (puts_of xs) (puts_of ys)
+put-append xs ys uri = ap (count_by (λ (r : Row). bytes_eq uri r.uri)) (puts-append xs ys)
+    ∙ count-append (λ (r : Row). bytes_eq uri r.uri) (puts_of xs) (puts_of ys)
 
 -- the drops of two parts, and what is left
 three : (xs ys : List RowChange) (left : List (List ℕ)) → drops_of (xs ++ ys) ++ left ≡ drops_of xs ++ (drops_of ys ++ left)
@@ -64,70 +68,93 @@ no_answer files place before =
       gone = λ uri none among. among;
     }
 
-one_answer : (files : List File) (place : Option (List ℕ)) (before next after : Progress) (changes more : List RowChange) → before.place ≡ place
-    → IsCareful files place before.pending before.droppable → IsStep files before next changes → Sums files place next after more → Sums files place before after (changes ++ more)
+one_answer : (files : List File) (place : Option (List ℕ)) (before next after : Progress) (changes more : List RowChange)
+    → before.place ≡ place
+    → IsCareful files place before.pending before.droppable → IsStep files before next changes → Sums files place next after more
+    → Sums files place before after (changes ++ more)
 one_answer files place before next after changes more same careful step rest =
     let puts : All (λ (row : Row). has_song files place row.uri ≡ true) (puts_of changes) = rw same at step.read.puts in
     let drops : All (λ uri. has_song files place uri ≡ false) (drops_of changes) = (rw same at step.read.drops) careful in
     record {
       less = λ uri. omega (arith, step.read.read uri, rest.less uri, put-append changes more uri);
       more = λ uri song. omega (arith, step.whole.read uri (rw same song), rest.more uri song, put-append changes more uri);
-      puts = All-same (λ (row : Row). has_song files place row.uri ≡ true) _ _ (puts-append changes more) (All-append (λ (row : Row). has_song files place row.uri ≡ true) (puts_of changes) (puts_of more) puts rest.puts);
-      songs = All-same (λ (row : Row). song_at files row.uri ≡ Some row) _ _ (puts-append changes more) (All-append (λ (row : Row). song_at files row.uri ≡ Some row) (puts_of changes) (puts_of more) step.read.songs rest.songs);
+      puts = All-same (λ (row : Row). has_song files place row.uri ≡ true) _ _ (puts-append changes more)
+          (All-append (λ (row : Row). has_song files place row.uri ≡ true) (puts_of changes) (puts_of more) puts rest.puts);
+      songs = All-same (λ (row : Row). song_at files row.uri ≡ Some row) _ _ (puts-append changes more)
+          (All-append (λ (row : Row). song_at files row.uri ≡ Some row) (puts_of changes) (puts_of more) step.read.songs rest.songs);
       parts = λ uri among. part_among (drops_of changes ++ next.droppable) before.droppable uri step.drops
-          (among-append (drops_of changes) next.droppable uri ∙ either (is_among (drops_of changes) uri) (is_among (drops_of more ++ after.droppable) uri)
-          (sym (ap (λ l. is_among l uri) (three changes more after.droppable) ∙ among-append (drops_of changes) (drops_of more ++ after.droppable) uri) ∙ among)
+          (among-append (drops_of changes) next.droppable uri
+          ∙ either (is_among (drops_of changes) uri) (is_among (drops_of more ++ after.droppable) uri)
+          (sym (ap (λ l. is_among l uri) (three changes more after.droppable)
+          ∙ among-append (drops_of changes) (drops_of more ++ after.droppable) uri) ∙ among)
           (λ left. or_left (is_among (drops_of changes) uri) (is_among next.droppable uri) left)
           (λ right. or_right (is_among (drops_of changes) uri) (is_among next.droppable uri) (rest.parts uri right)));
-      none = All-same (λ uri. has_song files place uri ≡ false) _ _ (drops-append changes more) (All-append (λ uri. has_song files place uri ≡ false) (drops_of changes) (drops_of more) drops rest.none);
+      none = All-same (λ uri. has_song files place uri ≡ false) _ _ (drops-append changes more)
+          (All-append (λ uri. has_song files place uri ≡ false) (drops_of changes) (drops_of more) drops rest.none);
       gone = λ uri none among.
-          ap (λ l. is_among l uri) (three changes more after.droppable) ∙ among-append (drops_of changes) (drops_of more ++ after.droppable) uri
+          ap (λ l. is_among l uri) (three changes more after.droppable)
+          ∙ among-append (drops_of changes) (drops_of more ++ after.droppable) uri
           ∙ either (is_among (drops_of changes) uri) (is_among next.droppable uri)
           (sym (among-append (drops_of changes) next.droppable uri) ∙ step.whole.gone uri (rw same none) among)
           (λ left. or_left (is_among (drops_of changes) uri) (is_among (drops_of more ++ after.droppable) uri) left)
-          (λ right. or_right (is_among (drops_of changes) uri) (is_among (drops_of more ++ after.droppable) uri) (rest.gone uri none right));
+          (λ right. or_right (is_among (drops_of changes) uri) (is_among (drops_of more ++ after.droppable) uri)
+          (rest.gone uri none right));
     }
 
-all_answers : (files : List File) (place : Option (List ℕ)) (before after : Progress) (answers : List (List RowChange)) → before.place ≡ place
-    → IsCareful files place before.pending before.droppable → IsScan files before answers after → Sums files place before after (joined answers)
+all_answers : (files : List File) (place : Option (List ℕ)) (before after : Progress) (answers : List (List RowChange))
+    → before.place ≡ place
+    → IsCareful files place before.pending before.droppable → IsScan files before answers after
+    → Sums files place before after (joined answers)
 all_answers files place before after [] same careful scan = rw (← scan) (no_answer files place before)
 all_answers files place before after (changes ∷ answers) same careful (next, step, rest) =
     one_answer files place before next after changes (joined answers) same careful step
     (all_answers files place next after answers (step.order.place ∙ same) (rw same at (step.read.careful (rw same careful))) rest)
 
 -- the job's place has each of its songs once
-one_time : (files : List File) (place : Option (List ℕ)) (uri : List ℕ) → has_song files place uri ≡ true → times_pending (own_pending place) uri ≡ 1
+one_time : (files : List File) (place : Option (List ℕ)) (uri : List ℕ) → has_song files place uri ≡ true
+    → times_pending (own_pending place) uri ≡ 1
 one_time files None uri song = root_times uri
-one_time files (Some own) uri song = own_times own uri ∙ by_cases (bytes_eq uri own) refl (is_below own uri) refl (song_parts files (Some own) uri song).within
+one_time files (Some own) uri song =
+    own_times own uri ∙ by_cases (bytes_eq uri own) refl (is_below own uri) refl (song_parts files (Some own) uri song).within
   where
-    by_cases : (a : Bool) → bytes_eq uri own ≡ a → (b : Bool) → is_below own uri ≡ b → (a || b) ≡ true → ◌≡◌ {A = ℕ} (cond a 1 0 + cond b 1 0) 1
+    by_cases : (a : Bool) → bytes_eq uri own ≡ a → (b : Bool) → is_below own uri ≡ b → (a || b) ≡ true
+        → ◌≡◌ {A = ℕ} (cond a 1 0 + cond b 1 0) 1
     by_cases true same true under h =
         let one : uri ≡ own = same_bytes uri own same in
-        absurd (let k : is_below own uri ≡ false = below_short own uri (omega (arith, ap (λ (l : List ℕ). length l) one)) in let l : true ≡ false = sym under ∙ k in cc)
+        absurd (let k : is_below own uri ≡ false = below_short own uri (omega (arith, ap (λ (l : List ℕ). length l) one)) in
+        let l : true ≡ false = sym under ∙ k in cc)
     by_cases true same false under h = refl
     by_cases false other true under h = refl
     by_cases false other false under h = absurd (cc)
 
-none_put : (files : List File) (place : Option (List ℕ)) (uri : List ℕ) (rows : List Row) → has_song files place uri ≡ false → All (λ (row : Row). has_song files place row.uri ≡ true) rows
+none_put : (files : List File) (place : Option (List ℕ)) (uri : List ℕ) (rows : List Row) → has_song files place uri ≡ false
+    → All (λ (row : Row). has_song files place row.uri ≡ true) rows
     → count_by (λ (row : Row). bytes_eq uri row.uri) rows ≡ 0
 none_put files place uri [] none puts = refl
 none_put files place uri (row ∷ rows) none puts =
-    by_cases (bytes_eq uri row.uri) refl (All-head (λ (r : Row). has_song files place r.uri ≡ true) row rows puts) (none_put files place uri rows none (All-tail (λ (r : Row). has_song files place r.uri ≡ true) row rows puts))
+    by_cases (bytes_eq uri row.uri) refl (All-head (λ (r : Row). has_song files place r.uri ≡ true) row rows puts)
+    (none_put files place uri rows none (All-tail (λ (r : Row). has_song files place r.uri ≡ true) row rows puts))
   where
-    by_cases : (b : Bool) → bytes_eq uri row.uri ≡ b → has_song files place row.uri ≡ true → count_by (λ (r : Row). bytes_eq uri r.uri) rows ≡ 0
+    by_cases : (b : Bool) → bytes_eq uri row.uri ≡ b → has_song files place row.uri ≡ true
+        → count_by (λ (r : Row). bytes_eq uri r.uri) rows ≡ 0
         → count_by (λ (r : Row). bytes_eq uri r.uri) (row ∷ rows) ≡ 0
-    by_cases true same song rest = absurd (let k : true ≡ false = sym song ∙ ap (has_song files place) (sym (same_bytes uri row.uri same)) ∙ none in cc)
+    by_cases true same song rest =
+        absurd (let k : true ≡ false = sym song ∙ ap (has_song files place) (sym (same_bytes uri row.uri same)) ∙ none in cc)
     by_cases false other song rest =
         let n : ◌≡◌ {A = ℕ} (cond (bytes_eq uri row.uri) 1 0) 0 = rw other refl in
         omega (arith, count-cons (λ (r : Row). bytes_eq uri r.uri) row rows, n, rest)
 
-none_among : (files : List File) (place : Option (List ℕ)) (uri : List ℕ) (drops : List (List ℕ)) → has_song files place uri ≡ true → All (λ u. has_song files place u ≡ false) drops → is_among drops uri ≡ false
+none_among : (files : List File) (place : Option (List ℕ)) (uri : List ℕ) (drops : List (List ℕ)) → has_song files place uri ≡ true
+    → All (λ u. has_song files place u ≡ false) drops → is_among drops uri ≡ false
 none_among files place uri [] song none = refl
 none_among files place uri (x ∷ xs) song none =
-    by_cases (bytes_eq uri x) refl (All-head (λ u. has_song files place u ≡ false) x xs none) (none_among files place uri xs song (All-tail (λ u. has_song files place u ≡ false) x xs none))
+    by_cases (bytes_eq uri x) refl (All-head (λ u. has_song files place u ≡ false) x xs none)
+    (none_among files place uri xs song (All-tail (λ u. has_song files place u ≡ false) x xs none))
   where
-    by_cases : (b : Bool) → bytes_eq uri x ≡ b → has_song files place x ≡ false → is_among xs uri ≡ false → (bytes_eq uri x || is_among xs uri) ≡ false
-    by_cases true same lacks rest = absurd (let k : true ≡ false = sym song ∙ ap (has_song files place) (same_bytes uri x same) ∙ lacks in cc)
+    by_cases : (b : Bool) → bytes_eq uri x ≡ b → has_song files place x ≡ false → is_among xs uri ≡ false
+        → (bytes_eq uri x || is_among xs uri) ≡ false
+    by_cases true same lacks rest =
+        absurd (let k : true ≡ false = sym song ∙ ap (has_song files place) (same_bytes uri x same) ∙ lacks in cc)
     by_cases false other lacks rest = rw other rest
 
 and_false : (b : Bool) → (b && false) ≡ false
@@ -145,7 +172,12 @@ same_truth false false to back = refl
 
 pub scans_tell : ScansTellTheDifference
 scans_tell files job place known answers end scan over =
-    record { puts = λ uri. puts uri (has_song files place uri) refl; songs = sums.songs; drops = λ uri. drops uri (has_song files place uri) refl }
+    record {
+      puts = λ uri. puts uri (has_song files place uri) refl;
+      songs = sums.songs;
+      drops =
+          λ uri. drops uri (has_song files place uri) refl;
+    }
   where
     careful : IsCareful files place (own_pending place) known
     careful uri song among = omega (arith, one_time files place uri song)
@@ -163,9 +195,11 @@ scans_tell files job place known answers end scan over =
     whole : drops_of (joined answers) ++ end.droppable ≡ drops_of (joined answers)
     whole = ap (λ l. drops_of (joined answers) ++ l) over.droppable ∙ append-nil (drops_of (joined answers))
 
-    drops : (uri : List ℕ) (b : Bool) → has_song files place uri ≡ b → is_among (drops_of (joined answers)) uri ≡ (is_among known uri && not b)
+    drops : (uri : List ℕ) (b : Bool) → has_song files place uri ≡ b
+        → is_among (drops_of (joined answers)) uri ≡ (is_among known uri && not b)
     drops uri true song = none_among files place uri (drops_of (joined answers)) song sums.none ∙ sym (and_false (is_among known uri))
     drops uri false none =
         same_truth (is_among (drops_of (joined answers)) uri) (is_among known uri)
-        (λ among. sums.parts uri (ap (λ l. is_among l uri) whole ∙ among)) (λ among. sym (ap (λ l. is_among l uri) whole) ∙ sums.gone uri none among)
+        (λ among. sums.parts uri (ap (λ l. is_among l uri) whole ∙ among))
+        (λ among. sym (ap (λ l. is_among l uri) whole) ∙ sums.gone uri none among)
         ∙ sym (and_true (is_among known uri))

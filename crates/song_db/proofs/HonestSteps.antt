@@ -1,5 +1,6 @@
 -- What one step does to a batch that is read from an honest folder.
-use Rattle.std.proofs.Common.{◌≡◌, ℕ, ◌≤◌, Bool, true, false, not, List, [], ◌∷◌, ◌++◌, Option, Some, None, Ok, Err, cond, refl, sym, ap, ◌∙◌, arith, append-nil}
+use Rattle.std.proofs.Common.{◌≡◌, ℕ, ◌≤◌, Bool, true, false, not, List, [], ◌∷◌, ◌++◌, Option, Some, None, Ok, Err, cond, refl, sym, ap}
+use Rattle.std.proofs.Common.{◌∙◌, arith, append-nil}
 use Rattle.std.specs.Prelude.{Result, IfOk, IfSome, IsOkUnless, MatchOption}
 use Rattle.std.specs.Str.{bytes_eq}
 use Rattle.std.specs.Option.{option_and_then}
@@ -23,9 +24,11 @@ use Rattle.song_db.specs.Uri.{is_uri}
 use Rattle.song_db.proofs.BatchSteps.{puts-append}
 use Rattle.song_db.proofs.Counts.{song_parts, times-cons, times-append, put-one, same_bytes, bytes-comm, both, among_filter}
 
-pub honest_step : (files : List File) (place : Option (List ℕ)) (start : List Pending) (known : List (List ℕ)) (before after : List Pending) (d e : List (List ℕ)) (changes : List RowChange)
+pub honest_step : (files : List File) (place : Option (List ℕ)) (start : List Pending) (known : List (List ℕ)) (before after : List Pending)
+    (d e : List (List ℕ)) (changes : List RowChange)
     → ((uri : List ℕ) → times_pending after uri ≤ times_pending before uri)
-    → ((uri : List ℕ) → has_song files place uri ≡ true → is_among e uri ≡ true → (is_among d uri ≡ true) × (times_pending before uri ≤ times_pending after uri))
+    → ((uri : List ℕ) → has_song files place uri ≡ true → is_among e uri ≡ true
+    → (is_among d uri ≡ true) × (times_pending before uri ≤ times_pending after uri))
     → IsHonestBatch files place start known before d changes → IsHonestBatch files place start known after e changes
 honest_step files place start known before after d e changes less stays batch =
     record {
@@ -34,7 +37,8 @@ honest_step files place start known before after d e changes less stays batch =
       careful = λ first uri song among. let s = stays uri song among in omega (arith, batch.careful first uri song s.0, s.1);
     }
 
-pub whole_step : (files : List File) (place : Option (List ℕ)) (start : List Pending) (known : List (List ℕ)) (before after : List Pending) (d e : List (List ℕ)) (changes : List RowChange)
+pub whole_step : (files : List File) (place : Option (List ℕ)) (start : List Pending) (known : List (List ℕ)) (before after : List Pending)
+    (d e : List (List ℕ)) (changes : List RowChange)
     → ((uri : List ℕ) → has_song files place uri ≡ true → times_pending before uri ≤ times_pending after uri)
     → ((uri : List ℕ) → has_song files place uri ≡ false → is_among d uri ≡ true → is_among e uri ≡ true)
     → IsWholeBatch files place start known before d changes → IsWholeBatch files place start known after e changes
@@ -45,22 +49,34 @@ whole_step files place start known before after d e changes more stays batch =
     }
 
 -- the next visit is taken from what is still to be read
-pub honest_taken : (files : List File) (place : Option (List ℕ)) (start : List Pending) (known : List (List ℕ)) (before after : List Pending) (visit : Visit) (d : List (List ℕ)) (changes : List RowChange)
-    → IsTaken before visit after → IsHonestBatch files place start known before d changes → IsHonestBatch files place start known (visited visit ++ after) d changes
+pub honest_taken : (files : List File) (place : Option (List ℕ)) (start : List Pending) (known : List (List ℕ))
+    (before after : List Pending) (visit : Visit) (d : List (List ℕ)) (changes : List RowChange)
+    → IsTaken before visit after → IsHonestBatch files place start known before d changes
+    → IsHonestBatch files place start known (visited visit ++ after) d changes
 honest_taken files place start known before after visit d changes taken =
     honest_step files place start known before (visited visit ++ after) d d changes
     (λ uri. omega (arith, taken.only uri, times-append (visited visit) after uri))
-    (λ uri song among. let parts = song_parts files place uri song in (among, omega (arith, taken.whole uri parts.form parts.name, times-append (visited visit) after uri)))
+    (λ uri song among. let parts = song_parts files place uri song in (
+      among,
+      omega (arith, taken.whole uri parts.form parts.name, times-append (visited visit) after uri),
+    ))
 
-pub whole_taken : (files : List File) (place : Option (List ℕ)) (start : List Pending) (known : List (List ℕ)) (before after : List Pending) (visit : Visit) (d : List (List ℕ)) (changes : List RowChange)
-    → IsTaken before visit after → IsWholeBatch files place start known before d changes → IsWholeBatch files place start known (visited visit ++ after) d changes
+pub whole_taken : (files : List File) (place : Option (List ℕ)) (start : List Pending) (known : List (List ℕ)) (before after : List Pending)
+    (visit : Visit) (d : List (List ℕ)) (changes : List RowChange)
+    → IsTaken before visit after → IsWholeBatch files place start known before d changes
+    → IsWholeBatch files place start known (visited visit ++ after) d changes
 whole_taken files place start known before after visit d changes taken =
     whole_step files place start known before (visited visit ++ after) d d changes
-    (λ uri song. let parts = song_parts files place uri song in omega (arith, taken.whole uri parts.form parts.name, times-append (visited visit) after uri))
+    (λ uri song. let parts = song_parts files place uri song in omega (
+      arith,
+      taken.whole uri parts.form parts.name,
+      times-append (visited visit) after uri,
+    ))
     (λ uri none among. among)
 
 -- what isn't the file at a path is still to be read as before
-others : (path uri : List ℕ) (pending : List Pending) → bytes_eq path uri ≡ false → times_pending (file_at path ∷ pending) uri ≡ times_pending pending uri
+others : (path uri : List ℕ) (pending : List Pending) → bytes_eq path uri ≡ false
+    → times_pending (file_at path ∷ pending) uri ≡ times_pending pending uri
 others path uri pending other =
     let none : ◌≡◌ {A = ℕ} (cond (bytes_eq uri path) 1 0) 0 = rw (bytes-comm uri path, other) refl in
     omega (arith, times-cons (file_at path) pending uri, none)
@@ -72,12 +88,14 @@ not_true : (b : Bool) → not b ≡ true → b ≡ false
 not_true true h = absurd (cc)
 not_true false h = refl
 
-left : (path uri : List ℕ) (d : List (List ℕ)) → is_among (without path d) uri ≡ true → (is_among d uri ≡ true) × (bytes_eq path uri ≡ false)
+left : (path uri : List ℕ) (d : List (List ℕ)) → is_among (without path d) uri ≡ true
+    → (is_among d uri ≡ true) × (bytes_eq path uri ≡ false)
 left path uri d among =
     let parts = both (is_among d uri) (not (bytes_eq path uri)) (sym (among_filter (λ known. not (bytes_eq path known)) uri d) ∙ among) in
     (parts.0, not_true (bytes_eq path uri) parts.1)
 
-apart : (files : List File) (place : Option (List ℕ)) (path uri : List ℕ) (b : Bool) → has_song files place path ≡ b → has_song files place uri ≡ not b → bytes_eq path uri ≡ false
+apart : (files : List File) (place : Option (List ℕ)) (path uri : List ℕ) (b : Bool) → has_song files place path ≡ b
+    → has_song files place uri ≡ not b → bytes_eq path uri ≡ false
 apart files place path uri b own other = by_cases (bytes_eq path uri) refl
   where
     differ : (c : Bool) → c ≡ not c → ⊥
@@ -94,79 +112,102 @@ IsTold files place uri (Song row) = (row.uri ≡ uri) × (has_song files place r
 IsTold files place uri (Kept kept) = kept ≡ uri
 IsTold files place uri NoSong = has_song files place uri ≡ false
 
-honest_put : (files : List File) (place : Option (List ℕ)) (start : List Pending) (known : List (List ℕ)) (pending : List Pending) (d : List (List ℕ)) (changes : List RowChange) (row : Row)
+honest_put : (files : List File) (place : Option (List ℕ)) (start : List Pending) (known : List (List ℕ)) (pending : List Pending)
+    (d : List (List ℕ)) (changes : List RowChange) (row : Row)
     → has_song files place row.uri ≡ true → IsHonestBatch files place start known (file_at row.uri ∷ pending) d changes
     → IsHonestBatch files place start known pending (without row.uri d) (changes ++ Put row ∷ [])
 honest_put files place start known pending d changes row song batch =
     record {
       read = λ uri. omega (arith, batch.read uri, put-one changes row uri, times-cons (file_at row.uri) pending uri);
-      puts = All-same (λ (r : Row). has_song files place r.uri ≡ true) _ _ (puts-append changes (Put row ∷ [])) (All-push (λ (r : Row). has_song files place r.uri ≡ true) (puts_of changes) row batch.puts song);
+      puts = All-same (λ (r : Row). has_song files place r.uri ≡ true) _ _ (puts-append changes (Put row ∷ []))
+          (All-push (λ (r : Row). has_song files place r.uri ≡ true) (puts_of changes) row batch.puts song);
       careful = λ first uri told among.
           let l = left row.uri uri d among in
           omega (arith, batch.careful first uri told l.0, others row.uri uri pending l.1);
     }
 
-whole_put : (files : List File) (place : Option (List ℕ)) (start : List Pending) (known : List (List ℕ)) (pending : List Pending) (d : List (List ℕ)) (changes : List RowChange) (row : Row)
+whole_put : (files : List File) (place : Option (List ℕ)) (start : List Pending) (known : List (List ℕ)) (pending : List Pending)
+    (d : List (List ℕ)) (changes : List RowChange) (row : Row)
     → has_song files place row.uri ≡ true → IsWholeBatch files place start known (file_at row.uri ∷ pending) d changes
     → IsWholeBatch files place start known pending (without row.uri d) (changes ++ Put row ∷ [])
 whole_put files place start known pending d changes row song batch =
     record {
       read = λ uri told. omega (arith, batch.read uri told, put-one changes row uri, times-cons (file_at row.uri) pending uri);
       gone = λ uri none among.
-          among_filter (λ known. not (bytes_eq row.uri known)) uri d ∙ rw (batch.gone uri none among, apart files place row.uri uri true song none) refl;
+          among_filter (λ known. not (bytes_eq row.uri known)) uri d
+          ∙ rw (batch.gone uri none among, apart files place row.uri uri true song none) refl;
     }
 
-pub honest_told : (files : List File) (place : Option (List ℕ)) (start : List Pending) (known : List (List ℕ)) (pending : List Pending) (d : List (List ℕ)) (changes : List RowChange) (uri : List ℕ) (found : Found)
+pub honest_told : (files : List File) (place : Option (List ℕ)) (start : List Pending) (known : List (List ℕ)) (pending : List Pending)
+    (d : List (List ℕ)) (changes : List RowChange) (uri : List ℕ) (found : Found)
     → IsTold files place uri found → IsHonestBatch files place start known (file_at uri ∷ pending) d changes
     → IsHonestBatch files place start known pending (still_droppable found d) (changes ++ changes_of found)
-honest_told files place start known pending d changes uri (Song row) told batch = honest_put files place start known pending d changes row told.1 (rw told.0 batch)
+honest_told files place start known pending d changes uri (Song row) told batch =
+    honest_put files place start known pending d changes row told.1 (rw told.0 batch)
 honest_told files place start known pending d changes uri (Kept kept) told batch =
-    rw (append-nil changes, told) (honest_step files place start known (file_at uri ∷ pending) pending d (without uri d) changes (λ other. fewer uri other pending)
+    rw (append-nil changes, told) (honest_step files place start known (file_at uri ∷ pending) pending d (without uri d) changes
+    (λ other. fewer uri other pending)
     (λ other song among. let l = left uri other d among in (l.0, omega (arith, others uri other pending l.1))) batch)
 honest_told files place start known pending d changes uri NoSong told batch =
-    rw (append-nil changes) (honest_step files place start known (file_at uri ∷ pending) pending d d changes (λ other. fewer uri other pending)
+    rw (append-nil changes) (honest_step files place start known (file_at uri ∷ pending) pending d d changes
+    (λ other. fewer uri other pending)
     (λ other song among. (among, omega (arith, others uri other pending (apart files place uri other false told song)))) batch)
 
-pub whole_told : (files : List File) (place : Option (List ℕ)) (start : List Pending) (known : List (List ℕ)) (pending : List Pending) (d : List (List ℕ)) (changes : List RowChange) (uri : List ℕ) (found : Found)
+pub whole_told : (files : List File) (place : Option (List ℕ)) (start : List Pending) (known : List (List ℕ)) (pending : List Pending)
+    (d : List (List ℕ)) (changes : List RowChange) (uri : List ℕ) (found : Found)
     → IsTold files place uri found → IsKnown found → IsWholeBatch files place start known (file_at uri ∷ pending) d changes
     → IsWholeBatch files place start known pending (still_droppable found d) (changes ++ changes_of found)
-whole_told files place start known pending d changes uri (Song row) told sure batch = whole_put files place start known pending d changes row told.1 (rw told.0 batch)
+whole_told files place start known pending d changes uri (Song row) told sure batch =
+    whole_put files place start known pending d changes row told.1 (rw told.0 batch)
 whole_told files place start known pending d changes uri (Kept kept) told sure batch = absurd sure
 whole_told files place start known pending d changes uri NoSong told sure batch =
     rw (append-nil changes) (whole_step files place start known (file_at uri ∷ pending) pending d d changes
     (λ other song. omega (arith, others uri other pending (apart files place uri other false told song))) (λ other none among. among) batch)
 
 -- what the opening of an honest folder's file tells
-has_row_of : (files : List File) (place : Option (List ℕ)) (uri : List ℕ) (b : Bool) → is_sought place uri ≡ true → is_uri uri ≡ true → has_row (song_at files uri) ≡ b → has_song files place uri ≡ b
+has_row_of : (files : List File) (place : Option (List ℕ)) (uri : List ℕ) (b : Bool) → is_sought place uri ≡ true → is_uri uri ≡ true
+    → has_row (song_at files uri) ≡ b → has_song files place uri ≡ b
 has_row_of files place uri b sought form row = rw (sought, form) row
 
-pub found_tells : {S : Type 0} (bytes : S → List ℕ) (honest : S → Type 0) (files : List File) (place : Option (List ℕ)) (uri : List ℕ) (opened : Result (Option S) FolderFault) (found : Found) (answer : Result Found SongDbError)
+pub found_tells : {S : Type 0} (bytes : S → List ℕ) (honest : S → Type 0) (files : List File) (place : Option (List ℕ)) (uri : List ℕ)
+    (opened : Result (Option S) FolderFault) (found : Found) (answer : Result Found SongDbError)
     → is_sought place uri ≡ true → is_uri uri ≡ true → answer ≡ Ok found
-    → IfOk opened (λ file. MatchOption file (bytes_at files uri ≡ None) (λ source. (bytes_at files uri ≡ Some (bytes source)) × honest source))
-    → (opened ≡ Err Source → answer ≡ Ok (Kept uri)) → (opened ≡ Ok None → answer ≡ Ok NoSong) → (opened ≡ Err NoMemory → answer ≡ Err MemoryRefused)
-    → IsOf uri found → ((source : S) → opened ≡ Ok (Some source) → honest source → IsSongIn uri (bytes source) found) → IsTold files place uri found
+    → IfOk opened (λ file. MatchOption file (bytes_at files uri ≡ None) (λ source. (bytes_at files uri ≡ Some (bytes source))
+    × honest source))
+    → (opened ≡ Err Source → answer ≡ Ok (Kept uri)) → (opened ≡ Ok None → answer ≡ Ok NoSong)
+    → (opened ≡ Err NoMemory → answer ≡ Err MemoryRefused)
+    → IsOf uri found → ((source : S) → opened ≡ Ok (Some source) → honest source → IsSongIn uri (bytes source) found)
+    → IsTold files place uri found
 found_tells bytes honest files place uri opened (Kept kept) answer sought form is told fault none memory of song = of
-found_tells bytes honest files place uri (Err Source) (Song row) answer sought form is told fault none memory of song = absurd (cc (fault refl))
-found_tells bytes honest files place uri (Err NoMemory) (Song row) answer sought form is told fault none memory of song = absurd (cc (memory refl))
+found_tells bytes honest files place uri (Err Source) (Song row) answer sought form is told fault none memory of song =
+    absurd (cc (fault refl))
+found_tells bytes honest files place uri (Err NoMemory) (Song row) answer sought form is told fault none memory of song =
+    absurd (cc (memory refl))
 found_tells bytes honest files place uri (Ok None) (Song row) answer sought form is told fault none memory of song = absurd (cc (none refl))
 found_tells bytes honest files place uri (Ok (Some source)) (Song row) answer sought form is told fault none memory of song =
     let own = song source refl told.1 in
     let there : song_at files uri ≡ Some row = ap (option_and_then (song_in uri)) told.0 ∙ own.0 in
     (of, ap (has_song files place) of ∙ has_row_of files place uri true sought form (ap has_row there ∙ own.1))
 found_tells bytes honest files place uri (Err Source) NoSong answer sought form is told fault none memory of song = absurd (cc (fault refl))
-found_tells bytes honest files place uri (Err NoMemory) NoSong answer sought form is told fault none memory of song = absurd (cc (memory refl))
+found_tells bytes honest files place uri (Err NoMemory) NoSong answer sought form is told fault none memory of song =
+    absurd (cc (memory refl))
 found_tells bytes honest files place uri (Ok None) NoSong answer sought form is told fault none memory of song =
     has_row_of files place uri false sought form (ap (λ found. has_row (option_and_then (song_in uri) found)) told)
 found_tells bytes honest files place uri (Ok (Some source)) NoSong answer sought form is told fault none memory of song =
-    has_row_of files place uri false sought form (ap (λ found. has_row (option_and_then (song_in uri) found)) told.0 ∙ song source refl told.1)
+    has_row_of files place uri false sought form (ap (λ found. has_row (option_and_then (song_in uri) found)) told.0
+    ∙ song source refl told.1)
 
 -- and what a steady one's does
-pub found_known : {S : Type 0} (honest steady : S → Type 0) (files : List File) (bytes : S → List ℕ) (uri : List ℕ) (opened : Result (Option S) FolderFault) (found : Found) (answer : Result Found SongDbError)
+pub found_known : {S : Type 0} (honest steady : S → Type 0) (files : List File) (bytes : S → List ℕ) (uri : List ℕ)
+    (opened : Result (Option S) FolderFault) (found : Found) (answer : Result Found SongDbError)
     → answer ≡ Ok found
-    → IfOk opened (λ file. MatchOption file (bytes_at files uri ≡ None) (λ source. (bytes_at files uri ≡ Some (bytes source)) × honest source))
-    → IsOkUnless opened NoMemory → IfOk opened (λ file. IfSome file steady) → (opened ≡ Ok None → answer ≡ Ok NoSong) → (opened ≡ Err NoMemory → answer ≡ Err MemoryRefused)
+    → IfOk opened (λ file. MatchOption file (bytes_at files uri ≡ None) (λ source. (bytes_at files uri ≡ Some (bytes source))
+    × honest source))
+    → IsOkUnless opened NoMemory → IfOk opened (λ file. IfSome file steady) → (opened ≡ Ok None → answer ≡ Ok NoSong)
+    → (opened ≡ Err NoMemory → answer ≡ Err MemoryRefused)
     → ((source : S) → opened ≡ Ok (Some source) → honest source → steady source → IfOk answer IsKnown) → IsKnown found
-found_known honest steady files bytes uri (Err fault) found answer is told unless calm none memory known = absurd (let m : answer ≡ Err MemoryRefused = memory (ap Err unless) in cc)
+found_known honest steady files bytes uri (Err fault) found answer is told unless calm none memory known =
+    absurd (let m : answer ≡ Err MemoryRefused = memory (ap Err unless) in cc)
 found_known honest steady files bytes uri (Ok None) found answer is told unless calm none memory known =
     let same : found ≡ NoSong = cc (none refl) in rw same tt
 found_known honest steady files bytes uri (Ok (Some source)) found answer is told unless calm none memory known =

@@ -1,5 +1,6 @@
 -- What a listing does to a batch that is read from an honest folder.
-use Rattle.std.proofs.Common.{◌≡◌, ℕ, suc, ◌+◌, ◌≤◌, Bool, true, false, not, ◌&&◌, ◌||◌, List, [], ◌∷◌, ◌++◌, Option, Some, None, Ok, Err, cond, take, length, nat_eq, refl, sym, ap, ◌∙◌, arith, append_assoc}
+use Rattle.std.proofs.Common.{◌≡◌, ℕ, suc, ◌+◌, ◌≤◌, Bool, true, false, not, ◌&&◌, ◌||◌, List, [], ◌∷◌, ◌++◌, Option, Some, None, Ok, Err}
+use Rattle.std.proofs.Common.{cond, take, length, nat_eq, refl, sym, ap, ◌∙◌, arith, append_assoc}
 use Rattle.std.specs.Prelude.{Result, IfOk, IfErr, nat_le, count_by, is_some, ◌==◌, ◌≢◌}
 use Rattle.std.specs.List.{All, list_any, list_all, prefix_len}
 use Rattle.std.specs.Str.{bytes_eq, is_utf8}
@@ -8,7 +9,8 @@ use Rattle.std.specs.declared.vec.Vec.{Vec}
 use Rattle.std.proofs.lemmas.Bool.Decides.{nat_tests}
 use Rattle.std.proofs.lemmas.List.Elements.{All-head, All-tail}
 use Rattle.wave_pcm.specs.Folder.{File, bytes_at}
-use Rattle.wave_pcm.specs.Listing.{behind_folder, behind, has_slash, is_name, first_part, same_kind, is_entry, begins_with, has_first, IsListing, entries_of}
+use Rattle.wave_pcm.specs.Listing.{behind_folder, behind, has_slash, is_name, first_part, same_kind, is_entry, begins_with, has_first}
+use Rattle.wave_pcm.specs.Listing.{IsListing, entries_of}
 use Rattle.wave_pcm.specs.Text.{has_control}
 use Rattle.wave_pcm.specs.declared.folder.FolderEntry.{FolderEntry}
 use Rattle.wave_pcm.specs.declared.folder.FolderFault.{FolderFault}
@@ -79,7 +81,8 @@ entry_file (n ∷ name) (b ∷ rest) plain = by_cases (nat_eq b 47) refl (entry_
         → (nat_eq b n && bytes_eq rest name) ≡ (bytes_eq (n ∷ name) (first_part (b ∷ rest)) && not (nat_eq b 47 || has_slash rest))
     by_cases true slash more = rw (nat_comm b n, not_slash n b two.0 slash, first_slash b rest slash) refl
     by_cases false other more =
-        rw (nat_comm b n, first_other b rest other, other, more) (sym (and_assoc (nat_eq n b) (bytes_eq name (first_part rest)) (not (has_slash rest))))
+        rw (nat_comm b n, first_other b rest other, other, more)
+        (sym (and_assoc (nat_eq n b) (bytes_eq name (first_part rest)) (not (has_slash rest))))
 
 entry_folder : (name rest : List ℕ) → has_slash name ≡ false → begins_below name rest ≡ (bytes_eq name (first_part rest) && has_slash rest)
 entry_folder [] [] plain = refl
@@ -97,7 +100,8 @@ entry_folder (n ∷ name) (b ∷ rest) plain = by_cases (nat_eq b 47) refl (entr
     by_cases : (c : Bool) → nat_eq b 47 ≡ c → begins_below name rest ≡ (bytes_eq name (first_part rest) && has_slash rest)
         → (nat_eq n b && begins_below name rest) ≡ (bytes_eq (n ∷ name) (first_part (b ∷ rest)) && (nat_eq b 47 || has_slash rest))
     by_cases true slash more = rw (not_slash n b two.0 slash, first_slash b rest slash) refl
-    by_cases false other more = rw (first_other b rest other, other, more) (sym (and_assoc (nat_eq n b) (bytes_eq name (first_part rest)) (has_slash rest)))
+    by_cases false other more = rw (first_other b rest other, other, more)
+        (sym (and_assoc (nat_eq n b) (bytes_eq name (first_part rest)) (has_slash rest)))
 
 bytes_prefix : (prefix a b : List ℕ) → bytes_eq (prefix ++ a) (prefix ++ b) ≡ bytes_eq a b
 bytes_prefix [] a b = refl
@@ -121,16 +125,22 @@ covers_entry prefix rest entry is = by_kind entry.is_folder
     name : List ℕ
     name = string_bytes entry.name
 
-    by_kind : (k : Bool) → covers (prefix ++ rest) (path_pending (prefix ++ name) k) ≡ (bytes_eq name (first_part rest) && same_kind k (has_slash rest))
-    by_kind true = below-bytes (prefix ++ name) (prefix ++ rest) ∙ begins_prefix prefix name rest ∙ entry_folder name rest (plain_name name is)
+    by_kind : (k : Bool) → covers (prefix ++ rest) (path_pending (prefix ++ name) k)
+        ≡ (bytes_eq name (first_part rest) && same_kind k (has_slash rest))
+    by_kind true = below-bytes (prefix ++ name) (prefix ++ rest) ∙ begins_prefix prefix name rest
+        ∙ entry_folder name rest (plain_name name is)
     by_kind false = bytes_prefix prefix rest name ∙ entry_file name rest (plain_name name is)
 
-times_entries : (prefix rest : List ℕ) (entries : List FolderEntry) → All (λ (entry : FolderEntry). is_name (string_bytes entry.name) ≡ true) entries
+times_entries : (prefix rest : List ℕ) (entries : List FolderEntry)
+    → All (λ (entry : FolderEntry). is_name (string_bytes entry.name) ≡ true) entries
     → times_pending (entries_pending prefix entries) (prefix ++ rest) ≡ count_by (is_entry (first_part rest) (has_slash rest)) entries
 times_entries prefix rest [] names = refl
 times_entries prefix rest (e ∷ es) names =
     times-cons (entry_pending prefix e) (entries_pending prefix es) (prefix ++ rest)
-    ∙ rw (covers_entry prefix rest e (All-head (λ (entry : FolderEntry). is_name (string_bytes entry.name) ≡ true) e es names), times_entries prefix rest es (All-tail (λ (entry : FolderEntry). is_name (string_bytes entry.name) ≡ true) e es names))
+    ∙ rw (
+      covers_entry prefix rest e (All-head (λ (entry : FolderEntry). is_name (string_bytes entry.name) ≡ true) e es names),
+      times_entries prefix rest es (All-tail (λ (entry : FolderEntry). is_name (string_bytes entry.name) ≡ true) e es names),
+    )
     (sym (count-cons (is_entry (first_part rest) (has_slash rest)) e es))
 
 -- what stands in a folder is below it
@@ -160,25 +170,32 @@ below_splits (x ∷ xs) (y ∷ ys) h =
 prefixed : (folder name : List ℕ) → (folder ++ 47 ∷ []) ++ name ≡ folder ++ 47 ∷ name
 prefixed folder name = append_assoc folder (47 ∷ []) name
 
-covers_below : (folder uri : List ℕ) (entry : FolderEntry) → covers uri (entry_pending (folder ++ 47 ∷ []) entry) ≡ true → is_below folder uri ≡ true
+covers_below : (folder uri : List ℕ) (entry : FolderEntry) → covers uri (entry_pending (folder ++ 47 ∷ []) entry) ≡ true
+    → is_below folder uri ≡ true
 covers_below folder uri entry h = by_kind entry.is_folder h
   where
     name : List ℕ
     name = string_bytes entry.name
 
     by_kind : (k : Bool) → covers uri (path_pending ((folder ++ 47 ∷ []) ++ name) k) ≡ true → is_below folder uri ≡ true
-    by_kind true h = below-bytes folder uri ∙ begins_more folder name uri (rw (prefixed folder name) at (sym (below-bytes ((folder ++ 47 ∷ []) ++ name) uri) ∙ h))
+    by_kind true h = below-bytes folder uri
+        ∙ begins_more folder name uri (rw (prefixed folder name) at (sym (below-bytes ((folder ++ 47 ∷ []) ++ name) uri) ∙ h))
     by_kind false h =
         let same : uri ≡ folder ++ 47 ∷ name = same_bytes uri ((folder ++ 47 ∷ []) ++ name) h ∙ prefixed folder name in
         ap (is_below folder) same ∙ below-bytes folder (folder ++ 47 ∷ name) ∙ begins_own folder name
 
-none_outside : (folder uri : List ℕ) (entries : List FolderEntry) → is_below folder uri ≡ false → times_pending (entries_pending (folder ++ 47 ∷ []) entries) uri ≡ 0
+none_outside : (folder uri : List ℕ) (entries : List FolderEntry) → is_below folder uri ≡ false
+    → times_pending (entries_pending (folder ++ 47 ∷ []) entries) uri ≡ 0
 none_outside folder uri [] outside = refl
-none_outside folder uri (e ∷ es) outside = by_cases (covers uri (entry_pending (folder ++ 47 ∷ []) e)) refl (none_outside folder uri es outside)
+none_outside folder uri (e ∷ es) outside =
+    by_cases (covers uri (entry_pending (folder ++ 47 ∷ []) e)) refl (none_outside folder uri es outside)
   where
-    by_cases : (b : Bool) → covers uri (entry_pending (folder ++ 47 ∷ []) e) ≡ b → times_pending (entries_pending (folder ++ 47 ∷ []) es) uri ≡ 0 → times_pending (entries_pending (folder ++ 47 ∷ []) (e ∷ es)) uri ≡ 0
+    by_cases : (b : Bool) → covers uri (entry_pending (folder ++ 47 ∷ []) e) ≡ b
+        → times_pending (entries_pending (folder ++ 47 ∷ []) es) uri ≡ 0
+        → times_pending (entries_pending (folder ++ 47 ∷ []) (e ∷ es)) uri ≡ 0
     by_cases true h rest = absurd (let k : true ≡ false = sym (covers_below folder uri e h) ∙ outside in cc)
-    by_cases false h rest = times-cons (entry_pending (folder ++ 47 ∷ []) e) (entries_pending (folder ++ 47 ∷ []) es) uri ∙ rw (h, rest) refl
+    by_cases false h rest = times-cons (entry_pending (folder ++ 47 ∷ []) e) (entries_pending (folder ++ 47 ∷ []) es) uri
+        ∙ rw (h, rest) refl
 
 any_count : {X : Type 0} (p : X → Bool) (xs : List X) → list_any p xs ≡ true → 1 ≤ count_by p xs
 any_count p [] h = absurd (cc)
@@ -189,7 +206,8 @@ any_count p (x ∷ xs) h = by_cases (p x) refl h (any_count p xs)
     by_cases false told h rest = omega (arith, count-cons p x xs, rest h)
 
 -- a song's file is there
-front : (file : File) (files : List File) (path : List ℕ) → bytes_at (file ∷ files) path ≡ cond (bytes_eq file.path path) (Some file.bytes) (bytes_at files path)
+front : (file : File) (files : List File) (path : List ℕ)
+    → bytes_at (file ∷ files) path ≡ cond (bytes_eq file.path path) (Some file.bytes) (bytes_at files path)
 front file files path = by_cases (bytes_eq file.path path) refl
   where
     by_cases : (b : Bool) → bytes_eq file.path path ≡ b → bytes_at (file ∷ files) path ≡ cond b (Some file.bytes) (bytes_at files path)
@@ -212,11 +230,13 @@ has_first_of (file ∷ files) folder rest uri is there =
   where
     by_cases : (b : Bool) → bytes_eq file.path uri ≡ b → is_some (cond b (Some file.bytes) (bytes_at files uri)) ≡ true
         → (is_some (bytes_at files uri) ≡ true → has_first files folder (first_part rest) (has_slash rest) ≡ true)
-        → (begins_with (first_part rest) (has_slash rest) (behind folder file.path) || has_first files folder (first_part rest) (has_slash rest)) ≡ true
+        → (begins_with (first_part rest) (has_slash rest) (behind folder file.path)
+        || has_first files folder (first_part rest) (has_slash rest)) ≡ true
     by_cases true same there rest_of =
         let own : behind folder file.path ≡ Some rest = ap (behind folder) (same_bytes file.path uri same) ∙ is in
         rw (own, bytes_self (first_part rest), kind_self (has_slash rest)) refl
-    by_cases false other there rest_of = rw (rest_of there) (or_true (begins_with (first_part rest) (has_slash rest) (behind folder file.path)))
+    by_cases false other there rest_of =
+        rw (rest_of there) (or_true (begins_with (first_part rest) (has_slash rest) (behind folder file.path)))
 
 song_there : (files : List File) (uri : List ℕ) → has_row (song_at files uri) ≡ true → is_some (bytes_at files uri) ≡ true
 song_there files uri row = by_cases (bytes_at files uri) refl row
@@ -230,7 +250,8 @@ pub parts_slash : (front rest : List ℕ) → parts (front ++ 47 ∷ rest) ≡ p
 parts_slash [] rest = refl
 parts_slash (x ∷ xs) rest = by_cases (nat_eq x 47) refl (first_of xs) (parts_slash xs rest)
   where
-    by_cases : (b : Bool) → nat_eq x 47 ≡ b → HasFirst xs → parts (xs ++ 47 ∷ rest) ≡ parts xs ++ parts rest → parts (x ∷ (xs ++ 47 ∷ rest)) ≡ parts (x ∷ xs) ++ parts rest
+    by_cases : (b : Bool) → nat_eq x 47 ≡ b → HasFirst xs → parts (xs ++ 47 ∷ rest) ≡ parts xs ++ parts rest
+        → parts (x ∷ (xs ++ 47 ∷ rest)) ≡ parts (x ∷ xs) ++ parts rest
     by_cases true slash first more = rw (slash, more) refl
     by_cases false other first more =
         let whole : parts (xs ++ 47 ∷ rest) ≡ first.first ∷ (first.others ++ parts rest) = more ∙ ap (λ l. l ++ parts rest) first.is in
@@ -262,7 +283,8 @@ good_first [] good = absurd (cc)
 good_first (b ∷ rest) good = by_cases (nat_eq b 47) refl
   where
     by_cases : (c : Bool) → nat_eq b 47 ≡ c → is_name (first_part (b ∷ rest)) ≡ true
-    by_cases true slash = absurd (let k : list_all is_good_part (parts (b ∷ rest)) ≡ false = rw slash refl in let l : true ≡ false = sym good ∙ k in cc)
+    by_cases true slash =
+        absurd (let k : list_all is_good_part (parts (b ∷ rest)) ≡ false = rw slash refl in let l : true ≡ false = sym good ∙ k in cc)
     by_cases false other = rw (first_plain (b ∷ rest)) (rw (first_other b rest other) refl)
 
 pub not_empty : (uri : List ℕ) → is_uri uri ≡ true → uri ≢ []
@@ -279,13 +301,15 @@ behind_own (f ∷ folder) rest some = by_bytes (f ∷ folder)
 -- a listing has each song behind its folder once, and nothing else
 listed_under : (files : List File) (folder prefix rest : List ℕ) (entries : List FolderEntry) → IsListing files folder entries
     → times_pending (entries_pending prefix entries) (prefix ++ rest) ≤ 1
-listed_under files folder prefix rest entries listing = omega (arith, times_entries prefix rest entries listing.names, listing.once (first_part rest) (has_slash rest))
+listed_under files folder prefix rest entries listing =
+    omega (arith, times_entries prefix rest entries listing.names, listing.once (first_part rest) (has_slash rest))
 
 listed_over : (files : List File) (folder prefix rest uri : List ℕ) (entries : List FolderEntry) → IsListing files folder entries
     → list_all is_good_part (parts rest) ≡ true → behind folder uri ≡ Some rest → is_some (bytes_at files uri) ≡ true
     → 1 ≤ times_pending (entries_pending prefix entries) (prefix ++ rest)
 listed_over files folder prefix rest uri entries listing good is there =
-    let any : list_any (is_entry (first_part rest) (has_slash rest)) entries ≡ true = listing.each (first_part rest) (good_first rest good) (has_slash rest) ∙ has_first_of files folder rest uri is there in
+    let any : list_any (is_entry (first_part rest) (has_slash rest)) entries ≡ true =
+    listing.each (first_part rest) (good_first rest good) (has_slash rest) ∙ has_first_of files folder rest uri is there in
     omega (arith, times_entries prefix rest entries listing.names, any_count (is_entry (first_part rest) (has_slash rest)) entries any)
 
 pub at_most : (files : List File) (folder uri : List ℕ) (entries : List FolderEntry) → IsListing files folder entries
@@ -299,54 +323,76 @@ at_most files folder uri entries listing = by_cases (is_below folder uri) refl
         rw is (listed_under files folder (folder ++ 47 ∷ []) split.0 entries listing)
     by_cases false h = omega (arith, none_outside folder uri entries h)
 
-pub at_least : (files : List File) (place : Option (List ℕ)) (folder uri : List ℕ) (entries : List FolderEntry) → IsListing files folder entries → folder ≢ []
+pub at_least : (files : List File) (place : Option (List ℕ)) (folder uri : List ℕ) (entries : List FolderEntry)
+    → IsListing files folder entries → folder ≢ []
     → has_song files place uri ≡ true → cond (is_below folder uri) 1 0 ≤ times_pending (entries_pending (folder ++ 47 ∷ []) entries) uri
 at_least files place folder uri entries listing some song = by_cases (is_below folder uri) refl
   where
-    ap_times : {rest : List ℕ} → uri ≡ rest → 1 ≤ times_pending (entries_pending (folder ++ 47 ∷ []) entries) rest → 1 ≤ times_pending (entries_pending (folder ++ 47 ∷ []) entries) uri
+    ap_times : {rest : List ℕ} → uri ≡ rest → 1 ≤ times_pending (entries_pending (folder ++ 47 ∷ []) entries) rest
+        → 1 ≤ times_pending (entries_pending (folder ++ 47 ∷ []) entries) uri
     ap_times is one = rw is one
 
     by_cases : (b : Bool) → is_below folder uri ≡ b → cond b 1 0 ≤ times_pending (entries_pending (folder ++ 47 ∷ []) entries) uri
     by_cases true h =
         let split = below_splits folder uri (sym (below-bytes folder uri) ∙ h) in
         let told = song_parts files place uri song in
-        let good = all_both is_good_part (parts folder) (parts split.0) (sym (ap (list_all is_good_part) (ap parts split.1 ∙ parts_slash folder split.0)) ∙ good_parts uri told.form) in
+        let good = all_both is_good_part (parts folder) (parts split.0)
+        (sym (ap (list_all is_good_part) (ap parts split.1 ∙ parts_slash folder split.0)) ∙ good_parts uri told.form) in
         let is : uri ≡ (folder ++ 47 ∷ []) ++ split.0 = split.1 ∙ sym (prefixed folder split.0) in
-        ap_times is (listed_over files folder (folder ++ 47 ∷ []) split.0 uri entries listing good.1 (ap (behind folder) split.1 ∙ behind_own folder split.0 some) (song_there files uri told.row))
+        ap_times is (listed_over files folder (folder ++ 47 ∷ []) split.0 uri entries listing good.1
+        (ap (behind folder) split.1 ∙ behind_own folder split.0 some) (song_there files uri told.row))
     by_cases false h = omega arith
 
-pub root_most : (files : List File) (uri : List ℕ) (entries : List FolderEntry) → IsListing files [] entries → times_pending (entries_pending [] entries) uri ≤ 1
+pub root_most : (files : List File) (uri : List ℕ) (entries : List FolderEntry) → IsListing files [] entries
+    → times_pending (entries_pending [] entries) uri ≤ 1
 root_most files uri entries listing = listed_under files [] [] uri entries listing
 
-pub root_least : (files : List File) (place : Option (List ℕ)) (uri : List ℕ) (entries : List FolderEntry) → IsListing files [] entries → has_song files place uri ≡ true
+pub root_least : (files : List File) (place : Option (List ℕ)) (uri : List ℕ) (entries : List FolderEntry) → IsListing files [] entries
+    → has_song files place uri ≡ true
     → 1 ≤ times_pending (entries_pending [] entries) uri
 root_least files place uri entries listing song =
     let told = song_parts files place uri song in
     listed_over files [] [] uri uri entries listing (good_parts uri told.form) refl (song_there files uri told.row)
 
 -- a folder whose entries are listed
-entered_honest : (files : List File) (place : Option (List ℕ)) (start : List Pending) (known : List (List ℕ)) (pending after : List Pending) (d : List (List ℕ)) (changes : List RowChange) (folder : List ℕ) (entries : List FolderEntry)
+entered_honest : (files : List File) (place : Option (List ℕ)) (start : List Pending) (known : List (List ℕ)) (pending after : List Pending)
+    (d : List (List ℕ)) (changes : List RowChange) (folder : List ℕ) (entries : List FolderEntry)
     → IsListing files folder entries → folder ≢ []
-    → ((uri : List ℕ) → times_pending after uri ≡ times_pending (entries_pending (folder ++ 47 ∷ []) entries) uri + times_pending pending uri)
+    → ((uri : List ℕ) → times_pending after uri ≡ times_pending (entries_pending (folder ++ 47 ∷ []) entries) uri
+    + times_pending pending uri)
     → IsHonestBatch files place start known (below folder ∷ pending) d changes → IsHonestBatch files place start known after d changes
 entered_honest files place start known pending after d changes folder entries listing some told =
     honest_step files place start known (below folder ∷ pending) after d d changes
     (λ uri. omega (arith, told uri, times-cons (below folder) pending uri, at_most files folder uri entries listing))
-    (λ uri song among. (among, omega (arith, told uri, times-cons (below folder) pending uri, at_least files place folder uri entries listing some song)))
+    (λ uri song among. (
+      among,
+      omega (
+        arith,
+        told uri,
+        times-cons (below folder) pending uri,
+        at_least files place folder uri entries listing some song,
+      ),
+    ))
 
-entered_whole : (files : List File) (place : Option (List ℕ)) (start : List Pending) (known : List (List ℕ)) (pending after : List Pending) (d : List (List ℕ)) (changes : List RowChange) (folder : List ℕ) (entries : List FolderEntry)
+entered_whole : (files : List File) (place : Option (List ℕ)) (start : List Pending) (known : List (List ℕ)) (pending after : List Pending)
+    (d : List (List ℕ)) (changes : List RowChange) (folder : List ℕ) (entries : List FolderEntry)
     → IsListing files folder entries → folder ≢ []
-    → ((uri : List ℕ) → times_pending after uri ≡ times_pending (entries_pending (folder ++ 47 ∷ []) entries) uri + times_pending pending uri)
+    → ((uri : List ℕ) → times_pending after uri ≡ times_pending (entries_pending (folder ++ 47 ∷ []) entries) uri
+    + times_pending pending uri)
     → IsWholeBatch files place start known (below folder ∷ pending) d changes → IsWholeBatch files place start known after d changes
 entered_whole files place start known pending after d changes folder entries listing some told =
     whole_step files place start known (below folder ∷ pending) after d d changes
     (λ uri song. omega (arith, told uri, times-cons (below folder) pending uri, at_least files place folder uri entries listing some song))
     (λ uri none among. among)
 
-pub honest_listed : {A : Type 0} (files : List File) (place : Option (List ℕ)) (start : List Pending) (known : List (List ℕ)) (pending after : List Pending) (d : List (List ℕ)) (changes : List RowChange) (folder : List ℕ) (listing : Result (Option (Vec FolderEntry A)) FolderFault)
+pub honest_listed : {A : Type 0} (files : List File) (place : Option (List ℕ)) (start : List Pending) (known : List (List ℕ))
+    (pending after : List Pending) (d : List (List ℕ)) (changes : List RowChange) (folder : List ℕ)
+    (listing : Result (Option (Vec FolderEntry A)) FolderFault)
     → is_uri folder ≡ true → IfOk listing (λ entries. IsListing files folder (entries_of entries))
-    → ((uri : List ℕ) → times_pending after uri ≡ times_pending (listed_pending (folder ++ 47 ∷ []) listing) uri + times_pending pending uri)
-    → IsHonestBatch files place start known (below folder ∷ pending) d changes → IsHonestBatch files place start known after (after_listing folder listing d) changes
+    → ((uri : List ℕ) → times_pending after uri ≡ times_pending (listed_pending (folder ++ 47 ∷ []) listing) uri
+    + times_pending pending uri)
+    → IsHonestBatch files place start known (below folder ∷ pending) d changes
+    → IsHonestBatch files place start known after (after_listing folder listing d) changes
 honest_listed files place start known pending after d changes folder (Ok None) form listed told batch =
     entered_honest files place start known pending after d changes folder [] listed (not_empty folder form) told batch
 honest_listed files place start known pending after d changes folder (Ok (Some entries)) form listed told batch =
@@ -355,18 +401,30 @@ honest_listed files place start known pending after d changes folder (Err fault)
     honest_step files place start known (below folder ∷ pending) after d (without_below folder d) changes
     (λ uri. omega (arith, told uri, times-cons (below folder) pending uri))
     (λ uri song among.
-    let two = both (is_among d uri) (not (is_below folder uri)) (sym (among_filter (λ known. not (is_below folder known)) uri d) ∙ among) in
-    (two.0, omega (arith, told uri, times-cons (below folder) pending uri ∙ ap (λ n. n + times_pending pending uri) (outside (is_below folder uri) two.1))))
+    let two = both (is_among d uri) (not (is_below folder uri))
+    (sym (among_filter (λ known. not (is_below folder known)) uri d) ∙ among) in (
+      two.0,
+      omega (
+        arith,
+        told uri,
+        times-cons (below folder) pending uri
+            ∙ ap (λ n. n + times_pending pending uri) (outside (is_below folder uri) two.1),
+      ),
+    ))
     batch
   where
     outside : (b : Bool) → not b ≡ true → ◌≡◌ {A = ℕ} (cond b 1 0) 0
     outside true h = absurd (cc)
     outside false h = refl
 
-pub whole_listed : {A : Type 0} (files : List File) (place : Option (List ℕ)) (start : List Pending) (known : List (List ℕ)) (pending after : List Pending) (d : List (List ℕ)) (changes : List RowChange) (folder : List ℕ) (listing : Result (Option (Vec FolderEntry A)) FolderFault)
+pub whole_listed : {A : Type 0} (files : List File) (place : Option (List ℕ)) (start : List Pending) (known : List (List ℕ))
+    (pending after : List Pending) (d : List (List ℕ)) (changes : List RowChange) (folder : List ℕ)
+    (listing : Result (Option (Vec FolderEntry A)) FolderFault)
     → is_uri folder ≡ true → IfErr listing (λ fault. ⊥) → IfOk listing (λ entries. IsListing files folder (entries_of entries))
-    → ((uri : List ℕ) → times_pending after uri ≡ times_pending (listed_pending (folder ++ 47 ∷ []) listing) uri + times_pending pending uri)
-    → IsWholeBatch files place start known (below folder ∷ pending) d changes → IsWholeBatch files place start known after (after_listing folder listing d) changes
+    → ((uri : List ℕ) → times_pending after uri ≡ times_pending (listed_pending (folder ++ 47 ∷ []) listing) uri
+    + times_pending pending uri)
+    → IsWholeBatch files place start known (below folder ∷ pending) d changes
+    → IsWholeBatch files place start known after (after_listing folder listing d) changes
 whole_listed files place start known pending after d changes folder (Ok None) form sure listed told batch =
     entered_whole files place start known pending after d changes folder [] listed (not_empty folder form) told batch
 whole_listed files place start known pending after d changes folder (Ok (Some entries)) form sure listed told batch =

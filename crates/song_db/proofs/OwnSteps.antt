@@ -1,5 +1,6 @@
 -- What the listing of the job's own folder does to a batch.
-use Rattle.std.proofs.Common.{◌≡◌, ℕ, ◌+◌, ◌≤◌, Bool, true, false, List, [], ◌∷◌, ◌++◌, Option, Some, None, Ok, Err, cond, refl, sym, ap, ◌∙◌, arith}
+use Rattle.std.proofs.Common.{◌≡◌, ℕ, ◌+◌, ◌≤◌, Bool, true, false, List, [], ◌∷◌, ◌++◌, Option, Some, None, Ok, Err, cond, refl, sym, ap}
+use Rattle.std.proofs.Common.{◌∙◌, arith}
 use Rattle.std.specs.Prelude.{Result, IfOk, IfErr, IfSome, unwrap_or, if◌then◌else◌}
 use Rattle.std.specs.Str.{bytes_eq}
 use Rattle.std.specs.declared.vec.Vec.{Vec}
@@ -21,7 +22,8 @@ use Rattle.song_db.proofs.HonestSteps.{honest_step, whole_step}
 use Rattle.song_db.proofs.ListedSteps.{at_most, at_least, root_most, root_least, not_empty}
 
 -- the job's own URI, and what is below it
-pub own_times : (uri path : List ℕ) → times_pending (own_pending (Some uri)) path ≡ cond (bytes_eq path uri) 1 0 + cond (is_below uri path) 1 0
+pub own_times : (uri path : List ℕ)
+    → times_pending (own_pending (Some uri)) path ≡ cond (bytes_eq path uri) 1 0 + cond (is_below uri path) 1 0
 own_times uri path = omega (arith, times-cons (file_at uri) (below uri ∷ []) path, times-cons (below uri) [] path)
 
 pub root_times : (path : List ℕ) → times_pending (own_pending None) path ≡ 1
@@ -45,12 +47,14 @@ song_more uri path song = by_name (is_song uri) refl
     other true h k = absurd (cc)
     other false h k = absurd (cc)
 
-    by_name : (b : Bool) → is_song uri ≡ b → cond (bytes_eq path uri) 1 0 ≤ times_pending (visited (if b then FileVisit uri else Nothing)) path
+    by_name : (b : Bool) → is_song uri ≡ b
+        → cond (bytes_eq path uri) 1 0 ≤ times_pending (visited (if b then FileVisit uri else Nothing)) path
     by_name true h = omega (arith, times-cons (file_at uri) [] path)
     by_name false h = none (bytes_eq path uri) (λ same. other (is_song uri) h (ap is_song (sym (same_bytes path uri same)) ∙ song))
 
 -- a folder is no song
-no_song : (files : List File) (place : Option (List ℕ)) (uri path : List ℕ) → bytes_at files uri ≡ None → has_song files place path ≡ true → cond (bytes_eq path uri) 1 0 ≤ 0
+no_song : (files : List File) (place : Option (List ℕ)) (uri path : List ℕ) → bytes_at files uri ≡ None → has_song files place path ≡ true
+    → cond (bytes_eq path uri) 1 0 ≤ 0
 no_song files place uri path none song = by_cases (bytes_eq path uri) refl
   where
     by_cases : (b : Bool) → bytes_eq path uri ≡ b → cond b 1 0 ≤ 0
@@ -64,27 +68,41 @@ abbrev pub HasForm : Option (List ℕ) → Type 0
 HasForm place = IfSome place (λ uri. is_uri uri ≡ true)
 
 -- how often a path is to be read before, and after
-own_less : {A : Type 0} (files : List File) (place : Option (List ℕ)) (old after : List Pending) (listing : Result (Option (Vec FolderEntry A)) FolderFault) → HasForm place
+own_less : {A : Type 0} (files : List File) (place : Option (List ℕ)) (old after : List Pending)
+    (listing : Result (Option (Vec FolderEntry A)) FolderFault) → HasForm place
     → IfOk listing (λ entries. IsListing files (unwrap_or place []) (entries_of entries)) → old ≡ []
     → ((uri : List ℕ) → times_pending after uri ≡ times_pending (listed_pending (own_prefix place) listing) uri + times_pending old uri)
     → (uri : List ℕ) → times_pending (visited (visit_after place listing) ++ after) uri ≤ times_pending (own_pending place) uri
-own_less files None old after (Ok None) form listed none told uri = let n = ap (λ ps. times_pending ps uri) none in omega (arith, told uri, n)
+own_less files None old after (Ok None) form listed none told uri =
+    let n = ap (λ ps. times_pending ps uri) none in omega (arith, told uri, n)
 own_less files None old after (Ok (Some entries)) form listed none told uri =
     let n = ap (λ ps. times_pending ps uri) none in omega (arith, told uri, n, root_times uri, root_most files uri entries.items listed)
-own_less files None old after (Err fault) form listed none told uri = let n = ap (λ ps. times_pending ps uri) none in omega (arith, told uri, n)
+own_less files None old after (Err fault) form listed none told uri =
+    let n = ap (λ ps. times_pending ps uri) none in omega (arith, told uri, n)
 own_less files (Some own) old after (Ok None) form listed none told uri =
     let n = ap (λ ps. times_pending ps uri) none in
     omega (arith, told uri, n, own_times own uri, times-append (visited (visit_of own false)) after uri, song_less own uri)
 own_less files (Some own) old after (Ok (Some entries)) form listed none told uri =
-    let n = ap (λ ps. times_pending ps uri) none in omega (arith, told uri, n, own_times own uri, at_most files own uri entries.items listed)
-own_less files (Some own) old after (Err fault) form listed none told uri = let n = ap (λ ps. times_pending ps uri) none in omega (arith, told uri, n)
+    let n = ap (λ ps. times_pending ps uri) none in omega (
+      arith,
+      told uri,
+      n,
+      own_times own uri,
+      at_most files own uri entries.items listed,
+    )
+own_less files (Some own) old after (Err fault) form listed none told uri =
+    let n = ap (λ ps. times_pending ps uri) none in omega (arith, told uri, n)
 
-own_more : {A : Type 0} (files : List File) (place : Option (List ℕ)) (old after : List Pending) (listing : Result (Option (Vec FolderEntry A)) FolderFault) → HasForm place
-    → IfOk listing (λ entries. IsListing files (unwrap_or place []) (entries_of entries)) → IfOk listing (IsNoFile files (unwrap_or place []))
+own_more : {A : Type 0} (files : List File) (place : Option (List ℕ)) (old after : List Pending)
+    (listing : Result (Option (Vec FolderEntry A)) FolderFault) → HasForm place
+    → IfOk listing (λ entries. IsListing files (unwrap_or place []) (entries_of entries))
+    → IfOk listing (IsNoFile files (unwrap_or place []))
     → IfErr listing (λ fault. ⊥) → old ≡ []
     → ((uri : List ℕ) → times_pending after uri ≡ times_pending (listed_pending (own_prefix place) listing) uri + times_pending old uri)
-    → (uri : List ℕ) → has_song files place uri ≡ true → times_pending (own_pending place) uri ≤ times_pending (visited (visit_after place listing) ++ after) uri
-own_more files None old after (Ok None) form listed no_file sure none told uri song = omega (arith, root_times uri, root_least files None uri [] listed song)
+    → (uri : List ℕ) → has_song files place uri ≡ true
+    → times_pending (own_pending place) uri ≤ times_pending (visited (visit_after place listing) ++ after) uri
+own_more files None old after (Ok None) form listed no_file sure none told uri song =
+    omega (arith, root_times uri, root_least files None uri [] listed song)
 own_more files None old after (Ok (Some entries)) form listed no_file sure none told uri song =
     omega (arith, told uri, root_times uri, root_least files None uri entries.items listed song)
 own_more files (Some own) old after (Ok None) form listed no_file sure none told uri song =
@@ -97,14 +115,22 @@ own_more files (Some own) old after (Ok None) form listed no_file sure none told
       at_least files (Some own) own uri [] listed (not_empty own form) song,
     )
 own_more files (Some own) old after (Ok (Some entries)) form listed no_file sure none told uri song =
-    omega (arith, told uri, own_times own uri, no_song files (Some own) own uri (no_file (not_empty own form)) song, at_least files (Some own) own uri entries.items listed (not_empty own form) song)
+    omega (
+      arith,
+      told uri,
+      own_times own uri,
+      no_song files (Some own) own uri (no_file (not_empty own form)) song,
+      at_least files (Some own) own uri entries.items listed (not_empty own form) song,
+    )
 own_more files place old after (Err fault) form listed no_file sure none told uri song = absurd sure
 
 no : {P : Type 0} → false ≡ true → P
 no h = absurd (cc)
 
-pub honest_own : {A : Type 0} (files : List File) (place : Option (List ℕ)) (start : List Pending) (known : List (List ℕ)) (old after : List Pending) (d : List (List ℕ)) (changes : List RowChange) (listing : Result (Option (Vec FolderEntry A)) FolderFault)
-    → HasForm place → IfOk listing (λ entries. IsListing files (unwrap_or place []) (entries_of entries)) → IfOk listing (IsNoFile files (unwrap_or place [])) → old ≡ []
+pub honest_own : {A : Type 0} (files : List File) (place : Option (List ℕ)) (start : List Pending) (known : List (List ℕ))
+    (old after : List Pending) (d : List (List ℕ)) (changes : List RowChange) (listing : Result (Option (Vec FolderEntry A)) FolderFault)
+    → HasForm place → IfOk listing (λ entries. IsListing files (unwrap_or place []) (entries_of entries))
+    → IfOk listing (IsNoFile files (unwrap_or place [])) → old ≡ []
     → ((uri : List ℕ) → times_pending after uri ≡ times_pending (listed_pending (own_prefix place) listing) uri + times_pending old uri)
     → IsHonestBatch files place start known (own_pending place) d changes
     → IsHonestBatch files place start known (visited (visit_after place listing) ++ after) (after_own listing d) changes
@@ -117,8 +143,10 @@ honest_own {A} files place start known old after d changes (Err fault) form list
     (own_less {A = A} files place old after (Err fault) form listed none told)
     (λ uri song among. no among)
 
-pub whole_own : {A : Type 0} (files : List File) (place : Option (List ℕ)) (start : List Pending) (known : List (List ℕ)) (old after : List Pending) (d : List (List ℕ)) (changes : List RowChange) (listing : Result (Option (Vec FolderEntry A)) FolderFault)
-    → HasForm place → IfOk listing (λ entries. IsListing files (unwrap_or place []) (entries_of entries)) → IfOk listing (IsNoFile files (unwrap_or place [])) → IfErr listing (λ fault. ⊥) → old ≡ []
+pub whole_own : {A : Type 0} (files : List File) (place : Option (List ℕ)) (start : List Pending) (known : List (List ℕ))
+    (old after : List Pending) (d : List (List ℕ)) (changes : List RowChange) (listing : Result (Option (Vec FolderEntry A)) FolderFault)
+    → HasForm place → IfOk listing (λ entries. IsListing files (unwrap_or place []) (entries_of entries))
+    → IfOk listing (IsNoFile files (unwrap_or place [])) → IfErr listing (λ fault. ⊥) → old ≡ []
     → ((uri : List ℕ) → times_pending after uri ≡ times_pending (listed_pending (own_prefix place) listing) uri + times_pending old uri)
     → IsWholeBatch files place start known (own_pending place) d changes
     → IsWholeBatch files place start known (visited (visit_after place listing) ++ after) (after_own listing d) changes
@@ -129,6 +157,8 @@ whole_own files place start known old after d changes (Ok entries) form listed n
 whole_own files place start known old after d changes (Err fault) form listed no_file sure none told = absurd sure
 
 -- a steady folder's listing that wasn't refused is one
-pub not_failed : {T A R : Type 0} (r : Result T R) (listing : Result A FolderFault) (x : T) (e : FolderFault) (refused : R) → r ≡ Ok x → IfErr listing (λ fault. fault ≡ e) → (listing ≡ Err e → r ≡ Err refused) → IfErr listing (λ fault. ⊥)
+pub not_failed : {T A R : Type 0} (r : Result T R) (listing : Result A FolderFault) (x : T) (e : FolderFault) (refused : R) → r ≡ Ok x
+    → IfErr listing (λ fault. fault ≡ e) → (listing ≡ Err e → r ≡ Err refused) → IfErr listing (λ fault. ⊥)
 not_failed r (Ok l) x e refused is unless memory = tt
-not_failed {T} {A} {R} r (Err fault) x e refused is unless memory = absurd (let m : ◌≡◌ {A = Result T R} (Ok x) (Err refused) = sym is ∙ memory (ap Err unless) in cc)
+not_failed {T} {A} {R} r (Err fault) x e refused is unless memory =
+    absurd (let m : ◌≡◌ {A = Result T R} (Ok x) (Err refused) = sym is ∙ memory (ap Err unless) in cc)

@@ -12,30 +12,41 @@ use Rattle.song_db.specs.Row.{Row}
 use Rattle.song_db.specs.Scan.{puts_of, drops_of, is_among, has_song, AreSongs, IsHonestRead, IsWholeRead}
 use Rattle.song_db.proofs.Counts.{bytes_self}
 
-pub honest_none : (files : List File) (place : Option (List ℕ)) (start : List Pending) (known : List (List ℕ)) (changes : List RowChange) → changes ≡ []
+pub honest_none : (files : List File) (place : Option (List ℕ)) (start : List Pending) (known : List (List ℕ)) (changes : List RowChange)
+    → changes ≡ []
     → IsHonestBatch files place start known start known changes
 honest_none files place start known changes none =
-    rw none (record { read = λ uri. omega arith; puts = All-nil (λ (row : Row). has_song files place row.uri ≡ true); careful = λ careful. careful })
+    rw none (record {
+      read = λ uri. omega arith;
+      puts = All-nil (λ (row : Row). has_song files place row.uri ≡ true);
+      careful =
+          λ careful. careful;
+    })
 
-pub whole_none : (files : List File) (place : Option (List ℕ)) (start : List Pending) (known : List (List ℕ)) (changes : List RowChange) → changes ≡ []
+pub whole_none : (files : List File) (place : Option (List ℕ)) (start : List Pending) (known : List (List ℕ)) (changes : List RowChange)
+    → changes ≡ []
     → IsWholeBatch files place start known start known changes
 whole_none files place start known changes none =
     rw none (record { read = λ uri song. omega arith; gone = λ uri none among. among })
 
 -- a batch that begins with the job's own folder, or goes on
-pub honest_first : (files : List File) (b : Bool) (walked : Walked) (known : List (List ℕ)) (changes : List RowChange) → b ≡ false → changes ≡ []
+pub honest_first : (files : List File) (b : Bool) (walked : Walked) (known : List (List ℕ)) (changes : List RowChange) → b ≡ false
+    → changes ≡ []
     → IsHonestBatch files walked.place (still_pending b walked) known (own_pending walked.place) known changes
 honest_first files b walked known changes is none = rw is (honest_none files walked.place (own_pending walked.place) known changes none)
 
-pub honest_later : (files : List File) (b : Bool) (walked : Walked) (known : List (List ℕ)) (changes : List RowChange) → b ≡ true → changes ≡ []
+pub honest_later : (files : List File) (b : Bool) (walked : Walked) (known : List (List ℕ)) (changes : List RowChange) → b ≡ true
+    → changes ≡ []
     → IsHonestBatch files walked.place (still_pending b walked) known walked.pending known changes
 honest_later files b walked known changes is none = rw is (honest_none files walked.place walked.pending known changes none)
 
-pub whole_first : (files : List File) (b : Bool) (walked : Walked) (known : List (List ℕ)) (changes : List RowChange) → b ≡ false → changes ≡ []
+pub whole_first : (files : List File) (b : Bool) (walked : Walked) (known : List (List ℕ)) (changes : List RowChange) → b ≡ false
+    → changes ≡ []
     → IsWholeBatch files walked.place (still_pending b walked) known (own_pending walked.place) known changes
 whole_first files b walked known changes is none = rw is (whole_none files walked.place (own_pending walked.place) known changes none)
 
-pub whole_later : (files : List File) (b : Bool) (walked : Walked) (known : List (List ℕ)) (changes : List RowChange) → b ≡ true → changes ≡ []
+pub whole_later : (files : List File) (b : Bool) (walked : Walked) (known : List (List ℕ)) (changes : List RowChange) → b ≡ true
+    → changes ≡ []
     → IsWholeBatch files walked.place (still_pending b walked) known walked.pending known changes
 whole_later files b walked known changes is none = rw is (whole_none files walked.place walked.pending known changes none)
 
@@ -53,19 +64,23 @@ among_left xs ys uri h = list_any-append (bytes_eq uri) xs ys ∙ or_left (is_am
 among_right : (xs ys : List (List ℕ)) (uri : List ℕ) → is_among ys uri ≡ true → is_among (xs ++ ys) uri ≡ true
 among_right xs ys uri h = list_any-append (bytes_eq uri) xs ys ∙ or_right (is_among xs uri) (is_among ys uri) h
 
-all_of : (test : List ℕ → Bool) (xs : List (List ℕ)) → ((uri : List ℕ) → is_among xs uri ≡ true → test uri ≡ false) → All (λ uri. test uri ≡ false) xs
+all_of : (test : List ℕ → Bool) (xs : List (List ℕ)) → ((uri : List ℕ) → is_among xs uri ≡ true → test uri ≡ false)
+    → All (λ uri. test uri ≡ false) xs
 all_of test [] told = All-nil (λ uri. test uri ≡ false)
 all_of test (x ∷ xs) told =
     All-cons (λ uri. test uri ≡ false) x xs (told x (or_left (bytes_eq x x) (is_among xs x) (bytes_self x)))
     (all_of test xs (λ uri among. told uri (or_right (bytes_eq uri x) (is_among xs uri) among)))
 
 -- what was to be dropped is dropped now or later
-parted : (changes whole : List RowChange) (droppable left : List (List ℕ)) → drops_of changes ≡ [] → drops_of whole ++ left ≡ drops_of changes ++ droppable
+parted : (changes whole : List RowChange) (droppable left : List (List ℕ)) → drops_of changes ≡ []
+    → drops_of whole ++ left ≡ drops_of changes ++ droppable
     → drops_of whole ++ left ≡ droppable
 parted changes whole droppable left none drops = drops ∙ ap (λ l. l ++ droppable) none
 
-pub honest_end : (files : List File) (place : Option (List ℕ)) (start pending : List Pending) (known droppable left : List (List ℕ)) (changes whole : List RowChange)
-    → IsHonestBatch files place start known pending droppable changes → drops_of changes ≡ [] → drops_of whole ++ left ≡ drops_of changes ++ droppable
+pub honest_end : (files : List File) (place : Option (List ℕ)) (start pending : List Pending) (known droppable left : List (List ℕ))
+    (changes whole : List RowChange)
+    → IsHonestBatch files place start known pending droppable changes → drops_of changes ≡ []
+    → drops_of whole ++ left ≡ drops_of changes ++ droppable
     → puts_of whole ≡ puts_of changes → AreSongs files whole → pending ≡ [] → IsHonestRead files place start pending known left whole
 honest_end files place start pending known droppable left changes whole batch none drops puts songs end =
     let parts : drops_of whole ++ left ≡ droppable = parted changes whole droppable left none drops in
@@ -75,14 +90,17 @@ honest_end files place start pending known droppable left changes whole batch no
       songs = songs;
       drops = λ careful. all_of (has_song files place) (drops_of whole) (λ uri among. no_song uri (has_song files place uri) refl
           (λ song. batch.careful careful uri song (ap (λ l. is_among l uri) (sym parts) ∙ among_left (drops_of whole) left uri among)));
-      careful = λ careful uri song among. batch.careful careful uri song (ap (λ l. is_among l uri) (sym parts) ∙ among_right (drops_of whole) left uri among);
+      careful = λ careful uri song among. batch.careful careful uri song (ap (λ l. is_among l uri) (sym parts)
+          ∙ among_right (drops_of whole) left uri among);
     }
   where
-    no_song : (uri : List ℕ) (b : Bool) → has_song files place uri ≡ b → (has_song files place uri ≡ true → 0 < times_pending pending uri) → b ≡ false
+    no_song : (uri : List ℕ) (b : Bool) → has_song files place uri ≡ b → (has_song files place uri ≡ true → 0 < times_pending pending uri)
+        → b ≡ false
     no_song uri true song some = absurd (let n = ap (λ ps. times_pending ps uri) end in omega (arith, some song, n))
     no_song uri false song some = refl
 
-pub honest_full : (files : List File) (place : Option (List ℕ)) (start pending : List Pending) (known droppable : List (List ℕ)) (changes : List RowChange)
+pub honest_full : (files : List File) (place : Option (List ℕ)) (start pending : List Pending) (known droppable : List (List ℕ))
+    (changes : List RowChange)
     → IsHonestBatch files place start known pending droppable changes → drops_of changes ≡ [] → AreSongs files changes
     → IsHonestRead files place start pending known droppable changes
 honest_full files place start pending known droppable changes batch none songs =
@@ -94,8 +112,10 @@ honest_full files place start pending known droppable changes batch none songs =
       careful = batch.careful;
     }
 
-pub whole_end : (files : List File) (place : Option (List ℕ)) (start pending : List Pending) (known droppable left : List (List ℕ)) (changes whole : List RowChange)
-    → IsWholeBatch files place start known pending droppable changes → drops_of changes ≡ [] → drops_of whole ++ left ≡ drops_of changes ++ droppable
+pub whole_end : (files : List File) (place : Option (List ℕ)) (start pending : List Pending) (known droppable left : List (List ℕ))
+    (changes whole : List RowChange)
+    → IsWholeBatch files place start known pending droppable changes → drops_of changes ≡ []
+    → drops_of whole ++ left ≡ drops_of changes ++ droppable
     → puts_of whole ≡ puts_of changes → IsWholeRead files place start pending known left whole
 whole_end files place start pending known droppable left changes whole batch none drops puts =
     record {

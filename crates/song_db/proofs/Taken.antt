@@ -1,5 +1,6 @@
 -- The next visit of a walk is taken from what is still to be read.
-use Rattle.std.proofs.Common.{◌≡◌, ℕ, ◌+◌, ◌≤◌, Bool, true, false, not, ◌&&◌, ◌||◌, List, [], ◌∷◌, ◌++◌, cond, take, get_or, length, nat_eq, refl, sym, ap, ◌∙◌, arith, length-append}
+use Rattle.std.proofs.Common.{◌≡◌, ℕ, ◌+◌, ◌≤◌, Bool, true, false, not, ◌&&◌, ◌||◌, List, [], ◌∷◌, ◌++◌, cond, take, get_or, length, nat_eq}
+use Rattle.std.proofs.Common.{refl, sym, ap, ◌∙◌, arith, length-append}
 use Rattle.std.specs.Prelude.{nat_le, nat_lt, if◌then◌else◌}
 use Rattle.std.specs.List.{list_any, list_all, flat_map, sum_by}
 use Rattle.std.specs.List.Sorted.{IsPermutation}
@@ -44,7 +45,8 @@ utf8_front front rest text =
 control_front : (front rest : List ℕ) → IsUtf8 front → has_control (front ++ 47 ∷ rest) ≡ false → has_control front ≡ false
 control_front front rest text none =
     neither (has_control front) (list_any is_control (chars (47 ∷ rest)))
-    (sym (ap (list_any is_control) (chars-append front (47 ∷ rest) text) ∙ list_any-append is_control (chars front) (chars (47 ∷ rest))) ∙ none)
+    (sym (ap (list_any is_control) (chars-append front (47 ∷ rest) text) ∙ list_any-append is_control (chars front) (chars (47 ∷ rest)))
+    ∙ none)
   where
     neither : (a b : Bool) → (a || b) ≡ false → a ≡ false
     neither true b h = absurd (cc)
@@ -57,14 +59,17 @@ not_true false h = refl
 uri_front : (front rest : List ℕ) → is_uri (front ++ 47 ∷ rest) ≡ true → is_uri front ≡ true
 uri_front front rest form =
     let path = front ++ 47 ∷ rest in
-    let a = both (is_utf8 path) (nat_le (length path) MAX_URI_BYTES && (not (has_control path) && list_all is_good_part (parts path))) form in
+    let a = both (is_utf8 path) (nat_le (length path) MAX_URI_BYTES && (not (has_control path) && list_all is_good_part (parts path)))
+    form in
     let b = both (nat_le (length path) MAX_URI_BYTES) (not (has_control path) && list_all is_good_part (parts path)) a.1 in
     let c = both (not (has_control path)) (list_all is_good_part (parts path)) b.1 in
     let text : IsUtf8 front = utf8_front front rest a.0 in
     let utf8 : is_utf8 front ≡ true = is_utf8-from_IsUtf8 front text in
-    let short : nat_le (length front) MAX_URI_BYTES ≡ true = shorter (length front) (length path) b.0 (omega (arith, length-append front (47 ∷ rest))) in
+    let short : nat_le (length front) MAX_URI_BYTES ≡ true =
+    shorter (length front) (length path) b.0 (omega (arith, length-append front (47 ∷ rest))) in
     let plain : has_control front ≡ false = control_front front rest text (not_true (has_control path) c.0) in
-    let good : list_all is_good_part (parts front) ≡ true = (all_both is_good_part (parts front) (parts rest) (rw (parts_slash front rest) at c.1)).0 in
+    let good : list_all is_good_part (parts front) ≡ true =
+    (all_both is_good_part (parts front) (parts rest) (rw (parts_slash front rest) at c.1)).0 in
     rw (utf8, short, plain, good) refl
   where
     shorter : (a b : ℕ) → nat_le b MAX_URI_BYTES ≡ true → a ≤ b → nat_le a MAX_URI_BYTES ≡ true
@@ -79,7 +84,8 @@ folder_is_uri folder uri form h =
 deeper : (folder uri : List ℕ) → is_below folder uri ≡ true → folders_over folder + 1 ≤ folders_over uri
 deeper folder uri h =
     let split = below_splits folder uri (sym (below-bytes folder uri) ∙ h) in
-    let whole : folders_over uri ≡ folders_over folder + folders_over (47 ∷ split.0) = ap folders_over split.1 ∙ count-append (λ b. nat_eq b 47) folder (47 ∷ split.0) in
+    let whole : folders_over uri ≡ folders_over folder + folders_over (47 ∷ split.0) =
+    ap folders_over split.1 ∙ count-append (λ b. nat_eq b 47) folder (47 ∷ split.0) in
     let one : folders_over (47 ∷ split.0) ≡ 1 + folders_over split.0 = count-cons (λ b. nat_eq b 47) 47 split.0 in
     omega (arith, whole, one)
 
@@ -106,12 +112,14 @@ visit_less path uri k = by_form (is_uri path) k
     by_name true = one (file_at path)
     by_name false = omega arith
 
-    by_form : (b : Bool) (k : Bool) → times_pending (visited (if b then visit_of path k else Nothing)) uri ≤ cond (covers uri (path_pending path k)) 1 0
+    by_form : (b : Bool) (k : Bool) → times_pending (visited (if b then visit_of path k else Nothing)) uri
+        ≤ cond (covers uri (path_pending path k)) 1 0
     by_form true true = by_depth (nat_lt (folders_over path) MAX_FOLDERS)
     by_form true false = by_name (is_song path)
     by_form false k = omega arith
 
-visit_more : (path uri : List ℕ) (k : Bool) → is_uri uri ≡ true → is_song uri ≡ true → cond (covers uri (path_pending path k)) 1 0 ≤ times_pending (visited (visit_at path k)) uri
+visit_more : (path uri : List ℕ) (k : Bool) → is_uri uri ≡ true → is_song uri ≡ true
+    → cond (covers uri (path_pending path k)) 1 0 ≤ times_pending (visited (visit_at path k)) uri
 visit_more path uri k form song = by_form (is_uri path) refl k
   where
     none : (c : Bool) (n : ℕ) → (c ≡ true → ⊥) → cond c 1 0 ≤ n
@@ -125,7 +133,8 @@ visit_more path uri k form song = by_form (is_uri path) refl k
     other true h k = absurd (cc)
     other false h k = absurd (cc)
 
-    by_depth : (b : Bool) → nat_lt (folders_over path) MAX_FOLDERS ≡ b → cond (is_below path uri) 1 0 ≤ times_pending (visited (if b then Folder path else Nothing)) uri
+    by_depth : (b : Bool) → nat_lt (folders_over path) MAX_FOLDERS ≡ b
+        → cond (is_below path uri) 1 0 ≤ times_pending (visited (if b then Folder path else Nothing)) uri
     by_depth true h = one (below path)
     by_depth false h = none (is_below path uri) _ (λ under. too_deep path uri h song under)
 
@@ -133,14 +142,16 @@ visit_more path uri k form song = by_form (is_uri path) refl k
     by_name true h = one (file_at path)
     by_name false h = none (bytes_eq uri path) _ (λ same. other (is_song path) h (ap is_song (sym (same_bytes uri path same)) ∙ song))
 
-    by_form : (b : Bool) → is_uri path ≡ b → (k : Bool) → cond (covers uri (path_pending path k)) 1 0 ≤ times_pending (visited (if b then visit_of path k else Nothing)) uri
+    by_form : (b : Bool) → is_uri path ≡ b → (k : Bool)
+        → cond (covers uri (path_pending path k)) 1 0 ≤ times_pending (visited (if b then visit_of path k else Nothing)) uri
     by_form true h true = by_depth (nat_lt (folders_over path) MAX_FOLDERS) refl
     by_form true h false = by_name (is_song path) refl
     by_form false h true = none (is_below path uri) _ (λ under. other (is_uri path) h (folder_is_uri path uri form under))
     by_form false h false = none (bytes_eq uri path) _ (λ same. other (is_uri path) h (ap is_uri (sym (same_bytes uri path same)) ∙ form))
 
 pub taken_entry : (before after : List Pending) (path : List ℕ) (k : Bool)
-    → ((uri : List ℕ) → times_pending before uri ≡ cond (covers uri (path_pending path k)) 1 0 + times_pending after uri) → IsTaken before (visit_at path k) after
+    → ((uri : List ℕ) → times_pending before uri ≡ cond (covers uri (path_pending path k)) 1 0 + times_pending after uri)
+    → IsTaken before (visit_at path k) after
 taken_entry before after path k told =
     record {
       only = λ uri. omega (arith, told uri, visit_less path uri k);
@@ -152,23 +163,28 @@ pub last_level : {L : Type 0} (f : L → List Pending) (levels : List L) (level 
     → times_pending (flat_map f (levels ++ level ∷ [])) uri ≡ times_pending (flat_map f levels) uri + times_pending (f level) uri
 last_level f levels level uri =
     ap (λ ps. times_pending ps uri) (flat_map-append f levels (level ∷ [])) ∙ times-append (flat_map f levels) (flat_map f (level ∷ [])) uri
-    ∙ ap (λ n. times_pending (flat_map f levels) uri + n) (ap (λ ps. times_pending ps uri) (flat_map-cons f level []) ∙ times-append (f level) [] uri ∙ plus_none (times_pending (f level) uri))
+    ∙ ap (λ n. times_pending (flat_map f levels) uri + n) (ap (λ ps. times_pending ps uri) (flat_map-cons f level [])
+    ∙ times-append (f level) [] uri ∙ plus_none (times_pending (f level) uri))
   where
     plus_none : (n : ℕ) → n + times_pending [] uri ≡ n
     plus_none n = omega arith
 
-pub mapped : (prefix : List ℕ) (entries : List FolderEntry) (uri : List ℕ) → times_pending (entries_pending prefix entries) uri ≡ sum_by (λ e. cond (covers uri (entry_pending prefix e)) 1 0) entries
+pub mapped : (prefix : List ℕ) (entries : List FolderEntry) (uri : List ℕ)
+    → times_pending (entries_pending prefix entries) uri ≡ sum_by (λ e. cond (covers uri (entry_pending prefix e)) 1 0) entries
 mapped prefix [] uri = refl
 mapped prefix (e ∷ es) uri =
-    times-cons (entry_pending prefix e) (entries_pending prefix es) uri ∙ ap (λ n. cond (covers uri (entry_pending prefix e)) 1 0 + n) (mapped prefix es uri)
+    times-cons (entry_pending prefix e) (entries_pending prefix es) uri
+    ∙ ap (λ n. cond (covers uri (entry_pending prefix e)) 1 0 + n) (mapped prefix es uri)
     ∙ sym (sum_by-cons (λ d. cond (covers uri (entry_pending prefix d)) 1 0) e es)
 
 pub sorted_same : (prefix : List ℕ) (entries sorted : List FolderEntry) (uri : List ℕ) → IsPermutation entries sorted
     → times_pending (entries_pending prefix sorted) uri ≡ times_pending (entries_pending prefix entries) uri
 sorted_same prefix entries sorted uri same =
-    mapped prefix sorted uri ∙ sum_by-IsPermutation (λ e. cond (covers uri (entry_pending prefix e)) 1 0) entries sorted same ∙ sym (mapped prefix entries uri)
+    mapped prefix sorted uri ∙ sum_by-IsPermutation (λ e. cond (covers uri (entry_pending prefix e)) 1 0) entries sorted same
+    ∙ sym (mapped prefix entries uri)
 
-pub entered : {L : Type 0} (f : L → List Pending) (levels new : List L) (level : L) (prefix : List ℕ) (entries sorted : List FolderEntry) (uri : List ℕ)
+pub entered : {L : Type 0} (f : L → List Pending) (levels new : List L) (level : L) (prefix : List ℕ) (entries sorted : List FolderEntry)
+    (uri : List ℕ)
     → new ≡ levels ++ level ∷ [] → f level ≡ entries_pending prefix sorted → IsPermutation entries sorted
     → times_pending (flat_map f new) uri ≡ times_pending (entries_pending prefix entries) uri + times_pending (flat_map f levels) uri
 entered f levels new level prefix entries sorted uri is own same =
@@ -176,19 +192,33 @@ entered f levels new level prefix entries sorted uri is own same =
     omega (arith, whole, ap (λ ps. times_pending ps uri) own, sorted_same prefix entries sorted uri same)
 
 -- the last entry of the last level is taken
-pub popped : {L : Type 0} (prefix : L → List ℕ) (entries : L → List FolderEntry) (before front after : List L) (level rest : L) (entry : FolderEntry) (pending : List Pending) (uri : List ℕ)
-    → pending ≡ flat_map (λ l. entries_pending (prefix l) (entries l)) before → before ≡ front ++ level ∷ [] → entries level ≡ entries rest ++ entry ∷ [] → after ≡ front ++ rest ∷ []
+pub popped : {L : Type 0} (prefix : L → List ℕ) (entries : L → List FolderEntry) (before front after : List L) (level rest : L)
+    (entry : FolderEntry) (pending : List Pending) (uri : List ℕ)
+    → pending ≡ flat_map (λ l. entries_pending (prefix l) (entries l)) before → before ≡ front ++ level ∷ []
+    → entries level ≡ entries rest ++ entry ∷ [] → after ≡ front ++ rest ∷ []
     → prefix rest ≡ prefix level
-    → times_pending pending uri ≡ cond (covers uri (entry_pending (prefix level) entry)) 1 0 + times_pending (flat_map (λ l. entries_pending (prefix l) (entries l)) after) uri
+    → times_pending pending uri ≡ cond (covers uri (entry_pending (prefix level) entry)) 1 0
+    + times_pending (flat_map (λ l. entries_pending (prefix l) (entries l)) after) uri
 popped {L} prefix entries before front after level rest entry pending uri view is own now same =
     let f : L → List Pending = λ l. entries_pending (prefix l) (entries l) in
-    let old : times_pending pending uri ≡ times_pending (flat_map f front) uri + times_pending (f level) uri = ap (λ ps. times_pending ps uri) view ∙ ap (λ ls. times_pending (flat_map f ls) uri) is ∙ last_level f front level uri in
-    let new : times_pending (flat_map f after) uri ≡ times_pending (flat_map f front) uri + times_pending (f rest) uri = ap (λ ls. times_pending (flat_map f ls) uri) now ∙ last_level f front rest uri in
-    let split : times_pending (f level) uri ≡ times_pending (entries_pending (prefix level) (entries rest)) uri + cond (covers uri (entry_pending (prefix level) entry)) 1 0 =
+    let old : times_pending pending uri ≡ times_pending (flat_map f front) uri + times_pending (f level) uri =
+    ap (λ ps. times_pending ps uri) view ∙ ap (λ ls. times_pending (flat_map f ls) uri) is ∙ last_level f front level uri in
+    let new : times_pending (flat_map f after) uri ≡ times_pending (flat_map f front) uri + times_pending (f rest) uri =
+    ap (λ ls. times_pending (flat_map f ls) uri) now ∙ last_level f front rest uri in
+    let split : times_pending (f level) uri ≡ times_pending (entries_pending (prefix level) (entries rest)) uri
+    + cond (covers uri (entry_pending (prefix level) entry)) 1 0 =
     ap (λ es. times_pending (entries_pending (prefix level) es) uri) own ∙ one_more (prefix level) (entries rest) in
-    let kept : times_pending (f rest) uri ≡ times_pending (entries_pending (prefix level) (entries rest)) uri = ap (λ p. times_pending (entries_pending p (entries rest)) uri) same in
+    let kept : times_pending (f rest) uri ≡ times_pending (entries_pending (prefix level) (entries rest)) uri =
+    ap (λ p. times_pending (entries_pending p (entries rest)) uri) same in
     omega (arith, old, new, split, kept)
   where
-    one_more : (p : List ℕ) (es : List FolderEntry) → times_pending (entries_pending p (es ++ entry ∷ [])) uri ≡ times_pending (entries_pending p es) uri + cond (covers uri (entry_pending p entry)) 1 0
+    one_more : (p : List ℕ) (es : List FolderEntry)
+        → times_pending (entries_pending p (es ++ entry ∷ [])) uri ≡ times_pending (entries_pending p es) uri
+        + cond (covers uri (entry_pending p entry)) 1 0
     one_more p [] = omega (arith, times-cons (entry_pending p entry) [] uri)
-    one_more p (e ∷ es) = omega (arith, times-cons (entry_pending p e) (entries_pending p (es ++ entry ∷ [])) uri, times-cons (entry_pending p e) (entries_pending p es) uri, one_more p es)
+    one_more p (e ∷ es) = omega (
+      arith,
+      times-cons (entry_pending p e) (entries_pending p (es ++ entry ∷ [])) uri,
+      times-cons (entry_pending p e) (entries_pending p es) uri,
+      one_more p es,
+    )

@@ -82,7 +82,8 @@ beginnings_rise : (path : List ℕ) → IsStrictlySortedBy texts (beginnings pat
 unfolding IsStrictlySortedBy
 beginnings_rise [] = tt
 beginnings_rise (b ∷ path) = (
-  all_map (λ q. texts [] q ≡ Less) (λ q. texts (b ∷ []) q ≡ Less) (λ q. b ∷ q) (λ q h. rw (same_byte b) h) (beginnings path) (not_empty path),
+  all_map (λ q. texts [] q ≡ Less) (λ q. texts (b ∷ []) q ≡ Less) (λ q. b ∷ q) (λ q h. rw (same_byte b) h) (beginnings path)
+      (not_empty path),
   sorted_map texts texts (λ q. b ∷ q) (λ p q h. rw (same_byte b) h) (beginnings path) (beginnings_rise path),
 )
 

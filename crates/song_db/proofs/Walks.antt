@@ -215,7 +215,8 @@ folders_of_walk place b path rows = by_tests (has_path (folders_among (walk_from
     by_tests false h false k = refl
     by_tests true h false k = sym (stands place (b ∷ path) 0 rows h) ∙ k
     by_tests false h true k = sym h ∙ comes place (b ∷ path) 0 rows (left (is_under place (b ∷ path)) (list_any (λ r. is_below (b ∷
-        path) r.uri) rows) k) (right (is_under place (b ∷ path)) (list_any (λ r. is_below (b ∷ path) r.uri) rows) k) (new_at_first b path rows)
+        path) r.uri) rows) k) (right (is_under place (b ∷ path)) (list_any (λ r. is_below (b ∷ path) r.uri) rows) k)
+        (new_at_first b path rows)
 
 pub is_walk : (place : Place) (rows : List Row) → IsRising row_uri (rows_under rows place) → IsWalk rows place (walk_of rows place)
 is_walk place rows rising = record {

@@ -18,15 +18,18 @@ use Rattle.state_codec.proofs.KeptOps.{kept_after}
 from_any : (i j : ℕ) (ops : List Op) (s : SavedState) → result_ok (applied_from i ops s) ≡ result_ok (applied_from j ops s)
 from_any i j [] s = refl
 from_any i j (op ∷ ops) s =
-    elim (applied op s) as (λ o. result_ok (ok_or o i >>= λ t. applied_from (suc i) ops t) ≡ result_ok (ok_or o j >>= λ t. applied_from (suc j) ops t)) [
+    elim (applied op s) as (λ o. result_ok (ok_or o i >>= λ t. applied_from (suc i) ops t)
+    ≡ result_ok (ok_or o j >>= λ t. applied_from (suc j) ops t)) [
       | None ↦ refl
       | Some t ↦ from_any (suc i) (suc j) ops t
     ]
 
-joined_from : (i : ℕ) (a b : List Op) (s : SavedState) → result_ok (applied_from i (a ++ b) s) ≡ option_and_then (all_applied b) (result_ok (applied_from i a s))
+joined_from : (i : ℕ) (a b : List Op) (s : SavedState)
+    → result_ok (applied_from i (a ++ b) s) ≡ option_and_then (all_applied b) (result_ok (applied_from i a s))
 joined_from i [] b s = from_any i 0 b s
 joined_from i (op ∷ a) b s =
-    elim (applied op s) as (λ o. result_ok (ok_or o i >>= λ t. applied_from (suc i) (a ++ b) t) ≡ option_and_then (all_applied b) (result_ok (ok_or o i >>= λ t. applied_from (suc i) a t))) [
+    elim (applied op s) as (λ o. result_ok (ok_or o i >>= λ t. applied_from (suc i) (a ++ b) t)
+    ≡ option_and_then (all_applied b) (result_ok (ok_or o i >>= λ t. applied_from (suc i) a t))) [
       | None ↦ refl
       | Some t ↦ joined_from (suc i) a b t
     ]
@@ -41,7 +44,8 @@ applied_in_range op s form saved = of (refusal_of op s) refl
     of None none = kept_after op s form saved none
     of (Some refusal) refused = tt
 
-from_in_range : (i : ℕ) (ops : List Op) (s : SavedState) → AllByRecursion IsOp ops → IsSavedState s → IfSome (result_ok (applied_from i ops s)) IsSavedState
+from_in_range : (i : ℕ) (ops : List Op) (s : SavedState) → AllByRecursion IsOp ops → IsSavedState s
+    → IfSome (result_ok (applied_from i ops s)) IsSavedState
 from_in_range i [] s fits good = good
 from_in_range i (op ∷ ops) s fits good =
     (elim (applied op s) as (λ o. IfSome o IsSavedState → IfSome (result_ok (ok_or o i >>= λ t. applied_from (suc i) ops t)) IsSavedState) [
@@ -49,11 +53,13 @@ from_in_range i (op ∷ ops) s fits good =
       | Some t ↦ λ h. from_in_range (suc i) ops t fits.1 h
     ]) (applied_in_range op s fits.0 good)
 
-pub all_applied_in_range : (ops : List Op) (s : SavedState) → AllByRecursion IsOp ops → IsSavedState s → IfSome (all_applied ops s) IsSavedState
+pub all_applied_in_range : (ops : List Op) (s : SavedState) → AllByRecursion IsOp ops → IsSavedState s
+    → IfSome (all_applied ops s) IsSavedState
 all_applied_in_range ops s fits good = from_in_range 0 ops s fits good
 
 -- what an edit leaves, refused or not
-pub kept_edit : (op : Op) (s t : SavedState) (r : Result (Unit {0}) ApplyError) → IsOp op → IsSavedState s → IsEdit (refusal_of op s) (after op s) s t r → IsSavedState t
+pub kept_edit : (op : Op) (s t : SavedState) (r : Result (Unit {0}) ApplyError) → IsOp op → IsSavedState s
+    → IsEdit (refusal_of op s) (after op s) s t r → IsSavedState t
 kept_edit op s t (Err e) form saved edit = subst IsSavedState (sym edit.err) saved
 kept_edit op s t (Ok x) form saved edit = subst IsSavedState (sym edit.ok) (kept_after op s form saved (of (refusal_of op s) edit.answer))
   where

@@ -1,5 +1,6 @@
 -- The body of a record, applied as it is read.
-use Rattle.std.proofs.Common.{◌≡◌, ℕ, zero, suc, ◌+◌, ◌-◌, ◌<◌, ◌≤◌, Bool, true, false, cond, eqb, List, [], ◌∷◌, length, Result, Ok, Err, Some, None, refl, sym, ap, ◌∙◌, arith}
+use Rattle.std.proofs.Common.{◌≡◌, ℕ, zero, suc, ◌+◌, ◌-◌, ◌<◌, ◌≤◌, Bool, true, false, cond, eqb, List, [], ◌∷◌, length, Result, Ok, Err}
+use Rattle.std.proofs.Common.{Some, None, refl, sym, ap, ◌∙◌, arith}
 use Rattle.std.specs.Prelude.{Option}
 use Rattle.std.specs.Option.{ok_or}
 use Rattle.std.proofs.lemmas.List.{length-append}
@@ -32,7 +33,8 @@ turn total n i s read = told total read >>= λ op. ok_or (applied op.0 s) (DoesN
 abbrev follow : ℕ → ℕ → ℕ → List ℕ → Option SavedState → Result SavedState BodyError
 follow total n i back o = ok_or o (DoesNotApply i) >>= λ next. body_from total n (suc i) back next
 
-step : (total n i : ℕ) (bytes : List ℕ) (s : SavedState) → 0 < length bytes → body_from total (suc n) i bytes s ≡ turn total n i s (op_at bytes)
+step : (total n i : ℕ) (bytes : List ℕ) (s : SavedState) → 0 < length bytes
+    → body_from total (suc n) i bytes s ≡ turn total n i s (op_at bytes)
 unfolding body_from
 step total n i [] s some = absurd (omega arith)
 step total n i (b ∷ rest) s some = refl
@@ -48,7 +50,8 @@ pub record BodySoFar (total i : ℕ) (rest : List ℕ) (s : SavedState) (all : R
   pub enough : i + length rest ≤ total
   pub rest_fits : IsBytes rest
 
-pub begins : (bytes : List ℕ) (s : SavedState) → IsBytes bytes → eqb (length bytes) 0 ≡ false → BodySoFar (length bytes) 0 bytes s (body_applied bytes s)
+pub begins : (bytes : List ℕ) (s : SavedState) → IsBytes bytes → eqb (length bytes) 0 ≡ false
+    → BodySoFar (length bytes) 0 bytes s (body_applied bytes s)
 begins bytes s fits some =
     let all : length bytes - 0 ≡ length bytes = omega arith in
     record {
@@ -60,19 +63,27 @@ begins bytes s fits some =
     }
 
 op_shorter : (rest : List ℕ) (op : Op) (back : List ℕ) → IsBytes rest → op_at rest ≡ Ok (op, back) → length back < length rest
-op_shorter rest op back fits e = let t = (op_takes rest (op, back) fits e).0 in omega (arith, ap length t.parts, length-append (op_bytes op) back, op_spelled op)
+op_shorter rest op back fits e = let t = (op_takes rest (op, back) fits e).0 in omega (
+  arith,
+  ap length t.parts,
+  length-append (op_bytes op) back,
+  op_spelled op,
+)
 
-pub falls : (total i : ℕ) (rest : List ℕ) (s : SavedState) (op : Op) (back : List ℕ) (all : Result SavedState BodyError) → op_at rest ≡ Ok (op, back) → BodySoFar total i rest s all → length back < length rest
+pub falls : (total i : ℕ) (rest : List ℕ) (s : SavedState) (op : Op) (back : List ℕ) (all : Result SavedState BodyError)
+    → op_at rest ≡ Ok (op, back) → BodySoFar total i rest s all → length back < length rest
 falls total i rest s op back all e so_far = op_shorter rest op back so_far.rest_fits e
 
 -- the next step, of bytes that are not at their end
-next_step : (total i : ℕ) (rest : List ℕ) (s : SavedState) (all : Result SavedState BodyError) → 0 < length rest → BodySoFar total i rest s all
+next_step : (total i : ℕ) (rest : List ℕ) (s : SavedState) (all : Result SavedState BodyError) → 0 < length rest
+    → BodySoFar total i rest s all
     → turn total (total - (i + 1)) i s (op_at rest) ≡ all
 next_step total i rest s all some so_far =
     let k : total - i ≡ suc (total - (i + 1)) = omega (arith, so_far.enough) in
     sym (step total (total - (i + 1)) i rest s some) ∙ ap (λ (n : ℕ). body_from total n i rest s) (sym k) ∙ so_far.reads
 
-pub goes_on : (total i : ℕ) (rest : List ℕ) (s t : SavedState) (op : Op) (back : List ℕ) (all : Result SavedState BodyError) → op_at rest ≡ Ok (op, back) → applied op s ≡ Some t
+pub goes_on : (total i : ℕ) (rest : List ℕ) (s t : SavedState) (op : Op) (back : List ℕ) (all : Result SavedState BodyError)
+    → op_at rest ≡ Ok (op, back) → applied op s ≡ Some t
     → BodySoFar total i rest s all → BodySoFar total (i + 1) back t all
 goes_on total i rest s t op back all e f so_far =
     let less = op_shorter rest op back so_far.rest_fits e in
@@ -86,34 +97,41 @@ goes_on total i rest s t op back all e f so_far =
       rest_fits = (op_takes rest (op, back) so_far.rest_fits e).0.rest_fits;
     }
 
-pub bad : (total i : ℕ) (rest : List ℕ) (s t : SavedState) (error : ReadError) (all : Result SavedState BodyError) → 0 < length rest → Fails error (op_at rest) → BodySoFar total i rest s all
+pub bad : (total i : ℕ) (rest : List ℕ) (s t : SavedState) (error : ReadError) (all : Result SavedState BodyError) → 0 < length rest
+    → Fails error (op_at rest) → BodySoFar total i rest s all
     → GivesBody (Err (bad_op total error)) t all
 bad total i rest s t NoMemory all some e so_far = tt
-bad total i rest s t (Fault left) all some e so_far = sym (next_step total i rest s all some so_far) ∙ ap (turn total (total - (i + 1)) i s) e
+bad total i rest s t (Fault left) all some e so_far = sym (next_step total i rest s all some so_far)
+    ∙ ap (turn total (total - (i + 1)) i s) e
 
 -- an op that was refused doesn't apply
-no_state : (o : Option OpRefusal) (refusal : OpRefusal) (s : SavedState) → AnswersApply {T = Unit {0}} o (Err (Refused refusal)) → unless_refused o s ≡ None
+no_state : (o : Option OpRefusal) (refusal : OpRefusal) (s : SavedState) → AnswersApply {T = Unit {0}} o (Err (Refused refusal))
+    → unless_refused o s ≡ None
 no_state None refusal s answer = absurd cc
 no_state (Some other) refusal s answer = refl
 
-pub refused : (total i : ℕ) (rest : List ℕ) (s t : SavedState) (op : Op) (rest_after : List ℕ) (error : ApplyError) (all : Result SavedState BodyError) → 0 < length rest → op_at rest ≡ Ok (op, rest_after)
+pub refused : (total i : ℕ) (rest : List ℕ) (s t : SavedState) (op : Op) (rest_after : List ℕ) (error : ApplyError)
+    (all : Result SavedState BodyError) → 0 < length rest → op_at rest ≡ Ok (op, rest_after)
     → AnswersApply {T = Unit {0}} (refusal_of op s) (Err error) → BodySoFar total i rest s all → GivesBody (Err (not_applied i error)) t all
 refused total i rest s t op rest_after Unapplied all some e answer so_far = tt
 refused total i rest s t op rest_after (Refused refusal) all some e answer so_far =
     sym (next_step total i rest s all some so_far) ∙ ap (turn total (total - (i + 1)) i s) e
     ∙ ap (follow total (total - (i + 1)) i rest_after) (no_state (refusal_of op s) refusal (after op s) answer)
 
-pub is_done : (total i : ℕ) (rest : List ℕ) (s : SavedState) (all : Result SavedState BodyError) → length rest ≡ 0 → BodySoFar total i rest s all → all ≡ Ok s
+pub is_done : (total i : ℕ) (rest : List ℕ) (s : SavedState) (all : Result SavedState BodyError) → length rest ≡ 0
+    → BodySoFar total i rest s all → all ≡ Ok s
 is_done total i rest s all none so_far = sym so_far.reads ∙ ended total (total - i) i rest s none
 
 -- ---- a body that spells ops
 
-go_after : (total n i : ℕ) (back : List ℕ) (o : Option SavedState) (others : List Op) → ((t : SavedState) → body_from total n (suc i) back t ≡ told_place (applied_from (suc i) others t))
+go_after : (total n i : ℕ) (back : List ℕ) (o : Option SavedState) (others : List Op)
+    → ((t : SavedState) → body_from total n (suc i) back t ≡ told_place (applied_from (suc i) others t))
     → follow total n i back o ≡ told_place (ok_or o i >>= λ t. applied_from (suc i) others t)
 go_after total n i back None others h = refl
 go_after total n i back (Some t) others h = h t
 
-reads : (total n i : ℕ) (bytes : List ℕ) (s : SavedState) (ops : List Op) → ops_at n bytes ≡ Ok ops → body_from total n i bytes s ≡ told_place (applied_from i ops s)
+reads : (total n i : ℕ) (bytes : List ℕ) (s : SavedState) (ops : List Op) → ops_at n bytes ≡ Ok ops
+    → body_from total n i bytes s ≡ told_place (applied_from i ops s)
 unfolding ops_at body_from
 reads total n i [] s ops e = ap (λ ops. told_place (applied_from i ops s)) (ok_is [] ops e)
 reads total zero i (b ∷ rest) s ops e = absurd cc
@@ -129,15 +147,19 @@ whole : (bytes : List ℕ) (r : Result (List Op) ℕ) (ops : List Op) → in_byt
 whole bytes (Ok x) ops f = f
 whole bytes (Err left) ops f = absurd cc
 
-of_body : (b : Bool) (bytes : List ℕ) (s : SavedState) (ops : List Op) → eqb (length bytes) 0 ≡ b → ops_reading bytes ≡ Ok ops → body_applied bytes s ≡ told_place (applied_from 0 ops s)
+of_body : (b : Bool) (bytes : List ℕ) (s : SavedState) (ops : List Op) → eqb (length bytes) 0 ≡ b → ops_reading bytes ≡ Ok ops
+    → body_applied bytes s ≡ told_place (applied_from 0 ops s)
 of_body true bytes s ops none e =
     let h : ops_reading bytes ≡ Err 0 = ap (λ (b : Bool). cond b (Err 0) (in_bytes bytes (ops_at (length bytes) bytes))) none in
     absurd (let clash : Err 0 ≡ Ok ops = sym h ∙ e in cc)
 of_body false bytes s ops some e =
-    let h : ops_reading bytes ≡ in_bytes bytes (ops_at (length bytes) bytes) = ap (λ (b : Bool). cond b (Err 0) (in_bytes bytes (ops_at (length bytes) bytes))) some in
-    let k : body_applied bytes s ≡ body_from (length bytes) (length bytes) 0 bytes s = ap (λ (b : Bool). cond b (Err (BadOp 0)) (body_from (length bytes) (length bytes) 0 bytes s)) some in
+    let h : ops_reading bytes ≡ in_bytes bytes (ops_at (length bytes) bytes) =
+    ap (λ (b : Bool). cond b (Err 0) (in_bytes bytes (ops_at (length bytes) bytes))) some in
+    let k : body_applied bytes s ≡ body_from (length bytes) (length bytes) 0 bytes s =
+    ap (λ (b : Bool). cond b (Err (BadOp 0)) (body_from (length bytes) (length bytes) 0 bytes s)) some in
     k ∙ reads (length bytes) (length bytes) 0 bytes s ops (whole bytes (ops_at (length bytes) bytes) ops (sym h ∙ e))
 
 -- a body that spells ops does what they do in turn
-pub spelled : (bytes : List ℕ) (s : SavedState) (ops : List Op) → ops_reading bytes ≡ Ok ops → body_applied bytes s ≡ told_place (applied_from 0 ops s)
+pub spelled : (bytes : List ℕ) (s : SavedState) (ops : List Op) → ops_reading bytes ≡ Ok ops
+    → body_applied bytes s ≡ told_place (applied_from 0 ops s)
 spelled bytes s ops e = of_body (eqb (length bytes) 0) bytes s ops refl e

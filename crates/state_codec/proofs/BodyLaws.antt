@@ -1,5 +1,6 @@
 -- The body of a record: ops that are read are spelled so, and what is spelled so is read.
-use Rattle.std.proofs.Common.{◌≡◌, ℕ, zero, suc, ◌+◌, ◌-◌, ◌<◌, ◌≤◌, ◌⊎◌, Bool, true, false, cond, eqb, List, [], ◌∷◌, ◌++◌, length, Result, Ok, Err, refl, sym, ap, subst, ◌∙◌, append_assoc, arith, inl, inr}
+use Rattle.std.proofs.Common.{◌≡◌, ℕ, zero, suc, ◌+◌, ◌-◌, ◌<◌, ◌≤◌, ◌⊎◌, Bool, true, false, cond, eqb, List, [], ◌∷◌, ◌++◌, length, Result}
+use Rattle.std.proofs.Common.{Ok, Err, refl, sym, ap, subst, ◌∙◌, append_assoc, arith, inl, inr}
 use Rattle.std.specs.Prelude.{IfOk}
 use Rattle.std.specs.Global.{Vec}
 use Rattle.std.specs.List.{AllByRecursion}
@@ -27,7 +28,8 @@ chosen : {A : Type 0} (b : Bool) (x y z : A) → cond b x y ≡ z → ((b ≡ tr
 chosen true x y z e = inl (refl, e)
 chosen false x y z e = inr (refl, e)
 
-ops_take : (n : ℕ) (bytes : List ℕ) (ops : List Op) → IsBytes bytes → ops_at n bytes ≡ Ok ops → (bytes ≡ ops_bytes ops) × AllByRecursion IsOp ops
+ops_take : (n : ℕ) (bytes : List ℕ) (ops : List Op) → IsBytes bytes → ops_at n bytes ≡ Ok ops
+    → (bytes ≡ ops_bytes ops) × AllByRecursion IsOp ops
 unfolding ops_at
 ops_take n [] ops fits e = subst (λ (x : List Op). ([] ≡ ops_bytes x) × AllByRecursion IsOp x) (ok_is [] ops e) (refl, tt)
 ops_take zero (b ∷ rest) ops fits e = absurd cc
@@ -36,11 +38,16 @@ ops_take (suc n) (b ∷ rest) ops fits e =
     let others = bind_ok (ops_at n first.0.1) _ ops first.2 in
     let one = op_takes (b ∷ rest) first.0 fits first.1 in
     let more = ops_take n first.0.1 others.0 one.0.rest_fits others.1 in
-    let whole : b ∷ rest ≡ ops_bytes (first.0.0 ∷ others.0) = one.0.parts ∙ ap (λ (x : List ℕ). op_bytes first.0.0 ++ x) more.0 ∙ sym (flat_map-cons op_bytes first.0.0 others.0) in
-    subst (λ (x : List Op). (b ∷ rest ≡ ops_bytes x) × AllByRecursion IsOp x) (ok_is (first.0.0 ∷ others.0) ops others.2) (whole, (one.1, more.1))
+    let whole : b ∷ rest ≡ ops_bytes (first.0.0 ∷ others.0) = one.0.parts ∙ ap (λ (x : List ℕ). op_bytes first.0.0 ++ x) more.0
+    ∙ sym (flat_map-cons op_bytes first.0.0 others.0) in
+    subst (λ (x : List Op). (b ∷ rest ≡ ops_bytes x) × AllByRecursion IsOp x) (ok_is (first.0.0 ∷ others.0) ops others.2) (
+      whole,
+      (one.1, more.1),
+    )
 
 -- reading goes on at bytes that are not at their end
-ops_step : (n : ℕ) (bytes : List ℕ) → 0 < length bytes → ops_at (suc n) bytes ≡ (op_at bytes >>= λ first. ops_at n first.1 >>= λ others. Ok (first.0 ∷ others))
+ops_step : (n : ℕ) (bytes : List ℕ) → 0 < length bytes
+    → ops_at (suc n) bytes ≡ (op_at bytes >>= λ first. ops_at n first.1 >>= λ others. Ok (first.0 ∷ others))
 unfolding ops_at
 ops_step n [] some = absurd (omega arith)
 ops_step n (b ∷ rest) some = refl
@@ -79,16 +86,23 @@ body_takes bytes ops fits e =
 
 some_bytes : (ops : List Op) → 0 < length ops → eqb (length (ops_bytes ops)) 0 ≡ false
 some_bytes [] some = absurd (omega arith)
-some_bytes (op ∷ ops) some = ne_eqb _ _ (λ (none : length (op_bytes op ++ ops_bytes ops) ≡ 0). omega (arith, op_spelled op, length-append (op_bytes op) (ops_bytes ops)))
+some_bytes (op ∷ ops) some =
+    ne_eqb _ _ (λ (none : length (op_bytes op ++ ops_bytes ops) ≡ 0). omega (
+      arith,
+      op_spelled op,
+      length-append (op_bytes op) (ops_bytes ops),
+    ))
 
 pub body_again : (ops : List Op) → AreOps ops → ops_reading (ops_bytes ops) ≡ Ok ops
 body_again ops fits = rw (some_bytes ops fits.0, ops_again ops (length (ops_bytes ops)) fits.1 (omega arith)) refl
 
-pub body_found : (bytes : List ℕ) (r : Result (Vec Op) CodecError) → IsBytes bytes → GivesOps r (ops_reading bytes) → IfOk r (λ ops. AreOps ops.items × (bytes ≡ ops_bytes ops.items))
+pub body_found : (bytes : List ℕ) (r : Result (Vec Op) CodecError) → IsBytes bytes → GivesOps r (ops_reading bytes)
+    → IfOk r (λ ops. AreOps ops.items × (bytes ≡ ops_bytes ops.items))
 body_found bytes (Ok ops) fits given = body_takes bytes ops.items fits given
 body_found bytes (Err e) fits given = tt
 
-pub body_only : (bytes : List ℕ) (r : Result (Vec Op) CodecError) (ops : List Op) → AreOps ops → bytes ≡ ops_bytes ops → GivesOps r (ops_reading bytes) → GivesOps r (Ok ops)
+pub body_only : (bytes : List ℕ) (r : Result (Vec Op) CodecError) (ops : List Op) → AreOps ops → bytes ≡ ops_bytes ops
+    → GivesOps r (ops_reading bytes) → GivesOps r (Ok ops)
 body_only bytes r ops fits e given = subst (GivesOps r) (ap ops_reading e ∙ body_again ops fits) given
 
 -- ---- one op after the other, as a loop reads
@@ -97,7 +111,8 @@ body_only bytes r ops fits e given = subst (GivesOps r) (ap ops_reading e ∙ bo
 abbrev pub with_front : List Op → Result (List Op) ℕ → Result (List Op) ℕ
 with_front front read = read >>= λ ops. Ok (front ++ ops)
 
-regroup : (front : List Op) (op : Op) (read : Result (List Op) ℕ) → with_front front (read >>= λ ops. Ok (op ∷ ops)) ≡ with_front (front ++ op ∷ []) read
+regroup : (front : List Op) (op : Op) (read : Result (List Op) ℕ)
+    → with_front front (read >>= λ ops. Ok (op ∷ ops)) ≡ with_front (front ++ op ∷ []) read
 regroup front op (Ok ops) = ap (λ (x : List Op). Ok x) (simp append_assoc)
 regroup front op (Err f) = refl
 
@@ -111,7 +126,11 @@ pub so_far_begins : (bytes : List ℕ) → IsBytes bytes → ReadSoFar (length b
 so_far_begins bytes fits =
     let front : List Op = [] in
     let k : length bytes - length front ≡ length bytes = omega arith in
-    record { reads = ap (λ (n : ℕ). with_front [] (ops_at n bytes)) k ∙ nothing (ops_at (length bytes) bytes); enough = omega arith; rest_fits = fits } where
+    record {
+      reads = ap (λ (n : ℕ). with_front [] (ops_at n bytes)) k ∙ nothing (ops_at (length bytes) bytes);
+      enough = omega arith;
+      rest_fits = fits;
+    } where
       nothing : (read : Result (List Op) ℕ) → with_front [] read ≡ read
       nothing (Ok ops) = refl
       nothing (Err f) = refl
@@ -119,10 +138,12 @@ so_far_begins bytes fits =
 op_shorter : (rest : List ℕ) (op : Op) (after : List ℕ) → Takes rest (op_bytes op) after → length after < length rest
 op_shorter rest op after t = omega (arith, ap length t.parts, length-append (op_bytes op) after, op_spelled op)
 
-pub falls : (total : ℕ) (front : List Op) (rest : List ℕ) (op : Op) (after : List ℕ) (all : Result (List Op) ℕ) → op_at rest ≡ Ok (op, after) → ReadSoFar total front rest all → length after < length rest
+pub falls : (total : ℕ) (front : List Op) (rest : List ℕ) (op : Op) (after : List ℕ) (all : Result (List Op) ℕ)
+    → op_at rest ≡ Ok (op, after) → ReadSoFar total front rest all → length after < length rest
 falls total front rest op after all e so_far = op_shorter rest op after (op_takes rest (op, after) so_far.rest_fits e).0
 
-pub goes_on : (total : ℕ) (front : List Op) (rest : List ℕ) (op : Op) (after : List ℕ) (all : Result (List Op) ℕ) → op_at rest ≡ Ok (op, after)
+pub goes_on : (total : ℕ) (front : List Op) (rest : List ℕ) (op : Op) (after : List ℕ) (all : Result (List Op) ℕ)
+    → op_at rest ≡ Ok (op, after)
     → ReadSoFar total front rest all → ReadSoFar total (front ++ op ∷ []) after all
 goes_on total front rest op after all e so_far =
     let t = op_takes rest (op, after) so_far.rest_fits e in
@@ -138,18 +159,22 @@ goes_on total front rest op after all e so_far =
     }
 
 -- what the body reads as, once its ops are
-pub body_is : (bytes : List ℕ) (read : Result (List Op) ℕ) → eqb (length bytes) 0 ≡ false → ops_at (length bytes) bytes ≡ read → ops_reading bytes ≡ in_bytes bytes read
+pub body_is : (bytes : List ℕ) (read : Result (List Op) ℕ) → eqb (length bytes) 0 ≡ false → ops_at (length bytes) bytes ≡ read
+    → ops_reading bytes ≡ in_bytes bytes read
 body_is bytes read some e = rw (some, e) refl
 
-pub stops : (bytes : List ℕ) (front : List Op) (rest : List ℕ) (error : ReadError) → eqb (length bytes) 0 ≡ false → 0 < length rest → Fails error (op_at rest)
+pub stops : (bytes : List ℕ) (front : List Op) (rest : List ℕ) (error : ReadError) → eqb (length bytes) 0 ≡ false → 0 < length rest
+    → Fails error (op_at rest)
     → ReadSoFar (length bytes) front rest (ops_at (length bytes) bytes) → GivesOps (Err (op_error (length bytes) error)) (ops_reading bytes)
 stops bytes front rest NoMemory some more e so_far = tt
 stops bytes front rest (Fault left) some more e so_far =
     let total = length bytes in
     let k : total - length front ≡ suc (total - length front - 1) = omega (arith, so_far.enough) in
-    let step : ops_at (total - length front) rest ≡ Err left = ap (λ (n : ℕ). ops_at n rest) k ∙ ops_step (total - length front - 1) rest more ∙ rw e refl in
+    let step : ops_at (total - length front) rest ≡ Err left = ap (λ (n : ℕ). ops_at n rest) k
+    ∙ ops_step (total - length front - 1) rest more ∙ rw e refl in
     body_is bytes (Err left) some (sym so_far.reads ∙ ap (with_front front) step)
 
-pub is_done : (total : ℕ) (front : List Op) (rest : List ℕ) (all : Result (List Op) ℕ) → length rest ≡ 0 → ReadSoFar total front rest all → all ≡ Ok front
+pub is_done : (total : ℕ) (front : List Op) (rest : List ℕ) (all : Result (List Op) ℕ) → length rest ≡ 0 → ReadSoFar total front rest all
+    → all ≡ Ok front
 is_done total front rest all none so_far =
     sym so_far.reads ∙ ap (with_front front) (ops_ended (total - length front) rest none) ∙ ap (λ (x : List Op). Ok x) (append-nil front)

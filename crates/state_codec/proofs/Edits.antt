@@ -1,6 +1,7 @@
 -- What the edits of songs by their row numbers answer.
 use Rattle.std.proofs.lemmas.Bool.Decides.{nat_tests}
-use Rattle.std.proofs.Common.{◌≡◌, ℕ, zero, suc, ◌&&◌, Bool, true, false, List, [], ◌∷◌, ◌≤◌, length, Option, Some, None, Result, Ok, Err, nat_lt, refl, ap, arith}
+use Rattle.std.proofs.Common.{◌≡◌, ℕ, zero, suc, ◌&&◌, Bool, true, false, List, [], ◌∷◌, ◌≤◌, length, Option, Some, None, Result, Ok, Err}
+use Rattle.std.proofs.Common.{nat_lt, refl, ap, arith}
 use Rattle.std.specs.List.{slice_get}
 use Rattle.std.specs.Option.{option_map}
 use Rattle.play_queue.specs.Refusal.{Answers as AnswersQueue, AnswersIfMemory as QueueIfMemory}
@@ -29,12 +30,16 @@ pub lists_none : {T : Type 0} (o : Option ListsError) (x : T) → AnswersLists o
 lists_none None x answer = refl
 lists_none (Some e) x answer = absurd (cc)
 
-pub refused_add : (T : Type 0) (b : Bool) (o : Option QueueError) (edited before after : SavedState) (e : QueueError) (r : Result (Unit {0}) ApplyError) → b ≡ true → o ≡ None → QueueIfMemory {T = T} o (Err e) → r ≡ Err (queue_told e) → after ≡ before → IsEdit (if_named b (option_map Queue o)) edited before after r
+pub refused_add : (T : Type 0) (b : Bool) (o : Option QueueError) (edited before after : SavedState) (e : QueueError)
+    (r : Result (Unit {0}) ApplyError) → b ≡ true → o ≡ None → QueueIfMemory {T = T} o (Err e) → r ≡ Err (queue_told e) → after ≡ before
+    → IsEdit (if_named b (option_map Queue o)) edited before after r
 refused_add T b o edited before after e r named none answer is same =
     let memory : e ≡ QueueMemory = rw none at answer in
     rw (named, none, is, memory) (record { ok = tt; err = same; answer = refl })
 
-pub refused_extend : (T : Type 0) (b : Bool) (o : Option ListsError) (edited before after : SavedState) (e : ListsError) (r : Result (Unit {0}) ApplyError) → b ≡ true → o ≡ None → ListsIfMemory {T = T} o (Err e) → r ≡ Err (lists_told e) → after ≡ before → IsEdit (if_named b (option_map Lists o)) edited before after r
+pub refused_extend : (T : Type 0) (b : Bool) (o : Option ListsError) (edited before after : SavedState) (e : ListsError)
+    (r : Result (Unit {0}) ApplyError) → b ≡ true → o ≡ None → ListsIfMemory {T = T} o (Err e) → r ≡ Err (lists_told e) → after ≡ before
+    → IsEdit (if_named b (option_map Lists o)) edited before after r
 refused_extend T b o edited before after e r named none answer is same =
     let memory : e ≡ ListsMemory = rw none at answer in
     rw (named, none, is, memory) (record { ok = tt; err = same; answer = refl })
@@ -44,11 +49,14 @@ some_at [] n within = absurd (grind (arith, nat_tests))
 some_at (x ∷ xs) zero within = (x, refl)
 some_at (x ∷ xs) (suc n) within = some_at xs n (grind (arith, nat_tests))
 
-pub length-uris_at : (songs : List Row) (numbers : List ℕ) → have_rows songs numbers ≡ true → length (uris_at songs numbers) ≡ length numbers
+pub length-uris_at : (songs : List Row) (numbers : List ℕ) → have_rows songs numbers ≡ true
+    → length (uris_at songs numbers) ≡ length numbers
 length-uris_at songs [] all = refl
 length-uris_at songs (number ∷ numbers) all = of (nat_lt number (length songs)) refl all (length-uris_at songs numbers)
   where
-    of : (b : Bool) → nat_lt number (length songs) ≡ b → (b && have_rows songs numbers) ≡ true → (have_rows songs numbers ≡ true → length (uris_at songs numbers) ≡ length numbers) → length (uris_at songs (number ∷ numbers)) ≡ length (number ∷ numbers)
+    of : (b : Bool) → nat_lt number (length songs) ≡ b → (b && have_rows songs numbers) ≡ true
+        → (have_rows songs numbers ≡ true → length (uris_at songs numbers) ≡ length numbers)
+        → length (uris_at songs (number ∷ numbers)) ≡ length (number ∷ numbers)
     of true here rest more = let found = some_at songs number here in rw found.1 (ap (λ n. suc n) (more rest))
     of false gone rest more = absurd (cc)
 

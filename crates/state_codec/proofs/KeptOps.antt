@@ -1,5 +1,6 @@
 -- What every saved state keeps is kept by each op.
-use Rattle.std.proofs.Common.{◌≡◌, ℕ, ◌+◌, ◌-◌, ◌<◌, ◌≤◌, ◌==◌, Bool, true, false, cond, not, ◌||◌, ◌&&◌, List, [], ◌++◌, length, Option, Some, None, is_some, IsTrue, nat_lt, nat_le, refl, ◌∙◌, arith}
+use Rattle.std.proofs.Common.{◌≡◌, ℕ, ◌+◌, ◌-◌, ◌<◌, ◌≤◌, ◌==◌, Bool, true, false, cond, not, ◌||◌, ◌&&◌, List, [], ◌++◌, length, Option}
+use Rattle.std.proofs.Common.{Some, None, is_some, IsTrue, nat_lt, nat_le, refl, ◌∙◌, arith}
 use Rattle.std.specs.Option.{option_map}
 use Rattle.std.specs.Str.{is_utf8}
 use Rattle.std.proofs.lemmas.Bool.{eqb-false}
@@ -17,11 +18,13 @@ use Rattle.song_db.specs.Change.{has_uri}
 use Rattle.song_db.specs.Uri.{is_uri}
 use Rattle.stored_lists.specs.declared.refusal.ListsError.TheVariants.{ListsFull}
 use Rattle.stored_lists.specs.Limits.{MAX_LISTS, MAX_ENTRIES}
-use Rattle.stored_lists.specs.Lists.{Stored, songs_of, songs_or_none, total, added_to, with_songs, is_full_for, name_refusal, new_list_refusal, add_refusal}
+use Rattle.stored_lists.specs.Lists.{Stored, songs_of, songs_or_none, total, added_to, with_songs, is_full_for, name_refusal}
+use Rattle.stored_lists.specs.Lists.{new_list_refusal, add_refusal}
 use Rattle.stored_lists.specs.Name.{is_good_name}
 use Rattle.stored_lists.specs.Songs.{Uris, AreUris, without_range, moved}
 use Rattle.stored_lists.proofs.Absent.{songs_or_none_present}
-use Rattle.stored_lists.proofs.Counted.{counted_uris, counted_fits, length-without_range, length-moved, uris-without_range, uris-moved, uris-none}
+use Rattle.stored_lists.proofs.Counted.{counted_uris, counted_fits, length-without_range, length-moved, uris-without_range, uris-moved}
+use Rattle.stored_lists.proofs.Counted.{uris-none}
 use Rattle.stickers.specs.Limits.{MAX_STICKERS}
 use Rattle.stickers.specs.Sticker.{Sticker, value_at, set_refusal}
 use Rattle.stickers.specs.Name.{is_good_name as is_good_sticker_name}
@@ -88,22 +91,27 @@ range_within entries start end none =
 pub move_forward : (entries : List Entry) (start end to : ℕ) → queue_move_refusal entries start end to ≡ None → start ≤ end
 move_forward entries start end to none = not_less end start (or_false _ _ (cond_none _ _ _ none).0).0
 
-pub swap_within : (entries : List Entry) (one other : ℕ) → swap_refusal entries one other ≡ None → (one < length entries) × (other < length entries)
+pub swap_within : (entries : List Entry) (one other : ℕ) → swap_refusal entries one other ≡ None
+    → (one < length entries) × (other < length entries)
 swap_within entries one other none =
     let parts = or_false _ _ (cond_none _ _ _ none).0 in
     (not_le (length entries) one parts.0, not_le (length entries) other parts.1)
 
-pub add_within : (q : QueueState) (at n : ℕ) → queue_add_refusal q at n ≡ None → (length q.entries + n ≤ QUEUE_ENTRIES) × (q.next_id + n ≤ MAX_ID + 1)
+pub add_within : (q : QueueState) (at n : ℕ) → queue_add_refusal q at n ≡ None
+    → (length q.entries + n ≤ QUEUE_ENTRIES) × (q.next_id + n ≤ MAX_ID + 1)
 add_within q at n none =
     let place = cond_none _ _ _ none in
     let few = cond_none _ _ _ place.1 in
     let ids = cond_none _ _ _ few.1 in
     (not_less QUEUE_ENTRIES (length q.entries + n) few.0, not_less (MAX_ID + 1) (q.next_id + n) ids.0)
 
-words_drawn : (key : List ℕ) (order : ℕ) (entries : List Entry) (start end : ℕ) → start ≤ end → end ≤ length entries → length (words_for key order entries start end) ≡ end - start
-words_drawn key order entries start end forward within = length-map (block entries start end) (λ (entry : Entry). word key order entry.id) ∙ length-between entries start end within
+words_drawn : (key : List ℕ) (order : ℕ) (entries : List Entry) (start end : ℕ) → start ≤ end → end ≤ length entries
+    → length (words_for key order entries start end) ≡ end - start
+words_drawn key order entries start end forward within = length-map (block entries start end) (λ (entry : Entry). word key order entry.id)
+    ∙ length-between entries start end within
 
-with_queue : (s : SavedState) (q : QueueState) (order : ℕ) → IsSavedState s → IsSavedQueue s.songs q → order < 18446744073709551616 → IsSavedState (record s { order = order; queue = q })
+with_queue : (s : SavedState) (q : QueueState) (order : ℕ) → IsSavedState s → IsSavedQueue s.songs q → order < 18446744073709551616
+    → IsSavedState (record s { order = order; queue = q })
 with_queue s q order saved kept low = record {
   key_len = saved.key_len;
   key_bytes = saved.key_bytes;
@@ -122,22 +130,28 @@ next_low order low = of (order == 18446744073709551615) refl
     of true last = omega arith
     of false other = let apart = eqb-false order 18446744073709551615 other in omega arith
 
-pub kept_queue : (op : QueueOp) (s : SavedState) → IsQueueOp op → IsSavedState s → queue_refusal op s ≡ None → IsSavedState (after_queue op s)
+pub kept_queue : (op : QueueOp) (s : SavedState) → IsQueueOp op → IsSavedState s → queue_refusal op s ≡ None
+    → IsSavedState (after_queue op s)
 kept_queue (queue.Add at rows) s form saved none =
     let parts = named_none (have_rows s.songs rows) _ none in
     let within = add_within s.queue at (length rows) (map_none _ _ parts.1) in
     let long : length (uris_at s.songs rows) ≡ length rows = length-uris_at s.songs rows parts.0 in
-    with_queue s _ s.order saved (kept_added s.songs s.queue at (uris_at s.songs rows) saved.queue (omega (arith, within.0)) (omega (arith, within.1)) (uris_have_rows s.songs rows)) saved.order
+    with_queue s _ s.order saved (kept_added s.songs s.queue at (uris_at s.songs rows) saved.queue (omega (arith, within.0))
+    (omega (arith, within.1)) (uris_have_rows s.songs rows)) saved.order
 kept_queue (queue.Delete start end) s form saved none =
-    with_queue s _ s.order saved (kept_deleted s.songs s.queue start end saved.queue (range_within s.queue.entries start end (map_none _ _ none)).0) saved.order
+    with_queue s _ s.order saved (kept_deleted s.songs s.queue start end saved.queue
+    (range_within s.queue.entries start end (map_none _ _ none)).0) saved.order
 kept_queue (queue.Move start end to) s form saved none =
-    with_queue s _ s.order saved (kept_moved s.songs s.queue start end to saved.queue (move_forward s.queue.entries start end to (map_none _ _ none))) saved.order
+    with_queue s _ s.order saved (kept_moved s.songs s.queue start end to saved.queue
+    (move_forward s.queue.entries start end to (map_none _ _ none))) saved.order
 kept_queue (queue.Swap one other) s form saved none =
     let within = swap_within s.queue.entries one other (map_none _ _ none) in
     with_queue s _ s.order saved (kept_swapped s.songs s.queue one other saved.queue within.0 within.1) saved.order
 kept_queue (queue.Shuffle start end) s form saved none =
     let within = range_within s.queue.entries start end (map_none _ _ none) in
-    with_queue s _ (next_order s.order) saved (kept_shuffled s.songs s.queue start end (words_for s.key (next_order s.order) s.queue.entries start end) saved.queue within.0 within.1 (words_drawn s.key (next_order s.order) s.queue.entries start end within.0 within.1)) (next_low s.order saved.order)
+    with_queue s _ (next_order s.order) saved
+    (kept_shuffled s.songs s.queue start end (words_for s.key (next_order s.order) s.queue.entries start end) saved.queue within.0
+    within.1 (words_drawn s.key (next_order s.order) s.queue.entries start end within.0 within.1)) (next_low s.order saved.order)
 kept_queue (queue.Prio priority ranges) s form saved none =
     with_queue s _ s.order saved (kept_prioritized s.songs s.queue ranges priority saved.queue form.0) saved.order
 
@@ -177,22 +191,32 @@ with_lists s all saved kept = record {
 }
 
 -- new songs for a playlist that is there
-with_fewer : (all : Stored) (name : List ℕ) (new : Uris) → AreSavedLists all → AreUris new → songs_of all name ≡ Some (songs_or_none all name) → length new ≤ length (songs_or_none all name) → AreSavedLists (with_songs all name new)
+with_fewer : (all : Stored) (name : List ℕ) (new : Uris) → AreSavedLists all → AreUris new
+    → songs_of all name ≡ Some (songs_or_none all name) → length new ≤ length (songs_or_none all name)
+    → AreSavedLists (with_songs all name new)
 with_fewer all name new saved uris found fewer =
     let old = songs_or_none all name in
     let fits : length old ≤ total all = counted_fits all (total all) name old (record { counted = refl; within = saved.within }) found in
-    kept_with_songs all name old new (total all + length new - length old) saved uris found (omega arith) (omega (arith, saved.within.few_entries))
+    kept_with_songs all name old new (total all + length new - length old) saved uris found (omega arith)
+    (omega (arith, saved.within.few_entries))
 
-old_uris : (all : Stored) (name : List ℕ) → AreSavedLists all → songs_of all name ≡ Some (songs_or_none all name) → AreUris (songs_or_none all name)
-old_uris all name saved found = counted_uris all (total all) name (songs_or_none all name) (record { counted = refl; within = saved.within }) found
+old_uris : (all : Stored) (name : List ℕ) → AreSavedLists all → songs_of all name ≡ Some (songs_or_none all name)
+    → AreUris (songs_or_none all name)
+old_uris all name saved found = counted_uris all (total all) name (songs_or_none all name)
+    (record { counted = refl; within = saved.within }) found
 
-kept_extended : (all : Stored) (name : List ℕ) (songs : Uris) → AreSavedLists all → IsTrue (is_utf8 name) → AreUris songs → add_refusal all name (length songs) ≡ None → AreSavedLists (added_to (songs_of all name) all name songs)
+kept_extended : (all : Stored) (name : List ℕ) (songs : Uris) → AreSavedLists all → IsTrue (is_utf8 name) → AreUris songs
+    → add_refusal all name (length songs) ≡ None → AreSavedLists (added_to (songs_of all name) all name songs)
 kept_extended all name songs saved text uris none = of (songs_of all name) refl named.1
   where
-    named : (not (is_good_name name) ≡ false) × ((cond (is_some (songs_of all name)) (cond (is_full_for all (length songs)) (Some ListsFull) None) (new_list_refusal all (length songs))) ≡ None)
+    named : (not (is_good_name name) ≡ false)
+        × ((cond (is_some (songs_of all name)) (cond (is_full_for all (length songs)) (Some ListsFull) None)
+        (new_list_refusal all (length songs))) ≡ None)
     named = cond_none _ _ _ none
 
-    of : (o : Option Uris) → songs_of all name ≡ o → (cond (is_some o) (cond (is_full_for all (length songs)) (Some ListsFull) None) (new_list_refusal all (length songs))) ≡ None → AreSavedLists (added_to o all name songs)
+    of : (o : Option Uris) → songs_of all name ≡ o
+        → (cond (is_some o) (cond (is_full_for all (length songs)) (Some ListsFull) None) (new_list_refusal all (length songs))) ≡ None
+        → AreSavedLists (added_to o all name songs)
     of None free none =
         let within = new_within all (length songs) none in
         kept_with_list all name songs saved (not_none _ named.0) text uris free within.0 within.1
@@ -200,7 +224,8 @@ kept_extended all name songs saved text uris none = of (songs_of all name) refl 
         let room = not_less MAX_ENTRIES (total all + length songs) (cond_none _ _ _ none).0 in
         let same : songs_of all name ≡ Some old = found in
         let olds : AreUris old = counted_uris all (total all) name old (record { counted = refl; within = saved.within }) found in
-        kept_with_songs all name old (old ++ songs) (total all + length songs) saved (All-append (λ uri. IsTrue (is_uri uri)) old songs olds uris) found (omega (arith, length-append old songs)) room
+        kept_with_songs all name old (old ++ songs) (total all + length songs) saved
+        (All-append (λ uri. IsTrue (is_uri uri)) old songs olds uris) found (omega (arith, length-append old songs)) room
 
 pub kept_list : (op : ListOp) (s : SavedState) → IsListOp op → IsSavedState s → list_refusal op s ≡ None → AreSavedLists (lists_after op s)
 kept_list (lists.Save name) s form saved none =
@@ -208,12 +233,15 @@ kept_list (lists.Save name) s form saved none =
     let free = cond_none _ _ _ named.1 in
     let within = new_within s.lists (length s.queue.entries) free.1 in
     let long : length (uris_of s.queue.entries) ≡ length s.queue.entries = length-map s.queue.entries (λ (entry : Entry). entry.uri) in
-    kept_with_list s.lists name (uris_of s.queue.entries) saved.lists (not_none _ named.0) (utf8_of name form) (entries_are_uris s.songs s.queue.entries saved.songs.rows saved.queue.entries) (is_none _ free.0) within.0 (omega (arith, within.1))
+    kept_with_list s.lists name (uris_of s.queue.entries) saved.lists (not_none _ named.0) (utf8_of name form)
+    (entries_are_uris s.songs s.queue.entries saved.songs.rows saved.queue.entries) (is_none _ free.0) within.0
+    (omega (arith, within.1))
 kept_list (lists.Add name rows) s form saved none =
     let parts = named_none (have_rows s.songs rows) _ none in
     let long : length (uris_at s.songs rows) ≡ length rows = length-uris_at s.songs rows parts.0 in
     let fits : add_refusal s.lists name (length (uris_at s.songs rows)) ≡ None = rw long (map_none _ _ parts.1) in
-    kept_extended s.lists name (uris_at s.songs rows) saved.lists (utf8_of name form.0) (are_uris s.songs (uris_at s.songs rows) saved.songs.rows (uris_have_rows s.songs rows)) fits
+    kept_extended s.lists name (uris_at s.songs rows) saved.lists (utf8_of name form.0)
+    (are_uris s.songs (uris_at s.songs rows) saved.songs.rows (uris_have_rows s.songs rows)) fits
 kept_list (lists.Remove name start end) s form saved none =
     let named = cond_none _ _ _ (map_none _ _ none) in
     let there = cond_none _ _ _ named.1 in
@@ -221,7 +249,8 @@ kept_list (lists.Remove name start end) s form saved none =
     let range = or_false _ _ (cond_none _ _ _ there.1).0 in
     let old = songs_or_none s.lists name in
     let fewer = length-without_range old start end (not_less end start range.0) (not_less (length old) end range.1) in
-    with_fewer s.lists name (without_range old start end) saved.lists (uris-without_range old start end (old_uris s.lists name saved.lists found)) found (omega arith)
+    with_fewer s.lists name (without_range old start end) saved.lists
+    (uris-without_range old start end (old_uris s.lists name saved.lists found)) found (omega arith)
 kept_list (lists.Move name from to) s form saved none =
     let named = cond_none _ _ _ (map_none _ _ none) in
     let there = cond_none _ _ _ named.1 in
@@ -230,7 +259,8 @@ kept_list (lists.Move name from to) s form saved none =
     let old = songs_or_none s.lists name in
     let in_from = not_le (length old) from places.0 in
     let same = length-moved old from to in_from (not_le (length old) to places.1) in
-    with_fewer s.lists name (moved old from to) saved.lists (uris-moved old from to (old_uris s.lists name saved.lists found) in_from) found (omega arith)
+    with_fewer s.lists name (moved old from to) saved.lists (uris-moved old from to (old_uris s.lists name saved.lists found) in_from) found
+    (omega arith)
 kept_list (lists.Clear name) s form saved none =
     with_fewer s.lists name [] saved.lists uris-none (there_from s.lists name (map_none _ _ none)) (omega arith)
 kept_list (lists.Rename from to) s form saved none =
@@ -242,29 +272,68 @@ kept_list (lists.Rename from to) s form saved none =
 kept_list (lists.Drop name) s form saved none =
     kept_without_list s.lists name (songs_or_none s.lists name) saved.lists (there_from s.lists name (map_none _ _ none))
 
-set_within : (all : List Sticker) (uri name : List ℕ) → set_refusal all uri name ≡ None → (IsTrue (is_good_sticker_name name)) × (is_some (value_at all uri name) ≡ false → length all < MAX_STICKERS)
+set_within : (all : List Sticker) (uri name : List ℕ) → set_refusal all uri name ≡ None
+    → (IsTrue (is_good_sticker_name name)) × (is_some (value_at all uri name) ≡ false → length all < MAX_STICKERS)
 set_within all uri name none =
-    let named = cond_none _ _ _ none in
-    (not_none _ named.0, λ absent. room (is_some (value_at all uri name)) (nat_le MAX_STICKERS (length all)) refl absent (cond_none _ _ _ named.1).0)
+    let named = cond_none _ _ _ none in (
+      not_none _ named.0,
+      λ absent. room (is_some (value_at all uri name)) (nat_le MAX_STICKERS (length all)) refl absent
+          (cond_none _ _ _ named.1).0,
+    )
   where
     room : (b c : Bool) → nat_le MAX_STICKERS (length all) ≡ c → b ≡ false → (not b && c) ≡ false → length all < MAX_STICKERS
     room true c is absent none = absurd (cc)
     room false true is absent none = absurd (cc)
     room false false is absent none = not_le MAX_STICKERS (length all) is
 
-pub kept_sticker : (op : StickerOp) (s : SavedState) → IsStickerOp op → IsSavedState s → sticker_refusal op s ≡ None → AreSavedStickers s.songs (stickers_after op s.stickers)
+pub kept_sticker : (op : StickerOp) (s : SavedState) → IsStickerOp op → IsSavedState s → sticker_refusal op s ≡ None
+    → AreSavedStickers s.songs (stickers_after op s.stickers)
 kept_sticker (stickers.Set uri name value) s form saved none =
     let parts = named_none (has_uri s.songs uri) _ none in
     let within = set_within s.stickers uri name (map_none _ _ parts.1) in
     let text = and_true (is_utf8 value) _ form.1.1 in
-    kept_set s.songs s.stickers uri name value saved.stickers (record { good_uri = form.0; good_name = within.0; good_value = text.1 }) (record { has_row = parts.0; name = utf8_of name form.1.0; value = text.0 }) within.1
+    kept_set s.songs s.stickers uri name value saved.stickers (record { good_uri = form.0; good_name = within.0; good_value = text.1 })
+    (record { has_row = parts.0; name = utf8_of name form.1.0; value = text.0 }) within.1
 kept_sticker (stickers.Delete uri name) s form saved none = kept_filter s.songs s.stickers _ saved.stickers
 kept_sticker (stickers.DeleteAll uri) s form saved none = kept_filter s.songs s.stickers _ saved.stickers
 
 pub kept_after : (op : Op) (s : SavedState) → IsOp op → IsSavedState s → refusal_of op s ≡ None → IsSavedState (after op s)
-kept_after (ops.SetOption setting) s form saved none = record { key_len = saved.key_len; key_bytes = saved.key_bytes; order = saved.order; volume = saved.volume; songs = saved.songs; queue = saved.queue; lists = saved.lists; stickers = saved.stickers }
-kept_after (ops.SetVolume volume) s form saved none = record { key_len = saved.key_len; key_bytes = saved.key_bytes; order = saved.order; volume = form; songs = saved.songs; queue = saved.queue; lists = saved.lists; stickers = saved.stickers }
-kept_after (ops.SetOrder order) s form saved none = record { key_len = saved.key_len; key_bytes = saved.key_bytes; order = form; volume = saved.volume; songs = saved.songs; queue = saved.queue; lists = saved.lists; stickers = saved.stickers }
+kept_after (ops.SetOption setting) s form saved none =
+    record {
+      key_len = saved.key_len;
+      key_bytes = saved.key_bytes;
+      order = saved.order;
+      volume = saved.volume;
+      songs = saved.songs;
+      queue =
+          saved.queue;
+      lists = saved.lists;
+      stickers = saved.stickers;
+    }
+kept_after (ops.SetVolume volume) s form saved none =
+    record {
+      key_len = saved.key_len;
+      key_bytes = saved.key_bytes;
+      order = saved.order;
+      volume = form;
+      songs = saved.songs;
+      queue =
+          saved.queue;
+      lists = saved.lists;
+      stickers = saved.stickers;
+    }
+kept_after (ops.SetOrder order) s form saved none =
+    record {
+      key_len = saved.key_len;
+      key_bytes = saved.key_bytes;
+      order = form;
+      volume = saved.volume;
+      songs = saved.songs;
+      queue =
+          saved.queue;
+      lists = saved.lists;
+      stickers = saved.stickers;
+    }
 kept_after (ops.Queue op) s form saved none = kept_queue op s form saved none
 kept_after (ops.List op) s form saved none = with_lists s (lists_after op s) saved (kept_list op s form saved none)
 kept_after (ops.Sticker op) s form saved none = record {

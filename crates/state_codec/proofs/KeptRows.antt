@@ -1,5 +1,6 @@
 -- The songs of a saved state stay so through a batch, and so do the queue and the stickers beside them.
-use Rattle.std.proofs.Common.{◌≡◌, ℕ, ◌+◌, ◌==◌, ◌&&◌, map, Bool, true, false, cond, not, ◌||◌, List, [], ◌∷◌, ◌++◌, filter, Some, None, is_some, refl, arith}
+use Rattle.std.proofs.Common.{◌≡◌, ℕ, ◌+◌, ◌==◌, ◌&&◌, map, Bool, true, false, cond, not, ◌||◌, List, [], ◌∷◌, ◌++◌, filter, Some, None}
+use Rattle.std.proofs.Common.{is_some, refl, arith}
 use Rattle.std.specs.declared.cmp.Ordering.{Ordering}
 use Rattle.std.specs.declared.cmp.Ordering.TheVariants.{Less, Equal, Greater}
 use Rattle.std.specs.Ordering.{match_ordering}
@@ -38,7 +39,8 @@ rows_changed change (x ∷ xs) good all = by_order (texts (uri_of change) x.uri)
     first (Put row) good = All-cons IsSavedRow row [] good (λ k d within. absurd (omega arith))
     first (Drop uri) good = λ k d within. absurd (omega arith)
 
-    by_order : (o : Ordering) → All IsSavedRow (changed change xs) → All IsSavedRow (match_ordering o (rows_of change ++ x ∷ xs) (rows_of change ++ xs) (x ∷ changed change xs))
+    by_order : (o : Ordering) → All IsSavedRow (changed change xs)
+        → All IsSavedRow (match_ordering o (rows_of change ++ x ∷ xs) (rows_of change ++ xs) (x ∷ changed change xs))
     by_order Less rest = All-append IsSavedRow (rows_of change) (x ∷ xs) (first change good) all
     by_order Equal rest = All-append IsSavedRow (rows_of change) xs (first change good) (All-tail IsSavedRow x xs all)
     by_order Greater rest = All-cons IsSavedRow x (changed change xs) (All-head IsSavedRow x xs all) rest
@@ -50,18 +52,25 @@ rows_after rows change good all = of (fits rows change)
     of true = rows_changed change rows good all
     of false = all
 
-rows_batch : (rows : List Row) (changes : List RowChange) → All IsChange changes → All IsSavedRow rows → All IsSavedRow (after_batch rows changes)
+rows_batch : (rows : List Row) (changes : List RowChange) → All IsChange changes → All IsSavedRow rows
+    → All IsSavedRow (after_batch rows changes)
 rows_batch rows [] good all = all
-rows_batch rows (change ∷ changes) good all = rows_batch (after_change rows change) changes (All-tail IsChange change changes good) (rows_after rows change (All-head IsChange change changes good) all)
+rows_batch rows (change ∷ changes) good all =
+    rows_batch (after_change rows change) changes (All-tail IsChange change changes good)
+    (rows_after rows change (All-head IsChange change changes good) all)
 
-pub kept_songs : (rows : List Row) (changes : List RowChange) → All IsChange changes → AreSavedSongs rows → AreSavedSongs (after_batch rows changes)
-kept_songs rows changes good saved = record { database = database_batch rows changes saved.database; rows = rows_batch rows changes good saved.rows }
+pub kept_songs : (rows : List Row) (changes : List RowChange) → All IsChange changes → AreSavedSongs rows
+    → AreSavedSongs (after_batch rows changes)
+kept_songs rows changes good saved =
+    record { database = database_batch rows changes saved.database; rows = rows_batch rows changes good saved.rows }
 
 -- a song that no change drops keeps a row
-stays : (rows : List Row) (change : RowChange) (uri : List ℕ) → IsDatabase rows → is_among (drops_of (change ∷ [])) uri ≡ false → has_uri rows uri ≡ true → has_uri (after_change rows change) uri ≡ true
+stays : (rows : List Row) (change : RowChange) (uri : List ℕ) → IsDatabase rows → is_among (drops_of (change ∷ [])) uri ≡ false
+    → has_uri rows uri ≡ true → has_uri (after_change rows change) uri ≡ true
 stays rows change uri database apart there = by_fit (fits rows change)
   where
-    left : (c : RowChange) → is_among (drops_of (c ∷ [])) uri ≡ false → is_some (cond (bytes_eq uri (uri_of c)) (row_left c) (row_at rows uri)) ≡ true
+    left : (c : RowChange) → is_among (drops_of (c ∷ [])) uri ≡ false
+        → is_some (cond (bytes_eq uri (uri_of c)) (row_left c) (row_at rows uri)) ≡ true
     left (Put row) apart = of (bytes_eq uri row.uri)
       where
         of : (b : Bool) → is_some (cond b (Some row) (row_at rows uri)) ≡ true
@@ -81,39 +90,61 @@ or_false : (a b : Bool) → (a || b) ≡ false → (a ≡ false) × (b ≡ false
 or_false true b none = absurd (cc)
 or_false false b none = (refl, none)
 
-drops_first : (change : RowChange) (changes : List RowChange) (uri : List ℕ) → is_among (drops_of (change ∷ changes)) uri ≡ false → (is_among (drops_of (change ∷ [])) uri ≡ false) × (is_among (drops_of changes) uri ≡ false)
+drops_first : (change : RowChange) (changes : List RowChange) (uri : List ℕ) → is_among (drops_of (change ∷ changes)) uri ≡ false
+    → (is_among (drops_of (change ∷ [])) uri ≡ false) × (is_among (drops_of changes) uri ≡ false)
 drops_first (Put row) changes uri apart = (refl, apart)
-drops_first (Drop key) changes uri apart = let parts = or_false (bytes_eq key uri) (is_among (drops_of changes) uri) apart in (rw (parts.0) refl, parts.1)
+drops_first (Drop key) changes uri apart =
+    let parts = or_false (bytes_eq key uri) (is_among (drops_of changes) uri) apart in (rw (parts.0) refl, parts.1)
 
-pub stays_in : (rows : List Row) (changes : List RowChange) (uri : List ℕ) → IsDatabase rows → is_among (drops_of changes) uri ≡ false → has_uri rows uri ≡ true → has_uri (after_batch rows changes) uri ≡ true
+pub stays_in : (rows : List Row) (changes : List RowChange) (uri : List ℕ) → IsDatabase rows → is_among (drops_of changes) uri ≡ false
+    → has_uri rows uri ≡ true → has_uri (after_batch rows changes) uri ≡ true
 stays_in rows [] uri database apart there = there
 stays_in rows (change ∷ changes) uri database apart there =
     let parts = drops_first change changes uri apart in
-    stays_in (after_change rows change) changes uri (database_after rows change database) parts.1 (stays rows change uri database parts.0 there)
+    stays_in (after_change rows change) changes uri (database_after rows change database) parts.1
+    (stays rows change uri database parts.0 there)
 
 -- the entries that a batch leaves
-entries_left : (rows : List Row) (changes : List RowChange) (entries : List Entry) → IsDatabase rows → All (IsSavedEntry rows) entries → All (IsSavedEntry (after_batch rows changes)) (kept entries (drops_of changes))
+entries_left : (rows : List Row) (changes : List RowChange) (entries : List Entry) → IsDatabase rows → All (IsSavedEntry rows) entries
+    → All (IsSavedEntry (after_batch rows changes)) (kept entries (drops_of changes))
 entries_left rows changes [] database all = λ k d within. absurd (omega arith)
-entries_left rows changes (entry ∷ entries) database all = of (is_among (drops_of changes) entry.uri) refl (entries_left rows changes entries database (All-tail (IsSavedEntry rows) entry entries all))
+entries_left rows changes (entry ∷ entries) database all =
+    of (is_among (drops_of changes) entry.uri) refl
+    (entries_left rows changes entries database (All-tail (IsSavedEntry rows) entry entries all))
   where
     first : IsSavedEntry rows entry
     first = All-head (IsSavedEntry rows) entry entries all
 
-    of : (b : Bool) → is_among (drops_of changes) entry.uri ≡ b → All (IsSavedEntry (after_batch rows changes)) (kept entries (drops_of changes)) → All (IsSavedEntry (after_batch rows changes)) (cond (not b) (entry ∷ kept entries (drops_of changes)) (kept entries (drops_of changes)))
+    of : (b : Bool) → is_among (drops_of changes) entry.uri ≡ b
+        → All (IsSavedEntry (after_batch rows changes)) (kept entries (drops_of changes))
+        → All (IsSavedEntry (after_batch rows changes))
+        (cond (not b) (entry ∷ kept entries (drops_of changes)) (kept entries (drops_of changes)))
     of true gone rest = rest
-    of false apart rest = All-cons (IsSavedEntry (after_batch rows changes)) entry _ (record { has_row = stays_in rows changes entry.uri database apart first.has_row; priority = first.priority }) rest
+    of false apart rest = All-cons (IsSavedEntry (after_batch rows changes)) entry _
+        (record { has_row = stays_in rows changes entry.uri database apart first.has_row; priority = first.priority }) rest
 
 -- the stickers that a batch leaves
-pub stickers_left : (rows : List Row) (changes : List RowChange) (all : List Sticker) → IsDatabase rows → AllByRecursion (IsSavedSticker rows) all → AllByRecursion (IsSavedSticker (after_batch rows changes)) (filter (λ sticker. not (is_among (drops_of changes) sticker.uri)) all)
+pub stickers_left : (rows : List Row) (changes : List RowChange) (all : List Sticker) → IsDatabase rows
+    → AllByRecursion (IsSavedSticker rows) all
+    → AllByRecursion (IsSavedSticker (after_batch rows changes)) (filter (λ sticker. not (is_among (drops_of changes) sticker.uri)) all)
 stickers_left rows changes [] database saved = tt
-stickers_left rows changes (sticker ∷ stickers) database saved = of (is_among (drops_of changes) sticker.uri) refl (stickers_left rows changes stickers database saved.1)
+stickers_left rows changes (sticker ∷ stickers) database saved =
+    of (is_among (drops_of changes) sticker.uri) refl (stickers_left rows changes stickers database saved.1)
   where
-    of : (b : Bool) → is_among (drops_of changes) sticker.uri ≡ b → AllByRecursion (IsSavedSticker (after_batch rows changes)) (filter (λ s. not (is_among (drops_of changes) s.uri)) stickers) → AllByRecursion (IsSavedSticker (after_batch rows changes)) (cond (not b) (sticker ∷ filter (λ s. not (is_among (drops_of changes) s.uri)) stickers) (filter (λ s. not (is_among (drops_of changes) s.uri)) stickers))
+    of : (b : Bool) → is_among (drops_of changes) sticker.uri ≡ b
+        → AllByRecursion (IsSavedSticker (after_batch rows changes)) (filter (λ s. not (is_among (drops_of changes) s.uri)) stickers)
+        → AllByRecursion (IsSavedSticker (after_batch rows changes))
+        (cond (not b) (sticker ∷ filter (λ s. not (is_among (drops_of changes) s.uri)) stickers)
+        (filter (λ s. not (is_among (drops_of changes) s.uri)) stickers))
     of true gone rest = rest
-    of false apart rest = (record { has_row = stays_in rows changes sticker.uri database apart saved.0.has_row; name = saved.0.name; value = saved.0.value }, rest)
+    of false apart rest = (
+      record { has_row = stays_in rows changes sticker.uri database apart saved.0.has_row; name = saved.0.name; value = saved.0.value },
+      rest,
+    )
 
 -- an entry that isn't stamped is of the same song
-same_saved : (songs : List Row) (changed : Uris) (before after : Entry) → is_same changed before after ≡ true → IsSavedEntry songs after → IsSavedEntry songs before
+same_saved : (songs : List Row) (changed : Uris) (before after : Entry) → is_same changed before after ≡ true → IsSavedEntry songs after
+    → IsSavedEntry songs before
 same_saved songs changed before after same saved =
     let rest = and_true (before.id == after.id) _ same in
     let priority = and_true (before.priority == after.priority) _ rest.1 in
@@ -126,21 +157,29 @@ same_saved songs changed before after same saved =
     and_true true b both = (refl, both)
     and_true false b both = absurd (cc)
 
-all_same : (songs : List Row) (changed : Uris) (befores afters : List Entry) → is_unchanged changed befores afters ≡ true → All (IsSavedEntry songs) afters → All (IsSavedEntry songs) befores
+all_same : (songs : List Row) (changed : Uris) (befores afters : List Entry) → is_unchanged changed befores afters ≡ true
+    → All (IsSavedEntry songs) afters → All (IsSavedEntry songs) befores
 all_same songs changed [] afters same all = λ k d within. absurd (omega arith)
 all_same songs changed (before ∷ befores) [] same all = absurd (cc)
-all_same songs changed (before ∷ befores) (after ∷ afters) same all = of (λ rest. all_same songs changed befores afters rest (All-tail (IsSavedEntry songs) after afters all)) (is_same changed before after) refl same
+all_same songs changed (before ∷ befores) (after ∷ afters) same all =
+    of (λ rest. all_same songs changed befores afters rest (All-tail (IsSavedEntry songs) after afters all)) (is_same changed before after)
+    refl same
   where
-    of : (is_unchanged changed befores afters ≡ true → All (IsSavedEntry songs) befores) → (b : Bool) → is_same changed before after ≡ b → (b && is_unchanged changed befores afters) ≡ true → All (IsSavedEntry songs) (before ∷ befores)
-    of more true here rest = All-cons (IsSavedEntry songs) before befores (same_saved songs changed before after here (All-head (IsSavedEntry songs) after afters all)) (more rest)
+    of : (is_unchanged changed befores afters ≡ true → All (IsSavedEntry songs) befores) → (b : Bool) → is_same changed before after ≡ b
+        → (b && is_unchanged changed befores afters) ≡ true → All (IsSavedEntry songs) (before ∷ befores)
+    of more true here rest = All-cons (IsSavedEntry songs) before befores
+        (same_saved songs changed before after here (All-head (IsSavedEntry songs) after afters all)) (more rest)
     of more false here rest = absurd (cc)
 
-all_stamped_new : (songs : List Row) (changed : Uris) (stamp : ℕ) (befores afters : List Entry) → All (IsSavedEntry songs) afters → All (IsSavedEntry songs) (stamped changed stamp befores afters)
+all_stamped_new : (songs : List Row) (changed : Uris) (stamp : ℕ) (befores afters : List Entry) → All (IsSavedEntry songs) afters
+    → All (IsSavedEntry songs) (stamped changed stamp befores afters)
 all_stamped_new songs changed stamp befores [] all = λ k d within. absurd (omega arith)
 all_stamped_new songs changed stamp [] (after ∷ afters) all =
-    All-cons (IsSavedEntry songs) _ _ (entry_stamped songs stamp after (All-head (IsSavedEntry songs) after afters all)) (all_stamped_new songs changed stamp [] afters (All-tail (IsSavedEntry songs) after afters all))
+    All-cons (IsSavedEntry songs) _ _ (entry_stamped songs stamp after (All-head (IsSavedEntry songs) after afters all))
+    (all_stamped_new songs changed stamp [] afters (All-tail (IsSavedEntry songs) after afters all))
 all_stamped_new songs changed stamp (before ∷ befores) (after ∷ afters) all =
-    All-cons (IsSavedEntry songs) _ _ (of (is_same changed before after) refl) (all_stamped_new songs changed stamp befores afters (All-tail (IsSavedEntry songs) after afters all))
+    All-cons (IsSavedEntry songs) _ _ (of (is_same changed before after) refl)
+    (all_stamped_new songs changed stamp befores afters (All-tail (IsSavedEntry songs) after afters all))
   where
     first : IsSavedEntry songs after
     first = All-head (IsSavedEntry songs) after afters all
@@ -149,17 +188,24 @@ all_stamped_new songs changed stamp (before ∷ befores) (after ∷ afters) all 
     of true same = same_saved songs changed before after same first
     of false other = entry_stamped songs stamp after first
 
-all_ruled_new : (songs : List Row) (q : QueueState) (afters : List Entry) (changed : Uris) → All (IsSavedEntry songs) afters → All (IsSavedEntry songs) (ruled q afters changed).entries
+all_ruled_new : (songs : List Row) (q : QueueState) (afters : List Entry) (changed : Uris) → All (IsSavedEntry songs) afters
+    → All (IsSavedEntry songs) (ruled q afters changed).entries
 all_ruled_new songs q afters changed all = of (is_unchanged changed q.entries afters) refl (q.version == MAX_VERSION)
   where
-    of : (same : Bool) → is_unchanged changed q.entries afters ≡ same → (last : Bool) → All (IsSavedEntry songs) (cond same q (cond last (record q { entries = map (with_stamp 1) afters; version = 1 }) (record q { entries = stamped changed (q.version + 1) q.entries afters; version = q.version + 1 }))).entries
+    of : (same : Bool) → is_unchanged changed q.entries afters ≡ same → (last : Bool)
+        → All (IsSavedEntry songs)
+        (cond same q (cond last (record q { entries = map (with_stamp 1) afters; version = 1 })
+        (record q { entries = stamped changed (q.version + 1) q.entries afters; version = q.version + 1 }))).entries
     of true same last = all_same songs changed q.entries afters same all
-    of false other true = All-map (IsSavedEntry songs) (with_stamp 1) afters (All-weaker (IsSavedEntry songs) (λ entry. IsSavedEntry songs (with_stamp 1 entry)) (entry_stamped songs 1) afters all)
+    of false other true = All-map (IsSavedEntry songs) (with_stamp 1) afters
+        (All-weaker (IsSavedEntry songs) (λ entry. IsSavedEntry songs (with_stamp 1 entry)) (entry_stamped songs 1) afters all)
     of false other false = all_stamped_new songs changed (q.version + 1) q.entries afters all
 
 -- the queue after a batch, beside the songs after it
-pub kept_batch : (rows : List Row) (changes : List RowChange) (q : QueueState) (changed : Uris) → IsDatabase rows → IsSavedQueue rows q → IsSavedQueue (after_batch rows changes) (ruled q (kept q.entries (drops_of changes)) changed)
+pub kept_batch : (rows : List Row) (changes : List RowChange) (q : QueueState) (changed : Uris) → IsDatabase rows → IsSavedQueue rows q
+    → IsSavedQueue (after_batch rows changes) (ruled q (kept q.entries (drops_of changes)) changed)
 kept_batch rows changes q changed database saved = record {
   queue = sound-ruled q (kept q.entries (drops_of changes)) changed saved.queue (fit-kept q (drops_of changes) saved.queue);
-  entries = all_ruled_new (after_batch rows changes) q (kept q.entries (drops_of changes)) changed (entries_left rows changes q.entries database saved.entries);
+  entries = all_ruled_new (after_batch rows changes) q (kept q.entries (drops_of changes)) changed
+      (entries_left rows changes q.entries database saved.entries);
 }

@@ -48,7 +48,8 @@ all_weaker P Q [] step all = tt
 all_weaker P Q (t ∷ ts) step all = (step t all.0, all_weaker P Q ts step all.1)
 
 -- whatever stickers go
-pub kept_filter : (songs : List Row) (all : List Sticker) (test : Sticker → Bool) → AreSavedStickers songs all → AreSavedStickers songs (filter test all)
+pub kept_filter : (songs : List Row) (all : List Sticker) (test : Sticker → Bool) → AreSavedStickers songs all
+    → AreSavedStickers songs (filter test all)
 kept_filter songs all test saved = record {
   within = record {
     few = omega (arith, short_filter test all, saved.within.few);
@@ -58,7 +59,9 @@ kept_filter songs all test saved = record {
   each = all_filter (IsSavedSticker songs) test all saved.each;
 }
 
-pub kept_set : (songs : List Row) (all : List Sticker) (uri name value : List ℕ) → AreSavedStickers songs all → IsSticker (record { uri = uri; name = name; value = value }) → IsSavedSticker songs (record { uri = uri; name = name; value = value }) → (is_some (value_at all uri name) ≡ false → length all < MAX_STICKERS) → AreSavedStickers songs (with_sticker all uri name value)
+pub kept_set : (songs : List Row) (all : List Sticker) (uri name value : List ℕ) → AreSavedStickers songs all
+    → IsSticker (record { uri = uri; name = name; value = value }) → IsSavedSticker songs (record { uri = uri; name = name; value = value })
+    → (is_some (value_at all uri name) ≡ false → length all < MAX_STICKERS) → AreSavedStickers songs (with_sticker all uri name value)
 kept_set songs all uri name value saved good here room = record {
   within = of (is_some (value_at all uri name)) refl;
   each = all_placed (IsSavedSticker songs) (record { uri = uri; name = name; value = value }) all here saved.each;
@@ -72,5 +75,6 @@ kept_set songs all uri name value saved good here room = record {
     of false absent = (counted_new all (length all) uri name value counted good absent (room absent)).within
 
 -- the same stickers beside other songs, where each still has its row
-pub kept_beside : (songs others : List Row) (all : List Sticker) → IsWithinLimits all → AllByRecursion (IsSavedSticker others) all → AreSavedStickers others all
+pub kept_beside : (songs others : List Row) (all : List Sticker) → IsWithinLimits all → AllByRecursion (IsSavedSticker others) all
+    → AreSavedStickers others all
 kept_beside songs others all within each = record { within = within; each = each }

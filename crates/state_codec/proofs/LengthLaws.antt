@@ -1,5 +1,6 @@
 -- How many bytes a snapshot has at most.
-use Rattle.std.proofs.Common.{◌≡◌, ℕ, ◌+◌, ◌*◌, ◌≤◌, Bool, true, false, eqb, leb, List, [], ◌∷◌, ◌++◌, length, Some, None, refl, sym, subst, arith}
+use Rattle.std.proofs.Common.{◌≡◌, ℕ, ◌+◌, ◌*◌, ◌≤◌, Bool, true, false, eqb, leb, List, [], ◌∷◌, ◌++◌, length, Some, None, refl, sym, subst}
+use Rattle.std.proofs.Common.{arith}
 use Rattle.std.specs.Prelude.{Option, IsTrue}
 use Rattle.std.specs.List.{AllByRecursion, flat_map, sum_by}
 use Rattle.std.specs.Int.{w16, to_le_bytes}
@@ -30,8 +31,10 @@ use Rattle.state_codec.proofs.RowLaws.{fields_fit}
 use Rattle.state_codec.proofs.Rising.{all_places, all_in_turn, all_weaker}
 
 -- each of them is no longer than this, so all together aren't longer than so many of these
-flat_short : {X : Type 0} (f : X → List ℕ) (m : ℕ) (xs : List X) → AllByRecursion (λ x. length (f x) ≤ m) xs → length (flat_map f xs) ≤ length xs * m
-flat_short f m xs short = subst (λ (n : ℕ). n ≤ length xs * m) (sym (length-flat_map f xs)) (sum_by-le (λ x. length (f x)) m xs (all_places (λ x. length (f x) ≤ m) xs short))
+flat_short : {X : Type 0} (f : X → List ℕ) (m : ℕ) (xs : List X) → AllByRecursion (λ x. length (f x) ≤ m) xs
+    → length (flat_map f xs) ≤ length xs * m
+flat_short f m xs short = subst (λ (n : ℕ). n ≤ length xs * m) (sym (length-flat_map f xs))
+    (sum_by-le (λ x. length (f x)) m xs (all_places (λ x. length (f x) ≤ m) xs short))
 
 text_len : (text : List ℕ) → length (text_bytes text) ≡ 2 + length text
 text_len text = length-append (to_le_bytes w16 (length text)) text
@@ -58,26 +61,35 @@ tag_len (Some text) good =
 row_len : (row : Row) → IsSavedRow row → length (row_bytes row) ≤ longest_row
 row_len row good =
     let fits = fields_fit row good in
-    let tags = flat_short tag_bytes 515 row.tags (all_weaker (λ tag. is_good_tag tag ≡ true) (λ tag. length (tag_bytes tag) ≤ 515) tag_len row.tags fits.0.1.1.1.1.1) in
+    let tags = flat_short tag_bytes 515 row.tags
+    (all_weaker (λ tag. is_good_tag tag ≡ true) (λ tag. length (tag_bytes tag) ≤ 515) tag_len row.tags fits.0.1.1.1.1.1) in
     let six : length row.tags ≡ 6 = good.six in
     let few : length (tags_bytes row.tags) ≤ 6 * 515 = subst (λ (n : ℕ). length (tags_bytes row.tags) ≤ n * 515) six tags in
     let d = length-append (u64_bytes row.frames) (tags_bytes row.tags) in
     let c = length-append (u64_bytes row.first_byte) (u64_bytes row.frames ++ tags_bytes row.tags) in
     let b = length-append (byte_bytes row.channels) (u64_bytes row.first_byte ++ (u64_bytes row.frames ++ tags_bytes row.tags)) in
-    let a = length-append (u32_bytes row.rate) (byte_bytes row.channels ++ (u64_bytes row.first_byte ++ (u64_bytes row.frames ++ tags_bytes row.tags))) in
+    let a = length-append (u32_bytes row.rate)
+    (byte_bytes row.channels ++ (u64_bytes row.first_byte ++ (u64_bytes row.frames ++ tags_bytes row.tags))) in
     omega (arith, length-append (text_bytes row.uri) (row_fields_bytes row), uri_len row.uri fits.1, a, b, c, d, few)
 
 -- ---- playlists
 
 songs_len : (songs : List (List ℕ)) → AreUris songs → length (list_bytes text_bytes songs) ≤ 4 + length songs * 1026
-songs_len songs good = omega (arith, list_len text_bytes songs, flat_short text_bytes 1026 songs (all_weaker (λ uri. IsTrue (is_uri uri)) (λ uri. length (text_bytes uri) ≤ 1026) uri_len songs (all_in_turn (λ uri. IsTrue (is_uri uri)) songs good)))
+songs_len songs good =
+    omega (
+      arith,
+      list_len text_bytes songs,
+      flat_short text_bytes 1026 songs (all_weaker (λ uri. IsTrue (is_uri uri)) (λ uri. length (text_bytes uri) ≤ 1026) uri_len songs
+          (all_in_turn (λ uri. IsTrue (is_uri uri)) songs good)),
+    )
 
 name_len : (name : List ℕ) → is_good_name name ≡ true → length name ≤ 256
 name_len name good =
     let parts = both_true (Rattle.std.specs.Prelude.not (eqb (length name) 0)) _ good in
     leb-true _ _ (both_true (leb (length name) 256) _ parts.1).0
 
-lists_len : (lists : Stored) → AllByRecursion (λ list. IsTrue (is_good_name list.0) × AreUris list.1) lists → length (flat_map playlist_bytes lists) ≤ length lists * 262 + total lists * 1026
+lists_len : (lists : Stored) → AllByRecursion (λ list. IsTrue (is_good_name list.0) × AreUris list.1) lists
+    → length (flat_map playlist_bytes lists) ≤ length lists * 262 + total lists * 1026
 lists_len [] good = omega arith
 lists_len (list ∷ lists) good =
     let count : List ℕ × List (List ℕ) → ℕ = λ l. length l.1 in
@@ -163,10 +175,16 @@ snapshot_len s good =
     let entries = list_bytes (entry_bytes s.songs) s.queue.entries in
     let lists = list_bytes playlist_bytes s.lists in
     let stickers = list_bytes sticker_bytes s.stickers in
-    let rows_short : length (flat_map row_bytes s.songs) ≤ length s.songs * 4137 = flat_short row_bytes longest_row s.songs (all_weaker IsSavedRow (λ row. length (row_bytes row) ≤ longest_row) row_len s.songs (all_in_turn IsSavedRow s.songs good.songs.rows)) in
-    let entries_short : length (flat_map (entry_bytes s.songs) s.queue.entries) ≤ length s.queue.entries * 13 = flat_short (entry_bytes s.songs) 13 s.queue.entries (entry_len s.songs s.queue.entries) in
+    let rows_short : length (flat_map row_bytes s.songs) ≤ length s.songs * 4137 =
+    flat_short row_bytes longest_row s.songs
+    (all_weaker IsSavedRow (λ row. length (row_bytes row) ≤ longest_row) row_len s.songs
+    (all_in_turn IsSavedRow s.songs good.songs.rows)) in
+    let entries_short : length (flat_map (entry_bytes s.songs) s.queue.entries) ≤ length s.queue.entries * 13 =
+    flat_short (entry_bytes s.songs) 13 s.queue.entries (entry_len s.songs s.queue.entries) in
     let lists_short = lists_len s.lists good.lists.within.good_lists in
-    let stickers_short : length (flat_map sticker_bytes s.stickers) ≤ length s.stickers * 5382 = flat_short sticker_bytes longest_sticker s.stickers (all_weaker IsSticker (λ t. length (sticker_bytes t) ≤ longest_sticker) sticker_len s.stickers good.stickers.within.good) in
+    let stickers_short : length (flat_map sticker_bytes s.stickers) ≤ length s.stickers * 5382 =
+    flat_short sticker_bytes longest_sticker s.stickers
+    (all_weaker IsSticker (λ t. length (sticker_bytes t) ≤ longest_sticker) sticker_len s.stickers good.stickers.within.good) in
     let row_count : length s.songs ≤ 65536 = good.songs.database.few in
     let entry_count : length s.queue.entries ≤ 16384 = good.queue.queue.few in
     let list_count : length s.lists ≤ 256 = good.lists.within.few_lists in

@@ -1,5 +1,6 @@
 -- Lists: all items, and whether there is one.
-use Rattle.std.proofs.Common.{◌≡◌, ℕ, zero, suc, ◌+◌, Bool, true, false, cond, ltb, List, [], ◌∷◌, length, refl, sym, ◌∙◌, arith, Some, None, inl, inr}
+use Rattle.std.proofs.Common.{◌≡◌, ℕ, zero, suc, ◌+◌, Bool, true, false, cond, ltb, List, [], ◌∷◌, length, refl, sym, ◌∙◌, arith, Some}
+use Rattle.std.proofs.Common.{None, inl, inr}
 use Rattle.std.specs.Prelude.{is_some, position}
 use Rattle.std.specs.List.{All, AllByRecursion, list_any, position_or_len}
 use Rattle.std.proofs.lemmas.Bool.{cases_lt, lt-ltb, le-ltb}
@@ -19,7 +20,11 @@ some_if true x = refl
 some_if false x = refl
 
 same_lt : (n m : ℕ) → ltb (1 + n) (suc m) ≡ ltb n m
-same_lt n m = elim (cases_lt n m) [ inl lt ↦ lt-ltb (1 + n) (suc m) (omega arith) ∙ sym (lt-ltb n m lt) | inr le ↦ le-ltb (1 + n) (suc m) (omega arith) ∙ sym (le-ltb n m le) ]
+same_lt n m = elim (cases_lt n m) [
+  | inl lt ↦ lt-ltb (1 + n) (suc m) (omega arith)
+      ∙ sym (lt-ltb n m lt)
+  | inr le ↦ le-ltb (1 + n) (suc m) (omega arith) ∙ sym (le-ltb n m le)
+]
 
 any_step : {A : Type 0} (p : A → Bool) (x : A) (xs : List A) (b : Bool) → p x ≡ b → ltb (position_or_len p xs) (length xs) ≡ list_any p xs
     → ltb (position_or_len p (x ∷ xs)) (length (x ∷ xs)) ≡ list_any p (x ∷ xs)

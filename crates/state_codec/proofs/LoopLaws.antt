@@ -8,14 +8,17 @@ use Rattle.state_codec.specs.Items.{items_at}
 use Rattle.state_codec.proofs.ItemLaws.{items_step, items_stop, items_end}
 
 -- one item was read
-pub items_go_on : {A : Type 0} (item : List A → List ℕ → Field A) (count i : ℕ) (known : List A) (bytes : List ℕ) (a : A) (rest : List ℕ) (whole : Field (List A))
-    → i < count → item known bytes ≡ Ok (a, rest) → items_at item (count - i) known bytes ≡ whole → items_at item (count - (i + 1)) (known ++ a ∷ []) rest ≡ whole
+pub items_go_on : {A : Type 0} (item : List A → List ℕ → Field A) (count i : ℕ) (known : List A) (bytes : List ℕ) (a : A) (rest : List ℕ)
+    (whole : Field (List A))
+    → i < count → item known bytes ≡ Ok (a, rest) → items_at item (count - i) known bytes ≡ whole
+    → items_at item (count - (i + 1)) (known ++ a ∷ []) rest ≡ whole
 items_go_on item count i known bytes a rest whole lt e so_far =
     let n : count - i ≡ suc (count - (i + 1)) = omega arith in
     sym (items_step item (count - (i + 1)) known bytes a rest e) ∙ ap (λ (k : ℕ). items_at item k known bytes) (sym n) ∙ so_far
 
 -- an item was at fault
-pub items_fail : {A : Type 0} (item : List A → List ℕ → Field A) (count i : ℕ) (known : List A) (bytes : List ℕ) (error : ReadError) (whole : Field (List A))
+pub items_fail : {A : Type 0} (item : List A → List ℕ → Field A) (count i : ℕ) (known : List A) (bytes : List ℕ) (error : ReadError)
+    (whole : Field (List A))
     → i < count → Fails error (item known bytes) → items_at item (count - i) known bytes ≡ whole → Fails error whole
 items_fail item count i known bytes (Fault left) whole lt e so_far =
     let n : count - i ≡ suc (count - (i + 1)) = omega arith in

@@ -1,5 +1,6 @@
 -- Songs that row numbers and URIs name.
-use Rattle.std.proofs.Common.{◌≡◌, ℕ, zero, suc, ◌&&◌, Bool, true, false, cond, List, [], ◌∷◌, Option, Some, None, is_some, IsTrue, refl, sym, ap, arith}
+use Rattle.std.proofs.Common.{◌≡◌, ℕ, zero, suc, ◌&&◌, Bool, true, false, cond, List, [], ◌∷◌, Option, Some, None, is_some, IsTrue, refl}
+use Rattle.std.proofs.Common.{sym, ap, arith}
 use Rattle.std.specs.List.{All, slice_get}
 use Rattle.std.specs.Str.{bytes_eq}
 use Rattle.std.proofs.lemmas.Slice.Eq.{bytes_eq-Decides}
@@ -35,7 +36,8 @@ pub uris_have_rows : (songs : List Row) (numbers : List ℕ) → All (HasRow son
 uris_have_rows songs [] = λ k d within. absurd (omega arith)
 uris_have_rows songs (number ∷ numbers) = of (slice_get songs number) refl (uris_have_rows songs numbers)
   where
-    of : (o : Option Row) → slice_get songs number ≡ o → All (HasRow songs) (uris_at songs numbers) → All (HasRow songs) (uris_at songs (number ∷ numbers))
+    of : (o : Option Row) → slice_get songs number ≡ o → All (HasRow songs) (uris_at songs numbers)
+        → All (HasRow songs) (uris_at songs (number ∷ numbers))
     of None none rest = rw none rest
     of (Some row) found rest = rw found (All-cons (HasRow songs) row.uri (uris_at songs numbers) (member songs number row found) rest)
 
@@ -48,13 +50,17 @@ form_of (x ∷ xs) uri rows found = of (λ rest. form_of xs uri (All-tail IsSave
     first true b both = refl
     first false b both = both
 
-    of : (HasRow xs uri → IsTrue (is_uri uri)) → (b : Bool) → bytes_eq uri x.uri ≡ b → is_some (cond b (Some x) (row_at xs uri)) ≡ true → IsTrue (is_uri uri)
+    of : (HasRow xs uri → IsTrue (is_uri uri)) → (b : Bool) → bytes_eq uri x.uri ≡ b → is_some (cond b (Some x) (row_at xs uri)) ≡ true
+        → IsTrue (is_uri uri)
     of more true same found = rw ((bytes_eq-Decides uri x.uri).0 same) (first (is_uri x.uri) _ (All-head IsSavedRow x xs rows).form)
     of more false other found = more found
 
 pub are_uris : (songs : List Row) (uris : Uris) → All IsSavedRow songs → All (HasRow songs) uris → AreUris uris
 are_uris songs uris rows all = All-weaker (HasRow songs) (λ uri. IsTrue (is_uri uri)) (λ uri found. form_of songs uri rows found) uris all
 
-pub entries_are_uris : (songs : List Row) (entries : List Entry) → All IsSavedRow songs → All (IsSavedEntry songs) entries → AreUris (uris_of entries)
+pub entries_are_uris : (songs : List Row) (entries : List Entry) → All IsSavedRow songs → All (IsSavedEntry songs) entries
+    → AreUris (uris_of entries)
 entries_are_uris songs entries rows all =
-    All-map (λ uri. IsTrue (is_uri uri)) (λ (entry : Entry). entry.uri) entries (All-weaker (IsSavedEntry songs) (λ entry. IsTrue (is_uri entry.uri)) (λ entry saved. form_of songs entry.uri rows saved.has_row) entries all)
+    All-map (λ uri. IsTrue (is_uri uri)) (λ (entry : Entry). entry.uri) entries
+    (All-weaker (IsSavedEntry songs) (λ entry. IsTrue (is_uri entry.uri)) (λ entry saved. form_of songs entry.uri rows saved.has_row)
+    entries all)

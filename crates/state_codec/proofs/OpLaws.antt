@@ -1,5 +1,6 @@
 -- Ops that are read are spelled so, and what is spelled so is read.
-use Rattle.std.proofs.Common.{◌≡◌, ℕ, ◌^◌, ◌<◌, ◌≤◌, ◌⊎◌, Bool, true, false, cond, leb, eqb, List, [], ◌∷◌, ◌++◌, length, Ok, refl, sym, ap, subst, ◌∙◌, arith, inl, inr}
+use Rattle.std.proofs.Common.{◌≡◌, ℕ, ◌^◌, ◌<◌, ◌≤◌, ◌⊎◌, Bool, true, false, cond, leb, eqb, List, [], ◌∷◌, ◌++◌, length, Ok, refl, sym, ap}
+use Rattle.std.proofs.Common.{subst, ◌∙◌, arith, inl, inr}
 use Rattle.std.specs.Prelude.{IsTrue}
 use Rattle.std.specs.List.{AllByRecursion}
 use Rattle.std.specs.Int.{is_in_range}
@@ -27,10 +28,12 @@ use Rattle.state_codec.specs.ReadingOps.{setting_at, row_numbers_at, ranges_at, 
 use Rattle.state_codec.specs.ReadingRows.{uri_at, row_at, change_at, changes_at}
 use Rattle.state_codec.specs.SavedState.{IsBytes}
 use Rattle.state_codec.specs.SpellingFields.{byte_bytes, u32_bytes, pair_bytes, flag_bytes, single_bytes, text_bytes}
-use Rattle.state_codec.specs.SpellingOps.{setting_bytes, row_numbers_bytes, ranges_bytes, queue_kind, queue_fields, list_kind, list_fields, sticker_kind, sticker_fields, op_bytes}
+use Rattle.state_codec.specs.SpellingOps.{setting_bytes, row_numbers_bytes, ranges_bytes, queue_kind, queue_fields, list_kind, list_fields}
+use Rattle.state_codec.specs.SpellingOps.{sticker_kind, sticker_fields, op_bytes}
 use Rattle.state_codec.specs.SpellingRows.{row_bytes, change_bytes, changes_bytes}
 use Rattle.state_codec.specs.Text.{is_text, is_sticker_text}
-use Rattle.state_codec.proofs.FieldLaws.{bind_ok, ok_is, both_true, Takes, Takes-then, IsField, Any, both_is, such_is, fits_is, byte_is, u32_is, u64_is, volume_is, flag_is, single_is, text_is}
+use Rattle.state_codec.proofs.FieldLaws.{bind_ok, ok_is, both_true, Takes, Takes-then, IsField, Any, both_is, such_is, fits_is, byte_is}
+use Rattle.state_codec.proofs.FieldLaws.{u32_is, u64_is, volume_is, flag_is, single_is, text_is}
 use Rattle.state_codec.proofs.ItemLaws.{counted_is, alone_is}
 use Rattle.state_codec.proofs.ListLaws.{all_by, by_all}
 use Rattle.state_codec.proofs.RowLaws.{uri_is, row_is}
@@ -43,14 +46,17 @@ chosen true x y z e = inl (refl, e)
 chosen false x y z e = inr (refl, e)
 
 -- a value whose number and fields are these
-pub record IsKind {B : Type 0} (kind_of : B → ℕ) (fields : B → List ℕ) (Good : B → Type 0) (kind : ℕ) (bytes : List ℕ) (y : B × List ℕ) : Type 0 where
+pub record IsKind {B : Type 0} (kind_of : B → ℕ) (fields : B → List ℕ) (Good : B → Type 0) (kind : ℕ) (bytes : List ℕ)
+    (y : B × List ℕ) : Type 0 where
   pub taken : Takes bytes (fields y.0) y.1
   pub named : kind_of y.0 ≡ kind
   pub good : Good y.0
 
 -- a variant is spelled by its number and a field
-variant : {A B : Type 0} (f : A → B) (kind_of : B → ℕ) (fields : B → List ℕ) (Good : B → Type 0) (kind : ℕ) (at : List ℕ → Field A) (text : A → List ℕ) (Fits : A → Type 0)
-    → IsField at text Fits → ((a : A) → Fits a → (text a ≡ fields (f a)) × (kind_of (f a) ≡ kind) × Good (f a)) → (bytes : List ℕ) (y : B × List ℕ) → IsBytes bytes
+variant : {A B : Type 0} (f : A → B) (kind_of : B → ℕ) (fields : B → List ℕ) (Good : B → Type 0) (kind : ℕ) (at : List ℕ → Field A)
+    (text : A → List ℕ) (Fits : A → Type 0)
+    → IsField at text Fits → ((a : A) → Fits a → (text a ≡ fields (f a)) × (kind_of (f a) ≡ kind) × Good (f a))
+    → (bytes : List ℕ) (y : B × List ℕ) → IsBytes bytes
     → made f (at bytes) ≡ Ok y → IsKind kind_of fields Good kind bytes y
 variant f kind_of fields Good kind at text Fits field there bytes y fits e =
     let a = bind_ok (at bytes) _ y e in
@@ -67,26 +73,30 @@ at_kind kind_of fields Good kind found bytes y is h = subst (λ (k : ℕ). IsKin
 -- ---- numbers
 
 pub count_is : IsField (λ bytes. u32_at bytes) (λ n. u32_bytes n) (λ n. n ≤ MAX_COUNT)
-count_is = fits_is (λ bytes. u32_at bytes) (λ n. u32_bytes n) (λ n. n < 2 ^ 32) (λ n. n ≤ MAX_COUNT) u32_is (λ n h. omega arith) (λ n h. omega arith)
+count_is = fits_is (λ bytes. u32_at bytes) (λ n. u32_bytes n) (λ n. n < 2 ^ 32) (λ n. n ≤ MAX_COUNT) u32_is (λ n h. omega arith)
+    (λ n h. omega arith)
 
 pub pair_is : IsField (λ bytes. pair_at bytes) pair_bytes (λ x. AreNumbers x.0 x.1)
 pair_is = both_is (λ bytes. u32_at bytes) _ _ _ _ _ count_is count_is
 
 pub row_numbers_is : IsField (λ bytes. row_numbers_at bytes) row_numbers_bytes AreRowNumbers
 row_numbers_is =
-    fits_is (λ bytes. row_numbers_at bytes) row_numbers_bytes (λ xs. (length xs ≤ MAX_COUNT) × AllByRecursion (λ n. n ≤ MAX_COUNT) xs) AreRowNumbers
+    fits_is (λ bytes. row_numbers_at bytes) row_numbers_bytes (λ xs. (length xs ≤ MAX_COUNT) × AllByRecursion (λ n. n ≤ MAX_COUNT) xs)
+    AreRowNumbers
     (counted_is (λ bytes. u32_at bytes) _ _ count_is (λ known. u32_at) _ _ (alone_is (λ bytes. u32_at bytes) _ _ count_is) tt)
     (λ xs h. record { few = h.0; each = by_all _ xs h.1 }) (λ xs h. (h.few, all_by _ xs h.each))
 
 pub ranges_is : IsField (λ bytes. ranges_at bytes) ranges_bytes AreOpRanges
 ranges_is =
-    fits_is (λ bytes. ranges_at bytes) ranges_bytes (λ xs. (length xs ≤ MAX_COUNT) × AllByRecursion (λ x. AreNumbers x.0 x.1) xs) AreOpRanges
+    fits_is (λ bytes. ranges_at bytes) ranges_bytes (λ xs. (length xs ≤ MAX_COUNT) × AllByRecursion (λ x. AreNumbers x.0 x.1) xs)
+    AreOpRanges
     (counted_is (λ bytes. u32_at bytes) _ _ count_is (λ known. pair_at) _ _ (alone_is (λ bytes. pair_at bytes) _ _ pair_is) tt)
     (λ xs h. record { few = h.0; each = by_all _ xs h.1 }) (λ xs h. (h.few, all_by _ xs h.each))
 
 -- ---- changes
 
-change_takes : (bytes : List ℕ) (y : RowChange × List ℕ) → IsBytes bytes → change_at bytes ≡ Ok y → Takes bytes (change_bytes y.0) y.1 × IsChange y.0
+change_takes : (bytes : List ℕ) (y : RowChange × List ℕ) → IsBytes bytes → change_at bytes ≡ Ok y
+    → Takes bytes (change_bytes y.0) y.1 × IsChange y.0
 unfolding change_at
 change_takes bytes y fits e =
     let b = bind_ok (byte_at bytes) _ y e in
@@ -96,13 +106,15 @@ change_takes bytes y fits e =
           let a = bind_ok (row_at uri_at b.0.1) _ y h.1 in
           let t = row_is.takes b.0.1 a.0 front.rest_fits a.1 in
           let named : Takes bytes (1 ∷ []) b.0.1 = subst (λ (k : ℕ). Takes bytes (k ∷ []) b.0.1) (eqb-true _ _ h.0) front in
-          subst (λ z. Takes bytes (change_bytes z.0) z.1 × IsChange z.0) (ok_is (Put a.0.0, a.0.1) y a.2) (Takes-then bytes (1 ∷ []) b.0.1 (row_bytes a.0.0) a.0.1 named t.0, t.1)
+          subst (λ z. Takes bytes (change_bytes z.0) z.1 × IsChange z.0) (ok_is (Put a.0.0, a.0.1) y a.2)
+          (Takes-then bytes (1 ∷ []) b.0.1 (row_bytes a.0.0) a.0.1 named t.0, t.1)
       | inr n ↦ elim (chosen (eqb b.0.0 0) _ _ (Ok y) n.1) [
         | inl h ↦
             let a = bind_ok (uri_at b.0.1) _ y h.1 in
             let t = uri_is.takes b.0.1 a.0 front.rest_fits a.1 in
             let named : Takes bytes (0 ∷ []) b.0.1 = subst (λ (k : ℕ). Takes bytes (k ∷ []) b.0.1) (eqb-true _ _ h.0) front in
-            subst (λ z. Takes bytes (change_bytes z.0) z.1 × IsChange z.0) (ok_is (Drop a.0.0, a.0.1) y a.2) (Takes-then bytes (0 ∷ []) b.0.1 (text_bytes a.0.0) a.0.1 named t.0, t.1)
+            subst (λ z. Takes bytes (change_bytes z.0) z.1 × IsChange z.0) (ok_is (Drop a.0.0, a.0.1) y a.2)
+            (Takes-then bytes (0 ∷ []) b.0.1 (text_bytes a.0.0) a.0.1 named t.0, t.1)
         | inr n2 ↦ let h = n2.1 in absurd cc
       ]
     ]
@@ -124,12 +136,14 @@ change_count_is =
 pub changes_is : IsField (λ bytes. changes_at bytes) changes_bytes AreChanges
 changes_is =
     fits_is (λ bytes. changes_at bytes) changes_bytes (λ xs. (is_count (length xs) ≡ true) × AllByRecursion IsChange xs) AreChanges
-    (counted_is (λ bytes. such is_count byte_at bytes) _ _ change_count_is (λ known. change_at) _ _ (alone_is (λ bytes. change_at bytes) _ _ change_is) tt)
+    (counted_is (λ bytes. such is_count byte_at bytes) _ _ change_count_is (λ known. change_at) _ _
+    (alone_is (λ bytes. change_at bytes) _ _ change_is) tt)
     (λ xs h. record { count = h.0; each = by_all _ xs h.1 }) (λ xs h. (h.count, all_by _ xs h.each))
 
 -- ---- settings
 
-setting_takes : (bytes : List ℕ) (y : Setting × List ℕ) → IsBytes bytes → setting_at bytes ≡ Ok y → Takes bytes (setting_bytes y.0) y.1 × Any y.0
+setting_takes : (bytes : List ℕ) (y : Setting × List ℕ) → IsBytes bytes → setting_at bytes ≡ Ok y
+    → Takes bytes (setting_bytes y.0) y.1 × Any y.0
 unfolding setting_at
 setting_takes bytes y fits e =
     let b = bind_ok (byte_at bytes) _ y e in
@@ -137,19 +151,24 @@ setting_takes bytes y fits e =
     let rest = b.0.1 in
     let front = (byte_is.takes bytes b.0 fits b.1).0 in
     elim (chosen (eqb k 1) _ _ (Ok y) b.2) [
-      | inl h ↦ option settings.Repeat flag_bytes 1 k bytes rest (flag_at rest) y front h.0 (λ x r. (flag_is.takes rest x front.rest_fits r).0) (λ a. refl) h.1
+      | inl h ↦ option settings.Repeat flag_bytes 1 k bytes rest (flag_at rest) y front h.0
+          (λ x r. (flag_is.takes rest x front.rest_fits r).0) (λ a. refl) h.1
       | inr n1 ↦ elim (chosen (eqb k 2) _ _ (Ok y) n1.1) [
-        | inl h ↦ option settings.Random flag_bytes 2 k bytes rest (flag_at rest) y front h.0 (λ x r. (flag_is.takes rest x front.rest_fits r).0) (λ a. refl) h.1
+        | inl h ↦ option settings.Random flag_bytes 2 k bytes rest (flag_at rest) y front h.0
+            (λ x r. (flag_is.takes rest x front.rest_fits r).0) (λ a. refl) h.1
         | inr n2 ↦ elim (chosen (eqb k 3) _ _ (Ok y) n2.1) [
-          | inl h ↦ option settings.Single single_bytes 3 k bytes rest (single_at rest) y front h.0 (λ x r. (single_is.takes rest x front.rest_fits r).0) (λ a. refl) h.1
+          | inl h ↦ option settings.Single single_bytes 3 k bytes rest (single_at rest) y front h.0
+              (λ x r. (single_is.takes rest x front.rest_fits r).0) (λ a. refl) h.1
           | inr n3 ↦ elim (chosen (eqb k 4) _ _ (Ok y) n3.1) [
-            | inl h ↦ option settings.Consume flag_bytes 4 k bytes rest (flag_at rest) y front h.0 (λ x r. (flag_is.takes rest x front.rest_fits r).0) (λ a. refl) h.1
+            | inl h ↦ option settings.Consume flag_bytes 4 k bytes rest (flag_at rest) y front h.0
+                (λ x r. (flag_is.takes rest x front.rest_fits r).0) (λ a. refl) h.1
             | inr n4 ↦ let h = n4.1 in absurd cc
           ]
         ]
       ]
     ] where
-      option : {A : Type 0} (f : A → Setting) (text : A → List ℕ) (kind found : ℕ) (bytes rest : List ℕ) (field : Field A) (y : Setting × List ℕ)
+      option : {A : Type 0} (f : A → Setting) (text : A → List ℕ) (kind found : ℕ) (bytes rest : List ℕ) (field : Field A)
+          (y : Setting × List ℕ)
           → Takes bytes (found ∷ []) rest → eqb found kind ≡ true → ((x : A × List ℕ) → field ≡ Ok x → Takes rest (text x.0) x.1)
           → ((a : A) → kind ∷ text a ≡ setting_bytes (f a)) → made f field ≡ Ok y → Takes bytes (setting_bytes y.0) y.1 × Any y.0
       option f text kind found bytes rest field y front is_kind reads spelled e =
@@ -157,7 +176,8 @@ setting_takes bytes y fits e =
           let t = reads b.0 b.1 in
           let named : Takes bytes (kind ∷ []) rest = subst (λ (k : ℕ). Takes bytes (k ∷ []) rest) (eqb-true _ _ is_kind) front in
           let joined : Takes bytes (kind ∷ text b.0.0) b.0.1 = Takes-then bytes (kind ∷ []) rest (text b.0.0) b.0.1 named t in
-          subst (λ z. Takes bytes (setting_bytes z.0) z.1 × Any z.0) (ok_is (f b.0.0, b.0.1) y b.2) (subst (λ (w : List ℕ). Takes bytes w b.0.1) (spelled b.0.0) joined, tt)
+          subst (λ z. Takes bytes (setting_bytes z.0) z.1 × Any z.0) (ok_is (f b.0.0, b.0.1) y b.2)
+          (subst (λ (w : List ℕ). Takes bytes w b.0.1) (spelled b.0.0) joined, tt)
 
 setting_again : (value : Setting) (rest : List ℕ) → Any value → setting_at (setting_bytes value ++ rest) ≡ Ok (value, rest)
 unfolding setting_at
@@ -173,84 +193,140 @@ setting_is = record { takes = setting_takes; again = setting_again }
 
 value_is : IsField (λ bytes. value_at bytes) (λ text. text_bytes text) (λ text. is_sticker_text text ≡ true)
 value_is =
-    fits_is (λ bytes. value_at bytes) (λ text. text_bytes text) (λ text. IsTrue (is_text text) × (is_good_value text ≡ true)) (λ text. is_sticker_text text ≡ true)
+    fits_is (λ bytes. value_at bytes) (λ text. text_bytes text) (λ text. IsTrue (is_text text) × (is_good_value text ≡ true))
+    (λ text. is_sticker_text text ≡ true)
     (such_is is_good_value (λ bytes. text_at bytes) (λ text. text_bytes text) (λ text. IsTrue (is_text text)) text_is)
     (λ text h. let utf8 = both_true (is_utf8 text) _ h.0 in rw (utf8.0, h.1) refl)
-    (λ text h. let b = both_true (is_utf8 text) (is_good_value text) h in (rw (b.0, le-leb (length text) 65535 (omega (arith, leb-true _ _ b.1))) refl, b.1))
+    (λ text h. let b = both_true (is_utf8 text) (is_good_value text) h in (
+      rw (
+        b.0,
+        le-leb (length text) 65535 (omega (arith, leb-true _ _ b.1)),
+      ) refl,
+      b.1,
+    ))
 
-add_is : IsField (λ bytes. both u32_at row_numbers_at bytes) (λ x. u32_bytes x.0 ++ row_numbers_bytes x.1) (λ x. (x.0 ≤ MAX_COUNT) × AreRowNumbers x.1)
+add_is : IsField (λ bytes. both u32_at row_numbers_at bytes) (λ x. u32_bytes x.0 ++ row_numbers_bytes x.1)
+    (λ x. (x.0 ≤ MAX_COUNT) × AreRowNumbers x.1)
 add_is = both_is (λ bytes. u32_at bytes) _ _ (λ bytes. row_numbers_at bytes) _ _ count_is row_numbers_is
 
-move_is : IsField (λ bytes. both pair_at u32_at bytes) (λ x. pair_bytes x.0 ++ u32_bytes x.1) (λ x. AreNumbers x.0.0 x.0.1 × (x.1 ≤ MAX_COUNT))
+move_is : IsField (λ bytes. both pair_at u32_at bytes) (λ x. pair_bytes x.0 ++ u32_bytes x.1)
+    (λ x. AreNumbers x.0.0 x.0.1 × (x.1 ≤ MAX_COUNT))
 move_is = both_is (λ bytes. pair_at bytes) _ _ (λ bytes. u32_at bytes) _ _ pair_is count_is
 
 prio_is : IsField (λ bytes. both byte_at ranges_at bytes) (λ x. byte_bytes x.0 ++ ranges_bytes x.1) (λ x. (x.0 < 256) × AreOpRanges x.1)
 prio_is = both_is (λ bytes. byte_at bytes) _ _ (λ bytes. ranges_at bytes) _ _ byte_is ranges_is
 
-list_add_is : IsField (λ bytes. both text_at row_numbers_at bytes) (λ x. text_bytes x.0 ++ row_numbers_bytes x.1) (λ x. IsText x.0 × AreRowNumbers x.1)
+list_add_is : IsField (λ bytes. both text_at row_numbers_at bytes) (λ x. text_bytes x.0 ++ row_numbers_bytes x.1)
+    (λ x. IsText x.0 × AreRowNumbers x.1)
 list_add_is = both_is (λ bytes. text_at bytes) _ _ (λ bytes. row_numbers_at bytes) _ _ text_is row_numbers_is
 
-list_pair_is : IsField (λ bytes. both text_at pair_at bytes) (λ x. text_bytes x.0 ++ pair_bytes x.1) (λ x. IsText x.0 × AreNumbers x.1.0 x.1.1)
+list_pair_is : IsField (λ bytes. both text_at pair_at bytes) (λ x. text_bytes x.0 ++ pair_bytes x.1)
+    (λ x. IsText x.0 × AreNumbers x.1.0 x.1.1)
 list_pair_is = both_is (λ bytes. text_at bytes) _ _ (λ bytes. pair_at bytes) _ _ text_is pair_is
 
 rename_is : IsField (λ bytes. both text_at text_at bytes) (λ x. text_bytes x.0 ++ text_bytes x.1) (λ x. IsText x.0 × IsText x.1)
 rename_is = both_is (λ bytes. text_at bytes) _ _ (λ bytes. text_at bytes) _ _ text_is text_is
 
-set_is : IsField (λ bytes. both uri_at (both text_at value_at) bytes) (λ x. text_bytes x.0 ++ (text_bytes x.1.0 ++ text_bytes x.1.1)) (λ x. (is_uri x.0 ≡ true) × (IsText x.1.0 × (is_sticker_text x.1.1 ≡ true)))
-set_is = both_is (λ bytes. uri_at bytes) _ _ (λ bytes. both text_at value_at bytes) _ _ uri_is (both_is (λ bytes. text_at bytes) _ _ (λ bytes. value_at bytes) _ _ text_is value_is)
+set_is : IsField (λ bytes. both uri_at (both text_at value_at) bytes) (λ x. text_bytes x.0 ++ (text_bytes x.1.0 ++ text_bytes x.1.1))
+    (λ x. (is_uri x.0 ≡ true) × (IsText x.1.0 × (is_sticker_text x.1.1 ≡ true)))
+set_is = both_is (λ bytes. uri_at bytes) _ _ (λ bytes. both text_at value_at bytes) _ _ uri_is
+    (both_is (λ bytes. text_at bytes) _ _ (λ bytes. value_at bytes) _ _ text_is value_is)
 
 delete_is : IsField (λ bytes. both uri_at text_at bytes) (λ x. text_bytes x.0 ++ text_bytes x.1) (λ x. (is_uri x.0 ≡ true) × IsText x.1)
 delete_is = both_is (λ bytes. uri_at bytes) _ _ (λ bytes. text_at bytes) _ _ uri_is text_is
 
-queue_takes : (kind : ℕ) (bytes : List ℕ) (y : QueueOp × List ℕ) → 4 ≤ kind → kind ≤ 9 → IsBytes bytes → queue_op_at kind bytes ≡ Ok y → IsKind queue_kind queue_fields IsQueueOp kind bytes y
+queue_takes : (kind : ℕ) (bytes : List ℕ) (y : QueueOp × List ℕ) → 4 ≤ kind → kind ≤ 9 → IsBytes bytes → queue_op_at kind bytes ≡ Ok y
+    → IsKind queue_kind queue_fields IsQueueOp kind bytes y
 unfolding queue_op_at
 queue_takes kind bytes y low high fits e =
     elim (chosen (eqb kind 4) _ _ (Ok y) e) [
-      | inl h ↦ at_kind queue_kind queue_fields IsQueueOp 4 kind bytes y h.0 (variant (λ x. queue.Add x.0 x.1) queue_kind queue_fields IsQueueOp 4 (λ bytes. both u32_at row_numbers_at bytes) _ _ add_is (λ a h. (refl, refl, h)) bytes y fits h.1)
+      | inl h ↦ at_kind queue_kind queue_fields IsQueueOp 4 kind bytes y h.0
+          (variant (λ x. queue.Add x.0 x.1) queue_kind queue_fields IsQueueOp 4 (λ bytes. both u32_at row_numbers_at bytes) _ _ add_is
+          (λ a h. (refl, refl, h)) bytes y fits h.1)
       | inr n4 ↦
           elim (chosen (eqb kind 5) _ _ (Ok y) n4.1) [
-            | inl h ↦ at_kind queue_kind queue_fields IsQueueOp 5 kind bytes y h.0 (variant (λ x. queue.Delete x.0 x.1) queue_kind queue_fields IsQueueOp 5 (λ bytes. pair_at bytes) _ _ pair_is (λ a h. (refl, refl, h)) bytes y fits h.1)
+            | inl h ↦ at_kind queue_kind queue_fields IsQueueOp 5 kind bytes y h.0
+                (variant (λ x. queue.Delete x.0 x.1) queue_kind queue_fields IsQueueOp 5 (λ bytes. pair_at bytes) _ _ pair_is
+                (λ a h. (refl, refl, h)) bytes y fits h.1)
             | inr n5 ↦
                 elim (chosen (eqb kind 6) _ _ (Ok y) n5.1) [
-                  | inl h ↦ at_kind queue_kind queue_fields IsQueueOp 6 kind bytes y h.0 (variant (λ x. queue.Move x.0.0 x.0.1 x.1) queue_kind queue_fields IsQueueOp 6 (λ bytes. both pair_at u32_at bytes) _ _ move_is (λ a h. (refl, refl, h)) bytes y fits h.1)
+                  | inl h ↦ at_kind queue_kind queue_fields IsQueueOp 6 kind bytes y h.0
+                      (variant (λ x. queue.Move x.0.0 x.0.1 x.1) queue_kind queue_fields IsQueueOp 6 (λ bytes. both pair_at u32_at bytes) _
+                      _ move_is (λ a h. (refl, refl, h)) bytes y fits h.1)
                   | inr n6 ↦
                       elim (chosen (eqb kind 7) _ _ (Ok y) n6.1) [
-                        | inl h ↦ at_kind queue_kind queue_fields IsQueueOp 7 kind bytes y h.0 (variant (λ x. queue.Swap x.0 x.1) queue_kind queue_fields IsQueueOp 7 (λ bytes. pair_at bytes) _ _ pair_is (λ a h. (refl, refl, h)) bytes y fits h.1)
+                        | inl h ↦ at_kind queue_kind queue_fields IsQueueOp 7 kind bytes y h.0
+                            (variant (λ x. queue.Swap x.0 x.1) queue_kind queue_fields IsQueueOp 7 (λ bytes. pair_at bytes) _ _ pair_is
+                            (λ a h. (refl, refl, h)) bytes y fits h.1)
                         | inr n7 ↦
                             elim (chosen (eqb kind 8) _ _ (Ok y) n7.1) [
-                              | inl h ↦ at_kind queue_kind queue_fields IsQueueOp 8 kind bytes y h.0 (variant (λ x. queue.Shuffle x.0 x.1) queue_kind queue_fields IsQueueOp 8 (λ bytes. pair_at bytes) _ _ pair_is (λ a h. (refl, refl, h)) bytes y fits h.1)
+                              | inl h ↦ at_kind queue_kind queue_fields IsQueueOp 8 kind bytes y h.0
+                                  (variant (λ x. queue.Shuffle x.0 x.1) queue_kind queue_fields IsQueueOp 8 (λ bytes. pair_at bytes) _ _
+                                  pair_is (λ a h. (refl, refl, h)) bytes y fits h.1)
                               | inr n8 ↦
-                                  let is : kind ≡ 9 = omega (arith, eqb-false _ _ n4.0, eqb-false _ _ n5.0, eqb-false _ _ n6.0, eqb-false _ _ n7.0, eqb-false _ _ n8.0) in
-                                  subst (λ (k : ℕ). IsKind queue_kind queue_fields IsQueueOp k bytes y) (sym is) (variant (λ x. queue.Prio x.0 x.1) queue_kind queue_fields IsQueueOp 9 (λ bytes. both byte_at ranges_at bytes) _ _ prio_is (λ a h. (refl, refl, h)) bytes y fits n8.1)
+                                  let is : kind ≡ 9 = omega (
+                                    arith,
+                                    eqb-false _ _ n4.0,
+                                    eqb-false _ _ n5.0,
+                                    eqb-false _ _ n6.0,
+                                    eqb-false _ _ n7.0,
+                                    eqb-false _ _ n8.0,
+                                  ) in
+                                  subst (λ (k : ℕ). IsKind queue_kind queue_fields IsQueueOp k bytes y) (sym is)
+                                  (variant (λ x. queue.Prio x.0 x.1) queue_kind queue_fields IsQueueOp 9
+                                  (λ bytes. both byte_at ranges_at bytes) _ _ prio_is (λ a h. (refl, refl, h)) bytes y fits n8.1)
                             ]
                       ]
                 ]
           ]
     ]
 
-list_takes : (kind : ℕ) (bytes : List ℕ) (y : ListOp × List ℕ) → 10 ≤ kind → kind ≤ 16 → IsBytes bytes → list_op_at kind bytes ≡ Ok y → IsKind list_kind list_fields IsListOp kind bytes y
+list_takes : (kind : ℕ) (bytes : List ℕ) (y : ListOp × List ℕ) → 10 ≤ kind → kind ≤ 16 → IsBytes bytes → list_op_at kind bytes ≡ Ok y
+    → IsKind list_kind list_fields IsListOp kind bytes y
 unfolding list_op_at
 list_takes kind bytes y low high fits e =
     elim (chosen (eqb kind 10) _ _ (Ok y) e) [
-      | inl h ↦ at_kind list_kind list_fields IsListOp 10 kind bytes y h.0 (variant lists.Save list_kind list_fields IsListOp 10 (λ bytes. text_at bytes) _ _ text_is (λ a h. (refl, refl, h)) bytes y fits h.1)
+      | inl h ↦ at_kind list_kind list_fields IsListOp 10 kind bytes y h.0
+          (variant lists.Save list_kind list_fields IsListOp 10 (λ bytes. text_at bytes) _ _ text_is (λ a h. (refl, refl, h)) bytes y fits
+          h.1)
       | inr n10 ↦
           elim (chosen (eqb kind 11) _ _ (Ok y) n10.1) [
-            | inl h ↦ at_kind list_kind list_fields IsListOp 11 kind bytes y h.0 (variant (λ x. lists.Add x.0 x.1) list_kind list_fields IsListOp 11 (λ bytes. both text_at row_numbers_at bytes) _ _ list_add_is (λ a h. (refl, refl, h)) bytes y fits h.1)
+            | inl h ↦ at_kind list_kind list_fields IsListOp 11 kind bytes y h.0
+                (variant (λ x. lists.Add x.0 x.1) list_kind list_fields IsListOp 11 (λ bytes. both text_at row_numbers_at bytes) _ _
+                list_add_is (λ a h. (refl, refl, h)) bytes y fits h.1)
             | inr n11 ↦
                 elim (chosen (eqb kind 12) _ _ (Ok y) n11.1) [
-                  | inl h ↦ at_kind list_kind list_fields IsListOp 12 kind bytes y h.0 (variant (λ x. lists.Remove x.0 x.1.0 x.1.1) list_kind list_fields IsListOp 12 (λ bytes. both text_at pair_at bytes) _ _ list_pair_is (λ a h. (refl, refl, h)) bytes y fits h.1)
+                  | inl h ↦ at_kind list_kind list_fields IsListOp 12 kind bytes y h.0
+                      (variant (λ x. lists.Remove x.0 x.1.0 x.1.1) list_kind list_fields IsListOp 12 (λ bytes. both text_at pair_at bytes) _
+                      _ list_pair_is (λ a h. (refl, refl, h)) bytes y fits h.1)
                   | inr n12 ↦
                       elim (chosen (eqb kind 13) _ _ (Ok y) n12.1) [
-                        | inl h ↦ at_kind list_kind list_fields IsListOp 13 kind bytes y h.0 (variant (λ x. lists.Move x.0 x.1.0 x.1.1) list_kind list_fields IsListOp 13 (λ bytes. both text_at pair_at bytes) _ _ list_pair_is (λ a h. (refl, refl, h)) bytes y fits h.1)
+                        | inl h ↦ at_kind list_kind list_fields IsListOp 13 kind bytes y h.0
+                            (variant (λ x. lists.Move x.0 x.1.0 x.1.1) list_kind list_fields IsListOp 13
+                            (λ bytes. both text_at pair_at bytes) _ _ list_pair_is (λ a h. (refl, refl, h)) bytes y fits h.1)
                         | inr n13 ↦
                             elim (chosen (eqb kind 14) _ _ (Ok y) n13.1) [
-                              | inl h ↦ at_kind list_kind list_fields IsListOp 14 kind bytes y h.0 (variant lists.Clear list_kind list_fields IsListOp 14 (λ bytes. text_at bytes) _ _ text_is (λ a h. (refl, refl, h)) bytes y fits h.1)
+                              | inl h ↦ at_kind list_kind list_fields IsListOp 14 kind bytes y h.0
+                                  (variant lists.Clear list_kind list_fields IsListOp 14 (λ bytes. text_at bytes) _ _ text_is
+                                  (λ a h. (refl, refl, h)) bytes y fits h.1)
                               | inr n14 ↦
                                   elim (chosen (eqb kind 15) _ _ (Ok y) n14.1) [
-                                    | inl h ↦ at_kind list_kind list_fields IsListOp 15 kind bytes y h.0 (variant (λ x. lists.Rename x.0 x.1) list_kind list_fields IsListOp 15 (λ bytes. both text_at text_at bytes) _ _ rename_is (λ a h. (refl, refl, h)) bytes y fits h.1)
+                                    | inl h ↦ at_kind list_kind list_fields IsListOp 15 kind bytes y h.0
+                                        (variant (λ x. lists.Rename x.0 x.1) list_kind list_fields IsListOp 15
+                                        (λ bytes. both text_at text_at bytes) _ _ rename_is (λ a h. (refl, refl, h)) bytes y fits h.1)
                                     | inr n15 ↦
-                                        let is : kind ≡ 16 = omega (arith, eqb-false _ _ n10.0, eqb-false _ _ n11.0, eqb-false _ _ n12.0, eqb-false _ _ n13.0, eqb-false _ _ n14.0, eqb-false _ _ n15.0) in
-                                        subst (λ (k : ℕ). IsKind list_kind list_fields IsListOp k bytes y) (sym is) (variant lists.Drop list_kind list_fields IsListOp 16 (λ bytes. text_at bytes) _ _ text_is (λ a h. (refl, refl, h)) bytes y fits n15.1)
+                                        let is : kind ≡ 16 = omega (
+                                          arith,
+                                          eqb-false _ _ n10.0,
+                                          eqb-false _ _ n11.0,
+                                          eqb-false _ _ n12.0,
+                                          eqb-false _ _ n13.0,
+                                          eqb-false _ _ n14.0,
+                                          eqb-false _ _ n15.0,
+                                        ) in
+                                        subst (λ (k : ℕ). IsKind list_kind list_fields IsListOp k bytes y) (sym is)
+                                        (variant lists.Drop list_kind list_fields IsListOp 16 (λ bytes. text_at bytes) _ _ text_is
+                                        (λ a h. (refl, refl, h)) bytes y fits n15.1)
                                   ]
                             ]
                       ]
@@ -258,17 +334,24 @@ list_takes kind bytes y low high fits e =
           ]
     ]
 
-sticker_takes : (kind : ℕ) (bytes : List ℕ) (y : StickerOp × List ℕ) → 17 ≤ kind → kind ≤ 19 → IsBytes bytes → sticker_op_at kind bytes ≡ Ok y → IsKind sticker_kind sticker_fields IsStickerOp kind bytes y
+sticker_takes : (kind : ℕ) (bytes : List ℕ) (y : StickerOp × List ℕ) → 17 ≤ kind → kind ≤ 19 → IsBytes bytes
+    → sticker_op_at kind bytes ≡ Ok y → IsKind sticker_kind sticker_fields IsStickerOp kind bytes y
 unfolding sticker_op_at
 sticker_takes kind bytes y low high fits e =
     elim (chosen (eqb kind 17) _ _ (Ok y) e) [
-      | inl h ↦ at_kind sticker_kind sticker_fields IsStickerOp 17 kind bytes y h.0 (variant (λ x. stickers.Set x.0 x.1.0 x.1.1) sticker_kind sticker_fields IsStickerOp 17 (λ bytes. both uri_at (both text_at value_at) bytes) _ _ set_is (λ a h. (refl, refl, h)) bytes y fits h.1)
+      | inl h ↦ at_kind sticker_kind sticker_fields IsStickerOp 17 kind bytes y h.0
+          (variant (λ x. stickers.Set x.0 x.1.0 x.1.1) sticker_kind sticker_fields IsStickerOp 17
+          (λ bytes. both uri_at (both text_at value_at) bytes) _ _ set_is (λ a h. (refl, refl, h)) bytes y fits h.1)
       | inr n17 ↦
           elim (chosen (eqb kind 18) _ _ (Ok y) n17.1) [
-            | inl h ↦ at_kind sticker_kind sticker_fields IsStickerOp 18 kind bytes y h.0 (variant (λ x. stickers.Delete x.0 x.1) sticker_kind sticker_fields IsStickerOp 18 (λ bytes. both uri_at text_at bytes) _ _ delete_is (λ a h. (refl, refl, h)) bytes y fits h.1)
+            | inl h ↦ at_kind sticker_kind sticker_fields IsStickerOp 18 kind bytes y h.0
+                (variant (λ x. stickers.Delete x.0 x.1) sticker_kind sticker_fields IsStickerOp 18 (λ bytes. both uri_at text_at bytes) _ _
+                delete_is (λ a h. (refl, refl, h)) bytes y fits h.1)
             | inr n18 ↦
                 let is : kind ≡ 19 = omega (arith, eqb-false _ _ n17.0, eqb-false _ _ n18.0) in
-                subst (λ (k : ℕ). IsKind sticker_kind sticker_fields IsStickerOp k bytes y) (sym is) (variant stickers.DeleteAll sticker_kind sticker_fields IsStickerOp 19 (λ bytes. uri_at bytes) _ _ uri_is (λ a h. (refl, refl, h)) bytes y fits n18.1)
+                subst (λ (k : ℕ). IsKind sticker_kind sticker_fields IsStickerOp k bytes y) (sym is)
+                (variant stickers.DeleteAll sticker_kind sticker_fields IsStickerOp 19 (λ bytes. uri_at bytes) _ _ uri_is
+                (λ a h. (refl, refl, h)) bytes y fits n18.1)
           ]
     ]
 
@@ -285,22 +368,27 @@ list_again : (op : ListOp) (rest : List ℕ) → IsListOp op → list_op_at (lis
 unfolding list_op_at
 list_again (lists.Save name) rest good = ap (made lists.Save) (text_is.again name rest good)
 list_again (lists.Add name rows) rest good = ap (made (λ x. lists.Add x.0 x.1)) (list_add_is.again (name, rows) rest good)
-list_again (lists.Remove name start end) rest good = ap (made (λ x. lists.Remove x.0 x.1.0 x.1.1)) (list_pair_is.again (name, (start, end)) rest good)
-list_again (lists.Move name from to) rest good = ap (made (λ x. lists.Move x.0 x.1.0 x.1.1)) (list_pair_is.again (name, (from, to)) rest good)
+list_again (lists.Remove name start end) rest good =
+    ap (made (λ x. lists.Remove x.0 x.1.0 x.1.1)) (list_pair_is.again (name, (start, end)) rest good)
+list_again (lists.Move name from to) rest good =
+    ap (made (λ x. lists.Move x.0 x.1.0 x.1.1)) (list_pair_is.again (name, (from, to)) rest good)
 list_again (lists.Clear name) rest good = ap (made lists.Clear) (text_is.again name rest good)
 list_again (lists.Rename from to) rest good = ap (made (λ x. lists.Rename x.0 x.1)) (rename_is.again (from, to) rest good)
 list_again (lists.Drop name) rest good = ap (made lists.Drop) (text_is.again name rest good)
 
-sticker_again : (op : StickerOp) (rest : List ℕ) → IsStickerOp op → sticker_op_at (sticker_kind op) (sticker_fields op ++ rest) ≡ Ok (op, rest)
+sticker_again : (op : StickerOp) (rest : List ℕ) → IsStickerOp op
+    → sticker_op_at (sticker_kind op) (sticker_fields op ++ rest) ≡ Ok (op, rest)
 unfolding sticker_op_at
-sticker_again (stickers.Set uri name value) rest good = ap (made (λ x. stickers.Set x.0 x.1.0 x.1.1)) (set_is.again (uri, (name, value)) rest good)
+sticker_again (stickers.Set uri name value) rest good =
+    ap (made (λ x. stickers.Set x.0 x.1.0 x.1.1)) (set_is.again (uri, (name, value)) rest good)
 sticker_again (stickers.Delete uri name) rest good = ap (made (λ x. stickers.Delete x.0 x.1)) (delete_is.again (uri, name) rest good)
 sticker_again (stickers.DeleteAll uri) rest good = ap (made stickers.DeleteAll) (uri_is.again uri rest good)
 
 -- ---- an op
 
 -- an op of a kind alone
-alone : {A : Type 0} (f : A → Op) (kind found : ℕ) (bytes rest : List ℕ) (at : List ℕ → Field A) (text : A → List ℕ) (Fits : A → Type 0) → IsField at text Fits
+alone : {A : Type 0} (f : A → Op) (kind found : ℕ) (bytes rest : List ℕ) (at : List ℕ → Field A) (text : A → List ℕ) (Fits : A → Type 0)
+    → IsField at text Fits
     → Takes bytes (found ∷ []) rest → eqb found kind ≡ true → ((a : A) → kind ∷ text a ≡ op_bytes (f a)) → ((a : A) → Fits a → IsOp (f a))
     → (y : Op × List ℕ) → made f (at rest) ≡ Ok y → Takes bytes (op_bytes y.0) y.1 × IsOp y.0
 alone f kind found bytes rest at text Fits field front is_kind spelled keeps y e =
@@ -308,18 +396,23 @@ alone f kind found bytes rest at text Fits field front is_kind spelled keeps y e
     let t = field.takes rest b.0 front.rest_fits b.1 in
     let named : Takes bytes (kind ∷ []) rest = subst (λ (k : ℕ). Takes bytes (k ∷ []) rest) (eqb-true _ _ is_kind) front in
     let joined : Takes bytes (kind ∷ text b.0.0) b.0.1 = Takes-then bytes (kind ∷ []) rest (text b.0.0) b.0.1 named t.0 in
-    subst (λ z. Takes bytes (op_bytes z.0) z.1 × IsOp z.0) (ok_is (f b.0.0, b.0.1) y b.2) (subst (λ (w : List ℕ). Takes bytes w b.0.1) (spelled b.0.0) joined, keeps b.0.0 t.1)
+    subst (λ z. Takes bytes (op_bytes z.0) z.1 × IsOp z.0) (ok_is (f b.0.0, b.0.1) y b.2)
+    (subst (λ (w : List ℕ). Takes bytes w b.0.1) (spelled b.0.0) joined, keeps b.0.0 t.1)
 
 -- an op of a family
-of_family : {B : Type 0} (f : B → Op) (kind_of : B → ℕ) (fields : B → List ℕ) (Good : B → Type 0) (found : ℕ) (bytes rest : List ℕ) (field : Field B)
+of_family : {B : Type 0} (f : B → Op) (kind_of : B → ℕ) (fields : B → List ℕ) (Good : B → Type 0) (found : ℕ) (bytes rest : List ℕ)
+    (field : Field B)
     → Takes bytes (found ∷ []) rest → ((z : B × List ℕ) → field ≡ Ok z → IsKind kind_of fields Good found rest z)
-    → ((b : B) → kind_of b ∷ fields b ≡ op_bytes (f b)) → ((b : B) → Good b → IsOp (f b)) → (y : Op × List ℕ) → made f field ≡ Ok y → Takes bytes (op_bytes y.0) y.1 × IsOp y.0
+    → ((b : B) → kind_of b ∷ fields b ≡ op_bytes (f b)) → ((b : B) → Good b → IsOp (f b)) → (y : Op × List ℕ) → made f field ≡ Ok y
+    → Takes bytes (op_bytes y.0) y.1 × IsOp y.0
 of_family f kind_of fields Good found bytes rest field front takes spelled keeps y e =
     let b = bind_ok field _ y e in
     let k = takes b.0 b.1 in
     let named : Takes bytes (kind_of b.0.0 ∷ []) rest = subst (λ (n : ℕ). Takes bytes (n ∷ []) rest) (sym k.named) front in
-    let joined : Takes bytes (kind_of b.0.0 ∷ fields b.0.0) b.0.1 = Takes-then bytes (kind_of b.0.0 ∷ []) rest (fields b.0.0) b.0.1 named k.taken in
-    subst (λ z. Takes bytes (op_bytes z.0) z.1 × IsOp z.0) (ok_is (f b.0.0, b.0.1) y b.2) (subst (λ (w : List ℕ). Takes bytes w b.0.1) (spelled b.0.0) joined, keeps b.0.0 k.good)
+    let joined : Takes bytes (kind_of b.0.0 ∷ fields b.0.0) b.0.1 =
+    Takes-then bytes (kind_of b.0.0 ∷ []) rest (fields b.0.0) b.0.1 named k.taken in
+    subst (λ z. Takes bytes (op_bytes z.0) z.1 × IsOp z.0) (ok_is (f b.0.0, b.0.1) y b.2)
+    (subst (λ (w : List ℕ). Takes bytes w b.0.1) (spelled b.0.0) joined, keeps b.0.0 k.good)
 
 within : (low high n : ℕ) → is_in_range low high n ≡ true → (low ≤ n) × (n ≤ high)
 within low high n h = let b = both_true (leb low n) (leb n high) h in (leb-true _ _ b.0, leb-true _ _ b.1)
@@ -338,11 +431,14 @@ op_takes bytes y fits e =
         | inr n2 ↦ elim (chosen (eqb k 3) _ _ (Ok y) n2.1) [
           | inl h ↦ alone SetOrder 3 k bytes rest (λ s. u64_at s) _ _ u64_is front h.0 (λ a. refl) (λ a g. g) y h.1
           | inr n3 ↦ elim (chosen (is_in_range 4 9 k) _ _ (Ok y) n3.1) [
-            | inl h ↦ let r = within 4 9 k h.0 in of_family Queue queue_kind queue_fields IsQueueOp k bytes rest (queue_op_at k rest) front (λ z f. queue_takes k rest z r.0 r.1 front.rest_fits f) (λ a. refl) (λ a g. g) y h.1
+            | inl h ↦ let r = within 4 9 k h.0 in of_family Queue queue_kind queue_fields IsQueueOp k bytes rest (queue_op_at k rest) front
+                (λ z f. queue_takes k rest z r.0 r.1 front.rest_fits f) (λ a. refl) (λ a g. g) y h.1
             | inr n4 ↦ elim (chosen (is_in_range 10 16 k) _ _ (Ok y) n4.1) [
-              | inl h ↦ let r = within 10 16 k h.0 in of_family OfList list_kind list_fields IsListOp k bytes rest (list_op_at k rest) front (λ z f. list_takes k rest z r.0 r.1 front.rest_fits f) (λ a. refl) (λ a g. g) y h.1
+              | inl h ↦ let r = within 10 16 k h.0 in of_family OfList list_kind list_fields IsListOp k bytes rest (list_op_at k rest) front
+                  (λ z f. list_takes k rest z r.0 r.1 front.rest_fits f) (λ a. refl) (λ a g. g) y h.1
               | inr n5 ↦ elim (chosen (is_in_range 17 19 k) _ _ (Ok y) n5.1) [
-                | inl h ↦ let r = within 17 19 k h.0 in of_family Sticker sticker_kind sticker_fields IsStickerOp k bytes rest (sticker_op_at k rest) front (λ z f. sticker_takes k rest z r.0 r.1 front.rest_fits f) (λ a. refl) (λ a g. g) y h.1
+                | inl h ↦ let r = within 17 19 k h.0 in of_family Sticker sticker_kind sticker_fields IsStickerOp k bytes rest
+                    (sticker_op_at k rest) front (λ z f. sticker_takes k rest z r.0 r.1 front.rest_fits f) (λ a. refl) (λ a g. g) y h.1
                 | inr n6 ↦ elim (chosen (eqb k 20) _ _ (Ok y) n6.1) [
                   | inl h ↦ alone Batch 20 k bytes rest (λ s. changes_at s) _ _ changes_is front h.0 (λ a. refl) (λ a g. g) y h.1
                   | inr n7 ↦ let h = n7.1 in absurd cc

@@ -27,13 +27,15 @@ all_weaker P Q f [] all = tt
 all_weaker P Q f (x ∷ xs) all = (f x all.0, all_weaker P Q f xs all.1)
 
 -- one above all others goes behind them
-pub rises_push : {K : Type 0} (c : K → K → Ordering) (xs : List K) (y : K) → IsStrictlySortedBy c xs → AllByRecursion (λ x. c x y ≡ Less) xs → IsStrictlySortedBy c (xs ++ y ∷ [])
+pub rises_push : {K : Type 0} (c : K → K → Ordering) (xs : List K) (y : K) → IsStrictlySortedBy c xs → AllByRecursion (λ x. c x y ≡ Less) xs
+    → IsStrictlySortedBy c (xs ++ y ∷ [])
 unfolding IsStrictlySortedBy
 rises_push c [] y rising below = (tt, tt)
 rises_push c (x ∷ xs) y rising below = (all_push (λ z. c x z ≡ Less) xs y rising.0 below.0, rises_push c xs y rising.1 below.1)
 
 -- where a list rises, each one is above those in front of it
-pub rises_above : {K : Type 0} (c : K → K → Ordering) (xs : List K) (y : K) (more : List K) → IsStrictlySortedBy c (xs ++ y ∷ more) → AllByRecursion (λ x. c x y ≡ Less) xs
+pub rises_above : {K : Type 0} (c : K → K → Ordering) (xs : List K) (y : K) (more : List K) → IsStrictlySortedBy c (xs ++ y ∷ more)
+    → AllByRecursion (λ x. c x y ≡ Less) xs
 unfolding IsStrictlySortedBy
 rises_above c [] y more rising = tt
 rises_above c (x ∷ xs) y more rising = (all_middle (λ z. c x z ≡ Less) xs y more rising.0, rises_above c xs y more rising.1)

@@ -1,5 +1,6 @@
 -- URIs, rows and changes that are read are spelled so, and what is spelled so is read.
-use Rattle.std.proofs.Common.{◌≡◌, ℕ, zero, suc, ◌^◌, ◌<◌, ◌≤◌, Bool, true, ◌&&◌, leb, List, [], ◌∷◌, ◌++◌, length, Ok, Some, None, refl, sym, ap, subst, ◌∙◌, append_assoc, arith}
+use Rattle.std.proofs.Common.{◌≡◌, ℕ, zero, suc, ◌^◌, ◌<◌, ◌≤◌, Bool, true, ◌&&◌, leb, List, [], ◌∷◌, ◌++◌, length, Ok, Some, None, refl}
+use Rattle.std.proofs.Common.{sym, ap, subst, ◌∙◌, append_assoc, arith}
 use Rattle.std.specs.Prelude.{Option, IsTrue}
 use Rattle.std.specs.Int.{is_in_range}
 use Rattle.std.specs.List.{All, AllByRecursion, flat_map, list_all}
@@ -18,15 +19,18 @@ use Rattle.state_codec.specs.SavedState.{IsBytes}
 use Rattle.state_codec.specs.SpellingFields.{byte_bytes, u32_bytes, u64_bytes, text_bytes}
 use Rattle.state_codec.specs.SpellingRows.{tag_bytes, tags_bytes, row_bytes}
 use Rattle.state_codec.specs.Text.{is_text}
-use Rattle.state_codec.proofs.FieldLaws.{bind_ok, ok_is, both_true, Takes, Takes-then, IsField, IsBytes-rest, both_is, such_is, fits_is, byte_is, u64_is, within_is, text_is}
+use Rattle.state_codec.proofs.FieldLaws.{bind_ok, ok_is, both_true, Takes, Takes-then, IsField, IsBytes-rest, both_is, such_is, fits_is}
+use Rattle.state_codec.proofs.FieldLaws.{byte_is, u64_is, within_is, text_is}
 use Rattle.state_codec.proofs.ItemLaws.{IsItem, items_take, items_again, alone_is}
 
 -- ---- texts of a form
 
 -- a test that only texts of a field pass
-pub form_is : (test : List ℕ → Bool) → ((text : List ℕ) → test text ≡ true → is_text text ≡ true) → IsField (λ bytes. such test text_at bytes) (λ text. text_bytes text) (λ text. test text ≡ true)
+pub form_is : (test : List ℕ → Bool) → ((text : List ℕ) → test text ≡ true → is_text text ≡ true)
+    → IsField (λ bytes. such test text_at bytes) (λ text. text_bytes text) (λ text. test text ≡ true)
 form_is test short =
-    fits_is (λ bytes. such test text_at bytes) (λ text. text_bytes text) (λ text. IsTrue (is_text text) × (test text ≡ true)) (λ text. test text ≡ true)
+    fits_is (λ bytes. such test text_at bytes) (λ text. text_bytes text) (λ text. IsTrue (is_text text) × (test text ≡ true))
+    (λ text. test text ≡ true)
     (such_is test (λ bytes. text_at bytes) (λ text. text_bytes text) (λ text. IsTrue (is_text text)) text_is)
     (λ text h. h.1) (λ text h. (short text h, h))
 
@@ -54,11 +58,13 @@ tag_short text h =
 tag_text_is : IsField (λ bytes. such is_tag_text text_at bytes) (λ text. text_bytes text) (λ text. is_tag_text text ≡ true)
 tag_text_is = form_is is_tag_text tag_short
 
-tag_takes : (bytes : List ℕ) (x : Option (List ℕ) × List ℕ) → IsBytes bytes → tag_at bytes ≡ Ok x → Takes bytes (tag_bytes x.0) x.1 × (is_good_tag x.0 ≡ true)
+tag_takes : (bytes : List ℕ) (x : Option (List ℕ) × List ℕ) → IsBytes bytes → tag_at bytes ≡ Ok x
+    → Takes bytes (tag_bytes x.0) x.1 × (is_good_tag x.0 ≡ true)
 unfolding tag_at
 tag_takes [] x fits e = absurd cc
 tag_takes (zero ∷ rest) x fits e =
-    subst (λ y. Takes (0 ∷ rest) (tag_bytes y.0) y.1 × (is_good_tag y.0 ≡ true)) (ok_is (None, rest) x e) (record { parts = refl; rest_fits = IsBytes-rest 0 rest fits }, refl)
+    subst (λ y. Takes (0 ∷ rest) (tag_bytes y.0) y.1 × (is_good_tag y.0 ≡ true)) (ok_is (None, rest) x e)
+    (record { parts = refl; rest_fits = IsBytes-rest 0 rest fits }, refl)
 tag_takes (suc zero ∷ rest) x fits e =
     let a = bind_ok (such is_tag_text text_at rest) _ x e in
     let t = tag_text_is.takes rest a.0 (IsBytes-rest 1 rest fits) a.1 in
@@ -105,7 +111,8 @@ abbrev pub fields_text : RowFields → List ℕ
 fields_text x = u32_bytes x.0 ++ (byte_bytes x.1.0 ++ (u64_bytes x.1.1.0 ++ (u64_bytes x.1.1.1.0 ++ tags_bytes x.1.1.1.1)))
 
 abbrev pub AreFields : RowFields → Type 0
-AreFields x = ((1 ≤ x.0) × (x.0 ≤ MAX_RATE)) × (((1 ≤ x.1.0) × (x.1.0 ≤ 2)) × ((x.1.1.0 < 2 ^ 64) × ((x.1.1.1.0 < 2 ^ 64) × AreTags x.1.1.1.1)))
+AreFields x = ((1 ≤ x.0) × (x.0 ≤ MAX_RATE))
+    × (((1 ≤ x.1.0) × (x.1.0 ≤ 2)) × ((x.1.1.0 < 2 ^ 64) × ((x.1.1.1.0 < 2 ^ 64) × AreTags x.1.1.1.1)))
 
 pub fields_is : IsField (λ bytes. row_fields_at bytes) fields_text AreFields
 fields_is =
@@ -127,7 +134,8 @@ pub row_fits : (uri : List ℕ) (x : RowFields) → is_uri uri ≡ true → AreF
 row_fits uri x form fits = record {
   form = both_is_true (is_uri uri) _ form
       (both_is_true (leb 1 x.0) _ (le-leb 1 x.0 fits.0.0) (both_is_true (leb x.0 MAX_RATE) _ (le-leb x.0 MAX_RATE fits.0.1)
-      (both_is_true (leb 1 x.1.0) _ (le-leb 1 x.1.0 fits.1.0.0) (both_is_true (leb x.1.0 2) _ (le-leb x.1.0 2 fits.1.0.1) (all_good x.1.1.1.1 fits.1.1.1.1.1)))));
+      (both_is_true (leb 1 x.1.0) _ (le-leb 1 x.1.0 fits.1.0.0)
+      (both_is_true (leb x.1.0 2) _ (le-leb x.1.0 2 fits.1.0.1) (all_good x.1.1.1.1 fits.1.1.1.1.1)))));
   six = fits.1.1.1.1.0;
   first_byte = fits.1.1.0;
   frames = fits.1.1.1.0;
@@ -142,30 +150,47 @@ fields_fit row good =
     let a = both_true (leb 1 row.rate) _ form.1 in
     let b = both_true (leb row.rate MAX_RATE) _ a.1 in
     let c = both_true (leb 1 row.channels) _ b.1 in
-    let d = both_true (leb row.channels 2) _ c.1 in
-    (((leb-true _ _ a.0, leb-true _ _ b.0), ((leb-true _ _ c.0, leb-true _ _ d.0), (good.first_byte, (good.frames, (good.six, good_all row.tags d.1))))), form.0)
+    let d = both_true (leb row.channels 2) _ c.1 in (
+      (
+        (leb-true _ _ a.0, leb-true _ _ b.0),
+        ((leb-true _ _ c.0, leb-true _ _ d.0), (good.first_byte, (good.frames, (good.six, good_all row.tags d.1)))),
+      ),
+      form.0,
+    )
 
 -- a row whose URI is read so
-pub row_takes : (uri : List ℕ → Field (List ℕ)) (IsName : List ℕ → Type 0) → IsField uri (λ name. text_bytes name) IsName → ((name : List ℕ) → IsName name → is_uri name ≡ true)
-    → (bytes : List ℕ) (x : Row × List ℕ) → IsBytes bytes → row_at uri bytes ≡ Ok x → Takes bytes (row_bytes x.0) x.1 × (IsSavedRow x.0 × IsName x.0.uri)
+pub row_takes : (uri : List ℕ → Field (List ℕ)) (IsName : List ℕ → Type 0) → IsField uri (λ name. text_bytes name) IsName
+    → ((name : List ℕ) → IsName name → is_uri name ≡ true)
+    → (bytes : List ℕ) (x : Row × List ℕ) → IsBytes bytes → row_at uri bytes ≡ Ok x
+    → Takes bytes (row_bytes x.0) x.1 × (IsSavedRow x.0 × IsName x.0.uri)
 unfolding row_at
 row_takes uri IsName field form bytes x fits e =
     let name = bind_ok (uri bytes) _ x e in
     let rest = bind_ok (row_fields_at name.0.1) _ x name.2 in
     let t = field.takes bytes name.0 fits name.1 in
     let u = fields_is.takes name.0.1 rest.0 t.0.rest_fits rest.1 in
-    subst (λ y. Takes bytes (row_bytes y.0) y.1 × (IsSavedRow y.0 × IsName y.0.uri)) (ok_is (row_with name.0.0 rest.0.0, rest.0.1) x rest.2)
-    (Takes-then bytes (text_bytes name.0.0) name.0.1 (fields_text rest.0.0) rest.0.1 t.0 u.0, (row_fits name.0.0 rest.0.0 (form name.0.0 t.1) u.1, t.1))
+    subst (λ y. Takes bytes (row_bytes y.0) y.1 × (IsSavedRow y.0 × IsName y.0.uri))
+    (ok_is (row_with name.0.0 rest.0.0, rest.0.1) x rest.2) (
+      Takes-then bytes (text_bytes name.0.0) name.0.1 (fields_text rest.0.0) rest.0.1 t.0 u.0,
+      (row_fits name.0.0 rest.0.0 (form name.0.0 t.1) u.1, t.1),
+    )
 
 pub row_again : (uri : List ℕ → Field (List ℕ)) (IsName : List ℕ → Type 0) → IsField uri (λ name. text_bytes name) IsName
     → (row : Row) (rest : List ℕ) → IsSavedRow row → IsName row.uri → row_at uri (row_bytes row ++ rest) ≡ Ok (row, rest)
 unfolding row_at
 row_again uri IsName field row rest good named =
-    let whole : row_bytes row ++ rest ≡ text_bytes row.uri ++ (fields_text (fields_of row) ++ rest) = append_assoc (text_bytes row.uri) (fields_text (fields_of row)) rest in
-    ap (row_at uri) whole ∙ rw (field.again row.uri (fields_text (fields_of row) ++ rest) named, fields_is.again (fields_of row) rest (fields_fit row good).0) refl
+    let whole : row_bytes row ++ rest ≡ text_bytes row.uri ++ (fields_text (fields_of row) ++ rest) =
+    append_assoc (text_bytes row.uri) (fields_text (fields_of row)) rest in
+    ap (row_at uri) whole ∙ rw (
+      field.again row.uri (fields_text (fields_of row) ++ rest) named,
+      fields_is.again (fields_of row) rest (fields_fit row good).0,
+    ) refl
 
 pub row_is : IsField (λ bytes. row_at uri_at bytes) row_bytes IsSavedRow
 row_is = record {
-  takes = λ bytes x fits e. let t = row_takes (λ b. uri_at b) (λ uri. is_uri uri ≡ true) uri_is (λ name h. h) bytes x fits e in (t.0, t.1.0);
+  takes = λ bytes x fits e. let t = row_takes (λ b. uri_at b) (λ uri. is_uri uri ≡ true) uri_is (λ name h. h) bytes x fits e in (
+    t.0,
+    t.1.0,
+  );
   again = λ row rest good. row_again (λ b. uri_at b) (λ uri. is_uri uri ≡ true) uri_is row rest good (fields_fit row good).1;
 }

@@ -1,5 +1,6 @@
 -- A snapshot that is read is spelled so, and what is spelled so is read.
-use Rattle.std.proofs.Common.{◌≡◌, ℕ, ◌+◌, ◌^◌, ◌<◌, ◌≤◌, eqb, List, [], ◌++◌, length, Result, Ok, Err, refl, sym, ap, subst, ◌∙◌, append_assoc, arith}
+use Rattle.std.proofs.Common.{◌≡◌, ℕ, ◌+◌, ◌^◌, ◌<◌, ◌≤◌, eqb, List, [], ◌++◌, length, Result, Ok, Err, refl, sym, ap, subst, ◌∙◌}
+use Rattle.std.proofs.Common.{append_assoc, arith}
 use Rattle.std.specs.Prelude.{IfOk}
 use Rattle.std.proofs.lemmas.Bool.{eqb-true}
 use Rattle.std.proofs.lemmas.List.{append-nil, nil_from_length}
@@ -15,7 +16,8 @@ use Rattle.state_codec.specs.SavedState.{SavedState, IsSavedState, IsBytes, key_
 use Rattle.state_codec.specs.Spelling.{options_bytes, entry_bytes, playlist_bytes, sticker_bytes, head_bytes, parts_bytes, saved_bytes}
 use Rattle.state_codec.specs.SpellingFields.{byte_bytes, u32_bytes, u64_bytes, flag_bytes, single_bytes, list_bytes}
 use Rattle.state_codec.specs.SpellingRows.{row_bytes}
-use Rattle.state_codec.proofs.FieldLaws.{bind_ok, ok_is, passed_ok, Takes, Takes-then, u64_is, within_is, flag_is, single_is, volume_is, key_is}
+use Rattle.state_codec.proofs.FieldLaws.{bind_ok, ok_is, passed_ok, Takes, Takes-then, u64_is, within_is, flag_is, single_is, volume_is}
+use Rattle.state_codec.proofs.FieldLaws.{key_is}
 use Rattle.state_codec.proofs.SongsLaws.{songs_is}
 use Rattle.state_codec.proofs.EntriesLaws.{entries_is}
 use Rattle.state_codec.proofs.PlaylistsLaws.{lists_is}
@@ -43,7 +45,8 @@ options_take bytes x fits e =
 options_again : (options : Options) (rest : List ℕ) → options_at (options_bytes options ++ rest) ≡ Ok (options, rest)
 unfolding options_at
 options_again o rest =
-    let regrouped : options_bytes o ++ rest ≡ flag_bytes o.repeat ++ (flag_bytes o.random ++ (single_bytes o.single ++ (flag_bytes o.consume ++ rest))) = simp append_assoc in
+    let regrouped : options_bytes o ++ rest ≡ flag_bytes o.repeat
+    ++ (flag_bytes o.random ++ (single_bytes o.single ++ (flag_bytes o.consume ++ rest))) = simp append_assoc in
     ap options_at regrouped
     ∙ rw (
       flag_is.again o.repeat (flag_bytes o.random ++ (single_bytes o.single ++ (flag_bytes o.consume ++ rest))) tt,
@@ -66,9 +69,11 @@ record IsHeader (header : Header) : Type 0 where
   volume : header.volume ≤ 100
 
 abbrev header_text : Header → List ℕ
-header_text h = h.key ++ (u64_bytes h.order ++ (u32_bytes h.version ++ (u32_bytes h.next_id ++ (byte_bytes h.volume ++ options_bytes h.options))))
+header_text h = h.key
+    ++ (u64_bytes h.order ++ (u32_bytes h.version ++ (u32_bytes h.next_id ++ (byte_bytes h.volume ++ options_bytes h.options))))
 
-header_takes : (bytes : List ℕ) (x : Header × List ℕ) → IsBytes bytes → header_at bytes ≡ Ok x → Takes bytes (header_text x.0) x.1 × IsHeader x.0
+header_takes : (bytes : List ℕ) (x : Header × List ℕ) → IsBytes bytes → header_at bytes ≡ Ok x
+    → Takes bytes (header_text x.0) x.1 × IsHeader x.0
 unfolding header_at
 header_takes bytes x fits e =
     let key = bind_ok (key_at bytes) _ x e in
@@ -84,13 +89,34 @@ header_takes bytes x fits e =
     let t4 = volume_is.takes next_id.0.1 volume.0 t3.0.rest_fits volume.1 in
     let t5 = options_take volume.0.1 options.0 t4.0.rest_fits options.1 in
     let end = options.0.1 in
-    let h : Header = record { key = key.0.0; order = order.0.0; version = version.0.0; next_id = next_id.0.0; volume = volume.0.0; options = options.0.0 } in
+    let h : Header = record {
+      key = key.0.0;
+      order = order.0.0;
+      version = version.0.0;
+      next_id = next_id.0.0;
+      volume = volume.0.0;
+      options =
+          options.0.0;
+    } in
     let j4 = Takes-then next_id.0.1 (byte_bytes h.volume) volume.0.1 (options_bytes h.options) end t4.0 t5 in
     let j3 = Takes-then version.0.1 (u32_bytes h.next_id) next_id.0.1 (byte_bytes h.volume ++ options_bytes h.options) end t3.0 j4 in
-    let j2 = Takes-then order.0.1 (u32_bytes h.version) version.0.1 (u32_bytes h.next_id ++ (byte_bytes h.volume ++ options_bytes h.options)) end t2.0 j3 in
-    let j1 = Takes-then key.0.1 (u64_bytes h.order) order.0.1 (u32_bytes h.version ++ (u32_bytes h.next_id ++ (byte_bytes h.volume ++ options_bytes h.options))) end t1.0 j2 in
-    let j0 : Takes bytes (header_text h) end = Takes-then bytes h.key key.0.1 (u64_bytes h.order ++ (u32_bytes h.version ++ (u32_bytes h.next_id ++ (byte_bytes h.volume ++ options_bytes h.options)))) end t0.0 j1 in
-    let good : IsHeader h = record { key_len = t0.1.0; key_bytes = t0.1.1; order = t1.1; version_low = t2.1.0; version_high = t2.1.1; next_low = t3.1.0; next_high = t3.1.1; volume = t4.1 } in
+    let j2 = Takes-then order.0.1 (u32_bytes h.version) version.0.1
+    (u32_bytes h.next_id ++ (byte_bytes h.volume ++ options_bytes h.options)) end t2.0 j3 in
+    let j1 = Takes-then key.0.1 (u64_bytes h.order) order.0.1
+    (u32_bytes h.version ++ (u32_bytes h.next_id ++ (byte_bytes h.volume ++ options_bytes h.options))) end t1.0 j2 in
+    let j0 : Takes bytes (header_text h) end =
+    Takes-then bytes h.key key.0.1 (u64_bytes h.order
+    ++ (u32_bytes h.version ++ (u32_bytes h.next_id ++ (byte_bytes h.volume ++ options_bytes h.options)))) end t0.0 j1 in
+    let good : IsHeader h = record {
+      key_len = t0.1.0;
+      key_bytes = t0.1.1;
+      order = t1.1;
+      version_low = t2.1.0;
+      version_high = t2.1.1;
+      next_low = t3.1.0;
+      next_high = t3.1.1;
+      volume = t4.1;
+    } in
     subst (λ (y : Header × List ℕ). Takes bytes (header_text y.0) y.1 × IsHeader y.0) {x = (h, end)} (ok_is (h, end) x options.2) (j0, good)
 
 header_again : (h : Header) (rest : List ℕ) → IsHeader h → header_at (header_text h ++ rest) ≡ Ok (h, rest)
@@ -116,9 +142,18 @@ header_again h rest fits =
 -- ---- the parts
 
 abbrev header_of : SavedState → Header
-header_of s = record { key = s.key; order = s.order; version = s.queue.version; next_id = s.queue.next_id; volume = s.volume; options = s.options }
+header_of s = record {
+  key = s.key;
+  order = s.order;
+  version = s.queue.version;
+  next_id = s.queue.next_id;
+  volume = s.volume;
+  options =
+      s.options;
+}
 
-parts_take : (h : Header) (bytes : List ℕ) (x : SavedState × List ℕ) → IsHeader h → IsBytes bytes → parts_at h bytes ≡ Ok x → Takes bytes (parts_bytes x.0) x.1 × (IsSavedState x.0 × (header_of x.0 ≡ h))
+parts_take : (h : Header) (bytes : List ℕ) (x : SavedState × List ℕ) → IsHeader h → IsBytes bytes → parts_at h bytes ≡ Ok x
+    → Takes bytes (parts_bytes x.0) x.1 × (IsSavedState x.0 × (header_of x.0 ≡ h))
 unfolding parts_at
 parts_take h bytes x header fits e =
     let songs = bind_ok (songs_at bytes) _ x e in
@@ -126,7 +161,8 @@ parts_take h bytes x header fits e =
     let lists = bind_ok (lists_at entries.0.1) _ x entries.2 in
     let stickers = bind_ok (stickers_at songs.0.0 lists.0.1) _ x lists.2 in
     let t0 = songs_is.takes bytes songs.0 fits songs.1 in
-    let t1 = (entries_is songs.0.0 t0.1 h.version h.next_id header.version_low header.version_high header.next_low header.next_high).takes songs.0.1 entries.0 t0.0.rest_fits entries.1 in
+    let t1 = (entries_is songs.0.0 t0.1 h.version h.next_id header.version_low header.version_high header.next_low header.next_high).takes
+    songs.0.1 entries.0 t0.0.rest_fits entries.1 in
     let t2 = lists_is.takes entries.0.1 lists.0 t1.0.rest_fits lists.1 in
     let t3 = (stickers_is songs.0.0 t0.1).takes lists.0.1 stickers.0 t2.0.rest_fits stickers.1 in
     let end = stickers.0.1 in
@@ -146,7 +182,8 @@ parts_take h bytes x header fits e =
     let stickers_text = list_bytes sticker_bytes s.stickers in
     let j2 = Takes-then entries.0.1 lists_text lists.0.1 stickers_text end t2.0 t3.0 in
     let j1 = Takes-then songs.0.1 entries_text entries.0.1 (lists_text ++ stickers_text) end t1.0 j2 in
-    let j0 : Takes bytes (parts_bytes s) end = Takes-then bytes rows_text songs.0.1 (entries_text ++ (lists_text ++ stickers_text)) end t0.0 j1 in
+    let j0 : Takes bytes (parts_bytes s) end =
+    Takes-then bytes rows_text songs.0.1 (entries_text ++ (lists_text ++ stickers_text)) end t0.0 j1 in
     let good : IsSavedState s = record {
       key_len = header.key_len;
       key_bytes = header.key_bytes;
@@ -157,7 +194,8 @@ parts_take h bytes x header fits e =
       lists = t2.1;
       stickers = t3.1;
     } in
-    subst (λ (y : SavedState × List ℕ). Takes bytes (parts_bytes y.0) y.1 × (IsSavedState y.0 × (header_of y.0 ≡ h))) {x = (s, end)} (ok_is (s, end) x stickers.2) (j0, (good, refl))
+    subst (λ (y : SavedState × List ℕ). Takes bytes (parts_bytes y.0) y.1 × (IsSavedState y.0 × (header_of y.0 ≡ h))) {x = (s, end)}
+    (ok_is (s, end) x stickers.2) (j0, (good, refl))
 
 parts_again : (s : SavedState) (rest : List ℕ) → IsSavedState s → parts_at (header_of s) (parts_bytes s ++ rest) ≡ Ok (s, rest)
 unfolding parts_at
@@ -167,15 +205,21 @@ parts_again s rest fits =
     let r2 = list_bytes playlist_bytes s.lists ++ r3 in
     let r1 = list_bytes (entry_bytes s.songs) s.queue.entries ++ r2 in
     let join : (a b c : List ℕ) → (a ++ b) ++ c ≡ a ++ (b ++ c) = append_assoc in
-    let tail : (list_bytes playlist_bytes s.lists ++ list_bytes sticker_bytes s.stickers) ++ rest ≡ r2 = join (list_bytes playlist_bytes s.lists) (list_bytes sticker_bytes s.stickers) rest in
-    let middle : (list_bytes (entry_bytes s.songs) s.queue.entries ++ (list_bytes playlist_bytes s.lists ++ list_bytes sticker_bytes s.stickers)) ++ rest ≡ r1 =
-    join (list_bytes (entry_bytes s.songs) s.queue.entries) (list_bytes playlist_bytes s.lists ++ list_bytes sticker_bytes s.stickers) rest ∙ ap (λ (r : List ℕ). list_bytes (entry_bytes s.songs) s.queue.entries ++ r) tail in
+    let tail : (list_bytes playlist_bytes s.lists ++ list_bytes sticker_bytes s.stickers) ++ rest ≡ r2 =
+    join (list_bytes playlist_bytes s.lists) (list_bytes sticker_bytes s.stickers) rest in
+    let middle : (list_bytes (entry_bytes s.songs) s.queue.entries
+    ++ (list_bytes playlist_bytes s.lists ++ list_bytes sticker_bytes s.stickers)) ++ rest ≡ r1 =
+    join (list_bytes (entry_bytes s.songs) s.queue.entries) (list_bytes playlist_bytes s.lists ++ list_bytes sticker_bytes s.stickers) rest
+    ∙ ap (λ (r : List ℕ). list_bytes (entry_bytes s.songs) s.queue.entries ++ r) tail in
     let regrouped : parts_bytes s ++ rest ≡ list_bytes row_bytes s.songs ++ r1 =
-    join (list_bytes row_bytes s.songs) (list_bytes (entry_bytes s.songs) s.queue.entries ++ (list_bytes playlist_bytes s.lists ++ list_bytes sticker_bytes s.stickers)) rest ∙ ap (λ (r : List ℕ). list_bytes row_bytes s.songs ++ r) middle in
+    join (list_bytes row_bytes s.songs)
+    (list_bytes (entry_bytes s.songs) s.queue.entries ++ (list_bytes playlist_bytes s.lists ++ list_bytes sticker_bytes s.stickers))
+    rest ∙ ap (λ (r : List ℕ). list_bytes row_bytes s.songs ++ r) middle in
     ap (parts_at (header_of s)) regrouped
     ∙ rw (
       songs_is.again s.songs r1 fits.songs,
-      (entries_is s.songs fits.songs s.queue.version s.queue.next_id queue.version_low queue.version_high queue.next_low queue.next_high).again s.queue.entries r2 fits.queue,
+      (entries_is s.songs fits.songs s.queue.version s.queue.next_id queue.version_low queue.version_high queue.next_low
+          queue.next_high).again s.queue.entries r2 fits.queue,
       lists_is.again s.lists r3 fits.lists,
       (stickers_is s.songs fits.songs).again s.stickers rest fits.stickers,
     )
@@ -183,7 +227,8 @@ parts_again s rest fits =
 
 -- ---- the state
 
-pub saved_takes : (bytes : List ℕ) (x : SavedState × List ℕ) → IsBytes bytes → saved_at bytes ≡ Ok x → Takes bytes (saved_bytes x.0) x.1 × IsSavedState x.0
+pub saved_takes : (bytes : List ℕ) (x : SavedState × List ℕ) → IsBytes bytes → saved_at bytes ≡ Ok x
+    → Takes bytes (saved_bytes x.0) x.1 × IsSavedState x.0
 unfolding saved_at
 saved_takes bytes x fits e =
     let h = bind_ok (header_at bytes) _ x e in
@@ -215,13 +260,15 @@ in_bytes_ok : {A : Type 0} (bytes : List ℕ) (r : Result A ℕ) (x : A) → in_
 in_bytes_ok bytes (Ok y) x e = e
 in_bytes_ok bytes (Err d) x e = absurd cc
 
-pub snapshot_takes : (bytes : List ℕ) (s : SavedState) → IsBytes bytes → saved_reading bytes ≡ Ok s → IsSavedState s × (bytes ≡ saved_bytes s)
+pub snapshot_takes : (bytes : List ℕ) (s : SavedState) → IsBytes bytes → saved_reading bytes ≡ Ok s
+    → IsSavedState s × (bytes ≡ saved_bytes s)
 snapshot_takes bytes s fits e =
     let b = bind_ok (saved_at bytes) _ s (in_bytes_ok bytes (alone (saved_at bytes)) s e) in
     let g = passed_ok (eqb (length b.0.1) 0) (length b.0.1) b.0.0 s b.2 in
     let t = saved_takes bytes b.0 fits b.1 in
     let nothing : b.0.1 ≡ [] = nil_from_length b.0.1 (eqb-true _ _ g.0) in
-    let whole : bytes ≡ saved_bytes b.0.0 = t.0.parts ∙ ap (λ (r : List ℕ). saved_bytes b.0.0 ++ r) nothing ∙ append-nil (saved_bytes b.0.0) in
+    let whole : bytes ≡ saved_bytes b.0.0 = t.0.parts ∙ ap (λ (r : List ℕ). saved_bytes b.0.0 ++ r) nothing
+    ∙ append-nil (saved_bytes b.0.0) in
     subst (λ (y : SavedState). IsSavedState y × (bytes ≡ saved_bytes y)) g.1 (t.1, whole)
 
 pub snapshot_again : (s : SavedState) → IsSavedState s → saved_reading (saved_bytes s) ≡ Ok s
@@ -229,10 +276,12 @@ snapshot_again s fits =
     let read : saved_at (saved_bytes s) ≡ Ok (s, []) = ap saved_at (sym (append-nil (saved_bytes s))) ∙ saved_again s [] fits in
     rw read refl
 
-pub snapshot_found : (bytes : List ℕ) (r : Result SavedState CodecError) → IsBytes bytes → GivesSaved r (saved_reading bytes) → IfOk r (λ s. IsSavedState s × (bytes ≡ saved_bytes s))
+pub snapshot_found : (bytes : List ℕ) (r : Result SavedState CodecError) → IsBytes bytes → GivesSaved r (saved_reading bytes)
+    → IfOk r (λ s. IsSavedState s × (bytes ≡ saved_bytes s))
 snapshot_found bytes (Ok s) fits given = snapshot_takes bytes s fits given
 snapshot_found bytes (Err e) fits given = tt
 
 -- a state that is spelled is answered, unless memory runs out
-pub snapshot_only : (bytes : List ℕ) (r : Result SavedState CodecError) (s : SavedState) → IsSavedState s → bytes ≡ saved_bytes s → GivesSaved r (saved_reading bytes) → GivesSaved r (Ok s)
+pub snapshot_only : (bytes : List ℕ) (r : Result SavedState CodecError) (s : SavedState) → IsSavedState s → bytes ≡ saved_bytes s
+    → GivesSaved r (saved_reading bytes) → GivesSaved r (Ok s)
 snapshot_only bytes r s fits e given = subst (GivesSaved r) (ap saved_reading e ∙ snapshot_again s fits) given

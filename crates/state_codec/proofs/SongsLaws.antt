@@ -1,5 +1,6 @@
 -- The rows of a snapshot.
-use Rattle.std.proofs.Common.{◌≡◌, ℕ, zero, suc, ◌<◌, ◌≤◌, Bool, true, false, ◌&&◌, cond, List, [], ◌∷◌, length, Some, refl, sym, ap, subst, ◌∙◌, arith}
+use Rattle.std.proofs.Common.{◌≡◌, ℕ, zero, suc, ◌<◌, ◌≤◌, Bool, true, false, ◌&&◌, cond, List, [], ◌∷◌, length, Some, refl, sym, ap, subst}
+use Rattle.std.proofs.Common.{◌∙◌, arith}
 use Rattle.std.specs.Prelude.{is_some}
 use Rattle.std.specs.declared.cmp.Ordering.TheVariants.{Less}
 use Rattle.std.specs.Ordering.{nat_cmp, is_lt, is_eq, ordering_reverse}
@@ -54,18 +55,21 @@ abbrev IsNext : List Row → List ℕ → Type 0
 IsNext known uri = (is_uri uri && ends_before known uri) ≡ true
 
 next_uri_is : (known : List Row) → IsField (λ bytes. next_uri_at known bytes) (λ uri. text_bytes uri) (IsNext known)
-next_uri_is known = form_is (λ uri. is_uri uri && ends_before known uri) (λ text h. uri_short text (both_true (is_uri text) (ends_before known text) h).0)
+next_uri_is known = form_is (λ uri. is_uri uri && ends_before known uri)
+    (λ text h. uri_short text (both_true (is_uri text) (ends_before known text) h).0)
 
 song_is : IsItem (λ known. row_at (next_uri_at known)) row_bytes KnownSongs
 song_is = record {
   takes = λ known bytes x fits in_range e.
-      let t = row_takes (λ b. next_uri_at known b) (IsNext known) (next_uri_is known) (λ name h. (both_true (is_uri name) (ends_before known name) h).0) bytes x in_range e in
+      let t = row_takes (λ b. next_uri_at known b) (IsNext known) (next_uri_is known)
+      (λ name h. (both_true (is_uri name) (ends_before known name) h).0) bytes x in_range e in
       let before = last_tells known x.0.uri fits.0 (both_true (is_uri x.0.uri) (ends_before known x.0.uri) t.1.1).1 in
       (t.0, (rises_push (by_text row_uri) known x.0 fits.0 before, all_push IsSavedRow known x.0 fits.1 t.1.0));
   again = λ known row more rest fits.
       let good = all_middle IsSavedRow known row more fits.1 in
       let before = last_before known row.uri (rises_above (by_text row_uri) known row more fits.0) in
-      row_again (λ b. next_uri_at known b) (IsNext known) (next_uri_is known) row rest good (both_is_true (is_uri row.uri) (ends_before known row.uri) (fields_fit row good).1 before);
+      row_again (λ b. next_uri_at known b) (IsNext known) (next_uri_is known) row rest good
+      (both_is_true (is_uri row.uri) (ends_before known row.uri) (fields_fit row good).1 before);
 }
 
 none_known : KnownSongs []
@@ -74,8 +78,10 @@ none_known = (tt, tt)
 
 pub songs_is : IsField (λ bytes. songs_at bytes) (λ rows. list_bytes row_bytes rows) AreSavedSongs
 songs_is =
-    fits_is (λ bytes. songs_at bytes) (λ rows. list_bytes row_bytes rows) (λ rows. ((0 ≤ length rows) × (length rows ≤ MAX_ROWS)) × KnownSongs rows) AreSavedSongs
-    (counted_is (λ bytes. number_within 0 MAX_ROWS bytes) (λ n. u32_bytes n) (λ n. (0 ≤ n) × (n ≤ MAX_ROWS)) (within_is 0 MAX_ROWS (omega arith)) (λ known. row_at (next_uri_at known)) row_bytes KnownSongs song_is none_known)
+    fits_is (λ bytes. songs_at bytes) (λ rows. list_bytes row_bytes rows)
+    (λ rows. ((0 ≤ length rows) × (length rows ≤ MAX_ROWS)) × KnownSongs rows) AreSavedSongs
+    (counted_is (λ bytes. number_within 0 MAX_ROWS bytes) (λ n. u32_bytes n) (λ n. (0 ≤ n) × (n ≤ MAX_ROWS))
+    (within_is 0 MAX_ROWS (omega arith)) (λ known. row_at (next_uri_at known)) row_bytes KnownSongs song_is none_known)
     (λ rows h. record { database = record { few = h.0.1; rising = h.1.0 }; rows = all_places IsSavedRow rows h.1.1 })
     (λ rows h. ((omega arith, h.database.few), (h.database.rising, all_in_turn IsSavedRow rows h.rows)))
 
@@ -85,7 +91,8 @@ apart_of : (a b : List ℕ) → slice_cmp nat_cmp a b ≡ Less → bytes_eq b a 
 apart_of a b less = sym (is_eq-slice_cmp b a) ∙ ap is_eq (nat_list_cmp_total.antisymm b a ∙ ap ordering_reverse less)
 
 -- the place of a row, counted to the first row of its URI
-place_is : (songs : List Row) (n : ℕ) (row : Row) → IsRising row_uri songs → slice_get songs n ≡ Some row → (n < length songs) × (position_or_len (λ r. bytes_eq row.uri r.uri) songs ≡ n)
+place_is : (songs : List Row) (n : ℕ) (row : Row) → IsRising row_uri songs → slice_get songs n ≡ Some row
+    → (n < length songs) × (position_or_len (λ r. bytes_eq row.uri r.uri) songs ≡ n)
 place_is [] n row rising at = absurd cc
 place_is (x ∷ songs) zero row rising at =
     let same : x ≡ row = cc in
@@ -96,12 +103,14 @@ place_is (x ∷ songs) (suc n) row rising at =
     let first : slice_cmp nat_cmp x.uri row.uri ≡ Less = at_place songs n (sorted_head (by_text row_uri) x songs rising) at in
     (omega (arith, rest.0), rw (apart_of x.uri row.uri first) (omega (arith, rest.1)))
   where
-    at_place : (rows : List Row) (k : ℕ) → AllByRecursion (λ r. slice_cmp nat_cmp x.uri r.uri ≡ Less) rows → slice_get rows k ≡ Some row → slice_cmp nat_cmp x.uri row.uri ≡ Less
+    at_place : (rows : List Row) (k : ℕ) → AllByRecursion (λ r. slice_cmp nat_cmp x.uri r.uri ≡ Less) rows → slice_get rows k ≡ Some row
+        → slice_cmp nat_cmp x.uri row.uri ≡ Less
     at_place [] k all is = absurd cc
     at_place (r ∷ rows) zero all is = let same : r ≡ row = cc in subst (λ (s : Row). slice_cmp nat_cmp x.uri s.uri ≡ Less) same all.0
     at_place (r ∷ rows) (suc k) all is = at_place rows k all.1 is
 
-pub number_is : (songs : List Row) (n : ℕ) (row : Row) → IsRising row_uri songs → slice_get songs n ≡ Some row → (n < length songs) × (number_at songs row.uri ≡ Some n)
+pub number_is : (songs : List Row) (n : ℕ) (row : Row) → IsRising row_uri songs → slice_get songs n ≡ Some row
+    → (n < length songs) × (number_at songs row.uri ≡ Some n)
 number_is songs n row rising at =
     let place = place_is songs n row rising at in
     (place.0, rw (place.1, Rattle.std.proofs.lemmas.Bool.lt-ltb n (length songs) place.0) refl)
@@ -117,7 +126,8 @@ pub row_of : (songs : List Row) (uri : List ℕ) → has_uri songs uri ≡ true 
 row_of [] uri has = absurd cc
 row_of (x ∷ songs) uri has = by (bytes_eq uri x.uri) refl (row_of songs uri) has
   where
-    by : (b : Bool) → bytes_eq uri x.uri ≡ b → (has_uri songs uri ≡ true → RowOf songs uri) → is_some (cond b (Some x) (find (λ r. bytes_eq uri r.uri) songs)) ≡ true → RowOf (x ∷ songs) uri
+    by : (b : Bool) → bytes_eq uri x.uri ≡ b → (has_uri songs uri ≡ true → RowOf songs uri)
+        → is_some (cond b (Some x) (find (λ r. bytes_eq uri r.uri) songs)) ≡ true → RowOf (x ∷ songs) uri
     by true is behind has = record { n = 0; row = x; at = refl; same = sym ((bytes_eq-Decides uri x.uri).0 is) }
     by false is behind has =
         let rest = behind has in

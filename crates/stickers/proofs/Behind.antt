@@ -18,20 +18,24 @@ less Equal is = absurd (cc)
 less Greater is = absurd (cc)
 
 -- it goes to the end
-pub last_placed : (all : List Sticker) (uri name value : List ℕ) → is_last all uri name ≡ true → with_sticker all uri name value ≡ all ++ sticker uri (name, value) ∷ []
+pub last_placed : (all : List Sticker) (uri name value : List ℕ) → is_last all uri name ≡ true
+    → with_sticker all uri name value ≡ all ++ sticker uri (name, value) ∷ []
 last_placed [] uri name value last = refl
 last_placed (t ∷ ts) uri name value last =
     let parts = both (is_lt (compare t (sticker uri (name, [])))) (is_last ts uri name) last in
     let before : compare t (sticker uri (name, value)) ≡ Less = less _ parts.0 in
-    let behind : compare (sticker uri (name, value)) t ≡ Greater = stickers_total.antisymm (sticker uri (name, value)) t ∙ ap ordering_reverse before in
+    let behind : compare (sticker uri (name, value)) t ≡ Greater = stickers_total.antisymm (sticker uri (name, value)) t
+    ∙ ap ordering_reverse before in
     rw behind (ap (λ l. t ∷ l) (last_placed ts uri name value parts.1))
 
 -- what stands behind it stands behind all
-all_before : (all : List Sticker) (uri name later more : List ℕ) → is_last all uri name ≡ true → compare (sticker uri (name, [])) (sticker later (more, [])) ≡ Less → is_last all later more ≡ true
+all_before : (all : List Sticker) (uri name later more : List ℕ) → is_last all uri name ≡ true
+    → compare (sticker uri (name, [])) (sticker later (more, [])) ≡ Less → is_last all later more ≡ true
 all_before [] uri name later more last below = refl
 all_before (t ∷ ts) uri name later more last below =
     let parts = both (is_lt (compare t (sticker uri (name, [])))) (is_last ts uri name) last in
-    let first : compare t (sticker later (more, [])) ≡ Less = stickers_total.trans t (sticker uri (name, [])) (sticker later (more, [])) (less _ parts.0) below in
+    let first : compare t (sticker later (more, [])) ≡ Less =
+    stickers_total.trans t (sticker uri (name, [])) (sticker later (more, [])) (less _ parts.0) below in
     rw (first, all_before ts uri name later more parts.1 below) refl
 
 all_pushed : (test : Sticker → Bool) (all : List Sticker) (s : Sticker) → list_all test (all ++ s ∷ []) ≡ (list_all test all && test s)
@@ -47,8 +51,11 @@ all_pushed test (t ∷ ts) s = ap (λ b. test t && b) (all_pushed test ts s) ∙
     and_assoc false b c = refl
 
 -- it is the last one then
-pub last_tells : (all : List Sticker) (uri name value later more : List ℕ) → is_last all uri name ≡ true → is_last (all ++ sticker uri (name, value) ∷ []) later more ≡ is_lt (compare (sticker uri (name, [])) (sticker later (more, [])))
-last_tells all uri name value later more last = all_pushed (λ s. is_lt (compare s (sticker later (more, [])))) all (sticker uri (name, value)) ∙ of (compare (sticker uri (name, [])) (sticker later (more, []))) refl
+pub last_tells : (all : List Sticker) (uri name value later more : List ℕ) → is_last all uri name ≡ true
+    → is_last (all ++ sticker uri (name, value) ∷ []) later more ≡ is_lt (compare (sticker uri (name, [])) (sticker later (more, [])))
+last_tells all uri name value later more last =
+    all_pushed (λ s. is_lt (compare s (sticker later (more, [])))) all (sticker uri (name, value))
+    ∙ of (compare (sticker uri (name, [])) (sticker later (more, []))) refl
   where
     and_false : (b : Bool) → (b && false) ≡ false
     and_false true = refl

@@ -123,49 +123,62 @@ order (x ∷ xs) (y ∷ ys) = by_cases (nat_lt x y) refl (nat_eq x y) refl (orde
 
 texts_forward : (folder : List ℕ) → is_gt (texts (folder ++ 47 ∷ []) (folder ++ 48 ∷ [])) ≡ false
 texts_forward [] = refl
-texts_forward (x ∷ xs) = let same : nat_eq x x ≡ true = grind (arith, nat_tests) in let least : nat_lt x x ≡ false = grind (arith, nat_tests) in
+texts_forward (x ∷ xs) =
+    let same : nat_eq x x ≡ true = grind (arith, nat_tests) in let least : nat_lt x x ≡ false = grind (arith, nat_tests) in
     rw (least, same) (texts_forward xs)
 
 -- the one end is before the other
-pub ends_forward : (first end : String Global) (folder : List ℕ) → string_bytes first ≡ folder ++ 47 ∷ [] → string_bytes end ≡ folder ++ 48 ∷ []
+pub ends_forward : (first end : String Global) (folder : List ℕ) → string_bytes first ≡ folder ++ 47 ∷ []
+    → string_bytes end ≡ folder ++ 48 ∷ []
     → is_gt (string_cmp first end) ≡ false
 ends_forward first end folder first_is end_is = rw (first_is, end_is) (texts_forward folder)
 
 -- a key between the two ends
 between : (first end key : String Global) (folder : List ℕ) → string_bytes first ≡ folder ++ 47 ∷ [] → string_bytes end ≡ folder ++ 48 ∷ []
     → range_contains string_cmp (Included first) (Excluded end) key ≡ is_below folder (string_bytes key)
-between first end key folder first_is end_is = rw (first_is, end_is) (order folder (string_bytes key)) ∙ sym (below-bytes folder (string_bytes key))
+between first end key folder first_is end_is = rw (first_is, end_is) (order folder (string_bytes key))
+    ∙ sym (below-bytes folder (string_bytes key))
 
 -- all that a folder is over is over by the root
 same_song : (uri : List ℕ) (values : Values) (folder : Bor (List ℕ)) (name : List ℕ) (test : ValueTest) → is_below folder.now uri ≡ true
     → found_in (in_song (uri, values)) Root name test ≡ found_in (in_song (uri, values)) (At folder) name test
 same_song uri [] folder name test below = refl
-same_song uri (v ∷ vs) folder name test below = rw below (by_cases (bytes_eq name v.0 && passes test v.1) (same_song uri vs folder name test below))
+same_song uri (v ∷ vs) folder name test below =
+    rw below (by_cases (bytes_eq name v.0 && passes test v.1) (same_song uri vs folder name test below))
   where
     by_cases : (b : Bool) → found_in (in_song (uri, vs)) Root name test ≡ found_in (in_song (uri, vs)) (At folder) name test
-        → map uri_and_value (cond b (sticker uri v ∷ filter (is_found Root name test) (in_song (uri, vs))) (filter (is_found Root name test) (in_song (uri, vs))))
-        ≡ map uri_and_value (cond b (sticker uri v ∷ filter (is_found (At folder) name test) (in_song (uri, vs))) (filter (is_found (At folder) name test) (in_song (uri, vs))))
+        → map uri_and_value (cond b (sticker uri v ∷ filter (is_found Root name test) (in_song (uri, vs)))
+        (filter (is_found Root name test) (in_song (uri, vs))))
+        ≡ map uri_and_value (cond b (sticker uri v ∷ filter (is_found (At folder) name test) (in_song (uri, vs)))
+        (filter (is_found (At folder) name test) (in_song (uri, vs))))
     by_cases true rest = ap (λ l. (uri, v.1) ∷ l) rest
     by_cases false rest = rest
 
 -- the first of some songs, whether it stands between the two ends or not, and what is found in the others
-found_more : (b : Bool) (song : String Global × Values) (rest songs : List (String Global × Values)) (folder : Bor (List ℕ)) (name : List ℕ) (test : ValueTest)
+found_more : (b : Bool) (song : String Global × Values) (rest songs : List (String Global × Values)) (folder : Bor (List ℕ)) (name : List ℕ)
+    (test : ValueTest)
     → is_below folder.now (string_bytes song.0) ≡ b
     → found_in (flat (by_name rest)) Root name test ≡ found_in (flat (by_name songs)) (At folder) name test
     → found_in (flat (by_name (cond b (song ∷ rest) rest))) Root name test
     ≡ found_in (in_song (bytes_of_key song)) (At folder) name test ++ found_in (flat (by_name songs)) (At folder) name test
 found_more true song rest songs folder name test below more =
-    found_in-append (in_song (bytes_of_key song)) (flat (by_name rest)) Root name test ∙ rw (same_song (string_bytes song.0) song.1 folder name test below, more) refl
-found_more false song rest songs folder name test apart more = more ∙ rw (not_under (string_bytes song.0) song.1 (At folder) name test apart) refl
+    found_in-append (in_song (bytes_of_key song)) (flat (by_name rest)) Root name test
+    ∙ rw (same_song (string_bytes song.0) song.1 folder name test below, more) refl
+found_more false song rest songs folder name test apart more =
+    more ∙ rw (not_under (string_bytes song.0) song.1 (At folder) name test apart) refl
 
 -- what is found in the songs between the two ends is what is found below the folder
-pub found_below : (songs : List (String Global × Values)) (first end : String Global) (folder : Bor (List ℕ)) (name : List ℕ) (test : ValueTest)
+pub found_below : (songs : List (String Global × Values)) (first end : String Global) (folder : Bor (List ℕ)) (name : List ℕ)
+    (test : ValueTest)
     → string_bytes first ≡ folder.now ++ 47 ∷ [] → string_bytes end ≡ folder.now ++ 48 ∷ []
-    → found_in (flat (by_name (entries_between string_cmp (Included first) (Excluded end) songs))) Root name test ≡ found_in (flat (by_name songs)) (At folder) name test
+    → found_in (flat (by_name (entries_between string_cmp (Included first) (Excluded end) songs))) Root name test
+    ≡ found_in (flat (by_name songs)) (At folder) name test
 found_below [] first end folder name test first_is end_is = refl
 found_below (song ∷ songs) first end folder name test first_is end_is =
-    rw (between first end song.0 folder.now first_is end_is) (found_more (is_below folder.now (string_bytes song.0)) song (entries_between string_cmp
-    (Included first) (Excluded end) songs) songs folder name test refl (found_below songs first end folder name test first_is end_is)) ∙ sym (found_in-append
+    rw (between first end song.0 folder.now first_is end_is)
+    (found_more (is_below folder.now (string_bytes song.0)) song (entries_between string_cmp
+    (Included first) (Excluded end) songs) songs folder name test refl (found_below songs first end folder name test first_is end_is))
+    ∙ sym (found_in-append
     (in_song (bytes_of_key song)) (flat (by_name songs)) (At folder) name test)
 
 -- without ends all songs are there

@@ -1,5 +1,6 @@
 -- How each change counts the stickers, and that it keeps them in order.
-use Rattle.std.proofs.Common.{◌≡◌, ℕ, ◌+◌, ◌-◌, ◌<◌, ◌≤◌, Bool, true, false, not, ◌&&◌, cond, List, [], ◌∷◌, length, filter, find, Option, Some, None, is_some, refl, sym, ap, ◌∙◌, arith}
+use Rattle.std.proofs.Common.{◌≡◌, ℕ, ◌+◌, ◌-◌, ◌<◌, ◌≤◌, Bool, true, false, not, ◌&&◌, cond, List, [], ◌∷◌, length, filter, find, Option}
+use Rattle.std.proofs.Common.{Some, None, is_some, refl, sym, ap, ◌∙◌, arith}
 use Rattle.std.specs.declared.cmp.Ordering.{Ordering}
 use Rattle.std.specs.declared.cmp.Ordering.TheVariants.{Less, Equal, Greater}
 use Rattle.std.specs.Cmp.{IsTotalOrder}
@@ -12,7 +13,8 @@ use Rattle.std.proofs.lemmas.Cmp.{on_total, then_total}
 use Rattle.std.proofs.lemmas.List.Filters.{length-filter_both}
 use Rattle.std.proofs.lemmas.Map.Text.{is_eq-slice_cmp}
 use Rattle.stickers.specs.Limits.{MAX_STICKERS}
-use Rattle.stickers.specs.Sticker.{Sticker, IsSticker, compare, placed, is_of_song, is_at, value_at, stickers_of, with_sticker, without_sticker, without_song, IsRisingFrom, AreRising, IsCounted}
+use Rattle.stickers.specs.Sticker.{Sticker, IsSticker, compare, placed, is_of_song, is_at, value_at, stickers_of, with_sticker}
+use Rattle.stickers.specs.Sticker.{without_sticker, without_song, IsRisingFrom, AreRising, IsCounted}
 
 pub stickers_total : IsTotalOrder compare
 stickers_total = then_total (on_total (λ (s : Sticker). s.uri) nat_list_cmp_total) (on_total (λ (s : Sticker). s.name) nat_list_cmp_total)
@@ -55,22 +57,28 @@ rising_placed : (s : Sticker) (ts : List Sticker) → AreRising ts → AreRising
 rising_placed s [] rising = (tt, tt)
 rising_placed s (t ∷ ts) rising = by_cases (compare s t) refl (rising_placed s ts rising.1)
   where
-    by_cases : (o : Ordering) → compare s t ≡ o → AreRising (placed s ts) → AreRising (match_ordering o (s ∷ t ∷ ts) (s ∷ ts) (t ∷ placed s ts))
+    by_cases : (o : Ordering) → compare s t ≡ o → AreRising (placed s ts)
+        → AreRising (match_ordering o (s ∷ t ∷ ts) (s ∷ ts) (t ∷ placed s ts))
     by_cases Less is rest = ((is, below_later s t ts is rising.0), rising)
     by_cases Equal is rest = (same_below s t ts is rising.0, rising.1)
-    by_cases Greater is rest = (all_placed (λ u. compare t u ≡ Less) s ts (stickers_total.antisymm t s ∙ ap ordering_reverse is) rising.0, rest)
+    by_cases Greater is rest = (
+      all_placed (λ u. compare t u ≡ Less) s ts (stickers_total.antisymm t s ∙ ap ordering_reverse is) rising.0,
+      rest,
+    )
 
 -- the test of a URI and a name is whether they compare equal
 pub is_at-compare : (s t : Sticker) → is_at s.uri s.name t ≡ is_eq (compare s t)
 is_at-compare s t = rw (← is_eq-slice_cmp s.uri t.uri, ← is_eq-slice_cmp s.name t.name) (by_cases (slice_cmp nat_cmp s.uri t.uri))
   where
-    by_cases : (o : Ordering) → (is_eq o && is_eq (slice_cmp nat_cmp s.name t.name)) ≡ is_eq (ordering_then o (slice_cmp nat_cmp s.name t.name))
+    by_cases : (o : Ordering) → (is_eq o && is_eq (slice_cmp nat_cmp s.name t.name))
+        ≡ is_eq (ordering_then o (slice_cmp nat_cmp s.name t.name))
     by_cases Less = refl
     by_cases Equal = refl
     by_cases Greater = refl
 
 -- none of the stickers that come after one has its URI and name
-pub none_after : (s : Sticker) (ts : List Sticker) → IsRisingFrom s ts → (filter (is_at s.uri s.name) ts ≡ []) × (find (is_at s.uri s.name) ts ≡ None)
+pub none_after : (s : Sticker) (ts : List Sticker) → IsRisingFrom s ts
+    → (filter (is_at s.uri s.name) ts ≡ []) × (find (is_at s.uri s.name) ts ≡ None)
 none_after s [] rising = (refl, refl)
 none_after s (t ∷ ts) rising =
     let rest = none_after s ts rising.1 in
@@ -78,25 +86,32 @@ none_after s (t ∷ ts) rising =
     (rw apart rest.0, rw apart rest.1)
 
 -- a sticker that is there is there once, and gives way; one that isn't is one more
-length-placed : (s : Sticker) (ts : List Sticker) → AreRising ts → length (placed s ts) ≡ cond (is_some (find (is_at s.uri s.name) ts)) (length ts) (length ts + 1)
+length-placed : (s : Sticker) (ts : List Sticker) → AreRising ts
+    → length (placed s ts) ≡ cond (is_some (find (is_at s.uri s.name) ts)) (length ts) (length ts + 1)
 length-placed s [] rising = refl
 length-placed s (t ∷ ts) rising = rw (is_at-compare s t) (by_cases (compare s t) refl (length-placed s ts rising.1))
   where
-    by_cases : (o : Ordering) → compare s t ≡ o → length (placed s ts) ≡ cond (is_some (find (is_at s.uri s.name) ts)) (length ts) (length ts + 1)
-        → length (match_ordering o (s ∷ t ∷ ts) (s ∷ ts) (t ∷ placed s ts)) ≡ cond (is_some (cond (is_eq o) (Some t) (find (is_at s.uri s.name) ts))) (length (t ∷ ts)) (length (t ∷ ts) + 1)
+    by_cases : (o : Ordering) → compare s t ≡ o
+        → length (placed s ts) ≡ cond (is_some (find (is_at s.uri s.name) ts)) (length ts) (length ts + 1)
+        → length (match_ordering o (s ∷ t ∷ ts) (s ∷ ts) (t ∷ placed s ts))
+        ≡ cond (is_some (cond (is_eq o) (Some t) (find (is_at s.uri s.name) ts))) (length (t ∷ ts)) (length (t ∷ ts) + 1)
     by_cases Less is rest = rw ((none_after s ts (below_later s t ts is rising.0)).1) (omega arith)
     by_cases Equal is rest = refl
     by_cases Greater is rest = greater (is_some (find (is_at s.uri s.name) ts)) rest
       where
-        greater : (b : Bool) → length (placed s ts) ≡ cond b (length ts) (length ts + 1) → length (t ∷ placed s ts) ≡ cond b (length (t ∷ ts)) (length (t ∷ ts) + 1)
+        greater : (b : Bool) → length (placed s ts) ≡ cond b (length ts) (length ts + 1)
+            → length (t ∷ placed s ts) ≡ cond b (length (t ∷ ts)) (length (t ∷ ts) + 1)
         greater true same = omega (arith, same)
         greater false same = omega (arith, same)
 
-length-at : (s : Sticker) (ts : List Sticker) → AreRising ts → is_some (find (is_at s.uri s.name) ts) ≡ true → length (filter (is_at s.uri s.name) ts) ≡ 1
+length-at : (s : Sticker) (ts : List Sticker) → AreRising ts → is_some (find (is_at s.uri s.name) ts) ≡ true
+    → length (filter (is_at s.uri s.name) ts) ≡ 1
 length-at s [] rising found = absurd (cc)
-length-at s (t ∷ ts) rising found = rw (is_at-compare s t) (by_cases (compare s t) refl (rw (is_at-compare s t) at found) (length-at s ts rising.1))
+length-at s (t ∷ ts) rising found =
+    rw (is_at-compare s t) (by_cases (compare s t) refl (rw (is_at-compare s t) at found) (length-at s ts rising.1))
   where
-    by_cases : (o : Ordering) → compare s t ≡ o → is_some (cond (is_eq o) (Some t) (find (is_at s.uri s.name) ts)) ≡ true → (is_some (find (is_at s.uri s.name) ts) ≡ true → length (filter (is_at s.uri s.name) ts) ≡ 1)
+    by_cases : (o : Ordering) → compare s t ≡ o → is_some (cond (is_eq o) (Some t) (find (is_at s.uri s.name) ts)) ≡ true
+        → (is_some (find (is_at s.uri s.name) ts) ≡ true → length (filter (is_at s.uri s.name) ts) ≡ 1)
         → length (cond (is_eq o) (t ∷ filter (is_at s.uri s.name) ts) (filter (is_at s.uri s.name) ts)) ≡ 1
     by_cases Less is found rest = rest found
     by_cases Equal is found rest = rw ((none_after s ts (same_below s t ts is rising.0)).0) refl
@@ -106,46 +121,81 @@ is_some-option_map : {X Y : Type 0} (f : X → Y) (o : Option X) → is_some (op
 is_some-option_map f None = refl
 is_some-option_map f (Some x) = refl
 
-pub counted_new : (all : List Sticker) (n : ℕ) (uri name value : List ℕ) → IsCounted all n → IsSticker (record { uri = uri; name = name; value = value }) → is_some (value_at all uri name) ≡ false → n < MAX_STICKERS → IsCounted (with_sticker all uri name value) (n + 1)
+pub counted_new : (all : List Sticker) (n : ℕ) (uri name value : List ℕ) → IsCounted all n
+    → IsSticker (record { uri = uri; name = name; value = value }) → is_some (value_at all uri name) ≡ false → n < MAX_STICKERS
+    → IsCounted (with_sticker all uri name value) (n + 1)
 counted_new all n uri name value counted good absent few =
     let s : Sticker = record { uri = uri; name = name; value = value } in
-    let none : is_some (find (is_at uri name) all) ≡ false = sym (is_some-option_map (λ (t : Sticker). t.value) (find (is_at uri name) all)) ∙ absent in
+    let none : is_some (find (is_at uri name) all) ≡ false = sym (is_some-option_map (λ (t : Sticker). t.value) (find (is_at uri name) all))
+    ∙ absent in
     let long : length (placed s all) ≡ length all + 1 = length-placed s all counted.within.rising ∙ rw none refl in
     record {
       counted = omega (arith, long, counted.counted);
-      within = record { few = omega (arith, long, counted.counted); good = all_placed IsSticker s all good counted.within.good; rising = rising_placed s all counted.within.rising };
+      within = record {
+        few = omega (arith, long, counted.counted);
+        good = all_placed IsSticker s all good counted.within.good;
+        rising =
+            rising_placed s all counted.within.rising;
+      };
     }
 
-pub counted_other : (all : List Sticker) (n : ℕ) (uri name value : List ℕ) → IsCounted all n → IsSticker (record { uri = uri; name = name; value = value }) → is_some (value_at all uri name) ≡ true → IsCounted (with_sticker all uri name value) n
+pub counted_other : (all : List Sticker) (n : ℕ) (uri name value : List ℕ) → IsCounted all n
+    → IsSticker (record { uri = uri; name = name; value = value }) → is_some (value_at all uri name) ≡ true
+    → IsCounted (with_sticker all uri name value) n
 counted_other all n uri name value counted good present =
     let s : Sticker = record { uri = uri; name = name; value = value } in
-    let found : is_some (find (is_at uri name) all) ≡ true = sym (is_some-option_map (λ (t : Sticker). t.value) (find (is_at uri name) all)) ∙ present in
+    let found : is_some (find (is_at uri name) all) ≡ true = sym (is_some-option_map (λ (t : Sticker). t.value) (find (is_at uri name) all))
+    ∙ present in
     let long : length (placed s all) ≡ length all = length-placed s all counted.within.rising ∙ rw found refl in
     record {
       counted = omega (arith, long, counted.counted);
-      within = record { few = omega (arith, long, counted.within.few); good = all_placed IsSticker s all good counted.within.good; rising = rising_placed s all counted.within.rising };
+      within = record {
+        few = omega (arith, long, counted.within.few);
+        good = all_placed IsSticker s all good counted.within.good;
+        rising =
+            rising_placed s all counted.within.rising;
+      };
     }
 
-pub counted_without_sticker : (all : List Sticker) (n : ℕ) (uri name : List ℕ) → IsCounted all n → is_some (value_at all uri name) ≡ true → IsCounted (without_sticker all uri name) (n - 1)
+pub counted_without_sticker : (all : List Sticker) (n : ℕ) (uri name : List ℕ) → IsCounted all n → is_some (value_at all uri name) ≡ true
+    → IsCounted (without_sticker all uri name) (n - 1)
 counted_without_sticker all n uri name counted present =
     let s : Sticker = record { uri = uri; name = name; value = [] } in
-    let found : is_some (find (is_at uri name) all) ≡ true = sym (is_some-option_map (λ (t : Sticker). t.value) (find (is_at uri name) all)) ∙ present in
+    let found : is_some (find (is_at uri name) all) ≡ true = sym (is_some-option_map (λ (t : Sticker). t.value) (find (is_at uri name) all))
+    ∙ present in
     let one : length (filter (is_at uri name) all) ≡ 1 = length-at s all counted.within.rising found in
     let both = length-filter_both (is_at uri name) (λ t. not (is_at uri name t)) (λ t. refl) all in
     record {
       counted = omega (arith, one, both, counted.counted);
-      within = record { few = omega (arith, both, counted.within.few); good = all_filter IsSticker (λ t. not (is_at uri name t)) all counted.within.good; rising = rising_filter (λ t. not (is_at uri name t)) all counted.within.rising };
+      within = record {
+        few = omega (arith, both, counted.within.few);
+        good =
+            all_filter IsSticker (λ t. not (is_at uri name t)) all counted.within.good;
+        rising =
+            rising_filter (λ t. not (is_at uri name t)) all counted.within.rising;
+      };
     }
 
 pub fits_song : (all : List Sticker) (n : ℕ) (uri : List ℕ) → IsCounted all n → length (stickers_of all uri) ≤ n
-fits_song all n uri counted = omega (arith, length-filter_both (is_of_song uri) (λ t. not (is_of_song uri t)) (λ t. refl) all, counted.counted)
+fits_song all n uri counted = omega (
+  arith,
+  length-filter_both (is_of_song uri) (λ t. not (is_of_song uri t)) (λ t. refl) all,
+  counted.counted,
+)
 
-pub counted_without_song : (all : List Sticker) (n m : ℕ) (uri : List ℕ) → IsCounted all n → m + length (stickers_of all uri) ≡ n → IsCounted (without_song all uri) m
+pub counted_without_song : (all : List Sticker) (n m : ℕ) (uri : List ℕ) → IsCounted all n → m + length (stickers_of all uri) ≡ n
+    → IsCounted (without_song all uri) m
 counted_without_song all n m uri counted same =
     let both = length-filter_both (is_of_song uri) (λ t. not (is_of_song uri t)) (λ t. refl) all in
     record {
       counted = omega (arith, both, counted.counted);
-      within = record { few = omega (arith, both, counted.within.few); good = all_filter IsSticker (λ t. not (is_of_song uri t)) all counted.within.good; rising = rising_filter (λ t. not (is_of_song uri t)) all counted.within.rising };
+      within = record {
+        few = omega (arith, both, counted.within.few);
+        good =
+            all_filter IsSticker (λ t. not (is_of_song uri t)) all counted.within.good;
+        rising =
+            rising_filter (λ t. not (is_of_song uri t)) all counted.within.rising;
+      };
     }
 
 -- a song without stickers leaves them as they were
@@ -153,6 +203,8 @@ pub unchanged_without_song : (all : List Sticker) (uri : List ℕ) → length (s
 unchanged_without_song [] uri none = refl
 unchanged_without_song (t ∷ ts) uri none = by_cases (bytes_eq uri t.uri) none (unchanged_without_song ts uri)
   where
-    by_cases : (b : Bool) → length (cond b (t ∷ stickers_of ts uri) (stickers_of ts uri)) ≡ 0 → (length (stickers_of ts uri) ≡ 0 → without_song ts uri ≡ ts) → cond (not b) (t ∷ without_song ts uri) (without_song ts uri) ≡ t ∷ ts
+    by_cases : (b : Bool) → length (cond b (t ∷ stickers_of ts uri) (stickers_of ts uri)) ≡ 0
+        → (length (stickers_of ts uri) ≡ 0 → without_song ts uri ≡ ts)
+        → cond (not b) (t ∷ without_song ts uri) (without_song ts uri) ≡ t ∷ ts
     by_cases true none rest = absurd (omega arith)
     by_cases false none rest = ap (λ l. t ∷ l) (rest none)

@@ -22,9 +22,11 @@ pub rising_tail : {X : Type 0} (e : List ℕ × X) (named : List (List ℕ × X)
 rising_tail e named rising = sorted_tail (slice_cmp nat_cmp) e.0 (keys_of named) rising
 
 -- a name that is below another is below all that this is below
-pub before_trans : {X : Type 0} (named : List (List ℕ × X)) (name other : List ℕ) → slice_cmp nat_cmp name other ≡ Less → IsBefore other named → IsBefore name named
+pub before_trans : {X : Type 0} (named : List (List ℕ × X)) (name other : List ℕ) → slice_cmp nat_cmp name other ≡ Less
+    → IsBefore other named → IsBefore name named
 before_trans [] name other less before = tt
-before_trans (e ∷ named) name other less before = (nat_list_cmp_total.trans name other e.0 less before.0, before_trans named name other less before.1)
+before_trans (e ∷ named) name other less before =
+    (nat_list_cmp_total.trans name other e.0 less before.0, before_trans named name other less before.1)
 
 -- and none of them is it
 pub apart_before : (name other : List ℕ) → slice_cmp nat_cmp name other ≡ Less → bytes_eq name other ≡ false
@@ -42,10 +44,13 @@ pub same_name : (name other : List ℕ) → bytes_eq name other ≡ true → nam
 same_name name other same = (bytes_eq-Decides name other).0 same
 
 -- each name comes once, so the first is all of them
-pub remove_entry-without : {X : Type 0} (named : List (List ℕ × X)) (name : List ℕ) → IsRising named → remove_entry (bytes_eq name) named ≡ without_name named name
+pub remove_entry-without : {X : Type 0} (named : List (List ℕ × X)) (name : List ℕ) → IsRising named
+    → remove_entry (bytes_eq name) named ≡ without_name named name
 remove_entry-without [] name rising = refl
-remove_entry-without (e ∷ named) name rising = by_cases (bytes_eq name e.0) refl (remove_entry-without named name (rising_tail e named rising))
+remove_entry-without (e ∷ named) name rising =
+    by_cases (bytes_eq name e.0) refl (remove_entry-without named name (rising_tail e named rising))
   where
-    by_cases : (b : Bool) → bytes_eq name e.0 ≡ b → remove_entry (bytes_eq name) named ≡ without_name named name → cond b named (e ∷ remove_entry (bytes_eq name) named) ≡ cond (not b) (e ∷ without_name named name) (without_name named name)
+    by_cases : (b : Bool) → bytes_eq name e.0 ≡ b → remove_entry (bytes_eq name) named ≡ without_name named name
+        → cond b named (e ∷ remove_entry (bytes_eq name) named) ≡ cond (not b) (e ∷ without_name named name) (without_name named name)
     by_cases true same rest = sym (rw (same_name name e.0 same) (without_before named e.0 (before_tail e named rising)))
     by_cases false same rest = ap (λ l. e ∷ l) rest

@@ -9,7 +9,8 @@ set_value_none : {K X : Type 0} (test : K → Bool) (es : List (K × X)) (w : X)
 set_value_none test [] w none = refl
 set_value_none {K} {X} test (e ∷ es) w none = by_cases (test e.0) none (set_value_none test es w)
   where
-    by_cases : (b : Bool) → cond b (Some e.1) (lookup test es) ≡ None → (lookup test es ≡ None → set_value test es w ≡ es) → cond b ((e.0, w) ∷ es) (e ∷ set_value test es w) ≡ e ∷ es
+    by_cases : (b : Bool) → cond b (Some e.1) (lookup test es) ≡ None → (lookup test es ≡ None → set_value test es w ≡ es)
+        → cond b ((e.0, w) ∷ es) (e ∷ set_value test es w) ≡ e ∷ es
     by_cases true none rest = absurd (cc)
     by_cases false none rest = ap (λ l. e ∷ l) (rest none)
 
@@ -18,11 +19,13 @@ pub with_songs_absent : (lists : Stored) (name : List ℕ) (songs : Uris) → so
 with_songs_absent lists name songs none = set_value_none _ lists songs none
 
 -- the songs of a playlist that is there
-pub songs_or_none_present : (lists : Stored) (name : List ℕ) (songs : Uris) → songs_of lists name ≡ Some songs → songs_or_none lists name ≡ songs
+pub songs_or_none_present : (lists : Stored) (name : List ℕ) (songs : Uris) → songs_of lists name ≡ Some songs
+    → songs_or_none lists name ≡ songs
 songs_or_none_present lists name songs found = rw found refl
 
 -- the same songs change nothing
-pub with_songs_same : (lists : Stored) (name : List ℕ) (songs : Uris) → songs_of lists name ≡ Some songs → with_songs lists name songs ≡ lists
+pub with_songs_same : (lists : Stored) (name : List ℕ) (songs : Uris) → songs_of lists name ≡ Some songs
+    → with_songs lists name songs ≡ lists
 with_songs_same lists name songs found = set_value_same _ lists songs found
 
 pub on_ok : {T E P : Type 0} (r : Result T E) → P → OnOk r P

@@ -6,12 +6,19 @@ use std::test::Fail;
 
 /// Filters with parts behind them.
 const SEARCHES: &str = "\
-find Title x => Finding(Find(Search { case: Exact, filter: Filter { root: Test(OfTag(Title), Pair, TestValue { text: \"x\", folds_to: \"x\" }) }, sort: None, window: None }))
-search title x sort -Date window 2:5 => Finding(Find(Search { case: Folded, filter: Filter { root: Test(OfTag(Title), Pair, TestValue { text: \"x\", folds_to: \"x\" }) }, sort: Some(SortOrder { key: OfTag(Date), descending: true }), window: Some(Window { start: 2, end: Some(5) }) }))
-find \"(base '')\" window 3: => Finding(Find(Search { case: Exact, filter: Filter { root: Base(\"\") }, sort: None, window: Some(Window { start: 3, end: None }) }))
-find \"(base '')\" sort file => Finding(Find(Search { case: Exact, filter: Filter { root: Base(\"\") }, sort: Some(SortOrder { key: File, descending: false }), window: None }))
-findadd file x position +1 => Finding(Add(Search { case: Exact, filter: Filter { root: Test(File, Pair, TestValue { text: \"x\", folds_to: \"x\" }) }, sort: None, window: None }, Some(After(1))))
-searchadd \"(base '')\" sort Title window 0:1 position 4 => Finding(Add(Search { case: Folded, filter: Filter { root: Base(\"\") }, sort: Some(SortOrder { key: OfTag(Title), descending: false }), window: Some(Window { start: 0, end: Some(1) }) }, Some(At(4))))
+find Title x => Finding(Find(Search { case: Exact, filter: Filter { root: Test(OfTag(Title), Pair, TestValue { text: \"x\", folds_to: \
+\"x\" }) }, sort: None, window: None }))
+search title x sort -Date window 2:5 => Finding(Find(Search { case: Folded, filter: Filter { root: Test(OfTag(Title), Pair, TestValue { \
+text: \"x\", folds_to: \"x\" }) }, sort: Some(SortOrder { key: OfTag(Date), descending: true }), window: Some(Window { start: 2, end: \
+Some(5) }) }))
+find \"(base '')\" window 3: => Finding(Find(Search { case: Exact, filter: Filter { root: Base(\"\") }, sort: None, window: Some(Window \
+{ start: 3, end: None }) }))
+find \"(base '')\" sort file => Finding(Find(Search { case: Exact, filter: Filter { root: Base(\"\") }, sort: Some(SortOrder { key: \
+File, descending: false }), window: None }))
+findadd file x position +1 => Finding(Add(Search { case: Exact, filter: Filter { root: Test(File, Pair, TestValue { text: \"x\", \
+folds_to: \"x\" }) }, sort: None, window: None }, Some(After(1))))
+searchadd \"(base '')\" sort Title window 0:1 position 4 => Finding(Add(Search { case: Folded, filter: Filter { root: Base(\"\") }, \
+sort: Some(SortOrder { key: OfTag(Title), descending: false }), window: Some(Window { start: 0, end: Some(1) }) }, Some(At(4))))
 find => ACK [2@0] {find} wrong number of arguments for \"find\"
 find Title => ACK [2@0] {find} wrong number of arguments for \"find\"
 find \"(base '')\" x => ACK [2@0] {find} wrong number of arguments for \"find\"
@@ -61,7 +68,8 @@ count \"(base '')\" sort Date => ACK [2@0] {count} wrong number of arguments for
 playlistfind \"(base '')\" => Finding(InQueue(Exact, Filter { root: Base(\"\") }))
 playlistsearch \"(base '')\" => Finding(InQueue(Folded, Filter { root: Base(\"\") }))
 playlistfind \"(base '')\" sort Title => ACK [2@0] {playlistfind} wrong number of arguments for \"playlistfind\"
-searchaddpl x any y => Finding(AddToPlaylist(Text { text: \"x\" }, Filter { root: Test(Any, Pair, TestValue { text: \"y\", folds_to: \"y\" }) }))
+searchaddpl x any y => Finding(AddToPlaylist(Text { text: \"x\" }, Filter { root: Test(Any, Pair, TestValue { text: \"y\", folds_to: \
+\"y\" }) }))
 searchaddpl a/b Foo x => ACK [2@0] {searchaddpl} bad playlist name
 searchaddpl a/b Foo => ACK [2@0] {searchaddpl} wrong number of arguments for \"searchaddpl\"
 searchaddpl x Foo y => ACK [2@0] {searchaddpl} unknown tag \"Foo\"

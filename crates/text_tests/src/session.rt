@@ -34,9 +34,12 @@ fn settings(rt: HostRuntime) -> Result<(), Fail> {
 
 /// Waiting, and the lines of command lists.
 const SESSION: &str = "\
-idle => Session(Idle(Subsystems { database: true, update: true, stored_playlist: true, playlist: true, player: true, mixer: true, options: true, sticker: true }))
-idle player mixer output player => Session(Idle(Subsystems { database: false, update: false, stored_playlist: false, playlist: false, player: true, mixer: true, options: false, sticker: false }))
-idle output partition subscription message neighbor mount => Session(Idle(Subsystems { database: false, update: false, stored_playlist: false, playlist: false, player: false, mixer: false, options: false, sticker: false }))
+idle => Session(Idle(Subsystems { database: true, update: true, stored_playlist: true, playlist: true, player: true, mixer: true, \
+options: true, sticker: true }))
+idle player mixer output player => Session(Idle(Subsystems { database: false, update: false, stored_playlist: false, playlist: false, \
+player: true, mixer: true, options: false, sticker: false }))
+idle output partition subscription message neighbor mount => Session(Idle(Subsystems { database: false, update: false, stored_playlist: \
+false, playlist: false, player: false, mixer: false, options: false, sticker: false }))
 idle foo => ACK [2@0] {idle} bad argument 1
 idle player foo bar => ACK [2@0] {idle} bad argument 2
 idle Player => ACK [2@0] {idle} bad argument 1

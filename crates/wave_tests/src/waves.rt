@@ -13,7 +13,8 @@ mod real;
 
 /// A chunk with three bytes and a pad byte, the format, two frames, and two texts.
 pub(crate) const WAVE_A: [u8; 94] =
-    *b"RIFF\0\0\0\0WAVEjunk\x03\0\0\0\x01\x02\x03\0fmt \x10\0\0\0\x01\0\x01\0\x40\x1f\0\0\x80\x3e\0\0\x02\0\x10\0data\x04\0\0\0\x01\0\xfe\xffLIST\x1a\0\0\0INFOINAM\x03\0\0\0Hi\0\0IART\x02\0\0\0A\0";
+    *b"RIFF\0\0\0\0WAVEjunk\x03\0\0\0\x01\x02\x03\0fmt \x10\0\0\0\x01\0\x01\0\x40\x1f\0\0\x80\x3e\0\0\x02\0\x10\0\
+data\x04\0\0\0\x01\0\xfe\xffLIST\x1a\0\0\0INFOINAM\x03\0\0\0Hi\0\0IART\x02\0\0\0A\0";
 
 /// The samples reach the end, and the size passes it; the last byte is half a frame.
 const WAVE_B: [u8; 49] =
@@ -215,12 +216,14 @@ fn six_tags(rt: HostRuntime) -> Result<(), Fail> {
     let alloc = rt.alloc();
     // Two lists; an odd size with its pad byte; the first of two albums counts.
     let all =
-        b"LIST\x2c\0\0\0INFOINAM\x01\0\0\0t\0IART\x02\0\0\0a\0IPRD\x02\0\0\0b\0ICRD\x02\0\0\0d\0LIST\x22\0\0\0INFOIGNR\x01\0\0\0g\0IPRD\x01\0\0\0x\0ICMT\x01\0\0\0c\0";
+        b"LIST\x2c\0\0\0INFOINAM\x01\0\0\0t\0IART\x02\0\0\0a\0IPRD\x02\0\0\0b\0ICRD\x02\0\0\0d\0LIST\x22\0\0\0INFOIGNR\x01\0\0\0g\0\
+IPRD\x01\0\0\0x\0ICMT\x01\0\0\0c\0";
     let six = "8000 1 44 0 Title=t Artist=a Album=b Date=d Genre=g Comment=c";
     tells(&rt, alloc, &[&SILENCE, all], six)?;
     // Empty, with a control character of one byte and of two, not UTF-8; another list's are hidden.
     let dropped =
-        b"LIST\x36\0\0\0INFOINAM\x02\0\0\0\0tIART\x02\0\0\0a\nIPRD\x02\0\0\0\xc2\x85ICRD\x02\0\0\0\xff\0INAM\x02\0\0\0u\0LIST\x0e\0\0\0infoIGNR\x02\0\0\0g\0";
+        b"LIST\x36\0\0\0INFOINAM\x02\0\0\0\0tIART\x02\0\0\0a\nIPRD\x02\0\0\0\xc2\x85ICRD\x02\0\0\0\xff\0INAM\x02\0\0\0u\0\
+LIST\x0e\0\0\0infoIGNR\x02\0\0\0g\0";
     tells(&rt, alloc, &[&SILENCE, dropped], "8000 1 44 0")
 }
 
@@ -304,7 +307,8 @@ const SINE: [u8; 60] =
     *b"RIFF4\0\0\0WAVEfmt \x10\0\0\0\x01\0\x02\0\0w\x01\0\0\xdc\x05\0\x04\0\x10\0data\x10\0\0\0'\0'\0?\x02@\x02d\x03d\x03@\x02@\x02";
 
 const EXTENSIBLE: [u8; 80] =
-    *b"RIFFH\0\0\0WAVEfmt (\0\0\0\xfe\xff\x01\0@\x1f\0\0\xc0]\0\0\x03\0\x18\0\x16\0\x18\0\x04\0\0\0\x01\0\0\0\0\0\x10\0\x80\0\0\xaa\08\x9bqfact\x04\0\0\0\0\0\0\0data\0\0\0\0";
+    *b"RIFFH\0\0\0WAVEfmt (\0\0\0\xfe\xff\x01\0@\x1f\0\0\xc0]\0\0\x03\0\x18\0\x16\0\x18\0\x04\0\0\0\x01\0\0\0\0\0\x10\0\x80\0\0\
+\xaa\08\x9bqfact\x04\0\0\0\0\0\0\0data\0\0\0\0";
 
 #[test]
 fn files_of_another_program(rt: HostRuntime) -> Result<(), Fail> {

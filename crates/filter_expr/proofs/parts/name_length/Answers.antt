@@ -26,7 +26,8 @@ returns-clause-name c =
     let text = c.args.text.now in
     let i = c.loop-place.place in
     let end : length text ≤ i = omega arith in
-    take_all text (length text) (omega arith) ∙ name_end text ∙ ap (λ (s : List ℕ). text ++ name_in s) (sym (drop_all text i end)) ∙ ap (λ (s : List ℕ). s ++ name_in (drop i text)) (sym (take_all text i end)) ∙ c.loop-place.invariant.0
+    take_all text (length text) (omega arith) ∙ name_end text ∙ ap (λ (s : List ℕ). text ++ name_in s) (sym (drop_all text i end))
+    ∙ ap (λ (s : List ℕ). s ++ name_in (drop i text)) (sym (take_all text i end)) ∙ c.loop-place.invariant.0
 
 pub returns-clause-behind : goal.returns-clause-behind
 returns-clause-behind c =

@@ -7,7 +7,8 @@ pub returns-then-not-is_blank-clause-value : goal.returns-then-not-is_blank-clau
 returns-then-not-is_blank-clause-value c =
     let i = c.loop-place.place in
     let lt : i < length c.args.text.now = omega arith in
-    take_rest c.args.text.now i ∙ sym (blank_none c.args.text.now i lt (sym c.is_blank.ensures ∙ c.if-not-is_blank.true)) ∙ c.loop-place.invariant
+    take_rest c.args.text.now i ∙ sym (blank_none c.args.text.now i lt (sym c.is_blank.ensures ∙ c.if-not-is_blank.true))
+    ∙ c.loop-place.invariant
 
 pub loop-place-preserved : goal.loop-place-preserved
 loop-place-preserved c =

@@ -20,10 +20,14 @@ pub loop-byte-preserved : goal.loop-byte-preserved
 loop-byte-preserved c =
     let i = c.loop-byte.byte-index in
     let lt : i < length c.args.word.now = omega arith in
-    let read = c.in_ok-rest.ensures.exact in
-    (sym (word_more c.args.word.now c.loop-byte.rest.now i lt ∙ ap (λ r. r >>= λ behind. word_at (drop (i + 1) c.args.word.now) behind) read) ∙ c.loop-byte.invariant.0, omega (arith, c.in_ok-rest.ensures.shorter))
+    let read = c.in_ok-rest.ensures.exact in (
+      sym (word_more c.args.word.now c.loop-byte.rest.now i lt
+          ∙ ap (λ r. r >>= λ behind. word_at (drop (i + 1) c.args.word.now) behind) read) ∙ c.loop-byte.invariant.0,
+      omega (arith, c.in_ok-rest.ensures.shorter),
+    )
 
 pub returns-clause-exact : goal.returns-clause-exact
 returns-clause-exact c =
     let end : length c.args.word.now ≤ c.loop-byte.byte-index = omega arith in
-    sym c.loop-byte.invariant.0 ∙ ap (λ (w : List ℕ). word_at w c.loop-byte.rest.now) (drop_all c.args.word.now c.loop-byte.byte-index end) ∙ word_end c.loop-byte.rest.now
+    sym c.loop-byte.invariant.0 ∙ ap (λ (w : List ℕ). word_at w c.loop-byte.rest.now) (drop_all c.args.word.now c.loop-byte.byte-index end)
+    ∙ word_end c.loop-byte.rest.now

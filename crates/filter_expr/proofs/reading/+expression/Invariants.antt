@@ -15,7 +15,8 @@ decreases-negation_at l = 2 * l.room + 1
 -- with as many more expressions as bytes are left, what is left leads to the same group
 abbrev pub invariant-group_at-others : goal.invariant-group_at-others
 invariant-group_at-others l =
-    (length l.rest < length l.text) × ((most : ℕ) × (length l.rest ≤ most) × (others_at (expression_at l.room) most (tree_of l.tree, l.rest) ≡ group_at (expression_at l.room) l.text))
+    (length l.rest < length l.text) × ((most : ℕ) × (length l.rest ≤ most)
+    × (others_at (expression_at l.room) most (tree_of l.tree, l.rest) ≡ group_at (expression_at l.room) l.text))
 
 abbrev pub decreases-group_at-others : goal.decreases-group_at-others
 decreases-group_at-others l = length l.rest

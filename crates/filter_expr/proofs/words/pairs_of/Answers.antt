@@ -11,7 +11,8 @@ returns-in_err-tree c =
     let texts = c.args.words.now in
     let error = c.in_err-tree.field-0.0 in
     gives_error tree_of error c.from_residual.result (pairs_of texts) (err_from_is_err_and c.from_residual.result c.from_residual.ensures.1)
-    (subst (Refuses error) (sym (pairs_form texts)) (refuses_then error (pair_at 0 texts) (λ pair. more_pairs 2 pair (drop 2 texts)) c.in_err-tree.ensures))
+    (subst (Refuses error) (sym (pairs_form texts))
+    (refuses_then error (pair_at 0 texts) (λ pair. more_pairs 2 pair (drop 2 texts)) c.in_err-tree.ensures))
 
 pub pairs-init : goal.pairs-init
 pairs-init c =
@@ -29,8 +30,10 @@ returns-in_err-pair c =
     let some : 0 < length left = texts_left number texts (omega arith) in
     let step = pairs_step number tree left some in
     let read = subst (λ (ts : List (List ℕ)). Refuses error (pair_at number ts)) part c.in_err-pair.ensures in
-    gives_error tree_of error c.from_residual-in_err-pair.result (pairs_of texts) (err_from_is_err_and c.from_residual-in_err-pair.result c.from_residual-in_err-pair.ensures.1)
-    (subst (Refuses error) (sym step ∙ c.pairs.invariant) (refuses_then error (pair_at number left) (λ pair. more_pairs (number + 2) (And tree pair) (drop 2 left)) read))
+    gives_error tree_of error c.from_residual-in_err-pair.result (pairs_of texts)
+    (err_from_is_err_and c.from_residual-in_err-pair.result c.from_residual-in_err-pair.ensures.1)
+    (subst (Refuses error) (sym step ∙ c.pairs.invariant)
+    (refuses_then error (pair_at number left) (λ pair. more_pairs (number + 2) (And tree pair) (drop 2 left)) read))
 
 pub pairs-preserved : goal.pairs-preserved
 pairs-preserved c =

@@ -8,7 +8,8 @@ use Rattle.idle_masks.proofs.watch.mark_all.Goals as goal
 pub loop-watched-preserved : goal.loop-watched-preserved
 loop-watched-preserved c =
     let in_range : c.loop-watched.watched-index < length c.args.clients.now = omega arith in
-    rw (c.grow.ensures, c.loop-watched.invariant, get_or-map_so_far (grown c.args.changed) c.args.clients.now _ (newcomer 0) in_range) (set-map_so_far (grown c.args.changed) c.args.clients.now _ (newcomer 0) in_range)
+    rw (c.grow.ensures, c.loop-watched.invariant, get_or-map_so_far (grown c.args.changed) c.args.clients.now _ (newcomer 0) in_range)
+    (set-map_so_far (grown c.args.changed) c.args.clients.now _ (newcomer 0) in_range)
 
 pub returns-clause-rising : goal.returns-clause-rising
 returns-clause-rising c rising =

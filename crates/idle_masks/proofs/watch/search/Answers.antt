@@ -14,13 +14,15 @@ returns c =
     let place = searched c.args.clients.now c.requires c.args.client c.binary_search_by_key.result facts.bound by_number in
     record {
       found = place.found;
-      known = elim c.binary_search_by_key.result as (λ r. IfOk r (IsAt c.args.clients.now c.args.client) → OnOk r (IsSome (watched c.args.clients.now c.args.client))) [
-        | Ok at ↦ λ is_at. rw (watched_at _ c.requires _ at is_at (newcomer 0)) refl
-        | Err at ↦ λ _. tt
-      ] place.found;
+      known = elim c.binary_search_by_key.result as (λ r. IfOk r (IsAt c.args.clients.now c.args.client)
+          → OnOk r (IsSome (watched c.args.clients.now c.args.client))) [
+            | Ok at ↦ λ is_at. rw (watched_at _ c.requires _ at is_at (newcomer 0)) refl
+            | Err at ↦ λ _. tt
+          ] place.found;
       absent = place.absent;
-      unknown = elim c.binary_search_by_key.result as (λ r. IfErr r (IsGapFor c.args.clients.now c.args.client) → OnErr r (watched c.args.clients.now c.args.client ≡ None)) [
-        | Ok at ↦ λ _. tt
-        | Err at ↦ λ gap. watched_gap _ _ at gap
-      ] place.absent;
+      unknown = elim c.binary_search_by_key.result as (λ r. IfErr r (IsGapFor c.args.clients.now c.args.client)
+          → OnErr r (watched c.args.clients.now c.args.client ≡ None)) [
+            | Ok at ↦ λ _. tt
+            | Err at ↦ λ gap. watched_gap _ _ at gap
+          ] place.absent;
     }

@@ -2,7 +2,8 @@ use Rattle.live_stage.proofs.DecodingLaws.{begins, refused_snapshot}
 use Rattle.live_stage.proofs.decoding.take_state.Goals as goal
 
 pub returns-in-Err : goal.returns-in-Err
-returns-in-Err c = rw c.bad_snapshot.ensures (refused_snapshot _ _ c.in-Err.error (rw c.snapshot-snapshot.ensures at c.in-Err.ensures.exact))
+returns-in-Err c = rw c.bad_snapshot.ensures
+    (refused_snapshot _ _ c.in-Err.error (rw c.snapshot-snapshot.ensures at c.in-Err.ensures.exact))
 
 pub loop-place-init : goal.loop-place-init
 loop-place-init c = begins c.args.stored.now.snapshot c.args.stored.now.records c.in-Ok.saved c.saturating_add-gate.result

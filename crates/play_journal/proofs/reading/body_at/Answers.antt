@@ -1,6 +1,8 @@
 use Rattle.std.proofs.Common.{refl, arith}
 use Rattle.play_journal.proofs.GateLaws.{missing_gate, closed_gate, short_field, long_body, passed_end, last_number, open_record}
-use Rattle.play_journal.proofs.reading.body_at.Goals.{then-len-gt-LONGEST_BODY-via-then-len-gt-LONGEST_BODY, then-len-gt-LONGEST_BODY-via-else-len-gt-LONGEST_BODY+then-bytes-at-2, then-len-gt-LONGEST_BODY-via-else-len-gt-LONGEST_BODY+else-bytes-at-2+then-before-eq18446744073709551615}
+use Rattle.play_journal.proofs.reading.body_at.Goals.{then-len-gt-LONGEST_BODY-via-then-len-gt-LONGEST_BODY}
+use Rattle.play_journal.proofs.reading.body_at.Goals.{then-len-gt-LONGEST_BODY-via-else-len-gt-LONGEST_BODY+then-bytes-at-2}
+use Rattle.play_journal.proofs.reading.body_at.Goals.{then-len-gt-LONGEST_BODY-via-else-len-gt-LONGEST_BODY+else-bytes-at-2+then-before-eq18446744073709551615}
 use Rattle.play_journal.proofs.reading.body_at.Goals as goal
 
 pub returns-then-at-bytes-clause-fault : goal.returns-then-at-bytes-clause-fault

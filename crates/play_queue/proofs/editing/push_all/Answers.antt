@@ -18,7 +18,8 @@ loop-uri-preserved c =
     let room = at.invariant.4 in (
       (tt, tt),
       omega arith,
-      pushed ∙ rw (at.invariant.2, id, new_entries-push c.args.first at.yielded uri) (append_assoc c.args.entries.now.items (new_entries c.args.first at.yielded) _),
+      pushed ∙ rw (at.invariant.2, id, new_entries-push c.args.first at.yielded uri)
+          (append_assoc c.args.entries.now.items (new_entries c.args.first at.yielded) _),
       append_assoc at.yielded (uri ∷ []) _ ∙ rw (← steps) at.invariant.3,
       omega (arith, c.push_reserved.ensures.len, c.push_reserved.ensures.capacity),
     )

@@ -12,16 +12,20 @@ loop-at-preserved c = λ id one.
     let entries = c.args.entries.now in
     let at = c.loop-at.at in
     let entry = get_or entries at c.index-entries-at.result in
-    let here : drop at entries ≡ entry ∷ drop (at + 1) entries = drop-cons entries at c.index-entries-at.result (omega arith) ∙ rw (add-one at) refl in
+    let here : drop at entries ≡ entry ∷ drop (at + 1) entries = drop-cons entries at c.index-entries-at.result (omega arith)
+    ∙ rw (add-one at) refl in
     let ids : c.in_ok-sorted.sorted.items ≡ c.args.ids.now = search rules in
     let moved : IsPermutation c.args.ids.now c.sort_unstable.new.self.items = rw ids at c.sort_unstable.ensures.permutation in
     let before = rw here at (c.loop-at.invariant id one) in
     elim c.if-has_id.branch [
       | then-has_id+in_ok-note w ↦ rw w.places-is (step_noted _ _ at id entry (drop (at + 1) entries) (w.in_ok-note.ensures id) ∙ before)
       | else-has_id w ↦
-          let none : is_one_of c.args.ids.now entry.id ≡ false = list_any-IsPermutation (λ other. other == entry.id) c.args.ids.now c.sort_unstable.new.self.items moved ∙ rw (← c.deref.ensures.value) (sym c.has_id.ensures ∙ w.if-has_id.false) in
+          let none : is_one_of c.args.ids.now entry.id ≡ false =
+          list_any-IsPermutation (λ other. other == entry.id) c.args.ids.now c.sort_unstable.new.self.items moved
+          ∙ rw (← c.deref.ensures.value) (sym c.has_id.ensures ∙ w.if-has_id.false) in
           rw w.places-is (step_other c.args.ids.now (get nat_eq c.loop-at.places id) at id entry (drop (at + 1) entries) one none ∙ before)
     ]
 
 pub returns : goal.returns
-returns c = λ id one. all_noted _ c.loop-at.at id c.args.entries.now (rw (drop_all c.loop-at.at c.args.entries.now (omega arith)) at (c.loop-at.invariant id one))
+returns c = λ id one. all_noted _ c.loop-at.at id c.args.entries.now
+    (rw (drop_all c.loop-at.at c.args.entries.now (omega arith)) at (c.loop-at.invariant id one))

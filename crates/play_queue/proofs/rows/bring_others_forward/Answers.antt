@@ -15,8 +15,10 @@ loop-at-preserved c =
     elim c.if-not-contains.branch [
       | then-not-contains w ↦
           let yes : test entry ≡ true = ap not (sym c.contains.ensures ∙ w.if-not-contains.true) in
-          rw (w.entries-is, w.count-is, w.swap.ensures.after) (step_taken test before now c.loop-at.count at c.index-entries-at.result c.loop-at.invariant (omega arith) yes)
+          rw (w.entries-is, w.count-is, w.swap.ensures.after)
+          (step_taken test before now c.loop-at.count at c.index-entries-at.result c.loop-at.invariant (omega arith) yes)
       | else-not-contains w ↦
           let no : test entry ≡ false = ap not (sym c.contains.ensures ∙ w.if-not-contains.false) in
-          rw (w.entries-is, w.count-is) (step_left test before now c.loop-at.count at c.index-entries-at.result c.loop-at.invariant (omega arith) no)
+          rw (w.entries-is, w.count-is) (step_left test before now c.loop-at.count
+          at c.index-entries-at.result c.loop-at.invariant (omega arith) no)
     ]

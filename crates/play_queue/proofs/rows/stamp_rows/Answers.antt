@@ -8,4 +8,5 @@ use Rattle.play_queue.proofs.rows.stamp_rows.Goals as goal
 pub loop-entry-preserved : goal.loop-entry-preserved
 loop-entry-preserved c =
     rw (c.stamp_row.ensures, ← c.entry-item.is)
-    (map_over_more (λ entry. cond (is_among c.args.uris.now entry.uri) (with_stamp c.args.stamp entry) entry) c.args.entries.now c.loop-entry.entries c.loop-entry.entry-index c.entry-item.result c.loop-entry-test.true c.loop-entry.invariant c.entry-item.is)
+    (map_over_more (λ entry. cond (is_among c.args.uris.now entry.uri) (with_stamp c.args.stamp entry) entry) c.args.entries.now
+    c.loop-entry.entries c.loop-entry.entry-index c.entry-item.result c.loop-entry-test.true c.loop-entry.invariant c.entry-item.is)

@@ -15,9 +15,12 @@ loop-uri-preserved c =
     let steps : c.loop-uri.uri-iterator ≡ (c.in-Some.uri.now, it) ∷ rest = c.in-Some.ensures.steps in
     let whole = rw steps at c.loop-uri.invariant in
     let rising = sorted-by_name c.args.songs.now.entries c.iter-uri-items.ensures.ordered in
-    let same : with_name front (string_bytes c.in_ok-from_str.field-0) c.in_ok-song.song ≡ with_name front text it = rw (c.in_ok-from_str.ensures.ok, c.as_str.ensures.value, c.in_ok-song.ensures) refl in
-    let made = ap by_name c.in_ok-insert.ensures.entries ∙ insert_entry-by_name c.loop-uri.copy.entries c.in_ok-from_str.field-0 c.in_ok-song.song ∙ same in
-    rw (made ∙ added_last front (by_name rest) text it (subst IsRising (sym whole) rising)) (append_assoc front ((text, it) ∷ []) (by_name rest) ∙ whole)
+    let same : with_name front (string_bytes c.in_ok-from_str.field-0) c.in_ok-song.song ≡ with_name front text it =
+    rw (c.in_ok-from_str.ensures.ok, c.as_str.ensures.value, c.in_ok-song.ensures) refl in
+    let made = ap by_name c.in_ok-insert.ensures.entries
+    ∙ insert_entry-by_name c.loop-uri.copy.entries c.in_ok-from_str.field-0 c.in_ok-song.song ∙ same in
+    rw (made ∙ added_last front (by_name rest) text it (subst IsRising (sym whole) rising))
+    (append_assoc front ((text, it) ∷ []) (by_name rest) ∙ whole)
 
 pub loop-uri-preserved-in_ok-insert : goal.loop-uri-preserved-in_ok-insert
 loop-uri-preserved-in_ok-insert c =
@@ -28,6 +31,9 @@ loop-uri-preserved-in_ok-insert c =
     let steps : c.loop-uri.uri-iterator ≡ (c.in-Some.uri.now, it) ∷ rest = c.in-Some.ensures.steps in
     let whole = rw steps at c.loop-uri.invariant in
     let rising = sorted-by_name c.args.songs.now.entries c.iter-uri-items.ensures.ordered in
-    let same : with_name front (string_bytes c.in_ok-from_str.field-0) c.in_ok-song.song ≡ with_name front text it = rw (c.in_ok-from_str.ensures.ok, c.as_str.ensures.value, c.in_ok-song.ensures) refl in
-    let made = ap by_name c.in_ok-insert.ensures.entries ∙ insert_entry-by_name c.loop-uri.copy.entries c.in_ok-from_str.field-0 c.in_ok-song.song ∙ same in
-    rw (made ∙ added_last front (by_name rest) text it (subst IsRising (sym whole) rising)) (append_assoc front ((text, it) ∷ []) (by_name rest) ∙ whole)
+    let same : with_name front (string_bytes c.in_ok-from_str.field-0) c.in_ok-song.song ≡ with_name front text it =
+    rw (c.in_ok-from_str.ensures.ok, c.as_str.ensures.value, c.in_ok-song.ensures) refl in
+    let made = ap by_name c.in_ok-insert.ensures.entries
+    ∙ insert_entry-by_name c.loop-uri.copy.entries c.in_ok-from_str.field-0 c.in_ok-song.song ∙ same in
+    rw (made ∙ added_last front (by_name rest) text it (subst IsRising (sym whole) rising))
+    (append_assoc front ((text, it) ∷ []) (by_name rest) ∙ whole)

@@ -15,9 +15,12 @@ loop-name-preserved c =
     let steps : c.loop-name.name-iterator ≡ (c.in-Some.name.now, it) ∷ rest = c.in-Some.ensures.steps in
     let whole = rw steps at c.loop-name.invariant in
     let rising = sorted-by_name c.args.values.now.entries c.iter-name-items.ensures.ordered in
-    let same : with_name front (string_bytes c.in_ok-from_str.field-0) c.in_ok-value.value ≡ with_name front text it = rw (c.in_ok-from_str.ensures.ok, c.as_str.ensures.value, c.in_ok-value.ensures) refl in
-    let made = ap by_name c.in_ok-insert.ensures.entries ∙ insert_entry-by_name c.loop-name.copy.entries c.in_ok-from_str.field-0 c.in_ok-value.value ∙ same in
-    rw (made ∙ added_last front (by_name rest) text it (subst IsRising (sym whole) rising)) (append_assoc front ((text, it) ∷ []) (by_name rest) ∙ whole)
+    let same : with_name front (string_bytes c.in_ok-from_str.field-0) c.in_ok-value.value ≡ with_name front text it =
+    rw (c.in_ok-from_str.ensures.ok, c.as_str.ensures.value, c.in_ok-value.ensures) refl in
+    let made = ap by_name c.in_ok-insert.ensures.entries
+    ∙ insert_entry-by_name c.loop-name.copy.entries c.in_ok-from_str.field-0 c.in_ok-value.value ∙ same in
+    rw (made ∙ added_last front (by_name rest) text it (subst IsRising (sym whole) rising))
+    (append_assoc front ((text, it) ∷ []) (by_name rest) ∙ whole)
 
 pub loop-name-preserved-in_ok-insert : goal.loop-name-preserved-in_ok-insert
 loop-name-preserved-in_ok-insert c =
@@ -28,6 +31,9 @@ loop-name-preserved-in_ok-insert c =
     let steps : c.loop-name.name-iterator ≡ (c.in-Some.name.now, it) ∷ rest = c.in-Some.ensures.steps in
     let whole = rw steps at c.loop-name.invariant in
     let rising = sorted-by_name c.args.values.now.entries c.iter-name-items.ensures.ordered in
-    let same : with_name front (string_bytes c.in_ok-from_str.field-0) c.in_ok-value.value ≡ with_name front text it = rw (c.in_ok-from_str.ensures.ok, c.as_str.ensures.value, c.in_ok-value.ensures) refl in
-    let made = ap by_name c.in_ok-insert.ensures.entries ∙ insert_entry-by_name c.loop-name.copy.entries c.in_ok-from_str.field-0 c.in_ok-value.value ∙ same in
-    rw (made ∙ added_last front (by_name rest) text it (subst IsRising (sym whole) rising)) (append_assoc front ((text, it) ∷ []) (by_name rest) ∙ whole)
+    let same : with_name front (string_bytes c.in_ok-from_str.field-0) c.in_ok-value.value ≡ with_name front text it =
+    rw (c.in_ok-from_str.ensures.ok, c.as_str.ensures.value, c.in_ok-value.ensures) refl in
+    let made = ap by_name c.in_ok-insert.ensures.entries
+    ∙ insert_entry-by_name c.loop-name.copy.entries c.in_ok-from_str.field-0 c.in_ok-value.value ∙ same in
+    rw (made ∙ added_last front (by_name rest) text it (subst IsRising (sym whole) rising))
+    (append_assoc front ((text, it) ∷ []) (by_name rest) ∙ whole)

@@ -10,4 +10,5 @@ decreases-matches_folded l = goal.size-matches_folded l
 
 abbrev pub invariant-loop-left : goal.invariant-loop-left
 invariant-loop-left l =
-    (size-Expression l.left ≤ size-Expression l.self) × (l.row ≡ l.fn.row) × (denotes Folded (tree_of l.left) l.row ≡ denotes Folded (tree_of l.self) l.row)
+    (size-Expression l.left ≤ size-Expression l.self) × (l.row ≡ l.fn.row)
+    × (denotes Folded (tree_of l.left) l.row ≡ denotes Folded (tree_of l.self) l.row)

@@ -4,7 +4,8 @@ use Rattle.std.specs.Prelude.{MatchBool}
 use Rattle.std.specs.Vec.Iter.{into_iter_items}
 use Rattle.daemon_core.specs.declared.event.Event.{Event}
 use Rattle.live_stage.specs.Transcript.{history_of}
-use Rattle.live_stage.proofs.RunLaws.{IsRunSoFar, IsTurnMade, begins, fails_on, goes_on, one_file, run_finds, run_replies, replayed_from_start}
+use Rattle.live_stage.proofs.RunLaws.{IsRunSoFar, IsTurnMade, begins, fails_on, goes_on, one_file, run_finds, run_replies}
+use Rattle.live_stage.proofs.RunLaws.{replayed_from_start}
 use Rattle.live_stage.proofs.TurnLaws.{still_in_file}
 use Rattle.live_stage.proofs.live.Live.run.Given.{Over}
 use Rattle.live_stage.proofs.live.Live.run.Goals as goal
@@ -27,7 +28,8 @@ loop-event-init g c =
 
 pub push_reserved-requires : goal.push_reserved-requires
 push_reserved-requires g c =
-    let steps : into_iter_items c.loop-event.event-iterator ≡ c.in-Some.event ∷ into_iter_items c.next.new.self = c.in-Some.ensures.steps.0 in
+    let steps : into_iter_items c.loop-event.event-iterator ≡ c.in-Some.event ∷ into_iter_items c.next.new.self =
+    c.in-Some.ensures.steps.0 in
     let room = c.loop-event.invariant.room in
     omega (arith, room, ap length steps)
 
@@ -45,7 +47,8 @@ loop-event-preserved g c =
       any_moment = turn.any_moment;
       kept = turn.kept;
       usable = turn.refuses.usable;
-      other_file = subst (λ (r : _). MatchBool r.is_in_b (c.turn-answer.new.self.a ≡ r.a) (c.turn-answer.new.self.b ≡ r.b)) turn.file.readied turn.file.other_file;
+      other_file = subst (λ (r : _). MatchBool r.is_in_b (c.turn-answer.new.self.a ≡ r.a) (c.turn-answer.new.self.b ≡ r.b))
+          turn.file.readied turn.file.other_file;
       same_file = turn.file.same_file ∙ ap (λ r. r.is_in_b) turn.file.readied;
       broken = turn.refuses.broken;
       breaks = turn.refuses.breaks;
@@ -59,24 +62,30 @@ loop-event-preserved g c =
     } in
     let so_far = at.invariant.so_far in
     record {
-      so_far = rw c.push_reserved.ensures.items (goes_on g.D.Disk.honest g.D.Disk.history c.args.self.now at.self c.turn-answer.new.self at.yielded at.answers.items c.in-Some.event c.turn-answer.result so_far made);
+      so_far = rw c.push_reserved.ensures.items
+          (goes_on g.D.Disk.honest g.D.Disk.history c.args.self.now at.self c.turn-answer.new.self at.yielded at.answers.items
+          c.in-Some.event c.turn-answer.result so_far made);
       left = append_assoc at.yielded (c.in-Some.event ∷ []) _ ∙ rw (← steps) at.invariant.left;
       room = omega (arith, room, short, c.push_reserved.ensures.len, c.push_reserved.ensures.capacity);
       counted = omega (arith, was, gone, short);
-      stays = λ was. let same = at.invariant.stays was in let broken : at.self.is_broken ≡ true = rw same was in (turn.refuses.broken broken).1 ∙ same;
+      stays = λ was. let same = at.invariant.stays was in let broken : at.self.is_broken ≡ true = rw same was in (turn.refuses.broken
+          broken).1 ∙ same;
       later_a = omega (arith, at.invariant.later_a, turn.later.a.counted);
       later_b = omega (arith, at.invariant.later_b, turn.later.b.counted);
-      fault = λ ha hb usable. fails_on g.D.Disk.honest g.D.Disk.history g.D.Disk.faults c.args.self.now at.self c.turn-answer.new.self c.in-Some.event c.turn-answer.result made at.invariant.later_a at.invariant.later_b
+      fault = λ ha hb usable. fails_on g.D.Disk.honest g.D.Disk.history g.D.Disk.faults c.args.self.now at.self c.turn-answer.new.self
+          c.in-Some.event c.turn-answer.result made at.invariant.later_a at.invariant.later_b
           (at.invariant.fault ha hb usable) (turn.fault (so_far.honest_a.0 ha) (so_far.honest_b.0 hb));
     }
 
-run_done : (g : Over) (c : goal.After-drop-event-iterator g) → IsRunSoFar g.D.Disk.honest g.D.Disk.history c.args.self.now c.loop-event.self c.args.events.items c.loop-event.answers.items
+run_done : (g : Over) (c : goal.After-drop-event-iterator g)
+    → IsRunSoFar g.D.Disk.honest g.D.Disk.history c.args.self.now c.loop-event.self c.args.events.items c.loop-event.answers.items
 run_done g c =
     let at = c.loop-event in
     let none = c.in-None.ensures.steps in
     let empty : into_iter_items at.event-iterator ≡ [] = nil_from_length _ (sym at.invariant.counted ∙ none.0) in
     let all = sym (append-nil at.yielded) ∙ rw empty at at.invariant.left ∙ c.into_iter-event-iterator.ensures.into_iter_gives.0 in
-    subst (λ (l : List Event). IsRunSoFar g.D.Disk.honest g.D.Disk.history c.args.self.now at.self l at.answers.items) all at.invariant.so_far
+    subst (λ (l : List Event). IsRunSoFar g.D.Disk.honest g.D.Disk.history c.args.self.now at.self l at.answers.items) all
+    at.invariant.so_far
 
 pub returns-clause-run : goal.returns-clause-run
 returns-clause-run g c =
@@ -107,7 +116,8 @@ returns-clause-file g c =
     record { ready = c.args.self.now; readied = refl; same_file = r.same_file; other_file = r.other_file }
 
 pub returns-clause-given_out : goal.returns-clause-given_out
-returns-clause-given_out g c = λ ha hb usable. run_finds g.D.Disk.honest g.D.Disk.history c.args.self.now c.loop-event.self c.args.events.items c.loop-event.answers.items (run_done g c) ha hb usable
+returns-clause-given_out g c = λ ha hb usable. run_finds g.D.Disk.honest g.D.Disk.history c.args.self.now c.loop-event.self
+    c.args.events.items c.loop-event.answers.items (run_done g c) ha hb usable
 
 pub returns-clause-later : goal.returns-clause-later
 returns-clause-later g c =

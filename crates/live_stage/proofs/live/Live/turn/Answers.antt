@@ -9,28 +9,44 @@ use Rattle.live_stage.proofs.TurnLaws.{still_in_file, no_call_made}
 use Rattle.live_stage.proofs.live.Live.turn.Goals as goal
 
 pub returns-then-is_spent-clause-any_moment : goal.returns-then-is_spent-clause-any_moment
-returns-then-is_spent-clause-any_moment g c = rw (← c.self.view_is) (λ ha hb usable.
-    (None, tt, find_still _ _ c.self.inside.journal.content c.self.inside.core.machine.saved _ (c.is_spent.ensures.kept ha hb usable) (c.self.invariant.1 usable ha hb)))
+returns-then-is_spent-clause-any_moment g c = rw (← c.self.view_is) (λ ha hb usable. (
+  None,
+  tt,
+  find_still _ _ c.self.inside.journal.content c.self.inside.core.machine.saved _ (c.is_spent.ensures.kept ha hb usable)
+      (c.self.invariant.1 usable ha hb),
+))
 
 pub returns-then-are_numbers_spent-clause-any_moment : goal.returns-then-are_numbers_spent-clause-any_moment
-returns-then-are_numbers_spent-clause-any_moment g c = rw (← c.self.view_is) (λ ha hb usable.
-    (None, tt, find_still _ _ c.self.inside.journal.content c.self.inside.core.machine.saved _ (c.is_spent.ensures.kept ha hb usable) (c.self.invariant.1 usable ha hb)))
+returns-then-are_numbers_spent-clause-any_moment g c = rw (← c.self.view_is) (λ ha hb usable. (
+  None,
+  tt,
+  find_still _ _ c.self.inside.journal.content c.self.inside.core.machine.saved _ (c.is_spent.ensures.kept ha hb usable)
+      (c.self.invariant.1 usable ha hb),
+))
 
 pub returns-in-Err-clause-any_moment : goal.returns-in-Err-clause-any_moment
-returns-in-Err-clause-any_moment g c = rw (← c.self.view_is) (λ ha hb usable.
-    (None, tt, find_still _ _ c.self.inside.journal.content c.self.inside.core.machine.saved _ (c.is_spent.ensures.kept ha hb usable) (c.self.invariant.1 usable ha hb)))
+returns-in-Err-clause-any_moment g c = rw (← c.self.view_is) (λ ha hb usable. (
+  None,
+  tt,
+  find_still _ _ c.self.inside.journal.content c.self.inside.core.machine.saved _ (c.is_spent.ensures.kept ha hb usable)
+      (c.self.invariant.1 usable ha hb),
+))
 
 pub returns-in_err-number-clause-any_moment : goal.returns-in_err-number-clause-any_moment
 returns-in_err-number-clause-any_moment g c =
     let asked : Stepped = step c.self.inside.core c.args.event c.in-Ok.outcome.refused_at in
     let valid : AllByRecursion IsOp c.deref.result.now = c.record_ops.ensures.valid in
-    let applies : all_applied c.deref.result.now c.self.inside.core.machine.saved ≡ Some asked.after.machine.saved = rw c.deref.ensures.value (c.in-Ok.ensures.rebuilt ∙ ap (λ (s : State). Some s.machine.saved) c.in-Ok.ensures.ok.after) in
+    let applies : all_applied c.deref.result.now c.self.inside.core.machine.saved ≡ Some asked.after.machine.saved =
+    rw c.deref.ensures.value (c.in-Ok.ensures.rebuilt ∙ ap (λ (s : State). Some s.machine.saved) c.in-Ok.ensures.ok.after) in
     rw (← c.self.view_is) (λ ha hb usable. (
       c.in-Ok.outcome.refused_at,
       search rules,
       find_either _ _ _ _ c.self.inside.journal.content c.deref.result.now c.self.inside.core.machine.saved asked.after.machine.saved
           (c.is_spent.ensures.kept ha hb usable) (c.self.invariant.1 usable ha hb) valid applies
-          (λ e. (ap (λ j. g.D.Disk.history j.a) (c.record_ops.ensures.none e).1, ap (λ j. g.D.Disk.history j.b) (c.record_ops.ensures.none e).1))
+          (λ e. (
+            ap (λ j. g.D.Disk.history j.a) (c.record_ops.ensures.none e).1,
+            ap (λ j. g.D.Disk.history j.b) (c.record_ops.ensures.none e).1,
+          ))
           (λ some. c.record_ops.ensures.any_moment some ha hb),
     ))
 
@@ -38,13 +54,15 @@ pub invariant_of-self-2 : goal.invariant_of-self-2
 invariant_of-self-2 g c =
     let usable : c.self.inside.journal.is_spent ≡ false = sym c.is_spent.ensures.value ∙ c.if-is_spent.false in
     let valid : AllByRecursion IsOp c.deref.result.now = c.record_ops.ensures.valid in
-    let applies : all_applied c.deref.result.now c.self.inside.core.machine.saved ≡ Some c.step.new.self.machine.saved = rw c.deref.ensures.value c.in-Ok.ensures.rebuilt in
+    let applies : all_applied c.deref.result.now c.self.inside.core.machine.saved ≡ Some c.step.new.self.machine.saved =
+    rw c.deref.ensures.value c.in-Ok.ensures.rebuilt in
     let room = c.self.invariant.0 in (
       omega (arith, c.record_ops.ensures.capacity, room),
       λ spent ha' hb'.
           let ha = c.record_ops.ensures.later.a.honesty.1 ha' in
           let hb = c.record_ops.ensures.later.b.honesty.1 hb' in
-          content_after c.self.inside.journal.content c.record_ops.new.journal.content c.deref.result.now c.self.inside.core.machine.saved c.step.new.self.machine.saved
+          content_after c.self.inside.journal.content c.record_ops.new.journal.content c.deref.result.now c.self.inside.core.machine.saved
+          c.step.new.self.machine.saved
           (c.self.invariant.1 usable ha hb) valid applies
           (λ e. ap (λ j. j.content) (c.record_ops.ensures.none e).1)
           (λ some. let held = c.in_ok-number.ensures.kept some ha hb in held.says),
@@ -54,13 +72,17 @@ pub returns-clause-any_moment : goal.returns-clause-any_moment
 returns-clause-any_moment g c =
     let asked : Stepped = step c.self.inside.core c.args.event c.in-Ok.outcome.refused_at in
     let valid : AllByRecursion IsOp c.deref.result.now = c.record_ops.ensures.valid in
-    let applies : all_applied c.deref.result.now c.self.inside.core.machine.saved ≡ Some asked.after.machine.saved = rw c.deref.ensures.value (c.in-Ok.ensures.rebuilt ∙ ap (λ (s : State). Some s.machine.saved) c.in-Ok.ensures.ok.after) in
+    let applies : all_applied c.deref.result.now c.self.inside.core.machine.saved ≡ Some asked.after.machine.saved =
+    rw c.deref.ensures.value (c.in-Ok.ensures.rebuilt ∙ ap (λ (s : State). Some s.machine.saved) c.in-Ok.ensures.ok.after) in
     rw (← c.self.view_is) (λ ha hb usable. (
       c.in-Ok.outcome.refused_at,
       ap (λ t. t.refused_at) c.new.ensures,
       find_either _ _ _ _ c.self.inside.journal.content c.deref.result.now c.self.inside.core.machine.saved asked.after.machine.saved
           (c.is_spent.ensures.kept ha hb usable) (c.self.invariant.1 usable ha hb) valid applies
-          (λ e. (ap (λ j. g.D.Disk.history j.a) (c.record_ops.ensures.none e).1, ap (λ j. g.D.Disk.history j.b) (c.record_ops.ensures.none e).1))
+          (λ e. (
+            ap (λ j. g.D.Disk.history j.a) (c.record_ops.ensures.none e).1,
+            ap (λ j. g.D.Disk.history j.b) (c.record_ops.ensures.none e).1,
+          ))
           (λ some. c.record_ops.ensures.any_moment some ha hb),
     ))
 
@@ -68,9 +90,11 @@ pub returns-clause-kept : goal.returns-clause-kept
 returns-clause-kept g c =
     let usable : c.self.inside.journal.is_spent ≡ false = sym c.is_spent.ensures.value ∙ c.if-is_spent.false in
     let valid : AllByRecursion IsOp c.deref.result.now = c.record_ops.ensures.valid in
-    let applies : all_applied c.deref.result.now c.self.inside.core.machine.saved ≡ Some c.step.new.self.machine.saved = rw c.deref.ensures.value c.in-Ok.ensures.rebuilt in
+    let applies : all_applied c.deref.result.now c.self.inside.core.machine.saved ≡ Some c.step.new.self.machine.saved =
+    rw c.deref.ensures.value c.in-Ok.ensures.rebuilt in
     rw (← c.self.view_is) (λ ha hb unbroken.
-    find_after _ _ _ _ c.self.inside.journal.content c.record_ops.new.journal.content c.deref.result.now c.self.inside.core.machine.saved c.step.new.self.machine.saved
+    find_after _ _ _ _ c.self.inside.journal.content c.record_ops.new.journal.content c.deref.result.now c.self.inside.core.machine.saved
+    c.step.new.self.machine.saved
     (c.is_spent.ensures.kept ha hb usable) (c.self.invariant.1 usable ha hb) valid applies
     (λ e. (ap (λ j. g.D.Disk.history j.a) (c.record_ops.ensures.none e).1, ap (λ j. g.D.Disk.history j.b) (c.record_ops.ensures.none e).1))
     (λ some. let held = c.in_ok-number.ensures.kept some ha hb in held.says)
@@ -78,17 +102,20 @@ returns-clause-kept g c =
 
 pub returns-then-is_spent-clause-kept : goal.returns-then-is_spent-clause-kept
 returns-then-is_spent-clause-kept g c = rw (← c.self.view_is) (λ ha hb usable.
-    find_now (g.D.Disk.history c.self.inside.journal.a) (g.D.Disk.history c.self.inside.journal.b) c.self.inside.journal.content c.self.inside.core.machine.saved (c.is_spent.ensures.kept ha hb usable) (c.self.invariant.1 usable ha hb))
+    find_now (g.D.Disk.history c.self.inside.journal.a) (g.D.Disk.history c.self.inside.journal.b) c.self.inside.journal.content
+    c.self.inside.core.machine.saved (c.is_spent.ensures.kept ha hb usable) (c.self.invariant.1 usable ha hb))
 
 pub returns-then-are_numbers_spent-clause-kept : goal.returns-then-are_numbers_spent-clause-kept
 returns-then-are_numbers_spent-clause-kept g c = rw (← c.self.view_is) (λ ha hb usable.
-    find_now (g.D.Disk.history c.self.inside.journal.a) (g.D.Disk.history c.self.inside.journal.b) c.self.inside.journal.content c.self.inside.core.machine.saved (c.is_spent.ensures.kept ha hb usable) (c.self.invariant.1 usable ha hb))
+    find_now (g.D.Disk.history c.self.inside.journal.a) (g.D.Disk.history c.self.inside.journal.b) c.self.inside.journal.content
+    c.self.inside.core.machine.saved (c.is_spent.ensures.kept ha hb usable) (c.self.invariant.1 usable ha hb))
 
 pub returns-in-Err-clause-kept : goal.returns-in-Err-clause-kept
 returns-in-Err-clause-kept g c =
     let same = c.in-Err.ensures.err in
     rw (← c.self.view_is, same) (λ ha hb usable.
-    find_now (g.D.Disk.history c.self.inside.journal.a) (g.D.Disk.history c.self.inside.journal.b) c.self.inside.journal.content c.self.inside.core.machine.saved (c.is_spent.ensures.kept ha hb usable) (c.self.invariant.1 usable ha hb))
+    find_now (g.D.Disk.history c.self.inside.journal.a) (g.D.Disk.history c.self.inside.journal.b) c.self.inside.journal.content
+    c.self.inside.core.machine.saved (c.is_spent.ensures.kept ha hb usable) (c.self.invariant.1 usable ha hb))
 
 pub returns-then-is_spent-clause-file : goal.returns-then-is_spent-clause-file
 returns-then-is_spent-clause-file g c = still_in_file c.args.self.now

@@ -10,21 +10,26 @@ pub returns-then-start-end-clause-ok : goal.returns-then-start-end-clause-ok
 returns-then-start-end-clause-ok c =
     let old = c.self.inside.entries.items in
     let fits = rw (← c.self.view_is) at c.in_ok-check_range.ensures.fits in
-    let left : c.len-left.result ≡ length (deleted old c.args.start c.args.end) = omega (arith, ap length c.delete.ensures, c.len-left.ensures) in
+    let left : c.len-left.result ≡ length (deleted old c.args.start c.args.end) =
+    omega (arith, ap length c.delete.ensures, c.len-left.ensures) in
     rw (← c.self.view_is, c.restamp-self-inside.ensures.entries, c.restamp-self-inside.ensures.version, c.delete.ensures, left)
-    (ruled-deleted (record { entries = old; version = c.self.inside.version; next_id = c.self.inside.next_id }) c.args.start c.args.end c.self.invariant.own_ids c.if-start-end.true fits.within)
+    (ruled-deleted (record { entries = old; version = c.self.inside.version; next_id = c.self.inside.next_id }) c.args.start c.args.end
+    c.self.invariant.own_ids c.if-start-end.true fits.within)
 
 pub returns-else-start-end-clause-ok : goal.returns-else-start-end-clause-ok
 returns-else-start-end-clause-ok c =
     let forward = c.in_ok-check_range.ensures.fits.forward in
     let none : c.args.start ≡ c.args.end = omega (arith, forward) in
-    let itself : deleted c.args.self.now.entries c.args.start c.args.end ≡ c.args.self.now.entries = rw none (take-append-drop c.args.end c.args.self.now.entries) in
+    let itself : deleted c.args.self.now.entries c.args.start c.args.end ≡ c.args.self.now.entries =
+    rw none (take-append-drop c.args.end c.args.self.now.entries) in
     sym (ruled-itself c.args.self.now _ itself)
 
 pub invariant_of-self : goal.invariant_of-self
 invariant_of-self c =
     let old = c.self.inside.entries.items in
     let fits = rw (← c.self.view_is) at c.in_ok-check_range.ensures.fits in
-    let left : c.len-left.result ≡ length (deleted old c.args.start c.args.end) = omega (arith, ap length c.delete.ensures, c.len-left.ensures) in
+    let left : c.len-left.result ≡ length (deleted old c.args.start c.args.end) =
+    omega (arith, ap length c.delete.ensures, c.len-left.ensures) in
     rw (c.restamp-self-inside.ensures.entries, c.restamp-self-inside.ensures.version, c.delete.ensures, left)
-    (sound-deleted (record { entries = old; version = c.self.inside.version; next_id = c.self.inside.next_id }) c.self.invariant c.args.start c.args.end fits.forward fits.within)
+    (sound-deleted (record { entries = old; version = c.self.inside.version; next_id = c.self.inside.next_id }) c.self.invariant
+    c.args.start c.args.end fits.forward fits.within)

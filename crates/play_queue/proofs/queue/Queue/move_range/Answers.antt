@@ -7,12 +7,14 @@ use Rattle.play_queue.proofs.queue.Queue.move_range.Goals as goal
 pub returns-then-to-start-clause-ok : goal.returns-then-to-start-clause-ok
 returns-then-to-start-clause-ok c =
     let fits = c.in_ok-check_move.ensures.fits in
-    c.exchange.ensures ∙ ap (λ entries. ruled c.args.self.now entries []) (sym (moved-up c.args.self.now.entries c.args.start c.args.end c.args.to c.if-to-start.true fits.forward fits.within))
+    c.exchange.ensures ∙ ap (λ entries. ruled c.args.self.now entries [])
+    (sym (moved-up c.args.self.now.entries c.args.start c.args.end c.args.to c.if-to-start.true fits.forward fits.within))
 
 pub returns-then-start-to-clause-ok : goal.returns-then-start-to-clause-ok
 returns-then-start-to-clause-ok c =
     let fits = c.in_ok-check_move.ensures.fits in
-    c.exchange-then-start-to.ensures ∙ ap (λ entries. ruled c.args.self.now entries []) (sym (moved-down c.args.self.now.entries c.args.start c.args.end c.args.to c.if-start-to.true fits.forward fits.within fits.place))
+    c.exchange-then-start-to.ensures ∙ ap (λ entries. ruled c.args.self.now entries [])
+    (sym (moved-down c.args.self.now.entries c.args.start c.args.end c.args.to c.if-start-to.true fits.forward fits.within fits.place))
 
 -- a block that stays where it is
 pub returns-else-start-to-clause-ok : goal.returns-else-start-to-clause-ok

@@ -8,14 +8,17 @@ returns-then-one-other-clause-ok c =
     let old = c.self.inside.entries.items in
     let fits = rw (← c.self.view_is) at c.in_ok-check_swap.ensures.fits in
     rw (← c.self.view_is, c.restamp_pair-self-inside.ensures.entries, c.restamp_pair-self-inside.ensures.version, c.swap.ensures.items)
-    (ruled-swapped (record { entries = old; version = c.self.inside.version; next_id = c.self.inside.next_id }) c.args.one c.args.other c.self.invariant.own_ids fits.one_within fits.other_within c.if-one-other.true)
+    (ruled-swapped (record { entries = old; version = c.self.inside.version; next_id = c.self.inside.next_id }) c.args.one c.args.other
+    c.self.invariant.own_ids fits.one_within fits.other_within c.if-one-other.true)
 
 pub returns-else-one-other-clause-ok : goal.returns-else-one-other-clause-ok
-returns-else-one-other-clause-ok c = sym (ruled-itself c.args.self.now _ (rw (c.if-one-other.false) (swap-itself c.args.self.now.entries c.args.other)))
+returns-else-one-other-clause-ok c =
+    sym (ruled-itself c.args.self.now _ (rw (c.if-one-other.false) (swap-itself c.args.self.now.entries c.args.other)))
 
 pub invariant_of-self : goal.invariant_of-self
 invariant_of-self c =
     let old = c.self.inside.entries.items in
     let fits = rw (← c.self.view_is) at c.in_ok-check_swap.ensures.fits in
     rw (c.restamp_pair-self-inside.ensures.entries, c.restamp_pair-self-inside.ensures.version, c.swap.ensures.items)
-    (sound-swapped (record { entries = old; version = c.self.inside.version; next_id = c.self.inside.next_id }) c.self.invariant c.args.one c.args.other fits.one_within fits.other_within)
+    (sound-swapped (record { entries = old; version = c.self.inside.version; next_id = c.self.inside.next_id }) c.self.invariant c.args.one
+    c.args.other fits.one_within fits.other_within)

@@ -8,10 +8,12 @@ use Rattle.play_queue.proofs.uris.SortedUris.contains.Goals as goal
 
 pub returns : goal.returns
 returns c =
-    let found = c.binary_search_by.ensures.position (λ (other : List ℕ). slice_cmp nat_cmp other c.as_str-text.result.now) (always_returns_same _ _ _ (λ a r f' called. search rules)) in
+    let found = c.binary_search_by.ensures.position (λ (other : List ℕ). slice_cmp nat_cmp other c.as_str-text.result.now)
+    (always_returns_same _ _ _ (λ a r f' called. search rules)) in
     let searched = rw (c.deref.ensures.value, c.as_str-text.ensures.text) at found in
     let bound = rw (c.deref.ensures.value) at c.binary_search_by.ensures.bound in
-    rw (← c.self.view_is) (c.is_ok.ensures.value ∙ found_is c.self.inside.uris.items c.args.uri.now c.binary_search_by.result c.self.invariant.0 bound searched)
+    rw (← c.self.view_is) (c.is_ok.ensures.value
+    ∙ found_is c.self.inside.uris.items c.args.uri.now c.binary_search_by.result c.self.invariant.0 bound searched)
 
 pub returns-then-not-self-mark : goal.returns-then-not-self-mark
 returns-then-not-self-mark c =

@@ -7,6 +7,7 @@ use Rattle.play_queue.proofs.uris.SortedUris.new.Goals as goal
 
 pub invariant_of-result : goal.invariant_of-result
 invariant_of-result c = (
-  c.sort_unstable_by.ensures.sorted (λ (one other : List ℕ). is_lt (slice_cmp nat_cmp one other)) texts_compare (always_returns_same _ _ _ (λ a r f' called. search rules)),
+  c.sort_unstable_by.ensures.sorted (λ (one other : List ℕ). is_lt (slice_cmp nat_cmp one other)) texts_compare
+      (always_returns_same _ _ _ (λ a r f' called. search rules)),
   rw (c.deref.ensures.value) at c.marks_of-marks.ensures.marked,
 )

@@ -4,12 +4,25 @@ use Rattle.state_codec.proofs.LoopLaws.{items_go_on, items_fail, items_done}
 use Rattle.state_codec.proofs.fields.Reader.entries.Goals as goal
 
 pub returns-in-Err-entry : goal.returns-in-Err-entry
-returns-in-Err-entry c = items_fail (entry_at c.args.songs.now c.args.version c.args.next_id) c.args.count c.loop-i._i _ _ _ _ (omega arith) c.in-Err-entry.ensures c.loop-i.invariant.1.1
+returns-in-Err-entry c = items_fail (entry_at c.args.songs.now c.args.version c.args.next_id) c.args.count c.loop-i._i _ _ _ _ (omega arith)
+    c.in-Err-entry.ensures c.loop-i.invariant.1.1
 
 pub loop-i-preserved : goal.loop-i-preserved
 loop-i-preserved c =
     let g = c.in-Ok-entry.ensures in
-    rw g.2 (c.loop-i.invariant.0, (c.loop-i.invariant.1.0, items_go_on (entry_at c.args.songs.now c.args.version c.args.next_id) c.args.count c.loop-i._i _ _ g.0 _ _ (omega arith) g.1 c.loop-i.invariant.1.1))
+    rw g.2 (
+      c.loop-i.invariant.0,
+      (
+        c.loop-i.invariant.1.0,
+        items_go_on (entry_at c.args.songs.now c.args.version c.args.next_id) c.args.count c.loop-i._i _ _ g.0 _ _
+            (omega arith) g.1 c.loop-i.invariant.1.1,
+      ),
+    )
 
 pub returns : goal.returns
-returns c = rw c.finish.ensures (items_done (entry_at c.args.songs.now c.args.version c.args.next_id) c.args.count c.loop-i._i _ _ _ (omega arith) c.loop-i.invariant.1.1, c.loop-i.invariant.0, c.loop-i.invariant.1.0)
+returns c = rw c.finish.ensures (
+  items_done (entry_at c.args.songs.now c.args.version c.args.next_id) c.args.count c.loop-i._i _ _ _
+      (omega arith) c.loop-i.invariant.1.1,
+  c.loop-i.invariant.0,
+  c.loop-i.invariant.1.0,
+)

@@ -20,8 +20,10 @@ with_entry-requires-clause-id_used c =
 pub returns-in-Ok-rest_of_entry : goal.returns-in-Ok-rest_of_entry
 returns-in-Ok-rest_of_entry c =
     let same = rest_id _ _ _ _ _ c.in-Ok-rest_of_entry.ensures in
-    let read = subst (λ id. number_within 1 (c.args.next_id - 1) c.args.self.now.rest.now ≡ Ok (id, c.u32_within.new.self.rest.now)) (sym same) c.in-Ok.ensures.value in
-    let rest = subst (λ id. rest_of_entry_at c.args.songs.now c.args.version id c.u32_within.new.self.rest.now ≡ Ok (c.in-Ok-rest_of_entry.entry, c.rest_of_entry.new.self.rest.now)) (sym same) c.in-Ok-rest_of_entry.ensures in
+    let read = subst (λ id. number_within 1 (c.args.next_id - 1) c.args.self.now.rest.now ≡ Ok (id, c.u32_within.new.self.rest.now))
+    (sym same) c.in-Ok.ensures.value in
+    let rest = subst (λ id. rest_of_entry_at c.args.songs.now c.args.version id c.u32_within.new.self.rest.now
+    ≡ Ok (c.in-Ok-rest_of_entry.entry, c.rest_of_entry.new.self.rest.now)) (sym same) c.in-Ok-rest_of_entry.ensures in
     taken_gives _ _ _ _ _ _ _ _ _ read rest (rw c.fault-at_id.ensures at c.with_entry.ensures)
 
 pub returns-in-Err-rest_of_entry : goal.returns-in-Err-rest_of_entry

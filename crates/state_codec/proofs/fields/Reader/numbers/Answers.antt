@@ -6,7 +6,8 @@ use Rattle.state_codec.proofs.fields.Reader.numbers.Goals as goal
 
 pub loop-i-preserved : goal.loop-i-preserved
 loop-i-preserved c =
-    rw c.in_ok-push.ensures.items (items_go_on (λ known. u32_at) c.args.count c.loop-i._i _ _ c.in_ok-number.number _ _ (omega arith) c.in_ok-number.ensures c.loop-i.invariant)
+    rw c.in_ok-push.ensures.items (items_go_on (λ known. u32_at) c.args.count c.loop-i._i _ _ c.in_ok-number.number _ _ (omega arith)
+    c.in_ok-number.ensures c.loop-i.invariant)
 
 pub returns-in_err-number : goal.returns-in_err-number
 returns-in_err-number c =

@@ -4,4 +4,5 @@ use Rattle.state_codec.specs.Fields.{u32_at}
 use Rattle.state_codec.proofs.fields.Reader.numbers.Given as goal
 
 abbrev pub invariant-loop-i : goal.invariant-loop-i
-invariant-loop-i l = items_at (λ known. u32_at) (l.count - l._i) l.numbers.items l.self.rest.now ≡ items_at (λ known. u32_at) l.count [] l.fn.self.rest.now
+invariant-loop-i l = items_at (λ known. u32_at) (l.count - l._i) l.numbers.items l.self.rest.now
+    ≡ items_at (λ known. u32_at) l.count [] l.fn.self.rest.now

@@ -6,7 +6,8 @@ use Rattle.state_codec.proofs.fields.Reader.pairs.Goals as goal
 
 pub loop-i-preserved : goal.loop-i-preserved
 loop-i-preserved c =
-    rw c.in_ok-push.ensures.items (items_go_on (λ known. pair_at) c.args.count c.loop-i._i _ _ c.in_ok-pair.pair _ _ (omega arith) c.in_ok-pair.ensures c.loop-i.invariant)
+    rw c.in_ok-push.ensures.items (items_go_on (λ known. pair_at) c.args.count c.loop-i._i _ _ c.in_ok-pair.pair _ _ (omega arith)
+    c.in_ok-pair.ensures c.loop-i.invariant)
 
 pub returns-in_err-pair : goal.returns-in_err-pair
 returns-in_err-pair c =

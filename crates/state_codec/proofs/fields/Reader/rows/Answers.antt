@@ -5,10 +5,13 @@ use Rattle.state_codec.proofs.LoopLaws.{items_go_on, items_fail, items_done}
 use Rattle.state_codec.proofs.fields.Reader.rows.Goals as goal
 
 pub returns-in-Err : goal.returns-in-Err
-returns-in-Err c = items_fail (λ known. row_at (next_uri_at known)) c.args.count c.loop-i._i _ _ _ _ (omega arith) c.in-Err.ensures c.loop-i.invariant
+returns-in-Err c = items_fail (λ known. row_at (next_uri_at known)) c.args.count c.loop-i._i _ _ _ _ (omega arith) c.in-Err.ensures
+    c.loop-i.invariant
 
 pub loop-i-preserved : goal.loop-i-preserved
-loop-i-preserved c = rw c.in-Ok-push_last.ensures.ok (items_go_on (λ known. row_at (next_uri_at known)) c.args.count c.loop-i._i _ _ c.in-Ok.row _ _ (omega arith) c.in-Ok.ensures c.loop-i.invariant)
+loop-i-preserved c =
+    rw c.in-Ok-push_last.ensures.ok (items_go_on (λ known. row_at (next_uri_at known)) c.args.count c.loop-i._i _ _ c.in-Ok.row _ _
+    (omega arith) c.in-Ok.ensures c.loop-i.invariant)
 
 pub returns : goal.returns
 returns c = items_done (λ known. row_at (next_uri_at known)) c.args.count c.loop-i._i _ _ _ (omega arith) c.loop-i.invariant

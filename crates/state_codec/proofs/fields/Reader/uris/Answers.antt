@@ -7,7 +7,9 @@ pub returns-in-Err : goal.returns-in-Err
 returns-in-Err c = items_fail (λ known. uri_at) c.args.count c.loop-i._i _ _ _ _ (omega arith) c.in-Err.ensures c.loop-i.invariant
 
 pub loop-i-preserved : goal.loop-i-preserved
-loop-i-preserved c = rw c.in-Ok-push.ensures.ok (items_go_on (λ known. uri_at) c.args.count c.loop-i._i _ _ c.in-Ok.uri _ _ (omega arith) c.in-Ok.ensures c.loop-i.invariant)
+loop-i-preserved c =
+    rw c.in-Ok-push.ensures.ok (items_go_on (λ known. uri_at) c.args.count c.loop-i._i _ _ c.in-Ok.uri _ _ (omega arith) c.in-Ok.ensures
+    c.loop-i.invariant)
 
 pub returns : goal.returns
 returns c = items_done (λ known. uri_at) c.args.count c.loop-i._i _ _ _ (omega arith) c.loop-i.invariant

@@ -11,7 +11,8 @@ returns-then-is_some c =
     let d = c.is_some.ensures in
     let t = c.if-is_some.true in
     let there : is_some (position (λ entry. eqb entry.id c.args.id) c.args.queue.entries) ≡ true = cc in
-    let found : has_id c.args.queue.entries c.args.id ≡ true = sym (any_position (λ entry. eqb entry.id c.args.id) c.args.queue.entries) ∙ there in
+    let found : has_id c.args.queue.entries c.args.id ≡ true = sym (any_position (λ entry. eqb entry.id c.args.id) c.args.queue.entries)
+    ∙ there in
     rw found refl
 
 pub returns-else-is_some : goal.returns-else-is_some
@@ -21,5 +22,6 @@ returns-else-is_some c =
     let d = c.is_some.ensures in
     let t = c.if-is_some.false in
     let there : is_some (position (λ entry. eqb entry.id c.args.id) c.args.queue.entries) ≡ false = cc in
-    let found : has_id c.args.queue.entries c.args.id ≡ false = sym (any_position (λ entry. eqb entry.id c.args.id) c.args.queue.entries) ∙ there in
+    let found : has_id c.args.queue.entries c.args.id ≡ false = sym (any_position (λ entry. eqb entry.id c.args.id) c.args.queue.entries)
+    ∙ there in
     rw found refl

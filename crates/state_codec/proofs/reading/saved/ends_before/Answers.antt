@@ -6,7 +6,8 @@ use Rattle.song_db.specs.Last.{ends_before}
 use Rattle.song_db.specs.Row.{Row}
 use Rattle.state_codec.proofs.reading.saved.ends_before.Goals as goal
 
-last_decides : (rows : List Row) (uri : List ℕ) (last : Row) → Some last ≡ slice_get rows (length rows - 1) → is_lt (slice_cmp nat_cmp last.uri uri) ≡ ends_before rows uri
+last_decides : (rows : List Row) (uri : List ℕ) (last : Row) → Some last ≡ slice_get rows (length rows - 1)
+    → is_lt (slice_cmp nat_cmp last.uri uri) ≡ ends_before rows uri
 last_decides [] uri last is = absurd (cc)
 last_decides (row ∷ []) uri last is = let same : last ≡ row = cc in ap (λ (r : Row). is_lt (slice_cmp nat_cmp r.uri uri)) same
 last_decides (row ∷ next ∷ rows) uri last is =
@@ -15,4 +16,5 @@ last_decides (row ∷ next ∷ rows) uri last is =
 
 pub returns-in-Some : goal.returns-in-Some
 returns-in-Some c = c.lt.ensures ∙ ap (λ (text : List ℕ). is_lt (slice_cmp nat_cmp text c.args.uri.now)) c.uri.ensures.text
-    ∙ last_decides c.rows.result.now c.args.uri.now c.in-Some.last.now c.in-Some.ensures.value ∙ ap (λ (rows : List Row). ends_before rows c.args.uri.now) c.rows.ensures
+    ∙ last_decides c.rows.result.now c.args.uri.now c.in-Some.last.now c.in-Some.ensures.value
+    ∙ ap (λ (rows : List Row). ends_before rows c.args.uri.now) c.rows.ensures

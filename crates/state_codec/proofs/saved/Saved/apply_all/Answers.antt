@@ -24,7 +24,8 @@ pub returns-in-Err-apply : goal.returns-in-Err-apply
 returns-in-Err-apply c =
     let more : eqb (length c.loop-reader.reader.rest.now) 0 ≡ false = cc in
     let some_left : 0 < length c.loop-reader.reader.rest.now = omega (arith, eqb-false _ _ more) in
-    rw c.not_applied.ensures (refused _ _ _ _ _ c.in-Ok.op _ c.in-Err-apply.error _ some_left c.in-Ok.ensures c.in-Err-apply.ensures.answer c.loop-reader.invariant)
+    rw c.not_applied.ensures (refused _ _ _ _ _ c.in-Ok.op _ c.in-Err-apply.error _ some_left c.in-Ok.ensures c.in-Err-apply.ensures.answer
+    c.loop-reader.invariant)
 
 pub returns : goal.returns
 returns c =

@@ -9,17 +9,27 @@ use Rattle.state_codec.proofs.saved.batch.check_rows.Goals as goal
 
 pub count_after-requires : goal.count_after-requires
 count_after-requires c =
-    let few : length (after_batch c.args.songs.now (take c.loop-at.at c.args.changes.now)) ≤ MAX_ROWS = (database_batch c.args.songs.now (take c.loop-at.at c.args.changes.now) c.len-count.ensures.within).few in
+    let few : length (after_batch c.args.songs.now (take c.loop-at.at c.args.changes.now)) ≤ MAX_ROWS =
+    (database_batch c.args.songs.now (take c.loop-at.at c.args.changes.now) c.len-count.ensures.within).few in
     omega (arith, c.loop-at.invariant.count)
 
 pub returns-in-None : goal.returns-in-None
 returns-in-None c =
-    let there : c.has_row-there.result ≡ has_uri (after_batch c.args.songs.now (take c.loop-at.at c.args.changes.now)) (uri_of c.index-changes-at.result) = c.has_row-there.ensures ∙ ap (has_uri (after_batch c.args.songs.now (take c.loop-at.at c.args.changes.now))) c.uri.ensures in
-    let full : list_any is_left_out (effects_of c.args.songs.now c.args.changes.now) ≡ true = full_at c.args.songs.now c.args.changes.now c.loop-at.at c.index-changes-at.result c.loop-at.count c.has_row-there.result c.len-count.ensures.within c.loop-at-test.true c.index-changes-at.is c.loop-at.invariant.count there (sym c.count_after.ensures ∙ c.in-None.is) in
+    let there : c.has_row-there.result ≡ has_uri (after_batch c.args.songs.now (take c.loop-at.at c.args.changes.now))
+    (uri_of c.index-changes-at.result) =
+    c.has_row-there.ensures ∙ ap (has_uri (after_batch c.args.songs.now (take c.loop-at.at c.args.changes.now))) c.uri.ensures in
+    let full : list_any is_left_out (effects_of c.args.songs.now c.args.changes.now) ≡ true =
+    full_at c.args.songs.now c.args.changes.now c.loop-at.at c.index-changes-at.result c.loop-at.count c.has_row-there.result
+    c.len-count.ensures.within c.loop-at-test.true c.index-changes-at.is c.loop-at.invariant.count there
+    (sym c.count_after.ensures ∙ c.in-None.is) in
     rw full refl
 
 pub loop-at-preserved : goal.loop-at-preserved
 loop-at-preserved c =
-    let there : c.has_row-there.result ≡ has_uri (after_batch c.args.songs.now (take c.loop-at.at c.args.changes.now)) (uri_of c.index-changes-at.result) = c.has_row-there.ensures ∙ ap (has_uri (after_batch c.args.songs.now (take c.loop-at.at c.args.changes.now))) c.uri.ensures in
-    let next = counted_on c.args.songs.now c.args.changes.now c.loop-at.at c.index-changes-at.result c.loop-at.count c.in-Some.after c.has_row-there.result c.len-count.ensures.within c.loop-at-test.true c.index-changes-at.is c.loop-at.invariant.fit c.loop-at.invariant.count there (sym c.count_after.ensures ∙ c.in-Some.is) in
+    let there : c.has_row-there.result ≡ has_uri (after_batch c.args.songs.now (take c.loop-at.at c.args.changes.now))
+    (uri_of c.index-changes-at.result) =
+    c.has_row-there.ensures ∙ ap (has_uri (after_batch c.args.songs.now (take c.loop-at.at c.args.changes.now))) c.uri.ensures in
+    let next = counted_on c.args.songs.now c.args.changes.now c.loop-at.at c.index-changes-at.result c.loop-at.count c.in-Some.after
+    c.has_row-there.result c.len-count.ensures.within c.loop-at-test.true c.index-changes-at.is c.loop-at.invariant.fit
+    c.loop-at.invariant.count there (sym c.count_after.ensures ∙ c.in-Some.is) in
     record { fit = next.0; count = next.1 }

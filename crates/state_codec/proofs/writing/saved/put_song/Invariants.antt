@@ -5,4 +5,5 @@ use Rattle.state_codec.specs.Spelling.{sticker_bytes}
 use Rattle.state_codec.proofs.writing.saved.put_song.Given as goal
 
 abbrev pub invariant-loop-name : goal.invariant-loop-name
-invariant-loop-name l = l.out.items ++ flat_map sticker_bytes (in_song (l.uri, l.name-iterator)) ≡ l.fn.out.items ++ flat_map sticker_bytes (in_song (l.uri, l.song))
+invariant-loop-name l = l.out.items ++ flat_map sticker_bytes (in_song (l.uri, l.name-iterator)) ≡ l.fn.out.items
+    ++ flat_map sticker_bytes (in_song (l.uri, l.song))

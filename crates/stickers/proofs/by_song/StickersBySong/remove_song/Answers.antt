@@ -17,15 +17,25 @@ returns-clause-count c =
     let songs = by_name c.self.inside.songs.entries in
     elim c.match-remove.branch [
       | in-Some w ↦
-          let found : under songs c.args.uri.now ≡ Some w.in-Some.song = sym (w.in-Some.ensures.value ∙ lookup-by_name c.args.uri.now c.self.inside.songs.entries) in
-          rw (w.result-is, w.len.ensures.count, ← c.self.view_is, flat-stickers_of songs c.args.uri.now w.in-Some.song c.self.invariant found) (sym (length-map w.in-Some.song (sticker c.args.uri.now)))
+          let found : under songs c.args.uri.now ≡ Some w.in-Some.song =
+          sym (w.in-Some.ensures.value ∙ lookup-by_name c.args.uri.now c.self.inside.songs.entries) in
+          rw (
+            w.result-is,
+            w.len.ensures.count,
+            ← c.self.view_is,
+            flat-stickers_of songs c.args.uri.now w.in-Some.song c.self.invariant found,
+          )
+          (sym (length-map w.in-Some.song (sticker c.args.uri.now)))
       | in-None w ↦
-          let none : under songs c.args.uri.now ≡ None = sym (w.in-None.ensures.value ∙ lookup-by_name c.args.uri.now c.self.inside.songs.entries) in
+          let none : under songs c.args.uri.now ≡ None =
+          sym (w.in-None.ensures.value ∙ lookup-by_name c.args.uri.now c.self.inside.songs.entries) in
           rw (w.result-is, ← c.self.view_is, none_of_song songs c.args.uri.now none) refl
     ]
 
 pub returns-clause-removed : goal.returns-clause-removed
 returns-clause-removed c =
     let songs = by_name c.self.inside.songs.entries in
-    ap (λ es. flat (by_name es)) c.remove.ensures.entries ∙ ap flat (remove_entry-by_name c.args.uri.now c.self.inside.songs.entries ∙ remove_entry-without songs c.args.uri.now c.self.invariant)
+    ap (λ es. flat (by_name es)) c.remove.ensures.entries
+    ∙ ap flat (remove_entry-by_name c.args.uri.now c.self.inside.songs.entries
+    ∙ remove_entry-without songs c.args.uri.now c.self.invariant)
     ∙ flat-without_name songs c.args.uri.now ∙ ap (λ all. without_song all c.args.uri.now) c.self.view_is

@@ -19,11 +19,17 @@ returns c =
     let songs = by_name c.self.inside.songs.entries in
     elim c.match-get_mut.branch [
       | in-Some w ↦
-          let found : under songs c.args.uri.now ≡ Some w.in-Some.song.now = sym (w.in-Some.ensures.value ∙ lookup-by_name c.args.uri.now c.self.inside.songs.entries) in
-          rw w.self-inside-is (ap (λ es. flat (by_name es)) (c.get_mut.follows.holds w.remove.new.self).0 ∙ ap flat (set_value-by_name c.args.uri.now c.self.inside.songs.entries w.remove.new.self)
-          ∙ ap (λ values. flat (with_other songs c.args.uri.now values)) w.remove.ensures ∙ flat-without_sticker songs c.args.uri.now c.args.name.now w.in-Some.song.now c.self.invariant found
+          let found : under songs c.args.uri.now ≡ Some w.in-Some.song.now =
+          sym (w.in-Some.ensures.value ∙ lookup-by_name c.args.uri.now c.self.inside.songs.entries) in
+          rw w.self-inside-is (ap (λ es. flat (by_name es)) (c.get_mut.follows.holds w.remove.new.self).0
+          ∙ ap flat (set_value-by_name c.args.uri.now c.self.inside.songs.entries w.remove.new.self)
+          ∙ ap (λ values. flat (with_other songs c.args.uri.now values)) w.remove.ensures
+          ∙ flat-without_sticker songs c.args.uri.now c.args.name.now w.in-Some.song.now c.self.invariant found
           ∙ ap (λ all. without_sticker all c.args.uri.now c.args.name.now) c.self.view_is)
       | in_default w ↦
-          let none : under songs c.args.uri.now ≡ None = sym (w.in_default.ensures.value ∙ lookup-by_name c.args.uri.now c.self.inside.songs.entries) in
-          rw w.self-inside-is (ap (λ m. flat (by_name m.entries)) c.get_mut.follows.holds-at-none ∙ sym (none_without songs c.args.uri.now c.args.name.now none) ∙ ap (λ all. without_sticker all c.args.uri.now c.args.name.now) c.self.view_is)
+          let none : under songs c.args.uri.now ≡ None =
+          sym (w.in_default.ensures.value ∙ lookup-by_name c.args.uri.now c.self.inside.songs.entries) in
+          rw w.self-inside-is (ap (λ m. flat (by_name m.entries)) c.get_mut.follows.holds-at-none
+          ∙ sym (none_without songs c.args.uri.now c.args.name.now none)
+          ∙ ap (λ all. without_sticker all c.args.uri.now c.args.name.now) c.self.view_is)
     ]

@@ -19,17 +19,24 @@ invariant_of-self-in-Some c = sorted-by_name _ (c.get_mut.follows.holds c.insert
 pub returns-in_err-insert-in-Some-clause-err : goal.returns-in_err-insert-in-Some-clause-err
 returns-in_err-insert-in-Some-clause-err c =
     let songs = by_name c.self.inside.songs.entries in
-    let found : under songs c.args.uri.now ≡ Some c.in-Some.song.now = sym (c.in-Some.ensures.value ∙ lookup-by_name c.args.uri.now c.self.inside.songs.entries) in
-    on_err _ (ap (λ es. flat (by_name es)) (c.get_mut.follows.holds c.insert.new.self).0 ∙ ap flat (set_value-by_name c.args.uri.now c.self.inside.songs.entries c.insert.new.self)
-    ∙ ap (λ values. flat (with_other songs c.args.uri.now values)) c.in_err-insert-in-Some.ensures.err ∙ ap flat (set_value_same _ songs c.in-Some.song.now found) ∙ c.self.view_is)
+    let found : under songs c.args.uri.now ≡ Some c.in-Some.song.now =
+    sym (c.in-Some.ensures.value ∙ lookup-by_name c.args.uri.now c.self.inside.songs.entries) in
+    on_err _ (ap (λ es. flat (by_name es)) (c.get_mut.follows.holds c.insert.new.self).0
+    ∙ ap flat (set_value-by_name c.args.uri.now c.self.inside.songs.entries c.insert.new.self)
+    ∙ ap (λ values. flat (with_other songs c.args.uri.now values)) c.in_err-insert-in-Some.ensures.err
+    ∙ ap flat (set_value_same _ songs c.in-Some.song.now found) ∙ c.self.view_is)
 
 pub returns-in_ok-insert-in-Some-clause-ok : goal.returns-in_ok-insert-in-Some-clause-ok
 returns-in_ok-insert-in-Some-clause-ok c =
     let songs = by_name c.self.inside.songs.entries in
-    let found : under songs c.args.uri.now ≡ Some c.in-Some.song.now = sym (c.in-Some.ensures.value ∙ lookup-by_name c.args.uri.now c.self.inside.songs.entries) in
-    let new : c.insert.new.self ≡ with_name c.in-Some.song.now c.args.name.now c.args.value = rw (← c.in_ok-name.ensures.ok) c.in_ok-insert-in-Some.ensures.ok in
-    ap (λ es. flat (by_name es)) (c.get_mut.follows.holds c.insert.new.self).0 ∙ ap flat (set_value-by_name c.args.uri.now c.self.inside.songs.entries c.insert.new.self)
-    ∙ ap (λ values. flat (with_other songs c.args.uri.now values)) new ∙ flat-with_other songs c.args.uri.now c.args.name.now c.args.value c.in-Some.song.now c.self.invariant found
+    let found : under songs c.args.uri.now ≡ Some c.in-Some.song.now =
+    sym (c.in-Some.ensures.value ∙ lookup-by_name c.args.uri.now c.self.inside.songs.entries) in
+    let new : c.insert.new.self ≡ with_name c.in-Some.song.now c.args.name.now c.args.value =
+    rw (← c.in_ok-name.ensures.ok) c.in_ok-insert-in-Some.ensures.ok in
+    ap (λ es. flat (by_name es)) (c.get_mut.follows.holds c.insert.new.self).0
+    ∙ ap flat (set_value-by_name c.args.uri.now c.self.inside.songs.entries c.insert.new.self)
+    ∙ ap (λ values. flat (with_other songs c.args.uri.now values)) new
+    ∙ flat-with_other songs c.args.uri.now c.args.name.now c.args.value c.in-Some.song.now c.self.invariant found
     ∙ ap (λ all. with_sticker all c.args.uri.now c.args.name.now c.args.value) c.self.view_is
 
 pub invariant_of-self-in-None : goal.invariant_of-self-in-None
@@ -38,10 +45,15 @@ invariant_of-self-in-None c = sorted-by_name _ c.in_ok-insert-in-None.ensures.or
 pub returns-in_ok-insert-in-None-clause-ok : goal.returns-in_ok-insert-in-None-clause-ok
 returns-in_ok-insert-in-None-clause-ok c =
     let songs = by_name c.self.inside.songs.entries in
-    let none : under songs c.args.uri.now ≡ None = sym (c.in-None.ensures.value ∙ lookup-by_name c.args.uri.now c.self.inside.songs.entries) in
-    let song : c.in_ok-song-in-None.song ≡ (c.args.name.now, c.args.value) ∷ [] = c.in_ok-song-in-None.ensures ∙ rw (c.in_ok-name.ensures.ok) refl in
-    let entered : c.insert-in-None.new.self.entries ≡ insert_entry string_cmp c.self.inside.songs.entries c.in_ok-uri-in-None.uri c.in_ok-song-in-None.song =
-    c.in_ok-insert-in-None.ensures.entries ∙ ap (λ m. insert_entry string_cmp m.entries c.in_ok-uri-in-None.uri c.in_ok-song-in-None.song) c.get_mut.follows.holds-at-none in
-    ap (λ es. flat (by_name es)) entered ∙ ap flat (insert_entry-by_name c.self.inside.songs.entries c.in_ok-uri-in-None.uri c.in_ok-song-in-None.song)
+    let none : under songs c.args.uri.now ≡ None =
+    sym (c.in-None.ensures.value ∙ lookup-by_name c.args.uri.now c.self.inside.songs.entries) in
+    let song : c.in_ok-song-in-None.song ≡ (c.args.name.now, c.args.value) ∷ [] =
+    c.in_ok-song-in-None.ensures ∙ rw (c.in_ok-name.ensures.ok) refl in
+    let entered : c.insert-in-None.new.self.entries ≡ insert_entry string_cmp c.self.inside.songs.entries c.in_ok-uri-in-None.uri
+    c.in_ok-song-in-None.song =
+    c.in_ok-insert-in-None.ensures.entries
+    ∙ ap (λ m. insert_entry string_cmp m.entries c.in_ok-uri-in-None.uri c.in_ok-song-in-None.song) c.get_mut.follows.holds-at-none in
+    ap (λ es. flat (by_name es)) entered
+    ∙ ap flat (insert_entry-by_name c.self.inside.songs.entries c.in_ok-uri-in-None.uri c.in_ok-song-in-None.song)
     ∙ rw (c.in_ok-uri-in-None.ensures.ok, song) (flat-with_name songs c.args.uri.now c.args.name.now c.args.value c.self.invariant none)
     ∙ ap (λ all. with_sticker all c.args.uri.now c.args.name.now c.args.value) c.self.view_is

@@ -6,7 +6,8 @@ use Rattle.stickers.proofs.Named.{remove_entry-without}
 use Rattle.stickers.proofs.song.SongStickers.remove.Goals as goal
 
 pub returns : goal.returns
-returns c = ap by_name c.remove.ensures.entries ∙ remove_entry-by_name c.args.name.now c.self.inside.values.entries ∙ remove_entry-without _ c.args.name.now c.self.invariant ∙ ap (λ named. without_name named c.args.name.now) c.self.view_is
+returns c = ap by_name c.remove.ensures.entries ∙ remove_entry-by_name c.args.name.now c.self.inside.values.entries
+    ∙ remove_entry-without _ c.args.name.now c.self.invariant ∙ ap (λ named. without_name named c.args.name.now) c.self.view_is
 
 pub invariant_of-self : goal.invariant_of-self
 invariant_of-self c = sorted-by_name _ c.remove.ensures.ordered

@@ -8,10 +8,15 @@ pub invariant_of-self-then-is_new : goal.invariant_of-self-then-is_new
 invariant_of-self-then-is_new c =
     let absent : is_some (value_at c.self.inside.songs c.args.uri.now c.args.name.now) ≡ false = grind (arith, common_steps) in
     let room = rw (← c.self.view_is) at c.requires.room in
-    rw c.in_ok-set.ensures.ok (counted_new _ _ _ _ _ c.self.invariant (record { good_uri = c.requires.form; good_name = room.good; good_value = c.as_str-form.ensures.form }) absent (omega (arith, room.few absent, c.self.invariant.counted)))
+    rw c.in_ok-set.ensures.ok
+    (counted_new _ _ _ _ _ c.self.invariant
+    (record { good_uri = c.requires.form; good_name = room.good; good_value = c.as_str-form.ensures.form }) absent
+    (omega (arith, room.few absent, c.self.invariant.counted)))
 
 pub invariant_of-self-else-is_new : goal.invariant_of-self-else-is_new
 invariant_of-self-else-is_new c =
     let present : is_some (value_at c.self.inside.songs c.args.uri.now c.args.name.now) ≡ true = grind (arith, common_steps) in
     let room = rw (← c.self.view_is) at c.requires.room in
-    rw c.in_ok-set.ensures.ok (counted_other _ _ _ _ _ c.self.invariant (record { good_uri = c.requires.form; good_name = room.good; good_value = c.as_str-form.ensures.form }) present)
+    rw c.in_ok-set.ensures.ok
+    (counted_other _ _ _ _ _ c.self.invariant
+    (record { good_uri = c.requires.form; good_name = room.good; good_value = c.as_str-form.ensures.form }) present)

@@ -9,4 +9,5 @@ invariant_of-self c =
     let songs = songs_or_none c.self.inside.lists c.args.name.now in
     let same = length-moved songs c.args.from c.args.to fits.from_within fits.to_within in
     let uris = uris-moved songs c.args.from c.args.to (counted_uris _ _ _ _ c.self.invariant fits.found) fits.from_within in
-    rw (c.move_one.ensures) (counted_with_songs _ _ _ _ _ _ c.self.invariant uris fits.found (omega (arith, same)) (omega (arith, c.self.invariant.within.few_entries, c.self.invariant.counted)))
+    rw (c.move_one.ensures) (counted_with_songs _ _ _ _ _ _ c.self.invariant uris fits.found (omega (arith, same))
+    (omega (arith, c.self.invariant.within.few_entries, c.self.invariant.counted)))

@@ -13,5 +13,8 @@ invariant_of-self c =
     let fits = rw (← c.self.view_is) at c.in_ok-check_remove_at.ensures.fits in
     let count = counted_fits _ _ _ _ c.self.invariant fits.found in
     let few = length-without_range (songs_or_none c.self.inside.lists c.args.name.now) c.args.start c.args.end fits.forward fits.within in
-    let uris = uris-without_range (songs_or_none c.self.inside.lists c.args.name.now) c.args.start c.args.end (counted_uris _ _ _ _ c.self.invariant fits.found) in
-    rw (c.remove_range.ensures) (counted_with_songs _ _ _ _ _ _ c.self.invariant uris fits.found (omega (arith, count, few, fits.within, fits.forward)) (omega (arith, c.self.invariant.within.few_entries, c.self.invariant.counted)))
+    let uris = uris-without_range (songs_or_none c.self.inside.lists c.args.name.now) c.args.start c.args.end
+    (counted_uris _ _ _ _ c.self.invariant fits.found) in
+    rw (c.remove_range.ensures) (counted_with_songs _ _ _ _ _ _ c.self.invariant uris fits.found
+    (omega (arith, count, few, fits.within, fits.forward))
+    (omega (arith, c.self.invariant.within.few_entries, c.self.invariant.counted)))

@@ -10,8 +10,13 @@ use Rattle.stored_lists.proofs.named.NamedSongs.clear_songs.Goals.{in-Some, in_d
 pub returns : goal.returns
 returns c = elim c.match-get_mut.branch [
   | in-Some w ↦
-      rw (w.self-inside-is) (ap by_name (c.get_mut.follows.holds w.clear.new.self).0 ∙ set_value-by_name c.args.name.now c.self.inside.map.entries w.clear.new.self ∙ ap (λ lists. with_songs lists c.args.name.now w.clear.new.self) c.self.view_is ∙ ap (λ songs. with_songs c.args.self.now c.args.name.now songs) w.clear.ensures)
+      rw (w.self-inside-is) (ap by_name (c.get_mut.follows.holds w.clear.new.self).0
+      ∙ set_value-by_name c.args.name.now c.self.inside.map.entries w.clear.new.self
+      ∙ ap (λ lists. with_songs lists c.args.name.now w.clear.new.self) c.self.view_is
+      ∙ ap (λ songs. with_songs c.args.self.now c.args.name.now songs) w.clear.ensures)
   | in_default w ↦
-      let none : songs_of c.args.self.now c.args.name.now ≡ None = sym (w.in_default.ensures.value ∙ lookup-by_name c.args.name.now c.self.inside.map.entries ∙ ap (λ lists. songs_of lists c.args.name.now) c.self.view_is) in
+      let none : songs_of c.args.self.now c.args.name.now ≡ None =
+      sym (w.in_default.ensures.value ∙ lookup-by_name c.args.name.now c.self.inside.map.entries
+      ∙ ap (λ lists. songs_of lists c.args.name.now) c.self.view_is) in
       rw (w.self-inside-is, with_songs_absent _ _ [] none) (ap (λ m. by_name m.entries) c.get_mut.follows.holds-at-none ∙ c.self.view_is)
 ]

@@ -4,4 +4,5 @@ use Rattle.stored_lists.proofs.ByName.{lookup-by_name}
 use Rattle.stored_lists.proofs.named.NamedSongs.contains.Goals as goal
 
 pub returns : goal.returns
-returns c = c.contains_key.ensures ∙ ap is_some (lookup-by_name c.args.name.now c.self.inside.map.entries ∙ ap (λ lists. songs_of lists c.args.name.now) c.self.view_is)
+returns c = c.contains_key.ensures ∙ ap is_some (lookup-by_name c.args.name.now c.self.inside.map.entries
+    ∙ ap (λ lists. songs_of lists c.args.name.now) c.self.view_is)

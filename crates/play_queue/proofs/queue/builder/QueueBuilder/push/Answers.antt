@@ -8,9 +8,16 @@ use Rattle.play_queue.proofs.queue.builder.QueueBuilder.push.Goals as goal
 
 pub invariant_of-self-2 : goal.invariant_of-self-2
 invariant_of-self-2 c =
-    let q : QueueState = record { entries = c.self.inside.entries.items; version = c.self.inside.version; next_id = c.self.inside.next_id } in
+    let q : QueueState = record {
+      entries = c.self.inside.entries.items;
+      version = c.self.inside.version;
+      next_id =
+          c.self.inside.next_id;
+    } in
     let absent : contains nat_eq c.self.inside.ids c.args.entry.id ≡ false = grind (arith, common_steps) in
     let new : has_id q.entries c.args.entry.id ≡ false = sym (c.self.invariant.1 c.args.entry.id) ∙ absent in (
-      rw (c.push_reserved.ensures.items, c.in_ok-reserve.ensures.items) (pushed q c.args.entry c.self.invariant.0 (omega arith) (omega arith) (omega arith) new (omega arith) (omega arith)),
-      λ id. rw (c.push_reserved.ensures.items, c.in_ok-reserve.ensures.items) (c.in_ok-insert.ensures.updates.0 id ∙ rw (c.self.invariant.1 id) (has_id-push q.entries c.args.entry id)),
+      rw (c.push_reserved.ensures.items, c.in_ok-reserve.ensures.items)
+          (pushed q c.args.entry c.self.invariant.0 (omega arith) (omega arith) (omega arith) new (omega arith) (omega arith)),
+      λ id. rw (c.push_reserved.ensures.items, c.in_ok-reserve.ensures.items)
+          (c.in_ok-insert.ensures.updates.0 id ∙ rw (c.self.invariant.1 id) (has_id-push q.entries c.args.entry id)),
     )

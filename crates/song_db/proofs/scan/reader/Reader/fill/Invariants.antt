@@ -16,11 +16,15 @@ invariant-loop g l = record {
   songs : g.F.Folder.honest l.initial.folder → AreSongs (g.F.Folder.files l.initial.folder) l.initial.changes.items
       → AreSongs (g.F.Folder.files l.initial.folder) l.changes.items;
   honest_batch : (start : List Pending) (known : List (List ℕ)) → g.F.Folder.honest l.initial.folder
-      → IsHonestBatch (g.F.Folder.files l.initial.folder) l.initial.self.walk.place start known l.initial.self.walk.pending l.initial.self.droppable l.initial.changes.items
-      → IsHonestBatch (g.F.Folder.files l.initial.folder) l.initial.self.walk.place start known l.self.walk.pending l.self.droppable l.changes.items;
+      → IsHonestBatch (g.F.Folder.files l.initial.folder) l.initial.self.walk.place start known l.initial.self.walk.pending
+      l.initial.self.droppable l.initial.changes.items
+      → IsHonestBatch (g.F.Folder.files l.initial.folder) l.initial.self.walk.place start known l.self.walk.pending l.self.droppable
+      l.changes.items;
   whole_batch : (start : List Pending) (known : List (List ℕ)) → g.F.Folder.honest l.initial.folder → g.F.Folder.steady l.initial.folder
-      → IsWholeBatch (g.F.Folder.files l.initial.folder) l.initial.self.walk.place start known l.initial.self.walk.pending l.initial.self.droppable l.initial.changes.items
-      → IsWholeBatch (g.F.Folder.files l.initial.folder) l.initial.self.walk.place start known l.self.walk.pending l.self.droppable l.changes.items;
+      → IsWholeBatch (g.F.Folder.files l.initial.folder) l.initial.self.walk.place start known l.initial.self.walk.pending
+      l.initial.self.droppable l.initial.changes.items
+      → IsWholeBatch (g.F.Folder.files l.initial.folder) l.initial.self.walk.place start known l.self.walk.pending l.self.droppable
+      l.changes.items;
   steady : g.F.Folder.steady l.initial.folder → g.F.Folder.steady l.folder;
   honest : g.F.Folder.honest l.initial.folder → g.F.Folder.honest l.folder;
   files : g.F.Folder.honest l.initial.folder → g.F.Folder.files l.folder ≡ g.F.Folder.files l.initial.folder;

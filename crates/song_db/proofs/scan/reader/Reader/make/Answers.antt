@@ -15,10 +15,12 @@ then_ok (Ok x) p f = f p
 then_ok (Err e) p f = tt
 
 -- a steady folder's listing fails only for want of memory, which is refused
-sure : {T A : Type 0} (r : Result T SongDbError) (listing : Result A FolderFault) → IsOkUnless listing NoMemory → (listing ≡ Err NoMemory → r ≡ Err MemoryRefused)
+sure : {T A : Type 0} (r : Result T SongDbError) (listing : Result A FolderFault) → IsOkUnless listing NoMemory
+    → (listing ≡ Err NoMemory → r ≡ Err MemoryRefused)
     → OnOk r (IfErr listing (λ fault. ⊥))
 sure (Ok x) (Ok l) unless memory = tt
-sure (Ok x) (Err fault) unless memory = absurd (let m : ◌≡◌ {A = Result _ SongDbError} (Ok x) (Err MemoryRefused) = memory (ap Err unless) in cc)
+sure (Ok x) (Err fault) unless memory =
+    absurd (let m : ◌≡◌ {A = Result _ SongDbError} (Ok x) (Err MemoryRefused) = memory (ap Err unless) in cc)
 sure (Err e) listing unless memory = tt
 
 both_ok : {T E : Type 0} (P Q : Type 0) (r : Result T E) → OnOk r P → OnOk r Q → OnOk r (P × Q)
@@ -80,7 +82,8 @@ returns-in-Folder-clause-honest_batch g c = λ start known honest batch.
     (λ told. rw told.0
     (honest_listed (g.F.Folder.files c.args.folder.now) c.args.self.now.walk.place start known c.args.self.now.walk.pending
     c.take_listing.new.self.walk.pending c.args.self.now.droppable c.args.changes.now.items c.in-Folder.uri c.list-listing.result
-    c.as_str-in-Folder.ensures.form (rw c.as_str-in-Folder.ensures.text at (c.list-listing.ensures.listed honest)) told.1 (rw c.in-Folder.is at batch)))
+    c.as_str-in-Folder.ensures.form (rw c.as_str-in-Folder.ensures.text at (c.list-listing.ensures.listed honest)) told.1
+    (rw c.in-Folder.is at batch)))
 
 pub returns-in-Folder-clause-whole_batch : goal.returns-in-Folder-clause-whole_batch
 returns-in-Folder-clause-whole_batch g c = λ start known honest steady batch.
@@ -90,4 +93,5 @@ returns-in-Folder-clause-whole_batch g c = λ start known honest steady batch.
     (λ told. rw told.0
     (whole_listed (g.F.Folder.files c.args.folder.now) c.args.self.now.walk.place start known c.args.self.now.walk.pending
     c.take_listing.new.self.walk.pending c.args.self.now.droppable c.args.changes.now.items c.in-Folder.uri c.list-listing.result
-    c.as_str-in-Folder.ensures.form told.1.1 (rw c.as_str-in-Folder.ensures.text at (c.list-listing.ensures.listed honest)) told.1.0 (rw c.in-Folder.is at batch)))
+    c.as_str-in-Folder.ensures.form told.1.1 (rw c.as_str-in-Folder.ensures.text at (c.list-listing.ensures.listed honest)) told.1.0
+    (rw c.in-Folder.is at batch)))

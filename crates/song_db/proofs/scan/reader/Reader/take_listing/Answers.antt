@@ -6,4 +6,5 @@ enter-requires c = prefix_in c.args.self.now.walk.place c.args.uri.now _ c.requi
 
 pub returns-in_ok-enter-in-Ok-Some-clause-pending : goal.returns-in_ok-enter-in-Ok-Some-clause-pending
 returns-in_ok-enter-in-Ok-Some-clause-pending c = λ path.
-    rw (c.in-Ok-Some.is, c.in-Ok-Some.field-0-is) (rw c.in_ok-prefix_of-in-Ok-Some.ensures at (c.in_ok-enter-in-Ok-Some.ensures.pending path))
+    rw (c.in-Ok-Some.is, c.in-Ok-Some.field-0-is)
+    (rw c.in_ok-prefix_of-in-Ok-Some.ensures at (c.in_ok-enter-in-Ok-Some.ensures.pending path))

@@ -15,17 +15,21 @@ enter-requires c = elim c.match-place.branch [
       c.args.self.now.walk.place w.in-Some.uri.now (rw w.in-Some.is at c.place.ensures)) w.in_ok-prefix-in-Some.ensures)
 ]
 
-own_listed : {A E : Type 0} (place : Option (List ℕ)) (prefix : List ℕ) (entries : Vec FolderEntry A) (listing : Result (Option (Vec FolderEntry A)) E) (new old : List Pending) (path : List ℕ)
-    → listing ≡ Ok (Some entries) → prefix ≡ own_prefix place → times_pending new path ≡ times_pending (entries_pending prefix entries.items) path + times_pending old path
+own_listed : {A E : Type 0} (place : Option (List ℕ)) (prefix : List ℕ) (entries : Vec FolderEntry A)
+    (listing : Result (Option (Vec FolderEntry A)) E) (new old : List Pending) (path : List ℕ)
+    → listing ≡ Ok (Some entries) → prefix ≡ own_prefix place
+    → times_pending new path ≡ times_pending (entries_pending prefix entries.items) path + times_pending old path
     → times_pending new path ≡ times_pending (listed_pending (own_prefix place) listing) path + times_pending old path
 own_listed place prefix entries listing new old path is own told = rw (is, ← own) told
 
 pub returns-in_ok-enter-in-Ok-Some-clause-pending : goal.returns-in_ok-enter-in-Ok-Some-clause-pending
 returns-in_ok-enter-in-Ok-Some-clause-pending c = λ path. elim c.match-place.branch [
-  | in-None w ↦ own_listed c.args.self.now.walk.place _ c.in-Ok-Some.entries c.args.listing c.enter.new.self.pending c.args.self.now.walk.pending path (c.in-Ok-Some.is ∙ ap Ok c.in-Ok-Some.field-0-is)
+  | in-None w ↦ own_listed c.args.self.now.walk.place _ c.in-Ok-Some.entries c.args.listing c.enter.new.self.pending
+      c.args.self.now.walk.pending path (c.in-Ok-Some.is ∙ ap Ok c.in-Ok-Some.field-0-is)
       (ap string_bytes w.prefix-is ∙ w.new-prefix.ensures.bytes ∙ ap own_prefix (sym (rw w.in-None.is at (sym c.place.ensures))))
       (rw w.self-is at (c.in_ok-enter-in-Ok-Some.ensures.pending path))
-  | in-Some+in_ok-prefix-in-Some w ↦ own_listed c.args.self.now.walk.place _ c.in-Ok-Some.entries c.args.listing c.enter.new.self.pending c.args.self.now.walk.pending path (c.in-Ok-Some.is ∙ ap Ok c.in-Ok-Some.field-0-is)
+  | in-Some+in_ok-prefix-in-Some w ↦ own_listed c.args.self.now.walk.place _ c.in-Ok-Some.entries c.args.listing c.enter.new.self.pending
+      c.args.self.now.walk.pending path (c.in-Ok-Some.is ∙ ap Ok c.in-Ok-Some.field-0-is)
       (ap string_bytes w.prefix-is ∙ w.in_ok-prefix-in-Some.ensures ∙ ap own_prefix (sym (rw w.in-Some.is at (sym c.place.ensures))))
       (rw w.self-is at (c.in_ok-enter-in-Ok-Some.ensures.pending path))
 ]

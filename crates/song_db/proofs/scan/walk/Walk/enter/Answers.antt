@@ -8,6 +8,8 @@ use Rattle.song_db.proofs.scan.walk.Walk.enter.Goals as goal
 pub returns-clause-pending : goal.returns-clause-pending
 returns-clause-pending c = λ uri.
     entered (λ (level : Level). entries_pending (string_bytes level.prefix) level.entries.items) c.self.inside.levels.items
-    c.push.new.self.items _ (string_bytes c.args.prefix) c.args.entries.items c.sort_unstable_by.new.self.items uri c.in_ok-push.ensures.items refl
+    c.push.new.self.items _ (string_bytes c.args.prefix) c.args.entries.items c.sort_unstable_by.new.self.items uri
+    c.in_ok-push.ensures.items refl
     c.sort_unstable_by.ensures.permutation
-    ∙ ap (λ (w : Walked). times_pending (entries_pending (string_bytes c.args.prefix) c.args.entries.items) uri + times_pending w.pending uri) c.self.view_is
+    ∙ ap (λ (w : Walked). times_pending (entries_pending (string_bytes c.args.prefix) c.args.entries.items) uri
+    + times_pending w.pending uri) c.self.view_is

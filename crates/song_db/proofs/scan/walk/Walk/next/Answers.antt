@@ -17,7 +17,9 @@ invariant_of-self-2 c =
 pub returns-clause-taken : goal.returns-clause-taken
 returns-clause-taken c =
     rw (c.in_ok-visit.ensures, c.as_str.ensures.value)
-    (taken_entry c.args.self.now.pending _ (string_bytes c.in-Some.level.prefix ++ string_bytes c.in-Some-pop.entry.name) c.in-Some-pop.entry.is_folder
+    (taken_entry c.args.self.now.pending _ (string_bytes c.in-Some.level.prefix ++ string_bytes c.in-Some-pop.entry.name)
+    c.in-Some-pop.entry.is_folder
     (λ uri. popped (λ (level : Level). string_bytes level.prefix) (λ (level : Level). level.entries.items) c.self.inside.levels.items
     c.pop.new.self.items c.push_reserved.new.self.items c.in-Some.level _ c.in-Some-pop.entry c.args.self.now.pending uri
-    (ap (λ (w : Walked). w.pending) (sym c.self.view_is)) c.in-Some.ensures.items c.in-Some-pop.ensures.items c.push_reserved.ensures.items refl))
+    (ap (λ (w : Walked). w.pending) (sym c.self.view_is)) c.in-Some.ensures.items c.in-Some-pop.ensures.items c.push_reserved.ensures.items
+    refl))

@@ -11,7 +11,21 @@ returns-in_err-add c =
     let lists = c.args.self.now.lists in
     let p = err_from_is_err_and c.from_residual-in_err-add.result c.from_residual-in_err-add.ensures.1 in
     let named : have_rows songs c.args.rows.now ≡ true = named_from _ _ (rw c.as_slice.ensures.numbers at c.in_ok-check_rows_of.ensures) in
-    let none : add_refusal lists c.args.name.now (length c.args.rows.now) ≡ None = lists_none _ _ (rw c.len.ensures at c.in_ok-check_add.ensures.answer) in
-    let uris : c.in_ok-songs.songs ≡ uris_at songs c.args.rows.now = c.in_ok-songs.ensures.songs ∙ ap (uris_at songs) c.as_slice-2.ensures.numbers in
+    let none : add_refusal lists c.args.name.now (length c.args.rows.now) ≡ None =
+    lists_none _ _ (rw c.len.ensures at c.in_ok-check_add.ensures.answer) in
+    let uris : c.in_ok-songs.songs ≡ uris_at songs c.args.rows.now = c.in_ok-songs.ensures.songs
+    ∙ ap (uris_at songs) c.as_slice-2.ensures.numbers in
     let long : length c.in_ok-songs.songs ≡ length c.args.rows.now = ap length uris ∙ length-uris_at songs c.args.rows.now named in
-    refused_extend _ _ _ _ _ _ c.in_err-add.field-0.0 _ named none (rw long at c.in_err-add.ensures.answer) (p.1 ∙ ap Err p.2) (ap (λ all. record { key = c.args.self.now.key; order = c.args.self.now.order; volume = c.args.self.now.volume; options = c.args.self.now.options; songs = songs; queue = c.args.self.now.queue; lists = all; stickers = c.args.self.now.stickers }) c.in_err-add.ensures.err)
+    refused_extend _ _ _ _ _ _ c.in_err-add.field-0.0 _ named none (rw long at c.in_err-add.ensures.answer) (p.1 ∙ ap Err p.2)
+    (ap (λ all. record {
+      key = c.args.self.now.key;
+      order = c.args.self.now.order;
+      volume = c.args.self.now.volume;
+      options =
+          c.args.self.now.options;
+      songs = songs;
+      queue = c.args.self.now.queue;
+      lists = all;
+      stickers = c.args.self.now.stickers;
+    })
+    c.in_err-add.ensures.err)

@@ -13,6 +13,9 @@ pub returns : goal.returns
 returns c =
     let s : SavedState = state_of c.args.self.now in
     let none : range_refusal s.queue.entries c.args.start c.args.end ≡ None = queue_none _ _ c.in_ok-check_range.ensures.answer in
-    let words : c.in_ok-words.words.items ≡ words_for s.key (next_order s.order) s.queue.entries c.args.start c.args.end = rw (c.next_order-order.ensures, c.entries.ensures.entries) at c.in_ok-words.ensures in
-    let queue : c.shuffle.new.self ≡ with_shuffled s c.args.start c.args.end = c.in_ok-shuffle.ensures.ok ∙ ap (λ drawn. ruled s.queue (shuffled s.queue.entries c.args.start c.args.end drawn) []) (c.deref.ensures.value ∙ words) in
+    let words : c.in_ok-words.words.items ≡ words_for s.key (next_order s.order) s.queue.entries c.args.start c.args.end =
+    rw (c.next_order-order.ensures, c.entries.ensures.entries) at c.in_ok-words.ensures in
+    let queue : c.shuffle.new.self ≡ with_shuffled s c.args.start c.args.end =
+    c.in_ok-shuffle.ensures.ok ∙ ap (λ drawn. ruled s.queue (shuffled s.queue.entries c.args.start c.args.end drawn) [])
+    (c.deref.ensures.value ∙ words) in
     rw none (record { ok = rw (queue, c.next_order-order.ensures) refl; err = tt; answer = tt })

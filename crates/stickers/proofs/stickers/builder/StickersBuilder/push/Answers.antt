@@ -14,4 +14,5 @@ pub invariant_of-self-2 : goal.invariant_of-self-2
 invariant_of-self-2 c later more =
     let last = c.in_ok-check.ensures.last in
     let made = rw (c.as_str.ensures.text, c.self.view_is) at c.in_ok-put.ensures.ok in
-    rw (made ∙ last_placed c.args.self.now c.args.uri c.args.name.now c.args.value last, c.in_ok-last.ensures.ok) (last_tells c.args.self.now c.args.uri c.args.name.now c.args.value later more last)
+    rw (made ∙ last_placed c.args.self.now c.args.uri c.args.name.now c.args.value last, c.in_ok-last.ensures.ok)
+    (last_tells c.args.self.now c.args.uri c.args.name.now c.args.value later more last)
