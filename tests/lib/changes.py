@@ -5,6 +5,7 @@ import model
 PLAYLISTS = ["a", "Zoë", "late night", 'the "best"', "back\\slash"]
 STICKERS = ["rating", "played at", "ü"]
 MOST_ENTRIES = 12
+MOST_LISTED = 5
 
 
 def setting(state, draw):
@@ -101,6 +102,15 @@ def unsticking(state, draw):
 
 # How often each kind is drawn, beside the others.
 KINDS = {setting: 4, adding: 4, loading: 1, ordering: 7, deleting: 3, listing: 3, list_editing: 4, sticking: 2, unsticking: 1}
+
+
+def listed(state, draw):
+    """The commands of a list, each drawn for the state that those before it leave."""
+    commands = []
+    for _ in range(draw.randint(1, MOST_LISTED)):
+        commands.append(change(state, draw))
+        state, _ = state.done(commands[-1])
+    return commands
 
 
 def change(state, draw):

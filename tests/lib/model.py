@@ -50,6 +50,12 @@ def request(words):
     return " ".join(map(quoted, words)).encode() + b"\n"
 
 
+def list_request(commands, is_list_ok):
+    """The lines of a command list."""
+    begin = ["command_list_ok_begin" if is_list_ok else "command_list_begin"]
+    return b"".join(map(request, [begin, *commands, ["command_list_end"]]))
+
+
 def told(lines):
     """An answer of these lines."""
     return ("".join(lines) + "OK\n").encode()
@@ -105,13 +111,21 @@ class State:
         self.version, self.next_id, self.order_number = 1, 1, 0
         self.playlists, self.stickers = {}, {}
 
-    def after(self, words):
-        """The state after a command, and its answer."""
+    def done(self, words):
+        """The state after a command, and the lines that it gives."""
         state = copy.copy(self)
         state.settings, state.playlists, state.stickers = dict(self.settings), dict(self.playlists), dict(self.stickers)
         name = words[0] + ("_" + words[1] if words[0] == "sticker" else "")
         lines = getattr(state, name)(*words[3 if words[0] == "sticker" else 1 :])
-        return state, told([lines or ""])
+        return state, lines or ""
+
+    def after(self, commands, is_list_ok=False):
+        """The state after commands, alone or as a list, and their answer."""
+        state, given = self, []
+        for words in commands:
+            state, lines = state.done(words)
+            given += [lines, "list_OK\n" * is_list_ok]
+        return state, told(given)
 
     def seen(self):
         """All that a client can read of it but the stamps, to be told from other states."""

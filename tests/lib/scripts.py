@@ -8,6 +8,9 @@ Each file `tests/scripts/TOPIC/NAME.txt` is a script, run in a folder of its own
     file NAME [HEX ..]          writes a file of these bytes
     wave NAME FRAMES [ID=TEXT ..]   writes a WAVE file of so many silent frames, 8,000 a second, one channel, 16 bits; with a LIST
                                 INFO of these sub-chunks behind them, as INAM=Hi; _ stands for a space
+    waves NAME COUNT FRAMES     writes so many such files into a folder, 00001.wav and so on
+    pipe NAME                   makes a named pipe
+    odd NAME HEX                writes an empty file into a folder, whose name is these bytes
     remove NAME                 removes a file, a link, or a folder with what stands in it
     link NAME TARGET            makes a symbolic link
     patch NAME OFFSET HEX       overwrites bytes of a file
@@ -21,7 +24,8 @@ Each file `tests/scripts/TOPIC/NAME.txt` is a script, run in a folder of its own
     status N                    the exit status, 0 if not said
     to NAME                     what it writes goes to this file, such as /dev/full
 
-In lines of input and output `%{TEXT*N}` stands for a text N times.
+In lines of input and output `%{TEXT*N}` stands for a text N times, the inner one first where one stands in another; in it `\\n` is a
+newline.
 """
 
 import concurrent.futures
@@ -105,7 +109,10 @@ class Run:
 
 
 def whole(text):
-    return re.sub(r"%\{(.+?)\*(\d+)\}", lambda it: it[1] * int(it[2]), text).encode()
+    count = 1
+    while count:
+        text, count = re.subn(r"%\{((?:(?!%\{).)+?)\*(\d+)\}", lambda it: it[1].replace("\\n", "\n") * int(it[2]), text)
+    return text.encode()
 
 
 def chunk(name, data):
@@ -136,6 +143,13 @@ def configuration(settings):
     return "".join(f"{key} = {value}\n" for key, value in keys.items())
 
 
+def write(path, content):
+    """Writes a file, and makes the folders above it."""
+    os.makedirs(os.path.dirname(path), exist_ok=True)
+    with open(path, "wb") as file:
+        file.write(content)
+
+
 def prepare(line, folder):
     """Does what a line says of files."""
     word, *words = line.split()
@@ -147,13 +161,17 @@ def prepare(line, folder):
     elif word == "folder":
         os.makedirs(path)
     elif word == "file":
-        os.makedirs(os.path.dirname(path), exist_ok=True)
-        with open(path, "wb") as file:
-            file.write(bytes.fromhex("".join(words[1:])))
+        write(path, bytes.fromhex("".join(words[1:])))
     elif word == "wave":
+        write(path, wave(int(words[1]), words[2:]))
+    elif word == "waves":
+        for number in range(1, int(words[1]) + 1):
+            write(f"{path}/{number:05}.wav", wave(int(words[2]), []))
+    elif word == "pipe":
         os.makedirs(os.path.dirname(path), exist_ok=True)
-        with open(path, "wb") as file:
-            file.write(wave(int(words[1]), words[2:]))
+        os.mkfifo(path)
+    elif word == "odd":
+        write(os.path.join(os.fsencode(path), bytes.fromhex(words[1])), b"")
     elif word == "remove":
         if os.path.isdir(path) and not os.path.islink(path):
             shutil.rmtree(path)
@@ -169,7 +187,7 @@ def prepare(line, folder):
         with open(path, "rb") as file:
             content = file.read()
         if len(content) != int(words[1]) or not content.endswith(bytes.fromhex("".join(words[2:]))):
-            raise Failure(f"{words[0]} has {len(content)} bytes: {content.hex()}")
+            raise Failure(f"{words[0]} has {len(content)} bytes: {content[-200:].hex()} at its end")
     else:
         raise Failure(f"no such line: {line}")
 

@@ -3,6 +3,9 @@
 
 ghost use Rattle.std.specs.Prelude.{◌≡◌, ◌*◌, ◌/◌, max};
 
+mod pace;
+
+pub use pace::{Pace, nanos_since};
 use std::fmt;
 
 /// How many times as long one time is as another.

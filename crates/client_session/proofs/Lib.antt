@@ -3,4 +3,4 @@ pub mod Streams
 pub mod Steps
 pub mod Sessions
 pub mod StreamLaws
-pub mod NoidleLaws
+pub mod ListLaws

@@ -1,5 +1,6 @@
 -- Where newlines stand, and what a search for one says.
-use Rattle.std.proofs.Common.{◌≡◌, ◌≢◌, ℕ, suc, ◌+◌, ◌-◌, ◌<◌, ◌≤◌, min, List, [], ◌∷◌, ◌++◌, length, take, get_or, Option, Some, None, MatchOption, sym, ◌∙◌, ap, subst, arith, ⊎_elim}
+use Rattle.std.proofs.Common.{◌≡◌, ◌≢◌, ℕ, suc, ◌+◌, ◌-◌, ◌<◌, ◌≤◌, min, List, [], ◌∷◌, ◌++◌, length, take, get_or, Option, Some, None}
+use Rattle.std.proofs.Common.{MatchOption, sym, ◌∙◌, ap, subst, arith, ⊎_elim}
 use Rattle.std.proofs.lemmas.Bool.{eq-eqb, eqb-true, cases_lt}
 use Rattle.std.proofs.lemmas.List.{get_or-take, take_all, take-take, length-take, take_min, take-append-le}
 use Rattle.std.proofs.Math.Seq.{take-append-add}
@@ -19,7 +20,8 @@ pub searched_none : (xs : List ℕ) → IsFirstByte (is_byte newline) xs None �
 searched_none xs h = HasNoNewline-from_places xs (λ k lt e. h k (omega arith) lt (eq-eqb (get_or xs k 0) newline e))
 
 -- a search that found the first
-pub searched_at : (xs : List ℕ) (k : ℕ) → IsFirstByte (is_byte newline) xs (Some k) → (k < length xs) × HasNoNewline (take k xs) × (get_or xs k 0 ≡ newline)
+pub searched_at : (xs : List ℕ) (k : ℕ) → IsFirstByte (is_byte newline) xs (Some k)
+    → (k < length xs) × HasNoNewline (take k xs) × (get_or xs k 0 ≡ newline)
 searched_at xs k h = (
   h.0.high,
   HasNoNewline-from_places (take k xs) (λ j lt e.
@@ -44,7 +46,8 @@ IsUnended-append xs ys p q =
     (cases_lt (line_limit + 1) (length xs))
 
 -- what the search up to the limit says of the bytes that follow n others
-pub line_end_of : (n room : ℕ) (rest : List ℕ) (r : Option ℕ) → room ≡ min (line_limit + 1 - n) (length rest) → IsFirstByte (is_byte newline) (take room rest) r
+pub line_end_of : (n room : ℕ) (rest : List ℕ) (r : Option ℕ) → room ≡ min (line_limit + 1 - n) (length rest)
+    → IsFirstByte (is_byte newline) (take room rest) r
     → MatchOption r (HasNoNewline (take (line_limit + 1 - n) rest)) (IsLineEnd n rest)
 line_end_of n room rest None e h =
     subst HasNoNewline (ap (λ (m : ℕ). take m rest) e ∙ take_min (line_limit + 1 - n) rest) (searched_none (take room rest) h)

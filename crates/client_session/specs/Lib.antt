@@ -1,5 +1,5 @@
 pub mod Lines
-pub mod Noidle
+pub mod Lists
 pub mod Requests
 pub mod Session
 pub mod Refusal

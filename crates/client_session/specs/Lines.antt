@@ -44,11 +44,6 @@ pub record IsLine (line : List ℕ) : Type 0 where
 abbrev pub IsUnended : List ℕ → Type 0
 IsUnended bytes = HasNoNewline (take (line_limit + 1) bytes)
 
--- more bytes than a line may have are there, and no newline among them
-pub record BeginsTooLong (bytes : List ℕ) : Type 0 where
-  pub long : line_limit < length bytes
-  pub unended : IsUnended bytes
-
 -- behind n other bytes of a line, the line ends at place k of the rest, within the limit
 pub record IsLineEnd (n : ℕ) (rest : List ℕ) (k : ℕ) : Type 0 where
   pub within : k < length rest

@@ -1,14 +1,13 @@
-ghost use Rattle.std.specs.Prelude.{◌≡◌, ℕ, ◌+◌, ◌-◌, ◌<◌, ◌≤◌, ◌↔◌, [], ◌++◌, length, take, drop, slice_index, MatchOption, IfOk, OnOk};
-ghost use Rattle.std.specs.Prelude.{IfErr, IsErrOf, ◌⊎◌};
-ghost use Rattle.client_session.specs.Lines.{line_limit, HasNoNewline, IsUnended, IsLineEnd, BeginsTooLong};
-ghost use Rattle.client_session.specs.Requests.{requests_of, rest_of};
+ghost use Rattle.std.specs.Prelude.{◌≡◌, ◌+◌, ◌-◌, [], ◌++◌, take, option_to_list, MatchOption, IfOk, OnOk};
+ghost use Rattle.client_session.specs.Lines.{line_limit, HasNoNewline, IsUnended, IsLineEnd};
+ghost use Rattle.client_session.specs.Lists.{after_line, made_whole, IsWithinLimits};
+ghost use Rattle.client_session.specs.Requests.{brought, fault_at, fault_behind, left_by, unread, Meets};
 
 use crate::LINE_LIMIT;
-use crate::noidle::request_of;
+use crate::listing::Listing;
 use crate::refusal::SessionError;
 use crate::requests::Requests;
 use bytes::BytesMut;
-use command_text::Line;
 use memchr::memchr;
 use std::alloc::{AllocError, Global};
 
@@ -24,54 +23,78 @@ fn line_end(pending: usize, rest: &[u8]) -> Option<usize>
     memchr(NEWLINE, &rest[..room])
 }
 
-// Takes off the line that ends at place `end` of `rest`, with what was pending of it, and gives the bytes behind it too.
-fn take_line<'a>(
+// Takes the line that ends where `last` does and begins with what was pending of it, and adds the request that it makes whole.
+fn take_line(
     alloc: Global,
+    listing: &mut Listing,
     pending: &mut BytesMut,
-    rest: &'a [u8],
-    end: usize,
-) -> Result<(Line, &'a [u8]), AllocError>
-    requires { end < length rest.now }
-    ensures line { IfOk result (λ taken. taken.0 ≡ pending.old.items ++ take end rest.now) }
-    ensures behind { IfOk result (λ taken. taken.1.now ≡ drop (end + 1) rest.now) }
+    last: &[u8],
+    requests: &mut Requests,
+) -> Result<(), AllocError>
+    requires { IsWithinLimits listing.old }
+    ensures requests { OnOk result (requests.new ≡ requests.old
+        ++ option_to_list (made_whole listing.old (pending.old.items ++ last.now))) }
+    ensures listing { OnOk result (listing.new ≡ after_line listing.old (pending.old.items ++ last.now)) }
     ensures taken { OnOk result (pending.new.items ≡ []) }
+    ensures within { IsWithinLimits listing.new }
     ensures unended { IsUnended pending.old.items → IsUnended pending.new.items }
 {
-    let last = &rest[..end];
-    let behind = &rest[end + 1..];
-    if pending.is_empty() {
-        return Ok((Line::from_bytes(alloc, last)?, behind));
-    }
-    pending.extend_from_slice(last)?;
-    let line = Line::from_bytes(alloc, pending.as_slice());
+    let request = if pending.is_empty() {
+        listing.take(alloc, last)
+    } else {
+        pending.extend_from_slice(last)?;
+        listing.take(alloc, pending.as_slice())
+    };
     pending.clear();
-    Ok((line?, behind))
+    match request? {
+        Some(request) => requests.push(request)?,
+        None => {}
+    }
+    Ok(())
+}
+
+// Why nothing more is taken, behind a line that has not ended yet.
+fn fault_behind(listing: &Listing, length: usize) -> Option<SessionError>
+    ensures { result ≡ fault_behind listing.now length }
+{
+    match listing {
+        Listing::Overlong => Some(SessionError::ListTooLong),
+        Listing::Outside | Listing::Inside(_, _) => {
+            if length > LINE_LIMIT {
+                Some(SessionError::LineTooLong)
+            } else {
+                None
+            }
+        }
+    }
 }
 
 // The requests of what was pending and the piece; what is no whole request stays pending.
 pub(crate) fn cut_requests(
     alloc: Global,
+    listing: &mut Listing,
     pending: &mut BytesMut,
     piece: &[u8],
 ) -> Result<Requests, SessionError>
-    requires { IsUnended pending.old.items }
-    ensures requests { IfOk result (λ requests. requests ≡ requests_of (pending.old.items ++ piece.now)) }
-    ensures rest { OnOk result (pending.new.items ≡ rest_of (pending.old.items ++ piece.now)) }
+    requires unended { IsUnended pending.old.items }
+    requires within { IsWithinLimits listing.old }
+    ensures requests { IfOk result (λ requests. requests ≡ brought (unread listing.old pending.old.items) piece.now) }
+    ensures left { OnOk result (unread listing.new pending.new.items ≡ left_by (unread listing.old pending.old.items) piece.now) }
     ensures unended { IsUnended pending.new.items }
-    ensures too_long { IsErrOf result SessionError.LineTooLong ↔ BeginsTooLong (pending.old.items ++ piece.now) }
-    ensures refusals { IfErr result (λ e. (e ≡ SessionError.LineTooLong) ⊎ (e ≡ SessionError.NoMemory)) }
+    ensures within { IsWithinLimits listing.new }
+    ensures fault { Meets (fault_at (unread listing.old pending.old.items) piece.now) result }
 {
     let mut requests = Requests::new(alloc);
     let mut rest = piece;
     while let Some(end) = line_end(pending.len(), rest) {
-        let (line, behind) = take_line(alloc, pending, rest, end)?;
-        let request = request_of(alloc, line)?;
-        requests.push(request)?;
-        rest = behind;
+        take_line(alloc, listing, pending, &rest[..end], &mut requests)?;
+        rest = &rest[end + 1..];
     }
-    let too_long = pending.len() + rest.len() > LINE_LIMIT;
-    if requests.is_empty() && too_long {
-        return Err(SessionError::LineTooLong);
+    if requests.is_empty() {
+        match fault_behind(listing, pending.len() + rest.len()) {
+            Some(fault) => return Err(fault),
+            None => {}
+        }
     }
     pending.extend_from_slice(rest)?;
     Ok(requests)

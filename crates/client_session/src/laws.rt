@@ -2,11 +2,11 @@
 ghost use Rattle.std.specs.Prelude.{◌≡◌, ℕ, List, []};
 ghost use Rattle.std.specs.List.{concat};
 ghost use Rattle.client_session.specs.Lines.{taken_lines};
-ghost use Rattle.client_session.specs.Requests.{requests_of, rest_of, requests_in_pieces, IsParted};
+ghost use Rattle.client_session.specs.Requests.{nothing, requests_of, rest_of, requests_in_pieces, IsParted};
 
 /// In whatever pieces a stream comes, its requests are the same.
 pub fn any_pieces()
-    ensures { (pieces : List (List ℕ)) → requests_in_pieces [] pieces ≡ requests_of (concat pieces) }
+    ensures { (pieces : List (List ℕ)) → requests_in_pieces nothing pieces ≡ requests_of (concat pieces) }
 {}
 
 /// There is one way to part a stream into the lines that are taken and a rest that begins with no further one.

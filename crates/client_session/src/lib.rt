@@ -3,7 +3,7 @@
 
 mod cutting;
 pub mod laws;
-mod noidle;
+mod listing;
 mod output;
 pub mod refusal;
 pub mod requests;
@@ -15,6 +15,12 @@ pub use session::Session;
 
 /// How many bytes a line may have before its newline, a carriage return counted.
 pub const LINE_LIMIT: usize = 8_192;
+
+/// How many commands a list may have.
+pub const COMMAND_LIMIT: usize = 16_384;
+
+/// How many bytes the commands of a list may have together, without their newlines, carriage returns counted.
+pub const LIST_LIMIT: usize = 2_097_152;
 
 /// How many bytes may be queued.
 pub const OUTPUT_LIMIT: usize = 8_388_608;

@@ -14,19 +14,23 @@ pub enum SessionError {
     /// A line has more than `LINE_LIMIT` bytes before its newline.
     #[error("line too long")]
     LineTooLong,
+    /// A command list has more than `COMMAND_LIMIT` commands, or more than `LIST_LIMIT` bytes.
+    #[error("command list too long")]
+    ListTooLong,
     /// More than `OUTPUT_LIMIT` bytes would be queued.
     #[error("output too long")]
     OutputTooLong,
 }
 
 impl SessionError {
-    /// The number of the refusal: 7, 39 or 41.
+    /// The number of the refusal: 7, 39, 40 or 41.
     pub fn number(self) -> u8
         ensures { result ≡ number_of self }
     {
         match self {
             SessionError::NoMemory => 7,
             SessionError::LineTooLong => 39,
+            SessionError::ListTooLong => 40,
             SessionError::OutputTooLong => 41,
         }
     }

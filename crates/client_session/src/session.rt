@@ -1,12 +1,12 @@
-ghost use Rattle.std.specs.Prelude.{◌≡◌, ℕ, ◌+◌, ◌<◌, ◌≤◌, ◌↔◌, List, [], ◌++◌, length, take, drop, None, Some, IsTrue, IsSome, IfSome};
+ghost use Rattle.std.specs.Prelude.{◌≡◌, ◌+◌, ◌<◌, ◌≤◌, ◌↔◌, [], ◌++◌, length, take, drop, None, IsTrue, IsSome, IfSome};
 ghost use Rattle.std.specs.Prelude.{IfOk, IfErr, IsErrOf, OnOk, OnErr, ◌⊎◌};
 ghost use Rattle.std.specs.Io.KnownBytes.{Appends, Keeps, append_known};
-ghost use Rattle.client_session.specs.Lines.{line_limit, BeginsTooLong};
-ghost use Rattle.client_session.specs.Requests.{requests_of, rest_of, Continues};
-ghost use Rattle.client_session.specs.Session.{fresh, closed_by, output_limit};
+ghost use Rattle.client_session.specs.Requests.{brought, fault_at, left_by, left_of, nothing, requests_of, Continues, Meets};
+ghost use Rattle.client_session.specs.Session.{fresh, closed_by, output_limit, IsHeld};
 
 use crate::OUTPUT_LIMIT;
 use crate::cutting::cut_requests;
+use crate::listing::Listing;
 use crate::output::drop_sent;
 use crate::refusal::SessionError;
 use crate::requests::Requests;
@@ -17,24 +17,29 @@ use std::marker::Model;
 
 /// One client's side of a stream: what has come of its next request, and what is still to be sent to it.
 ///
-/// A line ends at a newline (MPD protocol reference 0.23, "Protocol overview"); each line is a request.
+/// A line ends at a newline (MPD protocol reference 0.23, "Protocol overview"). A line is a request, and so are the lines between
+/// `command_list_begin` or `command_list_ok_begin` and `command_list_end` ("Command lists"); every line between them belongs to the list.
+/// A stream that ends inside a list makes no request of it.
+///
 /// A refusal of `feed` or `queue` closes the session: it lets go of all that it holds, takes and sends nothing more,
 /// and answers the same refusal from then on.
 #[derive(Debug, Drop)]
 pub struct Session {
+    listing: Listing,
     input: BytesMut,
     output: BytesMut,
     closed: Option<SessionError>,
 }
 
 impl Model for Session {
+    ghost use Rattle.client_session.specs.Requests.{unread};
     ghost use Rattle.client_session.specs.Session.{SessionState, IsSession};
 
     ghost Value = { SessionState };
 
-    ghost view = { λ s. record { pending = s.input.items; queued = s.output.items; closed = s.closed } };
+    ghost view = { λ s. record { left = unread s.listing s.input.items; queued = s.output.items; closed = s.closed } };
 
-    ghost invariant = { λ s. IsSession (record { pending = s.input.items; queued = s.output.items; closed = s.closed }) };
+    ghost invariant = { λ s. IsSession (record { left = unread s.listing s.input.items; queued = s.output.items; closed = s.closed }) };
 }
 
 impl Session {
@@ -42,9 +47,10 @@ impl Session {
     pub fn new(alloc: Global) -> Self
         ensures fresh { result ≡ fresh }
         ensures no_requests { requests_of [] ≡ [] }
-        ensures no_rest { rest_of [] ≡ result.pending }
+        ensures nothing_left { left_of [] ≡ result.left }
     {
         Session {
+            listing: Listing::Outside,
             input: BytesMut::new(alloc),
             output: BytesMut::new(alloc),
             closed: None,
@@ -53,7 +59,7 @@ impl Session {
 
     pub fn is_closed(&self) -> bool
         ensures refused { IsTrue result ↔ IsSome self.now.closed }
-        ensures spent { IsSome self.now.closed → (self.now.pending ≡ []) × (self.now.queued ≡ []) }
+        ensures spent { IsSome self.now.closed → (self.now.left ≡ nothing) × (self.now.queued ≡ []) }
     {
         self.closed.is_some()
     }
@@ -74,29 +80,27 @@ impl Session {
 
     /// Takes the next piece of the stream, and gives the requests that are whole now, without their newlines.
     ///
-    /// The requests before a line of more than `LINE_LIMIT` bytes are given first; the next `feed`, for which an
-    /// empty piece will do, is refused with `LineTooLong`. It doesn't wait for that line's newline. `NoMemory`
-    /// drops what the piece brought.
+    /// The requests before a line of more than `LINE_LIMIT` bytes, or before a command that makes its list longer than
+    /// `COMMAND_LIMIT` commands or `LIST_LIMIT` bytes, are given first; the next `feed`, for which an empty piece will do, is
+    /// refused with `LineTooLong` or `ListTooLong`. It doesn't wait for the newline of a line that is too long, nor for the end
+    /// of such a list. `NoMemory` drops what the piece brought.
     pub fn feed(&mut self, alloc: Global, piece: &[u8]) -> Result<Requests, SessionError>
         ensures open { OnOk result (self.old.closed ≡ None) }
-        ensures requests { IfOk result (λ requests. requests ≡ requests_of (self.old.pending ++ piece.now)) }
-        ensures rest { OnOk result (self.new ≡ record self.old { pending = rest_of (self.old.pending ++ piece.now) }) }
+        ensures requests { IfOk result (λ requests. requests ≡ brought self.old.left piece.now) }
+        ensures left { OnOk result (self.new ≡ record self.old { left = left_by self.old.left piece.now }) }
 
         // With what came before, it brings the requests of the stream so far.
-        ensures stream { IfOk result (λ requests. Continues self.old.pending piece.now requests self.new.pending) }
-        ensures held { OnOk result (length self.new.pending ≤ line_limit + length piece.now) }
+        ensures stream { IfOk result (λ requests. Continues self.old.left piece.now requests self.new.left) }
+        ensures held { OnOk result (IsHeld self.new.left piece.now) }
 
         ensures closed { IfSome self.old.closed (λ refusal. result ≡ Err refusal) }
-        ensures too_long { self.old.closed ≡ None
-            → IsErrOf result SessionError.LineTooLong ↔ BeginsTooLong (self.old.pending ++ piece.now) }
-        ensures refusals { self.old.closed ≡ None
-            → IfErr result (λ e. (e ≡ SessionError.LineTooLong) ⊎ (e ≡ SessionError.NoMemory)) }
+        ensures fault { self.old.closed ≡ None → Meets (fault_at self.old.left piece.now) result }
         ensures err { IfErr result (λ refusal. self.new ≡ closed_by refusal) }
     {
         if let Some(refusal) = self.closed {
             return Err(refusal);
         }
-        match cut_requests(alloc, &mut self.input, piece) {
+        match cut_requests(alloc, &mut self.listing, &mut self.input, piece) {
             Ok(requests) => Ok(requests),
             Err(refusal) => Err(self.close(refusal)),
         }
@@ -153,6 +157,7 @@ impl Session {
         ensures same { result ≡ refusal }
     {
         let alloc = *self.input.allocator();
+        self.listing = Listing::Outside;
         self.input = BytesMut::new(alloc);
         self.output = BytesMut::new(alloc);
         self.closed = Some(refusal);

@@ -8,7 +8,8 @@ use Rattle.command_text.specs.Names.{name_text}
 use Rattle.command_text.specs.Reading.{want_of_memory}
 use Rattle.command_text.proofs.Naming.{name_fits}
 
-ack_len : (code index : ℕ) (name text : List ℕ) → length (line (ack_start code index name ++ text)) ≡ length (decimal code) + length (decimal index) + length name + length text + 12
+ack_len : (code index : ℕ) (name text : List ℕ)
+    → length (line (ack_start code index name ++ text)) ≡ length (decimal code) + length (decimal index) + length name + length text + 12
 unfolding ack_start
 ack_len code index name text = simp length-append (omega arith)
 

@@ -1,5 +1,6 @@
 -- Writers one after the other.
-use Rattle.std.proofs.Common.{◌≡◌, ℕ, ◌+◌, ◌<◌, ◌≤◌, List, [], ◌∷◌, ◌++◌, length, take, drop, get_or, zero, suc, Bor, Result, Ok, Err, IsErr, ◌∙◌, ap, sym, subst, append_assoc, arith, length-append}
+use Rattle.std.proofs.Common.{◌≡◌, ℕ, ◌+◌, ◌<◌, ◌≤◌, List, [], ◌∷◌, ◌++◌, length, take, drop, get_or, zero, suc, Bor, Result, Ok, Err}
+use Rattle.std.proofs.Common.{IsErr, ◌∙◌, ap, sym, subst, append_assoc, arith, length-append}
 use Rattle.std.proofs.lemmas.List.{append-nil, take-append-drop}
 use Rattle.std.proofs.lemmas.Bool.{false≢true}
 use Rattle.std.proofs.lemmas.Grind.{flat_map-append}
@@ -39,7 +40,8 @@ full_then a b o m e room full =
     omega (arith, more, room, full, o.ok.0, m.ok.0, length-append a b)
 
 -- a writer that went well, and another one behind it
-pub adds_then : {A B E D : Type 0} (a b : List ℕ) (x : A) (r : Result B D) (o m n : Vec ℕ) → Adds {A = A} {E = E} a (Ok x) o m → Adds b r m n → Adds (a ++ b) r o n
+pub adds_then : {A B E D : Type 0} (a b : List ℕ) (x : A) (r : Result B D) (o m n : Vec ℕ) → Adds {A = A} {E = E} a (Ok x) o m
+    → Adds b r m n → Adds (a ++ b) r o n
 adds_then a b x (Ok y) o m n h k = record {
   all = k.all ∙ ap (λ (l : List ℕ). l ++ b) h.all ∙ append_assoc o.items a b;
   front = tt;
@@ -54,7 +56,8 @@ adds_then a b x (Err e) o m n h k = record {
 }
 
 -- a writer that was refused, with others behind it that were not called
-pub adds_stop : {A B E D : Type 0} (a b : List ℕ) (e : E) (r : Result B D) (o n : Vec ℕ) → Adds {A = A} {E = E} a (Err e) o n → IsErr r → Adds (a ++ b) r o n
+pub adds_stop : {A B E D : Type 0} (a b : List ℕ) (e : E) (r : Result B D) (o n : Vec ℕ) → Adds {A = A} {E = E} a (Err e) o n → IsErr r
+    → Adds (a ++ b) r o n
 adds_stop a b e (Ok x) o n h i = absurd (false≢true i)
 adds_stop a b e (Err d) o n h i = record {
   all = tt;
@@ -72,17 +75,20 @@ adds_last a r o n h = adds_same a (a ++ []) r o n h (sym (append-nil a))
 abbrev pub joined : List (Bor (List ℕ)) → List ℕ
 joined parts = flat_map (λ part. part.now) parts
 
-part_fits : (parts : List (Bor (List ℕ))) (i : ℕ) (d : Bor (List ℕ)) → i < length parts → length (joined (take i parts)) + length (get_or parts i d).now ≤ length (joined parts)
+part_fits : (parts : List (Bor (List ℕ))) (i : ℕ) (d : Bor (List ℕ)) → i < length parts
+    → length (joined (take i parts)) + length (get_or parts i d).now ≤ length (joined parts)
 part_fits [] i d h = absurd (omega arith)
 part_fits (p ∷ parts) zero d h = omega (arith, length-append p.now (joined parts))
-part_fits (p ∷ parts) (suc i) d h = omega (arith, length-append p.now (joined parts), length-append p.now (joined (take i parts)), part_fits parts i d (omega arith))
+part_fits (p ∷ parts) (suc i) d h =
+    omega (arith, length-append p.now (joined parts), length-append p.now (joined (take i parts)), part_fits parts i d (omega arith))
 
 pub parts_stop : {B D : Type 0} (parts : List (Bor (List ℕ))) (i : ℕ) (d : Bor (List ℕ)) (r : Result B D) (o m n : Vec ℕ) → i < length parts
     → m.items ≡ o.items ++ joined (take i parts) → n.items ≡ m.items → vec_capacity m < vec_len m + length (get_or parts i d).now
     → vec_capacity o ≤ vec_capacity m → vec_capacity m ≤ vec_capacity n → IsErr r → Adds (joined parts) r o n
 parts_stop parts i d (Ok x) o m n h e same full before after failed = absurd (false≢true failed)
 parts_stop parts i d (Err x) o m n h e same full before after failed =
-    let more : length m.items ≡ length o.items + length (joined (take i parts)) = ap length e ∙ length-append o.items (joined (take i parts)) in
+    let more : length m.items ≡ length o.items + length (joined (take i parts)) =
+    ap length e ∙ length-append o.items (joined (take i parts)) in
     record {
       all = tt;
       front = record {

@@ -1,5 +1,6 @@
 -- The words that a line has are those of the grammar, and no others.
-use Rattle.std.proofs.Common.{◌≡◌, ◌↔◌, ◌⊎◌, inl, inr, ℕ, ◌<◌, List, [], ◌∷◌, ◌++◌, length, get_or, Bool, true, false, ◌&&◌, not, ◌==◌, if◌then◌else◌, Option, Some, None, Result, Ok, Err, refl, sym, ◌∙◌, ap, subst, append_assoc, arith}
+use Rattle.std.proofs.Common.{◌≡◌, ◌↔◌, ◌⊎◌, inl, inr, ℕ, ◌<◌, List, [], ◌∷◌, ◌++◌, length, get_or, Bool, true, false, ◌&&◌, not, ◌==◌}
+use Rattle.std.proofs.Common.{if◌then◌else◌, Option, Some, None, Result, Ok, Err, refl, sym, ◌∙◌, ap, subst, append_assoc, arith}
 use Rattle.std.proofs.lemmas.List.{append-nil}
 use Rattle.std.proofs.lemmas.Option.{same_Some, none-some}
 use Rattle.std.proofs.lemmas.Bool.Decides.{Decides-eqb}
@@ -7,10 +8,12 @@ use Rattle.std.specs.Result.{IfOk}
 use Rattle.std.specs.List.{list_all}
 use Rattle.command_text.specs.declared.words.WordsError.{WordsError}
 use Rattle.command_text.specs.declared.words.WordsError.TheVariants.{BadQuoting, NoMemory}
-use Rattle.command_text.specs.Words.{quote, backslash, is_blank, is_plain, Escapes, EndsWord, BeginsWith, AreWords, Standing, words_from, then_words, GivesWords, AreWordsOfLine, without_return, words_of}
+use Rattle.command_text.specs.Words.{quote, backslash, is_blank, is_plain, Escapes, EndsWord, BeginsWith, AreWords, Standing, words_from}
+use Rattle.command_text.specs.Words.{then_words, GivesWords, AreWordsOfLine, without_return, words_of}
 use Rattle.command_text.specs.NextWord.{unescaped}
 use Rattle.command_text.specs.Words.Standing.{Between, Plain, Quoted, Escaped, Closed}
-use Rattle.command_text.proofs.Parting.{blank_step, plain_run, quote_begins, quote_closes, IsPiece, piece_nil, piece_append, piece_byte, piece_escape, is_special}
+use Rattle.command_text.proofs.Parting.{blank_step, plain_run, quote_begins, quote_closes, IsPiece, piece_nil, piece_append, piece_byte}
+use Rattle.command_text.proofs.Parting.{piece_escape, is_special}
 use Rattle.command_text.proofs.Spelling.{eqb_not, unescaped_nil, literal_step, escape_step}
 use Rattle.command_text.proofs.Following.{begins, rest_goes_on, closed_rest}
 
@@ -38,7 +41,8 @@ ends_in_blank : (rest : List ℕ) → EndsWord rest → 0 < length rest → is_b
 ends_in_blank [] ends h = absurd (omega arith)
 ends_in_blank (c ∷ rest) ends h = ends
 
-bare_read : (word rest : List ℕ) → 0 < length word → list_all is_plain word ≡ true → EndsWord rest → words_from Between (word ++ rest) ≡ then_words word (words_from Between rest)
+bare_read : (word rest : List ℕ) → 0 < length word → list_all is_plain word ≡ true → EndsWord rest
+    → words_from Between (word ++ rest) ≡ then_words word (words_from Between rest)
 bare_read [] rest h p ends = absurd (omega arith)
 bare_read (c ∷ word) rest h p ends =
     let q = both (is_plain c) (list_all is_plain word) p in
@@ -68,7 +72,8 @@ escapes_stand (c ∷ word) inside h =
       })
     ]
 
-quoted_read : (word inside rest : List ℕ) → Escapes word inside → EndsWord rest → words_from Between (quote ∷ (inside ++ (quote ∷ rest))) ≡ then_words word (words_from Between rest)
+quoted_read : (word inside rest : List ℕ) → Escapes word inside → EndsWord rest
+    → words_from Between (quote ∷ (inside ++ (quote ∷ rest))) ≡ then_words word (words_from Between rest)
 quoted_read word inside rest h ends =
     let s = escapes_stand word inside h in
     quote_begins (inside ++ (quote ∷ rest)) ∙ s.piece.words [] (quote ∷ rest) ∙ quote_closes (unescaped inside) rest
@@ -146,20 +151,32 @@ chosen : {A : Type 0} (b : Bool) (x y z : A) → (if b then x else y) ≡ z → 
 chosen true x y z e = inl (refl, e)
 chosen false x y z e = inr (refl, e)
 
-then_some : (word : List ℕ) (read : Option (List (List ℕ))) (words : List (List ℕ)) → then_words word read ≡ Some words → (more : List (List ℕ)) × (read ≡ Some more) × (words ≡ word ∷ more)
+then_some : (word : List ℕ) (read : Option (List (List ℕ))) (words : List (List ℕ)) → then_words word read ≡ Some words
+    → (more : List (List ℕ)) × (read ≡ Some more) × (words ≡ word ∷ more)
 then_some word None words e = cc
 then_some word (Some more) words e = (more, refl, sym (same_Some (word ∷ more) words e))
 
 more_blank : (c : ℕ) (rest : List ℕ) (words : List (List ℕ)) → is_blank c ≡ true → AreWords rest words → AreWords (c ∷ rest) words
 more_blank c rest [] b h = rw b h
 more_blank c rest (word ∷ words) b h =
-    let first = h.1 in
-    (h.0, record { gap = c ∷ first.gap; text = first.text; parts = ap (λ (l : List ℕ). c ∷ l) first.parts; blanks = rw b first.blanks; spells = first.spells; ends = first.ends }, h.2)
+    let first = h.1 in (
+      h.0,
+      record {
+        gap = c ∷ first.gap;
+        text = first.text;
+        parts = ap (λ (l : List ℕ). c ∷ l) first.parts;
+        blanks = rw b first.blanks;
+        spells = first.spells;
+        ends = first.ends;
+      },
+      h.2,
+    )
 
 plain_from : (a b : Bool) → a ≡ false → b ≡ false → (not a && not b) ≡ true
 plain_from a b p q = rw (p, q) refl
 
-bare_begins_with : (c : ℕ) (rest : List ℕ) (words : List (List ℕ)) → is_plain c ≡ true → GoesOnPlain (c ∷ []) rest words → AreWords (c ∷ rest) words
+bare_begins_with : (c : ℕ) (rest : List ℕ) (words : List (List ℕ)) → is_plain c ≡ true → GoesOnPlain (c ∷ []) rest words
+    → AreWords (c ∷ rest) words
 bare_begins_with c rest words p g =
     subst (AreWords (c ∷ rest)) (sym g.is) (
       g.rest,
@@ -189,7 +206,8 @@ quote_begins_with c rest words q g =
       g.behind,
     )
 
-bare_goes_on : (word : List ℕ) (c : ℕ) (rest : List ℕ) (words : List (List ℕ)) → is_plain c ≡ true → GoesOnPlain (word ++ c ∷ []) rest words → GoesOnPlain word (c ∷ rest) words
+bare_goes_on : (word : List ℕ) (c : ℕ) (rest : List ℕ) (words : List (List ℕ)) → is_plain c ≡ true → GoesOnPlain (word ++ c ∷ []) rest words
+    → GoesOnPlain word (c ∷ rest) words
 bare_goes_on word c rest words p g = record {
   run = c ∷ g.run;
   rest = g.rest;
@@ -201,7 +219,8 @@ bare_goes_on word c rest words p g = record {
   behind = g.behind;
 }
 
-quoted_goes_on : (word : List ℕ) (c : ℕ) (rest : List ℕ) (words : List (List ℕ)) → (c ≡ quote → ⊥) → (c ≡ backslash → ⊥) → GoesOnQuoted (word ++ c ∷ []) rest words → GoesOnQuoted word (c ∷ rest) words
+quoted_goes_on : (word : List ℕ) (c : ℕ) (rest : List ℕ) (words : List (List ℕ)) → (c ≡ quote → ⊥) → (c ≡ backslash → ⊥)
+    → GoesOnQuoted (word ++ c ∷ []) rest words → GoesOnQuoted word (c ∷ rest) words
 quoted_goes_on word c rest words q b g = record {
   tail = c ∷ g.tail;
   inside = c ∷ g.inside;
@@ -214,7 +233,8 @@ quoted_goes_on word c rest words q b g = record {
   behind = g.behind;
 }
 
-escape_goes_on : (word : List ℕ) (c : ℕ) (rest : List ℕ) (words : List (List ℕ)) → c ≡ backslash → GoesOnEscaped word rest words → GoesOnQuoted word (c ∷ rest) words
+escape_goes_on : (word : List ℕ) (c : ℕ) (rest : List ℕ) (words : List (List ℕ)) → c ≡ backslash → GoesOnEscaped word rest words
+    → GoesOnQuoted word (c ∷ rest) words
 escape_goes_on word c rest words b g = record {
   tail = g.byte ∷ g.quoted.tail;
   inside = backslash ∷ g.byte ∷ g.quoted.inside;
@@ -227,7 +247,8 @@ escape_goes_on word c rest words b g = record {
   behind = g.quoted.behind;
 }
 
-closes : (word : List ℕ) (c : ℕ) (rest : List ℕ) (words : List (List ℕ)) → c ≡ quote → GoesOnClosed word rest words → GoesOnQuoted word (c ∷ rest) words
+closes : (word : List ℕ) (c : ℕ) (rest : List ℕ) (words : List (List ℕ)) → c ≡ quote → GoesOnClosed word rest words
+    → GoesOnQuoted word (c ∷ rest) words
 closes word c rest words q g = record {
   tail = [];
   inside = [];
@@ -240,7 +261,8 @@ closes word c rest words q g = record {
   behind = g.behind;
 }
 
-read_follows : (standing : Standing) (bytes : List ℕ) (words : List (List ℕ)) → words_from standing bytes ≡ Some words → Follows standing bytes words
+read_follows : (standing : Standing) (bytes : List ℕ) (words : List (List ℕ)) → words_from standing bytes ≡ Some words
+    → Follows standing bytes words
 unfolding words_from
 read_follows Between [] words e = subst (AreWords []) (same_Some [] words e) refl
 read_follows Between (c ∷ rest) words e =
@@ -248,7 +270,8 @@ read_follows Between (c ∷ rest) words e =
       | inl b ↦ more_blank c rest words b.0 (read_follows Between rest words b.1)
       | inr n ↦ elim (chosen (c == quote) _ _ (Some words) n.1) [
         | inl q ↦ quote_begins_with c rest words ((Decides-eqb c quote).0 q.0) (read_follows (Quoted []) rest words q.1)
-        | inr p ↦ bare_begins_with c rest words (plain_from (is_blank c) (c == quote) n.0 p.0) (read_follows (Plain (c ∷ [])) rest words p.1)
+        | inr p ↦ bare_begins_with c rest words (plain_from (is_blank c) (c == quote) n.0 p.0)
+            (read_follows (Plain (c ∷ [])) rest words p.1)
       ]
     ]
 read_follows (Plain word) [] words e = record {
@@ -277,7 +300,8 @@ read_follows (Plain word) (c ∷ rest) words e =
           }
       | inr n ↦ elim (chosen (c == quote) _ _ (Some words) n.1) [
         | inl q ↦ absurd (none-some words q.1)
-        | inr p ↦ bare_goes_on word c rest words (plain_from (is_blank c) (c == quote) n.0 p.0) (read_follows (Plain (word ++ c ∷ [])) rest words p.1)
+        | inr p ↦ bare_goes_on word c rest words (plain_from (is_blank c) (c == quote) n.0 p.0)
+            (read_follows (Plain (word ++ c ∷ [])) rest words p.1)
       ]
     ]
 read_follows (Quoted word) [] words e = absurd (none-some words e)
@@ -286,11 +310,13 @@ read_follows (Quoted word) (c ∷ rest) words e =
       | inl q ↦ closes word c rest words ((Decides-eqb c quote).0 q.0) (read_follows (Closed word) rest words q.1)
       | inr n ↦ elim (chosen (c == backslash) _ _ (Some words) n.1) [
         | inl b ↦ escape_goes_on word c rest words ((Decides-eqb c backslash).0 b.0) (read_follows (Escaped word) rest words b.1)
-        | inr p ↦ quoted_goes_on word c rest words (differs c quote n.0) (differs c backslash p.0) (read_follows (Quoted (word ++ c ∷ [])) rest words p.1)
+        | inr p ↦ quoted_goes_on word c rest words (differs c quote n.0) (differs c backslash p.0)
+            (read_follows (Quoted (word ++ c ∷ [])) rest words p.1)
       ]
     ]
 read_follows (Escaped word) [] words e = absurd (none-some words e)
-read_follows (Escaped word) (c ∷ rest) words e = record { byte = c; others = rest; parts = refl; quoted = read_follows (Quoted (word ++ c ∷ [])) rest words e }
+read_follows (Escaped word) (c ∷ rest) words e =
+    record { byte = c; others = rest; parts = refl; quoted = read_follows (Quoted (word ++ c ∷ [])) rest words e }
 read_follows (Closed word) [] words e = record { more = []; ends = tt; is = sym (same_Some (word ∷ []) words e); behind = refl }
 read_follows (Closed word) (c ∷ rest) words e =
     elim (chosen (is_blank c) _ _ (Some words) e) [
@@ -305,20 +331,25 @@ grammar_from_read bytes words e = read_follows Between bytes words e
 
 -- What a call that gave these words, or did not, says by the grammar.
 
-pub given_words : {A : Type 0} (view : A → List (List ℕ)) (r : Result A WordsError) (bytes : List ℕ) → GivesWords view r (words_from Between bytes) → IfOk r (λ x. AreWords bytes (view x))
+pub given_words : {A : Type 0} (view : A → List (List ℕ)) (r : Result A WordsError) (bytes : List ℕ)
+    → GivesWords view r (words_from Between bytes) → IfOk r (λ x. AreWords bytes (view x))
 given_words view (Ok x) bytes h = grammar_from_read bytes (view x) h
 given_words view (Err e) bytes h = tt
 
-pub only_words : {A : Type 0} (view : A → List (List ℕ)) (r : Result A WordsError) (bytes : List ℕ) → GivesWords view r (words_from Between bytes) → (words : List (List ℕ)) → AreWords bytes words → GivesWords view r (Some words)
+pub only_words : {A : Type 0} (view : A → List (List ℕ)) (r : Result A WordsError) (bytes : List ℕ)
+    → GivesWords view r (words_from Between bytes) → (words : List (List ℕ)) → AreWords bytes words → GivesWords view r (Some words)
 only_words view r bytes h words are = subst (GivesWords view r) (read_from_grammar bytes words are) h
 
-bad_words : {A : Type 0} (view : A → List (List ℕ)) (r : Result A WordsError) (read : Option (List (List ℕ))) → GivesWords view r read → r ≡ Err BadQuoting → read ≡ None
+bad_words : {A : Type 0} (view : A → List (List ℕ)) (r : Result A WordsError) (read : Option (List (List ℕ))) → GivesWords view r read
+    → r ≡ Err BadQuoting → read ≡ None
 bad_words view (Ok x) read h e = cc
 bad_words view (Err BadQuoting) read h e = h
 bad_words view (Err NoMemory) read h e = cc
 
-pub no_words_given : {A : Type 0} (view : A → List (List ℕ)) (r : Result A WordsError) (bytes : List ℕ) → GivesWords view r (words_from Between bytes) → r ≡ Err BadQuoting → (words : List (List ℕ)) → AreWords bytes words → ⊥
-no_words_given view r bytes h e words are = none-some words (sym (bad_words view r (words_from Between bytes) h e) ∙ read_from_grammar bytes words are)
+pub no_words_given : {A : Type 0} (view : A → List (List ℕ)) (r : Result A WordsError) (bytes : List ℕ)
+    → GivesWords view r (words_from Between bytes) → r ≡ Err BadQuoting → (words : List (List ℕ)) → AreWords bytes words → ⊥
+no_words_given view r bytes h e words are =
+    none-some words (sym (bad_words view r (words_from Between bytes) h e) ∙ read_from_grammar bytes words are)
 
 pub one_reading : (line : List ℕ) (words : List (List ℕ)) → (words_of line ≡ Some words) ↔ AreWordsOfLine line words
 unfolding words_of

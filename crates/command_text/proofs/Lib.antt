@@ -12,3 +12,5 @@ pub mod Naming
 pub mod LineNames
 pub mod Adding
 pub mod AckLength
+pub mod ControlLaws
+pub mod LinesLaws

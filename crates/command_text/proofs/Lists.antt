@@ -1,5 +1,6 @@
 -- A list parted at a place, and tests of each element before it.
-use Rattle.std.proofs.Common.{◌≡◌, ℕ, zero, suc, ◌+◌, ◌<◌, ◌≤◌, List, [], ◌∷◌, ◌++◌, length, take, drop, get_or, Bool, true, false, refl, sym, ◌∙◌, ap, ◌==◌, arith, add-one, drop-cons}
+use Rattle.std.proofs.Common.{◌≡◌, ℕ, zero, suc, ◌+◌, ◌<◌, ◌≤◌, List, [], ◌∷◌, ◌++◌, length, take, drop, get_or, Bool, true, false, refl}
+use Rattle.std.proofs.Common.{sym, ◌∙◌, ap, ◌==◌, arith, add-one, drop-cons}
 use Rattle.std.proofs.lemmas.List.{take-append-drop, append-nil}
 use Rattle.std.proofs.lemmas.Bool.Decides.{Decides-eqb}
 use Rattle.std.specs.List.{list_all}
@@ -19,7 +20,8 @@ take_whole [] (suc n) h = refl
 take_whole (c ∷ s) zero h = absurd (omega arith)
 take_whole (c ∷ s) (suc n) h = ap (λ (r : List ℕ). c ∷ r) (take_whole s n (omega arith))
 
-pub all_before : (test : ℕ → Bool) (s : List ℕ) (n : ℕ) → n ≤ length s → ((k : ℕ) → k < n → test (get_or s k 0) ≡ true) → list_all test (take n s) ≡ true
+pub all_before : (test : ℕ → Bool) (s : List ℕ) (n : ℕ) → n ≤ length s → ((k : ℕ) → k < n → test (get_or s k 0) ≡ true)
+    → list_all test (take n s) ≡ true
 all_before test s zero le p = refl
 all_before test [] (suc n) le p = absurd (omega arith)
 all_before test (c ∷ s) (suc n) le p =

@@ -1,5 +1,6 @@
 -- Laws of the names of commands.
-use Rattle.std.proofs.Common.{◌≡◌, zero, suc, not, ◌&&◌, is_lt, map, slice_index_or, ◌+◌, ◌<◌, ◌≤◌, ℕ, List, [], ◌∷◌, length, Bool, true, false, cond, Option, Some, None, refl, sym, ◌∙◌, ap, arith, find, Contains}
+use Rattle.std.proofs.Common.{◌≡◌, zero, suc, not, ◌&&◌, is_lt, map, slice_index_or, ◌+◌, ◌<◌, ◌≤◌, ℕ, List, [], ◌∷◌, length, Bool, true}
+use Rattle.std.proofs.Common.{false, cond, Option, Some, None, refl, sym, ◌∙◌, ap, arith, find, Contains}
 use Rattle.std.proofs.lemmas.Option.{same_Some, none-some}
 use Rattle.std.proofs.lemmas.Slice.Eq.{bytes_eq-Decides}
 use Rattle.std.specs.Str.{bytes_eq}
@@ -7,81 +8,81 @@ use Rattle.std.specs.Cmp.Lexicographic.{slice_cmp}
 use Rattle.std.specs.Ordering.{nat_cmp}
 use Rattle.command_text.specs.declared.name.CommandName.{CommandName}
 use Rattle.command_text.specs.declared.name.CommandName.TheVariants as names
-use Rattle.command_text.specs.Names.{name_text, all_names, is_built, known, if_built, named}
+use Rattle.command_text.specs.Names.{name_text, all_names, named}
 
-pub is_known : (name : CommandName) → known (name_text name) ≡ Some name
-unfolding known
-is_known names.Add = refl
-is_known names.AddId = refl
-is_known names.Clear = refl
-is_known names.ClearError = refl
-is_known names.Close = refl
-is_known names.CommandListBegin = refl
-is_known names.CommandListEnd = refl
-is_known names.CommandListOkBegin = refl
-is_known names.Commands = refl
-is_known names.Consume = refl
-is_known names.Count = refl
-is_known names.CurrentSong = refl
-is_known names.Delete = refl
-is_known names.DeleteId = refl
-is_known names.Find = refl
-is_known names.FindAdd = refl
-is_known names.Idle = refl
-is_known names.Kill = refl
-is_known names.ListTag = refl
-is_known names.ListAll = refl
-is_known names.ListAllInfo = refl
-is_known names.ListPlaylist = refl
-is_known names.ListPlaylistInfo = refl
-is_known names.ListPlaylists = refl
-is_known names.Load = refl
-is_known names.ListInfo = refl
-is_known names.Move = refl
-is_known names.MoveId = refl
-is_known names.Next = refl
-is_known names.NoIdle = refl
-is_known names.NotCommands = refl
-is_known names.Pause = refl
-is_known names.Ping = refl
-is_known names.Play = refl
-is_known names.PlayId = refl
-is_known names.PlaylistAdd = refl
-is_known names.PlaylistClear = refl
-is_known names.PlaylistDelete = refl
-is_known names.QueueFind = refl
-is_known names.QueueId = refl
-is_known names.QueueInfo = refl
-is_known names.PlaylistMove = refl
-is_known names.QueueSearch = refl
-is_known names.QueueChanges = refl
-is_known names.QueueChangesPositions = refl
-is_known names.Previous = refl
-is_known names.Priority = refl
-is_known names.PriorityId = refl
-is_known names.Random = refl
-is_known names.Rename = refl
-is_known names.Repeat = refl
-is_known names.Rescan = refl
-is_known names.Remove = refl
-is_known names.Save = refl
-is_known names.Search = refl
-is_known names.SearchAdd = refl
-is_known names.SearchAddPlaylist = refl
-is_known names.Seek = refl
-is_known names.SeekCurrent = refl
-is_known names.SeekId = refl
-is_known names.SetVolume = refl
-is_known names.Shuffle = refl
-is_known names.Single = refl
-is_known names.Stats = refl
-is_known names.Status = refl
-is_known names.Sticker = refl
-is_known names.Stop = refl
-is_known names.Swap = refl
-is_known names.SwapId = refl
-is_known names.TagTypes = refl
-is_known names.Update = refl
+pub is_found : (name : CommandName) → named (name_text name) ≡ Some name
+unfolding named
+is_found names.Add = refl
+is_found names.AddId = refl
+is_found names.Clear = refl
+is_found names.ClearError = refl
+is_found names.Close = refl
+is_found names.CommandListBegin = refl
+is_found names.CommandListEnd = refl
+is_found names.CommandListOkBegin = refl
+is_found names.Commands = refl
+is_found names.Consume = refl
+is_found names.Count = refl
+is_found names.CurrentSong = refl
+is_found names.Delete = refl
+is_found names.DeleteId = refl
+is_found names.Find = refl
+is_found names.FindAdd = refl
+is_found names.Idle = refl
+is_found names.Kill = refl
+is_found names.ListTag = refl
+is_found names.ListAll = refl
+is_found names.ListAllInfo = refl
+is_found names.ListPlaylist = refl
+is_found names.ListPlaylistInfo = refl
+is_found names.ListPlaylists = refl
+is_found names.Load = refl
+is_found names.ListInfo = refl
+is_found names.Move = refl
+is_found names.MoveId = refl
+is_found names.Next = refl
+is_found names.NoIdle = refl
+is_found names.NotCommands = refl
+is_found names.Pause = refl
+is_found names.Ping = refl
+is_found names.Play = refl
+is_found names.PlayId = refl
+is_found names.PlaylistAdd = refl
+is_found names.PlaylistClear = refl
+is_found names.PlaylistDelete = refl
+is_found names.QueueFind = refl
+is_found names.QueueId = refl
+is_found names.QueueInfo = refl
+is_found names.PlaylistMove = refl
+is_found names.QueueSearch = refl
+is_found names.QueueChanges = refl
+is_found names.QueueChangesPositions = refl
+is_found names.Previous = refl
+is_found names.Priority = refl
+is_found names.PriorityId = refl
+is_found names.Random = refl
+is_found names.Rename = refl
+is_found names.Repeat = refl
+is_found names.Rescan = refl
+is_found names.Remove = refl
+is_found names.Save = refl
+is_found names.Search = refl
+is_found names.SearchAdd = refl
+is_found names.SearchAddPlaylist = refl
+is_found names.Seek = refl
+is_found names.SeekCurrent = refl
+is_found names.SeekId = refl
+is_found names.SetVolume = refl
+is_found names.Shuffle = refl
+is_found names.Single = refl
+is_found names.Stats = refl
+is_found names.Status = refl
+is_found names.Sticker = refl
+is_found names.Stop = refl
+is_found names.Swap = refl
+is_found names.SwapId = refl
+is_found names.TagTypes = refl
+is_found names.Update = refl
 
 pub is_listed : (name : CommandName) → Contains all_names name
 is_listed names.Add = (0, omega arith, refl)
@@ -156,11 +157,8 @@ is_listed names.SwapId = (68, omega arith, refl)
 is_listed names.TagTypes = (69, omega arith, refl)
 is_listed names.Update = (70, omega arith, refl)
 
-pub is_found : (name : CommandName) → is_built name ≡ true → named (name_text name) ≡ Some name
-unfolding named
-is_found name built = rw (is_known name, built) refl
-
-passes_at : (test : CommandName → Bool) (names : List CommandName) (x name : CommandName) (b : Bool) → test x ≡ b → cond b (Some x) (find test names) ≡ Some name
+passes_at : (test : CommandName → Bool) (names : List CommandName) (x name : CommandName) (b : Bool) → test x ≡ b
+    → cond b (Some x) (find test names) ≡ Some name
     → (find test names ≡ Some name → test name ≡ true) → test name ≡ true
 passes_at test names x name true h e later = ap test (sym (same_Some x name e)) ∙ h
 passes_at test names x name false h e later = later e
@@ -169,24 +167,10 @@ found_passes : (test : CommandName → Bool) (names : List CommandName) (name : 
 found_passes test [] name e = absurd (none-some name e)
 found_passes test (x ∷ names) name e = passes_at test names x name (test x) refl e (found_passes test names name)
 
-known_text : (word : List ℕ) (name : CommandName) → known word ≡ Some name → name_text name ≡ word
-unfolding known
-known_text word name e =
-    sym ((bytes_eq-Decides word (name_text name)).0 (found_passes (λ n. bytes_eq word (name_text n)) all_names name e))
-
-built_at : (name x : CommandName) (b : Bool) → is_built x ≡ b → cond b (Some x) None ≡ Some name → (Some x ≡ Some name) × (is_built name ≡ true)
-built_at name x true h e = (e, ap is_built (sym (same_Some x name e)) ∙ h)
-built_at name x false h e = absurd (none-some name e)
-
-built_of : (name : CommandName) (k : Option CommandName) → if_built k ≡ Some name → (k ≡ Some name) × (is_built name ≡ true)
-built_of name None e = absurd (none-some name e)
-built_of name (Some x) e = built_at name x (is_built x) refl e
-
-pub only_its_name : (word : List ℕ) (name : CommandName) → named word ≡ Some name → (name_text name ≡ word) × (is_built name ≡ true)
+pub only_its_name : (word : List ℕ) (name : CommandName) → named word ≡ Some name → name_text name ≡ word
 unfolding named
 only_its_name word name e =
-    let built = built_of name (known word) e in
-    (known_text word name built.0, built.1)
+    sym ((bytes_eq-Decides word (name_text name)).0 (found_passes (λ n. bytes_eq word (name_text n)) all_names name e))
 
 pub name_fits : (name : CommandName) → length (name_text name) ≤ 21
 name_fits names.Add = omega arith
@@ -271,7 +255,8 @@ both : (a b : Bool) → (not a && b) ≡ true → (a ≡ false) × (b ≡ true)
 both true b e = cc
 both false b e = (refl, e)
 
-rising_at : (l : List (List ℕ)) (k : ℕ) (d : List ℕ) → is_rising l ≡ true → k + 1 < length l → is_lt (slice_cmp nat_cmp (slice_index_or l (k + 1) d) (slice_index_or l k d)) ≡ false
+rising_at : (l : List (List ℕ)) (k : ℕ) (d : List ℕ) → is_rising l ≡ true → k + 1 < length l
+    → is_lt (slice_cmp nat_cmp (slice_index_or l (k + 1) d) (slice_index_or l k d)) ≡ false
 rising_at [] k d e lt = absurd (omega arith)
 rising_at (x ∷ []) k d e lt = absurd (omega arith)
 rising_at (x ∷ y ∷ rest) zero d e lt = (both _ _ e).0
@@ -280,7 +265,8 @@ rising_at (x ∷ y ∷ rest) (suc k) d e lt =
     ap (λ (n : ℕ). is_lt (slice_cmp nat_cmp (slice_index_or (x ∷ y ∷ rest) n d) (slice_index_or (y ∷ rest) k d))) (sym next)
     ∙ rising_next x (y ∷ rest) k d (rising_at (y ∷ rest) k d (both _ _ e).1 (omega arith))
   where
-    rising_next : (x : List ℕ) (l : List (List ℕ)) (k : ℕ) (d : List ℕ) → is_lt (slice_cmp nat_cmp (slice_index_or l (k + 1) d) (slice_index_or l k d)) ≡ false
+    rising_next : (x : List ℕ) (l : List (List ℕ)) (k : ℕ) (d : List ℕ)
+        → is_lt (slice_cmp nat_cmp (slice_index_or l (k + 1) d) (slice_index_or l k d)) ≡ false
         → is_lt (slice_cmp nat_cmp (slice_index_or (x ∷ l) (k + 1 + 1) d) (slice_index_or l k d)) ≡ false
     rising_next x l k d h =
         let next : suc (k + 1) ≡ k + 1 + 1 = omega arith in
@@ -289,5 +275,6 @@ rising_at (x ∷ y ∷ rest) (suc k) d e lt =
 names_rise : is_rising (map name_text all_names) ≡ true
 names_rise = refl
 
-pub are_rising : (k : ℕ) (d : List ℕ) → k + 1 < 71 → is_lt (slice_cmp nat_cmp (slice_index_or (map name_text all_names) (k + 1) d) (slice_index_or (map name_text all_names) k d)) ≡ false
+pub are_rising : (k : ℕ) (d : List ℕ) → k + 1 < 71
+    → is_lt (slice_cmp nat_cmp (slice_index_or (map name_text all_names) (k + 1) d) (slice_index_or (map name_text all_names) k d)) ≡ false
 are_rising k d lt = rising_at (map name_text all_names) k d names_rise lt

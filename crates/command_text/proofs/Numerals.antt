@@ -1,5 +1,6 @@
 -- A word of 1 to 10 decimal digits is text, and parses to its number.
-use Rattle.std.proofs.Common.{◌≡◌, ℕ, ◌<◌, ◌^◌, List, [], ◌∷◌, length, Bool, true, false, ◌&&◌, Some, None, Result, Ok, Err, if◌then◌else◌, nat_lt, refl, sym, subst, ◌∙◌, ap, arith, rules}
+use Rattle.std.proofs.Common.{◌≡◌, ℕ, ◌<◌, ◌^◌, List, [], ◌∷◌, length, Bool, true, false, ◌&&◌, Some, None, Result, Ok, Err, if◌then◌else◌}
+use Rattle.std.proofs.Common.{nat_lt, refl, sym, subst, ◌∙◌, ap, arith, rules}
 use Rattle.std.proofs.lemmas.Option.{same_Some}
 use Rattle.std.proofs.lemmas.Str.{IsUtf8-from_ascii}
 use Rattle.std.proofs.lemmas.Fmt.{IsAscii-from_digits}
@@ -34,11 +35,13 @@ filled (c ∷ word) h = omega arith
 pub is_text : (word : List ℕ) → are_digits word ≡ true → IsUtf8 word
 is_text word h = IsUtf8-from_ascii word (IsAscii-from_digits word (own.to word (all_digits word h)))
 
-digits_at : (word : List ℕ) (fits : Bool) → are_digits word ≡ true → nat_lt (digits_value 10 word) (2 ^ 32) ≡ fits → digits_of word ≡ (if fits then Some (digits_value 10 word) else None)
+digits_at : (word : List ℕ) (fits : Bool) → are_digits word ≡ true → nat_lt (digits_value 10 word) (2 ^ 32) ≡ fits
+    → digits_of word ≡ (if fits then Some (digits_value 10 word) else None)
 unfolding digits_of
 digits_at word fits h f = rw (h, f) refl
 
-pub is_parsed : {E : Type 0} (word : List ℕ) (r : Result ℕ E) → are_digits word ≡ true → ParsesUnsigned 32 10 word r → result_ok r ≡ digits_of word
+pub is_parsed : {E : Type 0} (word : List ℕ) (r : Result ℕ E) → are_digits word ≡ true → ParsesUnsigned 32 10 word r
+    → result_ok r ≡ digits_of word
 is_parsed {E} word (Ok x) h p =
     let q = parse_digits own {E = E} 32 word (Ok x) p (all_digits word h) in
     let fits : nat_lt (digits_value 10 word) (2 ^ 32) ≡ true = (Decides-ltb (digits_value 10 word) (2 ^ 32)).1 q.0.1 in
@@ -53,6 +56,7 @@ pub at_ok : {A E : Type 0} (r : Result A E) (P : A → Type 0) (Q : E → Type 0
 at_ok (Ok y) P Q x h e = subst P (sym (same_Some x y e)) h
 at_ok (Err d) P Q x h e = cc
 
-pub never_err : {A E : Type 0} (r : Result A E) (P : A → Type 0) (Q : E → Type 0) → MatchResult r P Q → ((d : E) → Q d → ⊥) → None ≡ result_ok r → ⊥
+pub never_err : {A E : Type 0} (r : Result A E) (P : A → Type 0) (Q : E → Type 0) → MatchResult r P Q → ((d : E) → Q d → ⊥)
+    → None ≡ result_ok r → ⊥
 never_err (Ok y) P Q h n e = cc
 never_err (Err d) P Q h n e = n d h

@@ -1,5 +1,6 @@
 -- How `words_from` goes over the parts of a line.
-use Rattle.std.proofs.Common.{◌≡◌, ℕ, ◌+◌, ◌<◌, List, [], ◌∷◌, ◌++◌, length, take, drop, get_or, Bool, true, false, ◌&&◌, ◌||◌, not, ◌==◌, None, refl, sym, ◌∙◌, ap, append_assoc}
+use Rattle.std.proofs.Common.{◌≡◌, ℕ, ◌+◌, ◌<◌, List, [], ◌∷◌, ◌++◌, length, take, drop, get_or, Bool, true, false, ◌&&◌, ◌||◌, not, ◌==◌}
+use Rattle.std.proofs.Common.{None, refl, sym, ◌∙◌, ap, append_assoc}
 use Rattle.std.proofs.lemmas.List.{append-nil}
 use Rattle.std.specs.List.{list_all}
 use Rattle.command_text.specs.Words.{quote, backslash, is_blank, is_plain, words_from, then_words}
@@ -31,11 +32,13 @@ pub bare_begins : (c : ℕ) (rest : List ℕ) → is_plain c ≡ true → words_
 unfolding words_from
 bare_begins c rest h = let p = neither (is_blank c) (c == quote) h in rw (p.0, p.1) refl
 
-plain_step : (word : List ℕ) (c : ℕ) (rest : List ℕ) → is_plain c ≡ true → words_from (Plain word) (c ∷ rest) ≡ words_from (Plain (word ++ c ∷ [])) rest
+plain_step : (word : List ℕ) (c : ℕ) (rest : List ℕ) → is_plain c ≡ true
+    → words_from (Plain word) (c ∷ rest) ≡ words_from (Plain (word ++ c ∷ [])) rest
 unfolding words_from
 plain_step word c rest h = let p = neither (is_blank c) (c == quote) h in rw (p.0, p.1) refl
 
-pub plain_run : (word run rest : List ℕ) → list_all is_plain run ≡ true → words_from (Plain word) (run ++ rest) ≡ words_from (Plain (word ++ run)) rest
+pub plain_run : (word run rest : List ℕ) → list_all is_plain run ≡ true
+    → words_from (Plain word) (run ++ rest) ≡ words_from (Plain (word ++ run)) rest
 plain_run word [] rest h = rw (append-nil word) refl
 plain_run word (c ∷ run) rest h =
     let p = both (is_plain c) (list_all is_plain run) h in
@@ -46,7 +49,8 @@ pub bare_ends : (word : List ℕ) → words_from (Plain word) [] ≡ then_words 
 unfolding words_from
 bare_ends word = refl
 
-pub bare_stops : (word : List ℕ) (c : ℕ) (rest : List ℕ) → is_blank c ≡ true → words_from (Plain word) (c ∷ rest) ≡ then_words word (words_from Between (c ∷ rest))
+pub bare_stops : (word : List ℕ) (c : ℕ) (rest : List ℕ) → is_blank c ≡ true
+    → words_from (Plain word) (c ∷ rest) ≡ then_words word (words_from Between (c ∷ rest))
 unfolding words_from
 bare_stops word c rest h = rw h refl
 
@@ -75,7 +79,8 @@ pub closed_ends : (word : List ℕ) → words_from (Closed word) [] ≡ then_wor
 unfolding words_from
 closed_ends word = refl
 
-pub closed_stops : (word : List ℕ) (c : ℕ) (rest : List ℕ) → is_blank c ≡ true → words_from (Closed word) (c ∷ rest) ≡ then_words word (words_from Between (c ∷ rest))
+pub closed_stops : (word : List ℕ) (c : ℕ) (rest : List ℕ) → is_blank c ≡ true
+    → words_from (Closed word) (c ∷ rest) ≡ then_words word (words_from Between (c ∷ rest))
 unfolding words_from
 closed_stops word c rest h = rw h refl
 
@@ -114,10 +119,13 @@ piece_escape c = record { words = λ word rest. refl; bytes = λ rest. refl }
 pub piece_append : (a b : List ℕ) → IsPiece a → IsPiece b → IsPiece (a ++ b)
 piece_append a b pa pb = record {
   words = λ word rest.
-      let e : (word ++ unescaped a) ++ unescaped b ≡ word ++ unescaped (a ++ b) = append_assoc word (unescaped a) (unescaped b) ∙ ap (λ (r : List ℕ). word ++ r) (sym (pa.bytes b)) in
-      ap (λ (l : List ℕ). words_from (Quoted word) l) (append_assoc a b rest) ∙ pa.words word (b ++ rest) ∙ pb.words (word ++ unescaped a) rest ∙ ap (λ (w : List ℕ). words_from (Quoted w) rest) e;
+      let e : (word ++ unescaped a) ++ unescaped b ≡ word ++ unescaped (a ++ b) =
+      append_assoc word (unescaped a) (unescaped b) ∙ ap (λ (r : List ℕ). word ++ r) (sym (pa.bytes b)) in
+      ap (λ (l : List ℕ). words_from (Quoted word) l) (append_assoc a b rest) ∙ pa.words word (b ++ rest)
+      ∙ pb.words (word ++ unescaped a) rest ∙ ap (λ (w : List ℕ). words_from (Quoted w) rest) e;
   bytes = λ rest.
-      ap unescaped (append_assoc a b rest) ∙ pa.bytes (b ++ rest) ∙ ap (λ (r : List ℕ). unescaped a ++ r) (pb.bytes rest) ∙ sym (append_assoc (unescaped a) (unescaped b) (unescaped rest)) ∙ ap (λ (r : List ℕ). r ++ unescaped rest) (sym (pa.bytes b));
+      ap unescaped (append_assoc a b rest) ∙ pa.bytes (b ++ rest) ∙ ap (λ (r : List ℕ). unescaped a ++ r) (pb.bytes rest)
+      ∙ sym (append_assoc (unescaped a) (unescaped b) (unescaped rest)) ∙ ap (λ (r : List ℕ). r ++ unescaped rest) (sym (pa.bytes b));
 }
 
 pub piece_run : (run : List ℕ) → list_all (λ c. not (is_special c)) run ≡ true → IsPiece run
@@ -129,5 +137,10 @@ piece_run (c ∷ run) h =
 -- the inside of quotes ends behind a piece
 pub piece_closed : (inside : List ℕ) (q : ℕ) → q < length inside → IsPiece (take q inside) → get_or inside q 0 ≡ quote → IsClosedAt inside q
 piece_closed inside q lt p e =
-    let whole : inside ≡ take q inside ++ (quote ∷ drop (q + 1) inside) = parted_at inside q lt ∙ ap (λ (c : ℕ). take q inside ++ (c ∷ drop (q + 1) inside)) e in
-    record { within = lt; closed = ap (words_from (Quoted [])) whole ∙ p.words [] (quote ∷ drop (q + 1) inside) ∙ quote_closes (unescaped (take q inside)) (drop (q + 1) inside) }
+    let whole : inside ≡ take q inside ++ (quote ∷ drop (q + 1) inside) =
+    parted_at inside q lt ∙ ap (λ (c : ℕ). take q inside ++ (c ∷ drop (q + 1) inside)) e in
+    record {
+      within = lt;
+      closed = ap (words_from (Quoted [])) whole ∙ p.words [] (quote ∷ drop (q + 1) inside)
+          ∙ quote_closes (unescaped (take q inside)) (drop (q + 1) inside);
+    }

@@ -9,19 +9,23 @@ use Rattle.command_text.specs.Words.{then_words, without_return, words_from, wor
 use Rattle.command_text.specs.Words.Standing.{Between}
 use Rattle.command_text.proofs.Spelling.{is_not}
 
-pub utf8_test : {E : Type 0} (bytes : List ℕ) (r : Result (Bor (List ℕ)) E) (V : E → Type 0) → MatchResult r (λ s. (s.now ≡ bytes) × IsUtf8 bytes) (λ e. (IsUtf8 bytes → ⊥) × V e) → is_ok r ≡ is_utf8 bytes
+pub utf8_test : {E : Type 0} (bytes : List ℕ) (r : Result (Bor (List ℕ)) E) (V : E → Type 0)
+    → MatchResult r (λ s. (s.now ≡ bytes) × IsUtf8 bytes) (λ e. (IsUtf8 bytes → ⊥) × V e) → is_ok r ≡ is_utf8 bytes
 utf8_test bytes (Ok s) V h = sym (is_utf8-from_IsUtf8 bytes h.1)
 utf8_test bytes (Err e) V h = sym (is_not (is_utf8 bytes) (λ t. h.0 (IsUtf8-from_is_utf8 bytes t)))
 
-pub name_found : (words rest : Option (List (List ℕ))) (word : List ℕ) → words ≡ then_words word rest → is_some rest ≡ true → first_name (quoted words) ≡ named word
+pub name_found : (words rest : Option (List (List ℕ))) (word : List ℕ) → words ≡ then_words word rest → is_some rest ≡ true
+    → first_name (quoted words) ≡ named word
 name_found words None word e h = cc
 name_found words (Some more) word e h = ap (λ ws. first_name (quoted ws)) e
 
-pub no_name_behind : (words rest : Option (List (List ℕ))) (word : List ℕ) → words ≡ then_words word rest → is_some rest ≡ false → first_name (quoted words) ≡ None
+pub no_name_behind : (words rest : Option (List (List ℕ))) (word : List ℕ) → words ≡ then_words word rest → is_some rest ≡ false
+    → first_name (quoted words) ≡ None
 no_name_behind words None word e h = ap (λ ws. first_name (quoted ws)) e
 no_name_behind words (Some more) word e h = cc
 
-pub name_at : (line text : List ℕ) → is_utf8 line ≡ true → text ≡ without_return line → name_of_line line ≡ first_name (quoted (words_from Between text))
+pub name_at : (line text : List ℕ) → is_utf8 line ≡ true → text ≡ without_return line
+    → name_of_line line ≡ first_name (quoted (words_from Between text))
 unfolding name_of_line line_words words_of
 name_at line text t e = rw t (ap (λ (l : List ℕ). first_name (quoted (words_from Between l))) (sym e))
 

@@ -15,6 +15,8 @@ pub mod Playing
 pub mod Session
 pub mod Refusals
 pub mod Reading
+pub mod Control
+pub mod Lines
 pub mod Answer
 pub mod AnswerTimes
 pub mod AnswerSongs

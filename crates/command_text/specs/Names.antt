@@ -1,5 +1,5 @@
--- The names of the commands, one equation a command, the one list of them, and the one table of those that this build has.
-use Rattle.std.specs.Prelude.{ℕ, List, [], ◌∷◌, Bool, true, false, not, ◌&&◌, Option, Some, None, codes, if◌then◌else◌}
+-- The names of the commands, one equation a command, and the one list of them.
+use Rattle.std.specs.Prelude.{ℕ, List, [], ◌∷◌, Bool, true, false, not, Option, codes}
 use Rattle.std.specs.List.{find}
 use Rattle.std.specs.Str.{bytes_eq}
 use Rattle.command_text.specs.declared.name.CommandName.{CommandName}
@@ -92,80 +92,6 @@ all_names =
     names.Seek ∷ names.SeekCurrent ∷ names.SeekId ∷ names.SetVolume ∷ names.Shuffle ∷ names.Single ∷ names.Stats ∷ names.Status ∷
     names.Sticker ∷ names.Stop ∷ names.Swap ∷ names.SwapId ∷ names.TagTypes ∷ names.Update ∷ []
 
--- whether this build has the command
-abbrev pub is_built : CommandName → Bool
-is_built names.Add = true
-is_built names.AddId = true
-is_built names.Clear = true
-is_built names.ClearError = true
-is_built names.Close = true
-is_built names.CommandListBegin = false
-is_built names.CommandListEnd = false
-is_built names.CommandListOkBegin = false
-is_built names.Commands = true
-is_built names.Consume = true
-is_built names.Count = true
-is_built names.CurrentSong = true
-is_built names.Delete = true
-is_built names.DeleteId = true
-is_built names.Find = true
-is_built names.FindAdd = true
-is_built names.Idle = true
-is_built names.Kill = true
-is_built names.ListTag = true
-is_built names.ListAll = true
-is_built names.ListAllInfo = true
-is_built names.ListPlaylist = true
-is_built names.ListPlaylistInfo = true
-is_built names.ListPlaylists = true
-is_built names.Load = true
-is_built names.ListInfo = true
-is_built names.Move = true
-is_built names.MoveId = true
-is_built names.Next = true
-is_built names.NoIdle = true
-is_built names.NotCommands = true
-is_built names.Pause = true
-is_built names.Ping = true
-is_built names.Play = true
-is_built names.PlayId = true
-is_built names.PlaylistAdd = true
-is_built names.PlaylistClear = true
-is_built names.PlaylistDelete = true
-is_built names.QueueFind = true
-is_built names.QueueId = true
-is_built names.QueueInfo = true
-is_built names.PlaylistMove = true
-is_built names.QueueSearch = true
-is_built names.QueueChanges = true
-is_built names.QueueChangesPositions = true
-is_built names.Previous = true
-is_built names.Priority = true
-is_built names.PriorityId = true
-is_built names.Random = true
-is_built names.Rename = true
-is_built names.Repeat = true
-is_built names.Rescan = true
-is_built names.Remove = true
-is_built names.Save = true
-is_built names.Search = true
-is_built names.SearchAdd = true
-is_built names.SearchAddPlaylist = true
-is_built names.Seek = true
-is_built names.SeekCurrent = true
-is_built names.SeekId = true
-is_built names.SetVolume = true
-is_built names.Shuffle = true
-is_built names.Single = true
-is_built names.Stats = true
-is_built names.Status = true
-is_built names.Sticker = true
-is_built names.Stop = true
-is_built names.Swap = true
-is_built names.SwapId = true
-is_built names.TagTypes = true
-is_built names.Update = true
-
 -- the lines that begin or end a command list, or end an `idle`
 abbrev pub is_control : CommandName → Bool
 is_control names.Add = false
@@ -242,19 +168,11 @@ is_control names.Update = false
 
 -- what `commands` lists
 abbrev pub is_listed : CommandName → Bool
-is_listed name = is_built name && not (is_control name)
+is_listed name = not (is_control name)
 
--- the name that a word is
-unfoldable pub known : List ℕ → Option CommandName
-known word = find (λ name. bytes_eq word (name_text name)) all_names
-
-abbrev pub if_built : Option CommandName → Option CommandName
-if_built None = None
-if_built (Some name) = if is_built name then Some name else None
-
--- the command of this name, if this build has it
+-- the command of this name
 unfoldable pub named : List ℕ → Option CommandName
-named word = if_built (known word)
+named word = find (λ name. bytes_eq word (name_text name)) all_names
 
 -- whether the command may stand in a command list
 abbrev pub stands_in_lists : CommandName → Bool

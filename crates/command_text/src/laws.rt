@@ -1,6 +1,6 @@
 //! Laws of the definitions that the contracts cite.
 
-ghost use Rattle.std.specs.Prelude.{◌≡◌, ◌<◌, ◌≤◌, ◌^◌, ◌↔◌, ℕ, List, Option, Some, Ok, Err, Contains, IsSorted, length, map, true};
+ghost use Rattle.std.specs.Prelude.{◌≡◌, ◌<◌, ◌≤◌, ◌^◌, ◌↔◌, ℕ, List, Option, Some, Ok, Err, Contains, IsSorted, length, map};
 ghost use Rattle.std.specs.Cmp.Lexicographic.{slice_cmp};
 ghost use Rattle.std.specs.Ordering.{nat_cmp};
 ghost use Rattle.command_text.specs.declared.command.NamedCommand.{NamedCommand};
@@ -8,7 +8,7 @@ ghost use Rattle.command_text.specs.declared.name.CommandName.{CommandName};
 ghost use Rattle.command_text.specs.declared.place.Place.{Place};
 ghost use Rattle.command_text.specs.declared.refusal.Refusal.{Refusal};
 ghost use Rattle.command_text.specs.Words.{AreWordsOfLine, words_of};
-ghost use Rattle.command_text.specs.Names.{name_text, all_names, is_built, known, named};
+ghost use Rattle.command_text.specs.Names.{name_text, all_names, named};
 ghost use Rattle.command_text.specs.Refusals.{name_of_refusal};
 ghost use Rattle.command_text.specs.Reading.{line_reading, name_of_line, want_of_memory};
 ghost use Rattle.command_text.specs.Answer.{ack};
@@ -19,13 +19,12 @@ pub fn words_are_the_grammar()
     ensures { (line : List ℕ) (words : List (List ℕ)) → (words_of line ≡ Some words) ↔ AreWordsOfLine line words }
 {}
 
-/// Each name is listed and is the name of its text; the command is found by it, and by no other word, where this build has it.
+/// Each name is listed; the command is found by its text, and by no other word.
 pub fn names_are_found()
     ensures rising { IsSorted (slice_cmp nat_cmp) (map name_text all_names) }
     ensures listed { (name : CommandName) → Contains all_names name }
-    ensures known { (name : CommandName) → known (name_text name) ≡ Some name }
-    ensures found { (name : CommandName) → is_built name ≡ true → named (name_text name) ≡ Some name }
-    ensures only { (word : List ℕ) (name : CommandName) → named word ≡ Some name → (name_text name ≡ word) × (is_built name ≡ true) }
+    ensures found { (name : CommandName) → named (name_text name) ≡ Some name }
+    ensures only { (word : List ℕ) (name : CommandName) → named word ≡ Some name → name_text name ≡ word }
 {}
 
 /// Whether a line is read or refused, its command is named in the same way.

@@ -38,7 +38,7 @@ pub fn want_of_memory(line: &[u8]) -> Refusal
     }
 }
 
-fn is_utf8(line: &[u8]) -> bool
+pub(crate) fn is_utf8(line: &[u8]) -> bool
     ensures { result ≡ is_utf8 line.now }
 {
     str::from_utf8(line).is_ok()

@@ -1,5 +1,5 @@
 ghost use Rattle.std.specs.Prelude.{◌≡◌};
-ghost use Rattle.command_text.specs.Names.{name_text, all_names, is_built, is_control, is_listed, stands_in_lists, known, named};
+ghost use Rattle.command_text.specs.Names.{name_text, all_names, is_control, is_listed, stands_in_lists, named};
 ghost use Rattle.command_text.specs.NextWord.{spelled};
 
 use crate::words::WordText;
@@ -156,7 +156,7 @@ const NAMES: [CommandName; 71] = [
 ];
 
 impl CommandName {
-    /// Every name, rising by its bytes, whether this build has the command or not.
+    /// Every name, rising by its bytes.
     pub fn all() -> &'static [CommandName]
         ensures { result.now ≡ all_names }
     {
@@ -242,23 +242,11 @@ impl CommandName {
         }
     }
 
-    /// Whether this build has the command. This is the one table of them: a name that isn't in it is told as an unknown command.
-    pub fn is_built(self) -> bool
-        ensures { result ≡ is_built self }
-    {
-        !matches!(
-            self,
-            CommandName::CommandListBegin
-                | CommandName::CommandListEnd
-                | CommandName::CommandListOkBegin
-        )
-    }
-
-    /// Whether `commands` lists the command: those of this build, but for the lines of command lists and `noidle`.
+    /// Whether `commands` lists the command: every one, but for the lines of command lists and `noidle`.
     pub fn is_listed(self) -> bool
         ensures { result ≡ is_listed self }
     {
-        self.is_built() && !self.is_control()
+        !self.is_control()
     }
 
     /// Whether it is a line that begins or ends a command list, or ends an `idle`.
@@ -289,7 +277,7 @@ impl CommandName {
         )
     }
 
-    /// The command that the word asks for, if this build has it.
+    /// The command that the word asks for.
     pub fn named(word: &[u8]) -> Option<CommandName>
         ensures { result ≡ named word.now }
     {
@@ -301,20 +289,9 @@ impl CommandName {
     pub(crate) fn named_by(word: WordText<'_>) -> Option<CommandName>
         ensures { result ≡ named (spelled word.entry) }
     {
-        match known(word) {
-            Some(name) if name.is_built() => Some(name),
-            _ => None,
-        }
+        NAMES
+            .iter()
+            .copied()
+            .find(|name| word.is(name.text().as_bytes()))
     }
-}
-
-/// The name that the word is, whether this build has the command or not.
-#[tactic(auto, unfolding(crate::specs::Names::known))]
-fn known(word: WordText<'_>) -> Option<CommandName>
-    ensures { result ≡ known (spelled word.entry) }
-{
-    NAMES
-        .iter()
-        .copied()
-        .find(|name| word.is(name.text().as_bytes()))
 }

@@ -1,5 +1,6 @@
-ghost use Rattle.std.specs.Prelude.{◌≡◌, ◌++◌, ◌∷◌, [], IfOk, OnOk, OnErr};
+ghost use Rattle.std.specs.Prelude.{◌≡◌, IfOk};
 
+use crate::lines::Lines;
 use std::alloc::{AllocError, Global};
 use std::marker::Model;
 
@@ -31,45 +32,6 @@ impl Line {
         ensures { result.now ≡ self.now }
     {
         self.bytes.as_slice()
-    }
-}
-
-/// The lines of a command list, without those that begin and end it.
-#[derive(Debug, Drop)]
-pub struct Lines {
-    lines: Vec<Line>,
-}
-
-impl Model for Lines {
-    ghost use Rattle.std.specs.Prelude.{ℕ, List};
-
-    ghost Value = { List (List ℕ) };
-
-    ghost view = { λ l. l.lines.items };
-}
-
-impl Lines {
-    pub fn new(alloc: Global) -> Self
-        ensures { result ≡ [] }
-    {
-        Lines {
-            lines: Vec::new(alloc),
-        }
-    }
-
-    /// Adds a line at the end. An `Err` leaves the lines as they were.
-    pub fn push(&mut self, line: Line) -> Result<(), AllocError>
-        ensures ok { OnOk result (self.new ≡ self.old ++ line ∷ []) }
-        ensures err { OnErr result (self.new ≡ self.old) }
-    {
-        self.lines.push(line)?;
-        Ok(())
-    }
-
-    pub fn as_slice(&self) -> &[Line]
-        ensures { result.now ≡ self.now }
-    {
-        self.lines.as_slice()
     }
 }
 

@@ -71,7 +71,8 @@ filtered_shorter q (w ∷ ws) =
 pub left_ready : (p q : CoreParts) (c : ℕ) → IsReadyToTell p → q.watch ≡ left p.watch c → q.room ≡ p.room → IsReadyToTell q
 left_ready p q c ready watch room = ready_with p q (left p.watch c)
     (fewer_fit (waiting_count p.watch) (length p.watch) (waiting_count (left p.watch c)) (length (left p.watch c)) p.room ready
-    (filtered_fewer (λ w. is_some w.waiting) (λ w. not (w.client == c)) p.watch) (filtered_shorter (λ w. not (w.client == c)) p.watch)) watch room
+    (filtered_fewer (λ w. is_some w.waiting) (λ w. not (w.client == c)) p.watch) (filtered_shorter (λ w. not (w.client == c)) p.watch))
+    watch room
 
 -- a client that waits no more
 pub stopped_ready : (p q : CoreParts) (c : ℕ) → IsReadyToTell p → q.watch ≡ with_waiting p.watch c None → q.room ≡ p.room → IsReadyToTell q
@@ -104,7 +105,8 @@ apart p c [] = omega arith
 apart p c (w ∷ ws) =
     let below : List Watched = filter (λ v. nat_lt v.client c) ws in
     let above : List Watched = filter (λ v. nat_lt c v.client) ws in
-    let one = apart_one w (filter p below) (filter p above) (filter p ws) c (p w) (nat_lt w.client c) (nat_lt c w.client) refl refl (apart p c ws) in
+    let one = apart_one w (filter p below) (filter p above) (filter p ws) c (p w) (nat_lt w.client c) (nat_lt c w.client) refl refl
+    (apart p c ws) in
     let first = ap length (kept_by p w below (nat_lt w.client c)) in
     let second = ap length (kept_by p w above (nat_lt c w.client)) in
     omega (arith, one, first, second)
@@ -127,7 +129,14 @@ joined_length ws c =
     let below : List Watched = filter (λ w. nat_lt w.client c) ws in
     let above : List Watched = filter (λ w. nat_lt c w.client) ws in
     let fits = apart (λ w. true) c ws in
-    omega (arith, fits, ap length (all_pass below), ap length (all_pass above), ap length (all_pass ws), length-append below (newcomer c ∷ above))
+    omega (
+      arith,
+      fits,
+      ap length (all_pass below),
+      ap length (all_pass above),
+      ap length (all_pass ws),
+      length-append below (newcomer c ∷ above),
+    )
 
 pub joined_ready : (p q : CoreParts) (c : ℕ) (room : Room) → IsRoomFor (waiting_count p.watch) (length p.watch + 1) room →
     q.watch ≡ joined p.watch c → q.room ≡ room → IsReadyToTell q
@@ -151,7 +160,8 @@ none_is None is = refl
 none_is (Some w) is = absurd (false≢true (sym is))
 
 -- as many reports as clients that wait, who are as many as are connected, or fewer
-pub reports_within : (p : CoreParts) (ws : List Watched) (changed : Subsystems) → ws ≡ marked p.watch changed → length (reports_of ws) ≤ waiting_count p.watch
+pub reports_within : (p : CoreParts) (ws : List Watched) (changed : Subsystems) → ws ≡ marked p.watch changed
+    → length (reports_of ws) ≤ waiting_count p.watch
 reports_within p ws changed is =
     let fits = reports_fit (marked p.watch changed) in
     omega (arith, fits, ap length (ap reports_of is), marked_waits p.watch changed)

@@ -217,10 +217,13 @@ keeps_acted earlier s (events.Request c request) refused rises agree =
     keeps_requested earlier c refused s request (waiting_of (watched s.clients c)) rises agree
 keeps_acted earlier s (events.Gone c) refused rises agree =
     let k = keeps_left earlier c s.clients rises agree in record { rises = k.0; agree = k.1; quiet = λ _ _. refl }
-keeps_acted earlier s (events.Fed ticket frames) refused rises agree = keeps_happened earlier s (when_fed ticket frames s.machine) rises agree
+keeps_acted earlier s (events.Fed ticket frames) refused rises agree =
+    keeps_happened earlier s (when_fed ticket frames s.machine) rises agree
 keeps_acted earlier s (events.Ended ticket) refused rises agree = keeps_happened earlier s (when_ended ticket s.machine) rises agree
-keeps_acted earlier s (events.Broken ticket cause) refused rises agree = keeps_happened earlier s (when_broken ticket cause s.machine) rises agree
-keeps_acted earlier s (events.Batch job changes) refused rises agree = keeps_happened earlier s (when_found job changes s.machine) rises agree
+keeps_acted earlier s (events.Broken ticket cause) refused rises agree =
+    keeps_happened earlier s (when_broken ticket cause s.machine) rises agree
+keeps_acted earlier s (events.Batch job changes) refused rises agree =
+    keeps_happened earlier s (when_found job changes s.machine) rises agree
 keeps_acted earlier s (events.ScanDone job) refused rises agree = keeps_happened earlier s (when_scanned job s.machine) rises agree
 
 reported_number : (changed : Subsystems) (w : Watched) → let v = reported (grown changed w) in v.client ≡ w.client

@@ -321,23 +321,16 @@ at_within : (index count : ℕ) (refused : Option ℕ) → index < count → IfS
 at_within index count None below h = tt
 at_within index count (Some at) below h = omega (arith, below, h)
 
-first_left : (place : Place) (between : List ℕ) (lines whole rest : List (List ℕ)) (bytes line : List ℕ) (index : ℕ)
-    (first s : MachineState) (before now : Work) (changes : Subsystems) → whole ≡ line ∷ rest → bytes ≡ line →
-    SoFar place between lines whole index first s before now changes →
-    SoFar place between lines (bytes ∷ rest) index first s before now changes
-first_left place between lines whole rest bytes line index first s before now changes parts same far =
-    subst (λ r. SoFar place between lines r index first s before now changes) (parts ∙ ap (λ b. b ∷ rest) (sym same)) far
-
 -- the next command stopped it
-pub ran_stops : (place : Place) (between : List ℕ) (lines whole rest : List (List ℕ)) (bytes line : List ℕ) (index : ℕ)
+pub ran_stops : (place : Place) (between : List ℕ) (lines whole rest : List (List ℕ)) (bytes : List ℕ) (index : ℕ)
     (first s t : MachineState) (before now mid after : Work) (changes : Subsystems) (stop : Stop) (refused : Option ℕ) (ending : Ending) →
-    whole ≡ line ∷ rest → bytes ≡ line → SoFar place between lines whole index first s before now changes →
+    whole ≡ bytes ∷ rest → SoFar place between lines whole index first s before now changes →
     Stopped (attempted place now.size bytes s) s t now mid stop → AnswersStop stop index bytes refused ending mid after →
     RunsLines place between lines first t before after (record { ending = ending; changed = changes; refused_at = refused })
-ran_stops place between lines whole rest bytes line index first s t before now mid after changes stop refused ending parts same far
+ran_stops place between lines whole rest bytes index first s t before now mid after changes stop refused ending parts whole_far
     stopped answer =
     let far : SoFar place between lines (bytes ∷ rest) index first s before now changes =
-    first_left place between lines whole rest bytes line index first s before now changes parts same far in
+    subst (λ r. SoFar place between lines r index first s before now changes) parts whole_far in
     let it = stops_it place between bytes rest index now.size s stop refused ending mid after stopped.why answer in
     let nothing = stopped.nothing in
     let adds = it.adds in
@@ -351,15 +344,15 @@ ran_stops place between lines whole rest bytes line index first s t before now m
     })
     (at_within index (length lines) refused (omega (arith, far.left)) it.within))
 
-pub ran_goes : (place : Place) (between : List ℕ) (lines whole rest : List (List ℕ)) (bytes line : List ℕ) (index : ℕ)
-    (first s t : MachineState) (before now after : Work) (changes set : Subsystems) → whole ≡ line ∷ rest → bytes ≡ line →
+pub ran_goes : (place : Place) (between : List ℕ) (lines whole rest : List (List ℕ)) (bytes : List ℕ) (index : ℕ)
+    (first s t : MachineState) (before now after : Work) (changes set : Subsystems) → whole ≡ bytes ∷ rest →
     SoFar place between lines whole index first s before now changes →
     WentOn between (attempted place now.size bytes s) s t now after set →
     SoFar place between lines rest (index + 1) first t before after (union changes set)
-ran_goes place between lines whole rest bytes line index first s t before now after changes set parts same far h =
+ran_goes place between lines whole rest bytes index first s t before now after changes set parts far h =
     subst (λ n. SoFar place between lines rest n first t before after (union changes set)) (omega arith)
     (so_far_goes place between lines rest bytes index first s t before now after changes set
-    (first_left place between lines whole rest bytes line index first s before now changes parts same far) h)
+    (subst (λ r. SoFar place between lines r index first s before now changes) parts far) h)
 
 next_none : (place : Place) (between : List ℕ) (index size : ℕ) (s : MachineState) →
     ran place between None index size [] s ≡ ends s ok Answered
@@ -367,13 +360,13 @@ unfolding ran
 next_none place between index size s = refl
 
 pub ran_all : (place : Place) (between : List ℕ) (lines rest : List (List ℕ)) (index : ℕ) (first s : MachineState)
-    (before now after : Work) (changes : Subsystems) → length rest ≡ 0 →
+    (before now after : Work) (changes : Subsystems) → rest ≡ [] →
     SoFar place between lines rest index first s before now changes → AddsText ok now after →
     RunsLines place between lines first s before after (record { ending = Answered; changed = changes; refused_at = None })
 ran_all place between lines [] index first s before now after changes empty far h =
     ran_ends place between lines [] index first s before now after changes None ok Answered far tt
     (next_none place between index now.size s) h tt
-ran_all place between lines (r ∷ rest) index first s before now after changes empty far h = absurd (omega (arith, empty))
+ran_all place between lines (r ∷ rest) index first s before now after changes empty far h = cc
 
 -- a command that went well, and what stands behind it
 pub went_on : (named : NamedCommand) (separator : List ℕ) (s t : MachineState) (before mid after : Work) (set : Subsystems) →

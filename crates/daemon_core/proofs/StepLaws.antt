@@ -43,13 +43,15 @@ is_outcome s event p q handled outputs does told watch machine place = record {
   place = place;
 }
 
-pub rebuilt_by : (law : CommandsRebuild) (s : State) (event : Event) (o : Outcome) (t : State) → IsReported event s.machine → IsOutcome s event o t →
+pub rebuilt_by : (law : CommandsRebuild) (s : State) (event : Event) (o : Outcome) (t : State) → IsReported event s.machine
+    → IsOutcome s event o t →
     all_applied o.ops.items s.machine.saved ≡ Some t.machine.saved
 rebuilt_by law s event o t reported h =
     let r = step_rebuilds law s event o.refused_at reported in
     ap (λ ops. all_applied ops s.machine.saved) h.ops ∙ r.state ∙ sym (ap (λ u. Some u.machine.saved) h.after)
 
-pub fits_by : (law : CommandsRebuild) (s : State) (event : Event) (o : Outcome) (t : State) → IsReported event s.machine → IsOutcome s event o t →
+pub fits_by : (law : CommandsRebuild) (s : State) (event : Event) (o : Outcome) (t : State) → IsReported event s.machine
+    → IsOutcome s event o t →
     length (ops_bytes o.ops.items) ≤ max_request_bytes
 fits_by law s event o t reported h =
     let r = step_rebuilds law s event o.refused_at reported in

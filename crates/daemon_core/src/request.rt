@@ -9,7 +9,7 @@ use crate::handled::Handled;
 use crate::outcome::{Bytes, Ending, Output};
 use crate::parts::CoreParts;
 use command_text::{
-    Command, Line, NamedCommand, Place, ReadError, Refusal, Request, SessionCommand,
+    Command, LinesRef, NamedCommand, Place, ReadError, Refusal, Request, SessionCommand,
     SettingsCommand, read_words,
 };
 use idle_masks::{ClientId, Subsystems};
@@ -136,13 +136,14 @@ impl CoreParts {
         }
         match request {
             Request::Single(line) => {
-                self.answer_lines(alloc, client, Place::Alone, false, &[line])
+                let line = LinesRef::of_line(line.bytes());
+                self.answer_lines(alloc, client, Place::Alone, false, line)
             }
             Request::List(lines) => {
-                self.answer_lines(alloc, client, Place::InList, false, lines.as_slice())
+                self.answer_lines(alloc, client, Place::InList, false, lines.as_ref())
             }
             Request::OkList(lines) => {
-                self.answer_lines(alloc, client, Place::InList, true, lines.as_slice())
+                self.answer_lines(alloc, client, Place::InList, true, lines.as_ref())
             }
             Request::Noidle => Ok(Handled::nothing(alloc)),
         }
@@ -155,13 +156,13 @@ impl CoreParts {
         client: ClientId,
         place: Place,
         separated: bool,
-        lines: &[Line],
+        lines: LinesRef<'_>,
     ) -> Result<Handled, NoMemory>
         requires ready { IsReadyToTell self.old }
         requires known { IsSome (watched self.old.watch client) }
         ensures ok { IfOk result (λ handled. Does (runs client (state_of self.old)
-            (ran place (separator separated) handled.refused_at 0 0 lines.now self.old.machine)) self.new handled) }
-        ensures place { IfOk result (λ handled. IfSome handled.refused_at (λ k. k < length lines.now)) }
+            (ran place (separator separated) handled.refused_at 0 0 lines.entry self.old.machine)) self.new handled) }
+        ensures place { IfOk result (λ handled. IfSome handled.refused_at (λ k. k < length lines.entry)) }
         ensures err { OnErr result (state_of self.new ≡ state_of self.old) }
     {
         if lines.len() > MOST_COMMANDS {
@@ -254,12 +255,12 @@ impl CoreParts {
         client: ClientId,
         place: Place,
         separated: bool,
-        lines: &[Line],
+        lines: LinesRef<'_>,
         work: &mut Work,
     ) -> RequestEnd
         requires room { HasRoom ack_room work.old }
-        requires count { length lines.now < 2 ^ 32 }
-        ensures ran { RunsLines place (separator separated) lines.now self.old.machine self.new.machine work.old work.new result }
+        requires count { length lines < 2 ^ 32 }
+        ensures ran { RunsLines place (separator separated) lines.entry self.old.machine self.new.machine work.old work.new result }
         ensures watch { self.new.watch ≡ self.old.watch }
         ensures kept { KeepsRoom self.old.room self.new.room }
         ensures ending { HasRoomToEnd client result.ending self.new }
@@ -268,11 +269,10 @@ impl CoreParts {
         let mut index = 0;
         let mut rest = lines;
         while let Some((line, after)) = rest.split_first() {
-            let bytes = line.bytes();
-            match self.run_line(alloc, client, place, separated, bytes, work) {
+            match self.run_line(alloc, client, place, separated, line, work) {
                 Ok(set) => changed = changed.union(set),
                 Err(stop) => {
-                    let (ending, refused_at) = answer_stop(index, bytes, stop, work);
+                    let (ending, refused_at) = answer_stop(index, line, stop, work);
                     return RequestEnd {
                         ending,
                         changed,

@@ -151,7 +151,7 @@ pub fn line_of(alloc: Global, client: ClientId, text: &str) -> Result<Event, All
 }
 
 fn add_line(lines: &mut Lines, alloc: Global, text: &str) -> Result<(), AllocError> {
-    lines.push(Line::from_bytes(alloc, text.as_bytes())?)?;
+    lines.push(text.as_bytes())?;
     Ok(())
 }
 

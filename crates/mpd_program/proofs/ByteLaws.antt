@@ -1,5 +1,6 @@
 -- Bytes that are written or read in parts.
-use Rattle.std.proofs.Common.{◌≡◌, ℕ, ◌≤◌, List, [], ◌++◌, length, take, drop, Option, Some, None, refl, sym, subst, ◌∙◌, ap, arith, append_assoc}
+use Rattle.std.proofs.Common.{◌≡◌, ℕ, ◌≤◌, List, [], ◌++◌, length, take, drop, Option, Some, None, refl, sym, subst, ◌∙◌, ap, arith}
+use Rattle.std.proofs.Common.{append_assoc}
 use Rattle.std.specs.Io.KnownBytes.{Appends, Consumes, Keeps}
 use Rattle.std.proofs.lemmas.List.{append-nil, take-append-drop, take-append-le}
 use Rattle.std.proofs.Math.Seq.{take-length}
@@ -10,7 +11,8 @@ pub appends_nothing : (bytes : Option (List ℕ)) → Appends bytes bytes []
 appends_nothing None = tt
 appends_nothing (Some xs) = sym (append-nil xs)
 
-pub appends_twice : (first now after : Option (List ℕ)) (a b : List ℕ) → Appends first now a → Appends now after b → Appends first after (a ++ b)
+pub appends_twice : (first now after : Option (List ℕ)) (a b : List ℕ) → Appends first now a → Appends now after b
+    → Appends first after (a ++ b)
 appends_twice None now after a b h k = tt
 appends_twice (Some xs) (Some ys) (Some zs) a b h k = k ∙ ap (λ v. v ++ b) h ∙ append_assoc xs a b
 appends_twice (Some xs) (Some ys) None a b h k = k
@@ -31,7 +33,8 @@ consumes_nothing None after h = tt
 consumes_nothing (Some xs) None h = h
 consumes_nothing (Some xs) (Some ys) h = sym h
 
-pub consumes_twice : (first now after : Option (List ℕ)) (a b : List ℕ) → Consumes first now a → Consumes now after b → Consumes first after (a ++ b)
+pub consumes_twice : (first now after : Option (List ℕ)) (a b : List ℕ) → Consumes first now a → Consumes now after b
+    → Consumes first after (a ++ b)
 consumes_twice None now after a b h k = tt
 consumes_twice (Some xs) (Some ys) (Some zs) a b h k = h ∙ ap (λ v. a ++ v) k ∙ sym (append_assoc a b zs)
 consumes_twice (Some xs) (Some ys) None a b h k = k
@@ -46,30 +49,36 @@ pub record SentSoFar (all left : List ℕ) (first now : Option (List ℕ)) : Typ
 pub sent_none : (all : List ℕ) (first : Option (List ℕ)) → SentSoFar all all first first
 sent_none all first = record { sent = []; parts = refl; appended = appends_nothing first }
 
-pub sent_more : (all left : List ℕ) (n : ℕ) (first now after : Option (List ℕ)) → SentSoFar all left first now → Appends now after (take n left) → SentSoFar all (drop n left) first after
+pub sent_more : (all left : List ℕ) (n : ℕ) (first now after : Option (List ℕ)) → SentSoFar all left first now
+    → Appends now after (take n left) → SentSoFar all (drop n left) first after
 sent_more all left n first now after far more = record {
   sent = far.sent ++ take n left;
   parts = append_assoc far.sent (take n left) (drop n left) ∙ ap (λ v. far.sent ++ v) (take-append-drop n left) ∙ far.parts;
   appended = appends_twice first now after far.sent (take n left) far.appended more;
 }
 
-pub sent_all : (all left : List ℕ) (first now after : Option (List ℕ)) → left ≡ [] → SentSoFar all left first now → Keeps now after → Appends first after all
+pub sent_all : (all left : List ℕ) (first now after : Option (List ℕ)) → left ≡ [] → SentSoFar all left first now → Keeps now after
+    → Appends first after all
 sent_all all left first now after none far kept =
     let whole : far.sent ≡ all = sym (append-nil far.sent) ∙ ap (λ v. far.sent ++ v) (sym none) ∙ far.parts in
     subst (Appends first after) whole (appends_kept first now after far.sent far.appended kept)
 
-pub sent_front : (all left : List ℕ) (first now after : Option (List ℕ)) → SentSoFar all left first now → Keeps now after → WritesFront all first after
-sent_front all left first now after far kept = record { written = far.sent; unwritten = left; parts = far.parts; appended = appends_kept first now after far.sent far.appended kept }
+pub sent_front : (all left : List ℕ) (first now after : Option (List ℕ)) → SentSoFar all left first now → Keeps now after
+    → WritesFront all first after
+sent_front all left first now after far kept =
+    record { written = far.sent; unwritten = left; parts = far.parts; appended = appends_kept first now after far.sent far.appended kept }
 
 -- nothing was written of these bytes, or all
 pub front_none : (bytes : List ℕ) (first after : Option (List ℕ)) → Keeps first after → WritesFront bytes first after
-front_none bytes first after kept = record { written = []; unwritten = bytes; parts = refl; appended = appends_kept first first after [] (appends_nothing first) kept }
+front_none bytes first after kept =
+    record { written = []; unwritten = bytes; parts = refl; appended = appends_kept first first after [] (appends_nothing first) kept }
 
 pub front_all : (bytes : List ℕ) (first after : Option (List ℕ)) → Appends first after bytes → WritesFront bytes first after
 front_all bytes first after all = record { written = bytes; unwritten = []; parts = append-nil bytes; appended = all }
 
 -- all of these bytes, and then a front of more
-pub front_behind : (earlier later : List ℕ) (first now after : Option (List ℕ)) → Appends first now earlier → WritesFront later now after → WritesFront (earlier ++ later) first after
+pub front_behind : (earlier later : List ℕ) (first now after : Option (List ℕ)) → Appends first now earlier → WritesFront later now after
+    → WritesFront (earlier ++ later) first after
 front_behind earlier later first now after all front = record {
   written = earlier ++ front.written;
   unwritten = front.unwritten;
@@ -78,9 +87,11 @@ front_behind earlier later first now after all front = record {
 }
 
 -- only what is queued has changed since the first state
-pub same_but_queued : (first old new : SessionState) (left : List ℕ) → old ≡ record first { queued = old.queued } → new ≡ record old { queued = left } → new ≡ record first { queued = new.queued }
+pub same_but_queued : (first old new : SessionState) (left : List ℕ) → old ≡ record first { queued = old.queued }
+    → new ≡ record old { queued = left } → new ≡ record first { queued = new.queued }
 same_but_queued first old new left before now =
-    now ∙ ap (λ (s : SessionState). record s { queued = left }) before ∙ ap (λ (v : List ℕ). record first { queued = v }) (sym (ap (λ (s : SessionState). s.queued) now))
+    now ∙ ap (λ (s : SessionState). record s { queued = left }) before
+    ∙ ap (λ (v : List ℕ). record first { queued = v }) (sym (ap (λ (s : SessionState). s.queued) now))
 
 -- a buffer that was filled as a whole
 pub refilled : (filled items : List ℕ) (n : ℕ) → length filled ≡ n → take n (filled ++ drop (length filled) items) ≡ filled

@@ -23,8 +23,10 @@ one_served (Ok Cut) other served = refl
 one_served (Ok Faulted) other served = absurd (other refl)
 one_served (Err number) other served = absurd (served refl)
 
-pub served_is_done : (Honest : Type 0) (status : Status) (ending : Ending) (first last : Moment) → IsConsole Honest status ending first last → ending ≢ Faulted → status ≡ Done
-served_is_done Honest status ending first last (inl one) served = one.same_status ∙ one_served one.came_to one.no_fault (λ is. served (one.same_ending ∙ is))
+pub served_is_done : (Honest : Type 0) (status : Status) (ending : Ending) (first last : Moment) → IsConsole Honest status ending first last
+    → ending ≢ Faulted → status ≡ Done
+served_is_done Honest status ending first last (inl one) served = one.same_status
+    ∙ one_served one.came_to one.no_fault (λ is. served (one.same_ending ∙ is))
 served_is_done Honest status ending first last (inr two) served = absurd (served two.same_ending)
 
 -- ---- refused
@@ -48,7 +50,8 @@ refusal_of_life : (Honest : Type 0) (c : ℕ) (came_to : Result Ending ℕ) (sta
 refusal_of_life Honest c came_to status n first last life same is =
     subst (λ (r : Result Ending ℕ). IsLife Honest c r first last) (number_of_life came_to n (sym same ∙ is)) life
 
-pub refused_numbers : (Honest : Type 0) (status : Status) (ending : Ending) (first last : Moment) → IsConsole Honest status ending first last
+pub refused_numbers : (Honest : Type 0) (status : Status) (ending : Ending) (first last : Moment)
+    → IsConsole Honest status ending first last
     → (n : ℕ) → status ≡ JournalRefused n → (n ≡ 4) ⊎ (n ≡ 5) ⊎ (n ≡ 7)
 refused_numbers Honest status ending first last (inl one) n is =
     let r = refusal_of_life Honest 1 one.came_to status n first last one.life one.same_status is in
@@ -64,7 +67,8 @@ some_is None s is = absurd (cc)
 some_is (Some t) s is = refl
 
 -- a fault leaves pairs that give a state
-still_opens : (Honest : Type 0) (c : ℕ) (first between : Moment) → Honest → IsFaulted Honest c first between → AllFind (λ f. IsSome f) first → AllFind (λ f. IsSome f) between
+still_opens : (Honest : Type 0) (c : ℕ) (first between : Moment) → Honest → IsFaulted Honest c first between → AllFind (λ f. IsSome f) first
+    → AllFind (λ f. IsSome f) between
 still_opens Honest c first between honest fault all = λ x y at_x at_y. elim fault.place [
   | inl opening ↦ (
       let holds = opening.holds honest in
@@ -80,7 +84,8 @@ still_opens Honest c first between honest fault all = λ x y at_x at_y. elim fau
 memory_number : (n : ℕ) (error : StartError) → n ≡ start_number_of error → error ≡ NoMemory → n ≡ 7
 memory_number n error is same = is ∙ ap start_number_of same
 
-pub only_memory : (Honest : Type 0) (status : Status) (ending : Ending) (first last : Moment) → IsConsole Honest status ending first last → Honest
+pub only_memory : (Honest : Type 0) (status : Status) (ending : Ending) (first last : Moment) → IsConsole Honest status ending first last
+    → Honest
     → AllFind (λ f. IsSome f) first → (n : ℕ) → status ≡ JournalRefused n → n ≡ 7
 only_memory Honest status ending first last (inl one) honest all n is =
     let r = refusal_of_life Honest 1 one.came_to status n first last one.life one.same_status is in
@@ -91,19 +96,22 @@ only_memory Honest status ending first last (inr two) honest all n is =
 
 -- ---- faulted
 
-one_faulted : (came_to : Result Ending ℕ) → came_to ≢ Ok Faulted → ending_of came_to ≡ Faulted → (n : ℕ) × (status_of came_to ≡ JournalRefused n)
+one_faulted : (came_to : Result Ending ℕ) → came_to ≢ Ok Faulted → ending_of came_to ≡ Faulted
+    → (n : ℕ) × (status_of came_to ≡ JournalRefused n)
 one_faulted (Ok Whole) other is = absurd (cc)
 one_faulted (Ok Cut) other is = absurd (cc)
 one_faulted (Ok Faulted) other is = absurd (other refl)
 one_faulted (Err number) other is = (number, refl)
 
-pub faulted_or_refused : (Honest : Type 0) (status : Status) (ending : Ending) (first last : Moment) → IsConsole Honest status ending first last → Honest → ending ≡ Faulted
+pub faulted_or_refused : (Honest : Type 0) (status : Status) (ending : Ending) (first last : Moment)
+    → IsConsole Honest status ending first last → Honest → ending ≡ Faulted
     → HasFailed first last ⊎ ((n : ℕ) × (status ≡ JournalRefused n))
 faulted_or_refused Honest status ending first last (inl one) honest is =
     let refused = one_faulted one.came_to one.no_fault (sym one.same_ending ∙ is) in
     inr (refused.0, one.same_status ∙ refused.1)
 faulted_or_refused Honest status ending first last (inr two) honest is =
-    inl (failed_still first.faults_a first.faults_b two.between.faults_a two.between.faults_b last.faults_a last.faults_b (two.fault.failed honest) two.later_a two.later_b)
+    inl (failed_still first.faults_a first.faults_b two.between.faults_a two.between.faults_b last.faults_a last.faults_b
+    (two.fault.failed honest) two.later_a two.later_b)
 
 -- ---- two lives
 
@@ -111,13 +119,14 @@ pub two_lives : (Honest Later : Type 0) (first between last : Moment) (before ca
     → before ≡ Ok Faulted → IsLife Honest 1 before first between → (Honest → Later) → IsLife Later 2 came_to between last
     → between.faults_a ≤ last.faults_a → between.faults_b ≤ last.faults_b
     → status ≡ status_of came_to → ending ≡ Faulted → IsConsole Honest status ending first last
-two_lives Honest Later first between last before came_to status ending is life given second later_a later_b same_status same_ending = inr (record {
-  between = between;
-  came_to = came_to;
-  fault = subst (λ (r : Result Ending ℕ). IsLife Honest 1 r first between) is life;
-  life = life_under Honest Later 2 came_to between last given second;
-  later_a = later_a;
-  later_b = later_b;
-  same_status = same_status;
-  same_ending = same_ending;
-})
+two_lives Honest Later first between last before came_to status ending is life given second later_a later_b same_status same_ending =
+    inr (record {
+      between = between;
+      came_to = came_to;
+      fault = subst (λ (r : Result Ending ℕ). IsLife Honest 1 r first between) is life;
+      life = life_under Honest Later 2 came_to between last given second;
+      later_a = later_a;
+      later_b = later_b;
+      same_status = same_status;
+      same_ending = same_ending;
+    })

@@ -37,7 +37,8 @@ batch_leaves : (n : ℕ) (changes : List RowChange) (m : MachineState) → IsRun
 batch_leaves n changes m is =
     by_running (is_running n m)
   where
-    by_running : (runs : Bool) → (let h : Happening = if runs then finds (telling m.saved.songs changes) m else nothing_happens m in IsRunning n h.after.job)
+    by_running : (runs : Bool)
+        → (let h : Happening = if runs then finds (telling m.saved.songs changes) m else nothing_happens m in IsRunning n h.after.job)
     by_running true = finds_leaves n (telling m.saved.songs changes) m is
     by_running false = is
 

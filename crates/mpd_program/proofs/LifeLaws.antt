@@ -16,9 +16,11 @@ use Rattle.live_stage.specs.Found.{found_state, AllFindNow, KeepsFoundState}
 use Rattle.live_stage.specs.Transcript.{replayed}
 use Rattle.live_stage.proofs.RunLaws.{replayed_from_start}
 use Rattle.client_session.specs.Requests.{requests_of}
-use Rattle.mpd_program.specs.Console.{bytes_to, given, events_of, ClosesNone, ClosesAtLast, ClosesNoneBefore, ComesInTurn, JobsInTurn, RunsNone}
+use Rattle.mpd_program.specs.Console.{bytes_to, given, events_of, ClosesNone, ClosesAtLast, ClosesNoneBefore, ComesInTurn, JobsInTurn}
+use Rattle.mpd_program.specs.Console.{RunsNone}
 use Rattle.mpd_program.specs.Lives.{Moment, HasFailed, IsWhole, IsCut, FailsInEvent, IsFaulted, IsRefused, IsLife, refusal_of}
-use Rattle.mpd_program.specs.Serving.{given_from, KeepsOpen, KeepsTurns, KeepsOpenBefore, ClosesLast, ServesAll, ServesToClose, ServesFront, ServesToFault, ServesClient, IsAllRead}
+use Rattle.mpd_program.specs.Serving.{given_from, KeepsOpen, KeepsTurns, KeepsOpenBefore, ClosesLast, ServesAll, ServesToClose, ServesFront}
+use Rattle.mpd_program.specs.Serving.{ServesToFault, ServesClient, IsAllRead}
 use Rattle.mpd_program.specs.declared.console.Ending.{Ending}
 use Rattle.mpd_program.specs.declared.console.Ending.TheVariants.{Whole, Cut, Faulted}
 
@@ -27,8 +29,10 @@ use Rattle.mpd_program.specs.declared.console.Ending.TheVariants.{Whole, Cut, Fa
 given_at_start : (c : ℕ) (kept : SavedState) (history : List Entry) → given_from c (start kept) history ≡ given c kept history
 given_at_start c kept [] = refl
 given_at_start c kept (entry ∷ earlier) =
-    ap (λ (v : List ℕ). v ++ (let now : Stepped = stepped (replayed (start kept) earlier) entry in bytes_to c now.outputs)) (given_at_start c kept earlier)
-    ∙ ap (λ (t : State). given c kept earlier ++ (let now : Stepped = stepped t entry in bytes_to c now.outputs)) (replayed_from_start kept earlier)
+    ap (λ (v : List ℕ). v ++ (let now : Stepped = stepped (replayed (start kept) earlier) entry in bytes_to c now.outputs))
+    (given_at_start c kept earlier)
+    ∙ ap (λ (t : State). given c kept earlier ++ (let now : Stepped = stepped t entry in bytes_to c now.outputs))
+    (replayed_from_start kept earlier)
     ∙ ap (λ v. given c kept earlier ++ bytes_to c v) (outputs_are_replies kept earlier entry)
 
 open_at_start : (kept : SavedState) (history : List Entry) → KeepsOpen (start kept) history → ClosesNone kept history
@@ -63,13 +67,16 @@ Holds t a b = AllFindNow (λ f. f ≡ Some t.machine.saved) a b
 -- or the one after this event
 HoldsEither : State → Event → List Change → List Change → Type 0
 HoldsEither x event a b =
-    (refused : Option ℕ) × AllFindNow (λ f. (f ≡ Some x.machine.saved) ⊎ (let now = stepped x (record { event = event; refused = refused }) in f ≡ Some now.after.machine.saved)) a b
+    (refused : Option ℕ)
+    × AllFindNow (λ f. (f ≡ Some x.machine.saved)
+    ⊎ (let now = stepped x (record { event = event; refused = refused }) in f ≡ Some now.after.machine.saved)) a b
 
 -- ---- a life whose journal was opened
 
 whole_by_end : (Honest : Type 0) (c : ℕ) (first last : Moment) (kept : SavedState) (t : State) (read : List ℕ)
     → (Honest → found_state first.content_a first.content_b ≡ Some kept) → Consumes first.input last.input read
-    → ServesAll c (events_of c (requests_of read)) (start kept) t first.output last.output → IsAllRead read last.input → RunsNone t.machine.job
+    → ServesAll c (events_of c (requests_of read)) (start kept) t first.output last.output → IsAllRead read last.input
+    → RunsNone t.machine.job
     → (Honest → AllFindNow (λ f. f ≡ Some t.machine.saved) last.history_a last.history_b) → IsWhole Honest c first last
 unfolding Holds
 whole_by_end Honest c first last kept t read found consumed p at_end idle holds = record {
@@ -86,7 +93,8 @@ whole_by_end Honest c first last kept t read found consumed p at_end idle holds 
   });
   written = subst (Appends first.output last.output) (given_at_start c kept p.history) p.written;
   found = found;
-  holds = λ honest. subst (λ (v : State). Holds v last.history_a last.history_b) (p.state ∙ replayed_from_start kept p.history) (holds honest);
+  holds = λ honest. subst (λ (v : State). Holds v last.history_a last.history_b) (p.state ∙ replayed_from_start kept p.history)
+      (holds honest);
 }
 
 whole_by_close : (Honest : Type 0) (c : ℕ) (first last : Moment) (kept : SavedState) (t : State) (read : List ℕ)
@@ -103,7 +111,8 @@ whole_by_close Honest c first last kept t read found consumed p holds = record {
   served = inr (record { behind = p.behind; front = p.front; closed = closed_at_start kept p.history p.closed });
   written = subst (Appends first.output last.output) (given_at_start c kept p.history) p.written;
   found = found;
-  holds = λ honest. subst (λ (v : State). Holds v last.history_a last.history_b) (p.state ∙ replayed_from_start kept p.history) (holds honest);
+  holds = λ honest. subst (λ (v : State). Holds v last.history_a last.history_b) (p.state ∙ replayed_from_start kept p.history)
+      (holds honest);
 }
 
 cut_life : (Honest : Type 0) (c : ℕ) (first last : Moment) (kept : SavedState) (t : State) (read : List ℕ)
@@ -125,7 +134,8 @@ cut_life Honest c first last kept t read found consumed p holds = record {
   parts = p.written.parts ∙ given_at_start c kept p.history;
   appended = p.written.appended;
   found = found;
-  holds = λ honest. subst (λ (v : State). Holds v last.history_a last.history_b) (p.state ∙ replayed_from_start kept p.history) (holds honest);
+  holds = λ honest. subst (λ (v : State). Holds v last.history_a last.history_b) (p.state ∙ replayed_from_start kept p.history)
+      (holds honest);
 }
 
 fault_in_event : (Honest : Type 0) (c : ℕ) (first last : Moment) (kept : SavedState) (read : List ℕ)
@@ -145,7 +155,8 @@ fault_in_event Honest c first last kept read found consumed p = record {
   in_turn = turns_at_start kept (record { event = p.event; refused = None } ∷ p.history) p.in_turn;
   written = subst (Appends first.output last.output) (given_at_start c kept p.history) p.written;
   found = found;
-  holds = λ honest. subst (λ (v : State). HoldsEither v p.event last.history_a last.history_b) (replayed_from_start kept p.history) (p.holds honest);
+  holds = λ honest. subst (λ (v : State). HoldsEither v p.event last.history_a last.history_b) (replayed_from_start kept p.history)
+      (p.holds honest);
 }
 
 served_life : (Honest : Type 0) (c : ℕ) (first last : Moment) (kept : SavedState) (t : State) (ending : Ending)
@@ -159,7 +170,8 @@ served_life Honest c first last kept t Whole found p holds failed =
       | inl all ↦ whole_by_end Honest c first last kept t p.read found p.consumed all.0 all.1.0 all.1.1 (holds (λ is. cc))
       | inr closed ↦ whole_by_close Honest c first last kept t p.read found p.consumed closed (holds (λ is. cc))
     ]
-served_life Honest c first last kept t Cut found p holds failed = cut_life Honest c first last kept t p.read found p.consumed p.stops (holds (λ is. cc))
+served_life Honest c first last kept t Cut found p holds failed =
+    cut_life Honest c first last kept t p.read found p.consumed p.stops (holds (λ is. cc))
 served_life Honest c first last kept t Faulted found p holds failed = record {
   place = inr (fault_in_event Honest c first last kept p.read found p.consumed p.stops);
   failed = failed refl;
@@ -173,7 +185,8 @@ pub opened_life : (Honest : Type 0) (c : ℕ) (first last : Moment) (s t : State
     → IsLife Honest c (Ok ending) first last
 opened_life Honest c first last s t ending begun found p holds failed =
     served_life Honest c first last s.machine.saved t ending found
-    (subst (λ (v : State). ServesClient Honest c first.input last.input v t last.history_a last.history_b first.output last.output ending) begun p) holds failed
+    (subst (λ (v : State). ServesClient Honest c first.input last.input v t last.history_a last.history_b first.output last.output ending)
+    begun p) holds failed
 
 -- ---- a life whose journal was not opened
 
@@ -203,9 +216,12 @@ pub refused_life : (Honest : Type 0) (c : ℕ) (first last : Moment) (error : St
     → (Honest → error ≡ Broken → HasFailed first last)
     → IsLife Honest c (refusal_of error) first last
 refused_life Honest c first last NotEmpty refusal cause opens input output holds failed = elim refusal [ ]
-refused_life Honest c first last NoJournal refusal cause opens input output holds failed = not_a_fault Honest c 4 first last NoJournal refusal (λ is. cc) cause opens input output holds refl
-refused_life Honest c first last (Damaged offset) refusal cause opens input output holds failed = not_a_fault Honest c 5 first last (Damaged offset) refusal (λ is. cc) cause opens input output holds refl
-refused_life Honest c first last NoMemory refusal cause opens input output holds failed = not_a_fault Honest c 7 first last NoMemory refusal (λ is. cc) cause opens input output holds refl
+refused_life Honest c first last NoJournal refusal cause opens input output holds failed =
+    not_a_fault Honest c 4 first last NoJournal refusal (λ is. cc) cause opens input output holds refl
+refused_life Honest c first last (Damaged offset) refusal cause opens input output holds failed =
+    not_a_fault Honest c 5 first last (Damaged offset) refusal (λ is. cc) cause opens input output holds refl
+refused_life Honest c first last NoMemory refusal cause opens input output holds failed =
+    not_a_fault Honest c 7 first last NoMemory refusal (λ is. cc) cause opens input output holds refl
 refused_life Honest c first last Broken refusal cause opens input output holds failed = record {
   place = inl (record { input = input; output = output; holds = holds });
   failed = λ honest. failed honest refl;
@@ -213,7 +229,8 @@ refused_life Honest c first last Broken refusal cause opens input output holds f
 
 -- ---- a weaker premise does
 
-faulted_under : (Strong Weak : Type 0) (c : ℕ) (first last : Moment) → (Strong → Weak) → IsFaulted Weak c first last → IsFaulted Strong c first last
+faulted_under : (Strong Weak : Type 0) (c : ℕ) (first last : Moment) → (Strong → Weak) → IsFaulted Weak c first last
+    → IsFaulted Strong c first last
 faulted_under Strong Weak c first last given h = record {
   place = elim h.place [
     | inl opening ↦ inl (record { input = opening.input; output = opening.output; holds = λ strong. opening.holds (given strong) })
@@ -235,7 +252,8 @@ faulted_under Strong Weak c first last given h = record {
   failed = λ strong. h.failed (given strong);
 }
 
-pub life_under : (Strong Weak : Type 0) (c : ℕ) (came_to : Result Ending ℕ) (first last : Moment) → (Strong → Weak) → IsLife Weak c came_to first last → IsLife Strong c came_to first last
+pub life_under : (Strong Weak : Type 0) (c : ℕ) (came_to : Result Ending ℕ) (first last : Moment) → (Strong → Weak)
+    → IsLife Weak c came_to first last → IsLife Strong c came_to first last
 life_under Strong Weak c (Ok Whole) first last given h = record {
   kept = h.kept;
   read = h.read;

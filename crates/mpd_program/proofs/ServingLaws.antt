@@ -1,5 +1,6 @@
 -- Serving events one after the other.
-use Rattle.std.proofs.Common.{◌≤◌, ◌↔◌, arith, true, false, length, ◌==◌, ◌≡◌, ◌≢◌, ◌⊎◌, inl, inr, ℕ, List, [], ◌∷◌, ◌++◌, Option, Some, None, refl, sym, subst, ◌∙◌, ap, append_assoc}
+use Rattle.std.proofs.Common.{◌≤◌, ◌↔◌, arith, true, false, length, ◌==◌, ◌≡◌, ◌≢◌, ◌⊎◌, inl, inr, ℕ, List, [], ◌∷◌, ◌++◌, Option, Some}
+use Rattle.std.proofs.Common.{None, refl, sym, subst, ◌∙◌, ap, append_assoc}
 use Rattle.std.specs.Io.KnownBytes.{Appends, Keeps}
 use Rattle.std.proofs.lemmas.List.{append-nil, nil_from_length, map-append}
 use Rattle.std.proofs.lemmas.Bool.{eqb-true}
@@ -21,7 +22,8 @@ use Rattle.live_stage.specs.LiveState.{LiveState}
 use Rattle.live_stage.specs.Found.{AllFindNow, AllFindSince}
 use Rattle.live_stage.specs.Transcript.{replayed}
 use Rattle.mpd_program.specs.Console.{bytes_to, asked, asked_by, asked_in, ComesInTurn}
-use Rattle.mpd_program.specs.Serving.{given_from, KeepsOpen, KeepsTurns, KeepsOpenBefore, ClosesLast, WritesFront, ServesAll, ServesToClose, ServesFront, ServesToFault, ending_of, Stops}
+use Rattle.mpd_program.specs.Serving.{given_from, KeepsOpen, KeepsTurns, KeepsOpenBefore, ClosesLast, WritesFront, ServesAll, ServesToClose}
+use Rattle.mpd_program.specs.Serving.{ServesFront, ServesToFault, ending_of, Stops}
 use Rattle.mpd_program.specs.declared.console.Ending.{Ending}
 use Rattle.mpd_program.specs.declared.console.Ending.TheVariants.{Whole, Cut, Faulted}
 use Rattle.mpd_program.proofs.ByteLaws.{appends_nothing, appends_twice, appends_kept, keeps_itself, front_none, front_behind}
@@ -30,9 +32,11 @@ use Rattle.mpd_program.proofs.ByteLaws.{appends_nothing, appends_twice, appends_
 
 pub replayed-append : (s : State) (later earlier : List Entry) → replayed s (later ++ earlier) ≡ replayed (replayed s earlier) later
 replayed-append s [] earlier = refl
-replayed-append s (entry ∷ later) earlier = ap (λ (t : State). let now : Stepped = stepped t entry in now.after) (replayed-append s later earlier)
+replayed-append s (entry ∷ later) earlier =
+    ap (λ (t : State). let now : Stepped = stepped t entry in now.after) (replayed-append s later earlier)
 
-given_from-append : (c : ℕ) (s : State) (later earlier : List Entry) → given_from c s (later ++ earlier) ≡ given_from c s earlier ++ given_from c (replayed s earlier) later
+given_from-append : (c : ℕ) (s : State) (later earlier : List Entry)
+    → given_from c s (later ++ earlier) ≡ given_from c s earlier ++ given_from c (replayed s earlier) later
 given_from-append c s [] earlier = sym (append-nil (given_from c s earlier))
 given_from-append c s (entry ∷ later) earlier =
     let last : State → List ℕ = λ t. (let now : Stepped = stepped t entry in bytes_to c now.outputs) in
@@ -42,23 +46,27 @@ given_from-append c s (entry ∷ later) earlier =
 
 asked_in-append : (later earlier : List Entry) → asked_in (later ++ earlier) ≡ asked_in earlier ++ asked_in later
 asked_in-append [] earlier = sym (append-nil (asked_in earlier))
-asked_in-append (entry ∷ later) earlier = ap (λ (v : List Event). v ++ asked entry.event) (asked_in-append later earlier) ∙ append_assoc (asked_in earlier) (asked_in later) (asked entry.event)
+asked_in-append (entry ∷ later) earlier = ap (λ (v : List Event). v ++ asked entry.event) (asked_in-append later earlier)
+    ∙ append_assoc (asked_in earlier) (asked_in later) (asked entry.event)
 
-keeps_turns-append : (s : State) (later earlier : List Entry) → KeepsTurns s earlier → KeepsTurns (replayed s earlier) later → KeepsTurns s (later ++ earlier)
+keeps_turns-append : (s : State) (later earlier : List Entry) → KeepsTurns s earlier → KeepsTurns (replayed s earlier) later
+    → KeepsTurns s (later ++ earlier)
 keeps_turns-append s [] earlier h k = h
 keeps_turns-append s (entry ∷ later) earlier h k = (
   subst (λ (t : State). ComesInTurn t.machine.job entry.event) (sym (replayed-append s later earlier)) k.0,
   keeps_turns-append s later earlier h k.1,
 )
 
-keeps_open-append : (s : State) (later earlier : List Entry) → KeepsOpen s earlier → KeepsOpen (replayed s earlier) later → KeepsOpen s (later ++ earlier)
+keeps_open-append : (s : State) (later earlier : List Entry) → KeepsOpen s earlier → KeepsOpen (replayed s earlier) later
+    → KeepsOpen s (later ++ earlier)
 keeps_open-append s [] earlier h k = h
 keeps_open-append s (entry ∷ later) earlier h k = (
   subst (λ (t : State). let now : Stepped = stepped t entry in now.closes ≡ []) (sym (replayed-append s later earlier)) k.0,
   keeps_open-append s later earlier h k.1,
 )
 
-closes_last-append : (s : State) (later earlier : List Entry) → KeepsOpen s earlier → ClosesLast (replayed s earlier) later → ClosesLast s (later ++ earlier)
+closes_last-append : (s : State) (later earlier : List Entry) → KeepsOpen s earlier → ClosesLast (replayed s earlier) later
+    → ClosesLast s (later ++ earlier)
 closes_last-append s [] earlier h k = absurd k
 closes_last-append s (entry ∷ later) earlier h k = (
   subst (λ (t : State). let now : Stepped = stepped t entry in now.closes ≢ []) (sym (replayed-append s later earlier)) k.0,
@@ -69,12 +77,14 @@ open_before : (s : State) (history : List Entry) → KeepsOpen s history → Kee
 open_before s [] h = tt
 open_before s (entry ∷ earlier) h = h.1
 
-keeps_open_before-append : (s : State) (later earlier : List Entry) → KeepsOpen s earlier → KeepsOpenBefore (replayed s earlier) later → KeepsOpenBefore s (later ++ earlier)
+keeps_open_before-append : (s : State) (later earlier : List Entry) → KeepsOpen s earlier → KeepsOpenBefore (replayed s earlier) later
+    → KeepsOpenBefore s (later ++ earlier)
 keeps_open_before-append s [] earlier h k = open_before s earlier h
 keeps_open_before-append s (entry ∷ later) earlier h k = keeps_open-append s later earlier h k
 
 -- a front of later events, behind all of earlier ones
-behind_all : (later earlier : List Entry) (first second behind : List Event) → asked_in earlier ≡ first → asked_in later ++ behind ≡ second → asked_in (later ++ earlier) ++ behind ≡ first ++ second
+behind_all : (later earlier : List Entry) (first second behind : List Event) → asked_in earlier ≡ first → asked_in later ++ behind ≡ second
+    → asked_in (later ++ earlier) ++ behind ≡ first ++ second
 behind_all later earlier first second behind all front =
     ap (λ (v : List Event). v ++ behind) (asked_in-append later earlier)
     ∙ append_assoc (asked_in earlier) (asked_in later) behind
@@ -92,17 +102,20 @@ serves_on c first second s t u before now after p more =
     let q : ServesAll c second (replayed s p.history) u now after = subst (λ (x : State). ServesAll c second x u now after) p.state more in
     record {
       history = q.history ++ p.history;
-      all = asked_in-append q.history p.history ∙ ap (λ (v : List Event). v ++ asked_in q.history) p.all ∙ ap (λ (v : List Event). first ++ v) q.all;
+      all = asked_in-append q.history p.history ∙ ap (λ (v : List Event). v ++ asked_in q.history) p.all
+          ∙ ap (λ (v : List Event). first ++ v) q.all;
       stays_open = keeps_open-append s q.history p.history p.stays_open q.stays_open;
       in_turn = keeps_turns-append s q.history p.history p.in_turn q.in_turn;
       state = q.state ∙ sym (replayed-append s q.history p.history);
-      written = subst (Appends before after) (sym (given_from-append c s q.history p.history)) (appends_twice before now after _ _ p.written q.written);
+      written = subst (Appends before after) (sym (given_from-append c s q.history p.history))
+          (appends_twice before now after _ _ p.written q.written);
     }
 
 closes_on : (c : ℕ) (first second : List Event) (s t u : State) (before now after : Option (List ℕ))
     → ServesAll c first s t before now → ServesToClose c second t u now after → ServesToClose c (first ++ second) s u before after
 closes_on c first second s t u before now after p more =
-    let q : ServesToClose c second (replayed s p.history) u now after = subst (λ (x : State). ServesToClose c second x u now after) p.state more in
+    let q : ServesToClose c second (replayed s p.history) u now after =
+    subst (λ (x : State). ServesToClose c second x u now after) p.state more in
     record {
       history = q.history ++ p.history;
       behind = q.behind;
@@ -110,13 +123,15 @@ closes_on c first second s t u before now after p more =
       closed = closes_last-append s q.history p.history p.stays_open q.closed;
       in_turn = keeps_turns-append s q.history p.history p.in_turn q.in_turn;
       state = q.state ∙ sym (replayed-append s q.history p.history);
-      written = subst (Appends before after) (sym (given_from-append c s q.history p.history)) (appends_twice before now after _ _ p.written q.written);
+      written = subst (Appends before after) (sym (given_from-append c s q.history p.history))
+          (appends_twice before now after _ _ p.written q.written);
     }
 
 cut_on : (c : ℕ) (first second : List Event) (s t u : State) (before now after : Option (List ℕ))
     → ServesAll c first s t before now → ServesFront c second t u now after → ServesFront c (first ++ second) s u before after
 cut_on c first second s t u before now after p more =
-    let q : ServesFront c second (replayed s p.history) u now after = subst (λ (x : State). ServesFront c second x u now after) p.state more in
+    let q : ServesFront c second (replayed s p.history) u now after =
+    subst (λ (x : State). ServesFront c second x u now after) p.state more in
     record {
       history = q.history ++ p.history;
       behind = q.behind;
@@ -124,19 +139,23 @@ cut_on c first second s t u before now after p more =
       stays_open = keeps_open_before-append s q.history p.history p.stays_open q.stays_open;
       in_turn = keeps_turns-append s q.history p.history p.in_turn q.in_turn;
       state = q.state ∙ sym (replayed-append s q.history p.history);
-      written = subst (λ (v : List ℕ). WritesFront v before after) (sym (given_from-append c s q.history p.history)) (front_behind _ _ before now after p.written q.written);
+      written = subst (λ (v : List ℕ). WritesFront v before after) (sym (given_from-append c s q.history p.history))
+          (front_behind _ _ before now after p.written q.written);
     }
 
 -- a restart finds this state or the one after this event
 HoldsEither : Type 0 → State → Event → List Change → List Change → Type 0
 HoldsEither Honest x event a b =
-    Honest → (refused : Option ℕ) × AllFindNow (λ f. (f ≡ Some x.machine.saved) ⊎ (let now = stepped x (record { event = event; refused = refused }) in f ≡ Some now.after.machine.saved)) a b
+    Honest → (refused : Option ℕ) × AllFindNow (λ f. (f ≡ Some x.machine.saved)
+    ⊎ (let now = stepped x (record { event = event; refused = refused }) in f ≡ Some now.after.machine.saved)) a b
 
 fault_on : (Honest : Type 0) (c : ℕ) (first second : List Event) (s t : State) (a b : List Change) (before now after : Option (List ℕ))
-    → ServesAll c first s t before now → ServesToFault Honest c second t a b now after → ServesToFault Honest c (first ++ second) s a b before after
+    → ServesAll c first s t before now → ServesToFault Honest c second t a b now after
+    → ServesToFault Honest c (first ++ second) s a b before after
 unfolding HoldsEither
 fault_on Honest c first second s t a b before now after p more =
-    let q : ServesToFault Honest c second (replayed s p.history) a b now after = subst (λ (x : State). ServesToFault Honest c second x a b now after) p.state more in
+    let q : ServesToFault Honest c second (replayed s p.history) a b now after =
+    subst (λ (x : State). ServesToFault Honest c second x a b now after) p.state more in
     record {
       history = q.history ++ p.history;
       event = q.event;
@@ -144,12 +163,15 @@ fault_on Honest c first second s t a b before now after p more =
       front = behind_all q.history p.history first second (asked q.event ++ q.behind) p.all q.front;
       stays_open = keeps_open-append s q.history p.history p.stays_open q.stays_open;
       in_turn = keeps_turns-append s (record { event = q.event; refused = None } ∷ q.history) p.history p.in_turn q.in_turn;
-      written = subst (Appends before after) (sym (given_from-append c s q.history p.history)) (appends_twice before now after _ _ p.written q.written);
+      written = subst (Appends before after) (sym (given_from-append c s q.history p.history))
+          (appends_twice before now after _ _ p.written q.written);
       holds = subst (λ (x : State). HoldsEither Honest x q.event a b) (sym (replayed-append s q.history p.history)) q.holds;
     }
 
-pub stops_on : (Honest : Type 0) (c : ℕ) (first second : List Event) (s t u : State) (a b : List Change) (before now after : Option (List ℕ)) (ending : Ending)
-    → ServesAll c first s t before now → Stops Honest c second t u a b now after ending → Stops Honest c (first ++ second) s u a b before after ending
+pub stops_on : (Honest : Type 0) (c : ℕ) (first second : List Event) (s t u : State) (a b : List Change)
+    (before now after : Option (List ℕ)) (ending : Ending)
+    → ServesAll c first s t before now → Stops Honest c second t u a b now after ending
+    → Stops Honest c (first ++ second) s u a b before after ending
 stops_on Honest c first second s t u a b before now after Whole p q = closes_on c first second s t u before now after p q
 stops_on Honest c first second s t u a b before now after Cut p q = cut_on c first second s t u before now after p q
 stops_on Honest c first second s t u a b before now after Faulted p q = fault_on Honest c first second s t a b before now after p q
@@ -159,7 +181,8 @@ stops_on Honest c first second s t u a b before now after Faulted p q = fault_on
 more_behind : (served behind events more : List Event) → served ++ behind ≡ events → served ++ (behind ++ more) ≡ events ++ more
 more_behind served behind events more front = sym (append_assoc served behind more) ∙ ap (λ (v : List Event). v ++ more) front
 
-pub stops_before : (Honest : Type 0) (c : ℕ) (first more : List Event) (s u : State) (a b : List Change) (before after : Option (List ℕ)) (ending : Ending)
+pub stops_before : (Honest : Type 0) (c : ℕ) (first more : List Event) (s u : State) (a b : List Change) (before after : Option (List ℕ))
+    (ending : Ending)
     → Stops Honest c first s u a b before after ending → Stops Honest c (first ++ more) s u a b before after ending
 stops_before Honest c first more s u a b before after Whole q = record {
   history = q.history;
@@ -183,7 +206,8 @@ stops_before Honest c first more s u a b before after Faulted q = record {
   history = q.history;
   event = q.event;
   behind = q.behind ++ more;
-  front = ap (λ (v : List Event). asked_in q.history ++ v) (sym (append_assoc (asked q.event) q.behind more)) ∙ more_behind (asked_in q.history) (asked q.event ++ q.behind) first more q.front;
+  front = ap (λ (v : List Event). asked_in q.history ++ v) (sym (append_assoc (asked q.event) q.behind more))
+      ∙ more_behind (asked_in q.history) (asked q.event ++ q.behind) first more q.front;
   stays_open = q.stays_open;
   in_turn = q.in_turn;
   written = q.written;
@@ -191,7 +215,8 @@ stops_before Honest c first more s u a b before after Faulted q = record {
 }
 
 -- a weaker premise does
-pub stops_under : (Strong Weak : Type 0) (c : ℕ) (events : List Event) (s u : State) (a b : List Change) (before after : Option (List ℕ)) (ending : Ending)
+pub stops_under : (Strong Weak : Type 0) (c : ℕ) (events : List Event) (s u : State) (a b : List Change) (before after : Option (List ℕ))
+    (ending : Ending)
     → (Strong → Weak) → Stops Weak c events s u a b before after ending → Stops Strong c events s u a b before after ending
 stops_under Strong Weak c events s u a b before after Whole given q = q
 stops_under Strong Weak c events s u a b before after Cut given q = q
@@ -207,7 +232,8 @@ stops_under Strong Weak c events s u a b before after Faulted given q = record {
 }
 
 -- all that was to be served was, and more could not be
-pub cut_behind : (c : ℕ) (first more : List Event) (s t : State) (before after : Option (List ℕ)) → ServesAll c first s t before after → ServesFront c (first ++ more) s t before after
+pub cut_behind : (c : ℕ) (first more : List Event) (s t : State) (before after : Option (List ℕ)) → ServesAll c first s t before after
+    → ServesFront c (first ++ more) s t before after
 cut_behind c first more s t before after p = record {
   history = p.history;
   behind = more;
@@ -227,8 +253,10 @@ pub some_where : (closes : List ℕ) → false ≡ (length closes == 0) → clos
 some_where [] is = absurd (cc)
 some_where (c ∷ closes) is = λ none. cc
 
-pub one_answered : (c : ℕ) (event : Event) (k : Option ℕ) (s t : State) (outputs : List Output) (closes : List ℕ) (before after : Option (List ℕ))
-    → (let now = step s event k in t ≡ now.after) → (let now = step s event k in outputs ≡ now.outputs) → (let now = step s event k in closes ≡ now.closes)
+pub one_answered : (c : ℕ) (event : Event) (k : Option ℕ) (s t : State) (outputs : List Output) (closes : List ℕ)
+    (before after : Option (List ℕ))
+    → (let now = step s event k in t ≡ now.after) → (let now = step s event k in outputs ≡ now.outputs)
+    → (let now = step s event k in closes ≡ now.closes)
     → ComesInTurn s.machine.job event → closes ≡ [] → Appends before after (bytes_to c outputs) → ServesAll c (asked event) s t before after
 one_answered c event k s t outputs closes before after state given closed turn none written = record {
   history = record { event = event; refused = k } ∷ [];
@@ -239,9 +267,12 @@ one_answered c event k s t outputs closes before after state given closed turn n
   written = subst (λ (v : List Output). Appends before after (bytes_to c v)) given written;
 }
 
-pub one_closed : (c : ℕ) (event : Event) (k : Option ℕ) (s t : State) (outputs : List Output) (closes : List ℕ) (before after : Option (List ℕ))
-    → (let now = step s event k in t ≡ now.after) → (let now = step s event k in outputs ≡ now.outputs) → (let now = step s event k in closes ≡ now.closes)
-    → ComesInTurn s.machine.job event → closes ≢ [] → Appends before after (bytes_to c outputs) → ServesToClose c (asked event) s t before after
+pub one_closed : (c : ℕ) (event : Event) (k : Option ℕ) (s t : State) (outputs : List Output) (closes : List ℕ)
+    (before after : Option (List ℕ))
+    → (let now = step s event k in t ≡ now.after) → (let now = step s event k in outputs ≡ now.outputs)
+    → (let now = step s event k in closes ≡ now.closes)
+    → ComesInTurn s.machine.job event → closes ≢ [] → Appends before after (bytes_to c outputs)
+    → ServesToClose c (asked event) s t before after
 one_closed c event k s t outputs closes before after state given closed turn some written = record {
   history = record { event = event; refused = k } ∷ [];
   behind = [];
@@ -266,7 +297,8 @@ one_cut c event k s t outputs before after state given turn written = record {
 }
 
 -- none of these events was served
-pub none_served : (c : ℕ) (events : List Event) (s t : State) (before after : Option (List ℕ)) → t ≡ s → Keeps before after → ServesFront c events s t before after
+pub none_served : (c : ℕ) (events : List Event) (s t : State) (before after : Option (List ℕ)) → t ≡ s → Keeps before after
+    → ServesFront c events s t before after
 none_served c events s t before after same kept = record {
   history = [];
   behind = events;
@@ -278,7 +310,8 @@ none_served c events s t before after same kept = record {
 }
 
 pub one_failed : (Honest : Type 0) (c : ℕ) (event : Event) (s : State) (a b : List Change) (t u : ℕ) (before after : Option (List ℕ))
-    → (Honest → (k : Option ℕ) × AllFindSince (λ f. (f ≡ Some s.machine.saved) ⊎ (let now = step s event k in f ≡ Some now.after.machine.saved)) a t b u)
+    → (Honest → (k : Option ℕ) × AllFindSince (λ f. (f ≡ Some s.machine.saved)
+    ⊎ (let now = step s event k in f ≡ Some now.after.machine.saved)) a t b u)
     → ComesInTurn s.machine.job event → Keeps before after → ServesToFault Honest c (asked event) s a b before after
 one_failed Honest c event s a b t u before after found turn kept = record {
   history = [];
@@ -292,15 +325,21 @@ one_failed Honest c event s a b t u before after found turn kept = record {
 }
 
 -- an event was refused
-pub one_refused : {D : Type 0} (Honest : Type 0) (c : ℕ) (event : Event) (old new : LiveState D) (e : LiveError) (a b : List Change) (t u : ℕ) (before : Option (List ℕ))
-    → (Honest → (k : Option ℕ) × AllFindSince (λ f. (f ≡ Some old.state.machine.saved) ⊎ (let now = step old.state event k in f ≡ Some now.after.machine.saved)) a t b u)
+pub one_refused : {D : Type 0} (Honest : Type 0) (c : ℕ) (event : Event) (old new : LiveState D) (e : LiveError) (a b : List Change)
+    (t u : ℕ) (before : Option (List ℕ))
+    → (Honest → (k : Option ℕ) × AllFindSince (λ f. (f ≡ Some old.state.machine.saved)
+    ⊎ (let now = step old.state event k in f ≡ Some now.after.machine.saved)) a t b u)
     → ComesInTurn old.state.machine.job event → (e ≢ Broken → new ≡ old)
     → Stops Honest c (asked event) old.state new.state a b before before (ending_of e)
-one_refused Honest c event old new Broken a b t u before found turn stays = one_failed Honest c event old.state a b t u before before found turn (keeps_itself before)
-one_refused Honest c event old new NoMemory a b t u before found turn stays = none_served c (asked event) old.state new.state before before (ap (λ v. v.state) (stays (λ is. cc))) (keeps_itself before)
-one_refused Honest c event old new NumbersSpent a b t u before found turn stays = none_served c (asked event) old.state new.state before before (ap (λ v. v.state) (stays (λ is. cc))) (keeps_itself before)
+one_refused Honest c event old new Broken a b t u before found turn stays =
+    one_failed Honest c event old.state a b t u before before found turn (keeps_itself before)
+one_refused Honest c event old new NoMemory a b t u before found turn stays =
+    none_served c (asked event) old.state new.state before before (ap (λ v. v.state) (stays (λ is. cc))) (keeps_itself before)
+one_refused Honest c event old new NumbersSpent a b t u before found turn stays =
+    none_served c (asked event) old.state new.state before before (ap (λ v. v.state) (stays (λ is. cc))) (keeps_itself before)
 
-pub still_usable : {D : Type 0} (old new : LiveState D) (e : LiveError) → old.is_broken ≡ false → (e ≢ Broken → new ≡ old) → ending_of e ≢ Faulted → new.is_broken ≡ false
+pub still_usable : {D : Type 0} (old new : LiveState D) (e : LiveError) → old.is_broken ≡ false → (e ≢ Broken → new ≡ old)
+    → ending_of e ≢ Faulted → new.is_broken ≡ false
 still_usable old new Broken usable stays other = absurd (other refl)
 still_usable old new NoMemory usable stays other = ap (λ v. v.is_broken) (stays (λ is. cc)) ∙ usable
 still_usable old new NumbersSpent usable stays other = ap (λ v. v.is_broken) (stays (λ is. cc)) ∙ usable
@@ -323,69 +362,88 @@ grown_still : (first old new : ℕ) → HasGrown first old → old ≤ new → H
 grown_still first old new grown later = λ below. let more = grown (omega (arith, below, later)) in omega (arith, later, more)
 
 -- a fault that came later, or before
-pub failed_since : (first_a first_b old_a old_b new_a new_b : ℕ) → first_a ≤ old_a → first_b ≤ old_b → HasGrown old_a new_a ⊎ HasGrown old_b new_b → HasGrown first_a new_a ⊎ HasGrown first_b new_b
+pub failed_since : (first_a first_b old_a old_b new_a new_b : ℕ) → first_a ≤ old_a → first_b ≤ old_b
+    → HasGrown old_a new_a ⊎ HasGrown old_b new_b → HasGrown first_a new_a ⊎ HasGrown first_b new_b
 failed_since first_a first_b old_a old_b new_a new_b later_a later_b (inl grown) = inl (grown_since first_a old_a new_a later_a grown)
 failed_since first_a first_b old_a old_b new_a new_b later_a later_b (inr grown) = inr (grown_since first_b old_b new_b later_b grown)
 
-pub failed_still : (first_a first_b old_a old_b new_a new_b : ℕ) → HasGrown first_a old_a ⊎ HasGrown first_b old_b → old_a ≤ new_a → old_b ≤ new_b → HasGrown first_a new_a ⊎ HasGrown first_b new_b
+pub failed_still : (first_a first_b old_a old_b new_a new_b : ℕ) → HasGrown first_a old_a ⊎ HasGrown first_b old_b → old_a ≤ new_a
+    → old_b ≤ new_b → HasGrown first_a new_a ⊎ HasGrown first_b new_b
 failed_still first_a first_b old_a old_b new_a new_b (inl grown) later_a later_b = inl (grown_still first_a old_a new_a grown later_a)
 failed_still first_a first_b old_a old_b new_a new_b (inr grown) later_a later_b = inr (grown_still first_b old_b new_b grown later_b)
 
 -- a client was served so far, and its stage may go on
-pub record IsServedSoFar {D : Type 0} (honest : D → Type 0) (history : D → List Change) (faults : D → ℕ) (c : ℕ) (events : List Event) (first now : LiveState D) (before after : Option (List ℕ)) : Type 0 where
+pub record IsServedSoFar {D : Type 0} (honest : D → Type 0) (history : D → List Change) (faults : D → ℕ) (c : ℕ) (events : List Event)
+    (first now : LiveState D) (before after : Option (List ℕ)) : Type 0 where
   pub served : ServesAll c events first.state now.state before after
   pub usable : now.is_broken ≡ false
   pub disks : KeepsDisks honest history faults first now
 
-pub none_so_far : {D : Type 0} (honest : D → Type 0) (history : D → List Change) (faults : D → ℕ) (c : ℕ) (first : LiveState D) (before : Option (List ℕ)) → first.is_broken ≡ false → IsServedSoFar honest history faults c [] first first before before
-none_so_far honest history faults c first before usable = record { served = serves_none c first.state before; usable = usable; disks = pair_begin honest history faults first.a first.b }
+pub none_so_far : {D : Type 0} (honest : D → Type 0) (history : D → List Change) (faults : D → ℕ) (c : ℕ) (first : LiveState D)
+    (before : Option (List ℕ)) → first.is_broken ≡ false → IsServedSoFar honest history faults c [] first first before before
+none_so_far honest history faults c first before usable =
+    record { served = serves_none c first.state before; usable = usable; disks = pair_begin honest history faults first.a first.b }
 
-pub more_so_far : {D : Type 0} (honest : D → Type 0) (history : D → List Change) (faults : D → ℕ) (c : ℕ) (events more all : List Event) (first old new : LiveState D) (before now after : Option (List ℕ))
-    → events ++ more ≡ all → IsServedSoFar honest history faults c events first old before now → IsServedSoFar honest history faults c more old new now after → IsServedSoFar honest history faults c all first new before after
+pub more_so_far : {D : Type 0} (honest : D → Type 0) (history : D → List Change) (faults : D → ℕ) (c : ℕ) (events more all : List Event)
+    (first old new : LiveState D) (before now after : Option (List ℕ))
+    → events ++ more ≡ all → IsServedSoFar honest history faults c events first old before now
+    → IsServedSoFar honest history faults c more old new now after → IsServedSoFar honest history faults c all first new before after
 more_so_far honest history faults c events more all first old new before now after joined p q = record {
-  served = subst (λ (v : List Event). ServesAll c v first.state new.state before after) joined (serves_on c events more first.state old.state new.state before now after p.served q.served);
+  served = subst (λ (v : List Event). ServesAll c v first.state new.state before after) joined
+      (serves_on c events more first.state old.state new.state before now after p.served q.served);
   usable = q.usable;
   disks = pair_on p.disks q.disks;
 }
 
 -- and then it could be served no more
-pub stops_so_far : {D : Type 0} (honest : D → Type 0) (history : D → List Change) (faults : D → ℕ) (c : ℕ) (events more behind all : List Event) (first old new : LiveState D) (a b : List Change) (before now after : Option (List ℕ)) (ending : Ending)
+pub stops_so_far : {D : Type 0} (honest : D → Type 0) (history : D → List Change) (faults : D → ℕ) (c : ℕ)
+    (events more behind all : List Event) (first old new : LiveState D) (a b : List Change) (before now after : Option (List ℕ))
+    (ending : Ending)
     → (events ++ more) ++ behind ≡ all → IsServedSoFar honest history faults c events first old before now
     → Stops (honest old.a × honest old.b) c more old.state new.state a b now after ending
     → Stops (honest first.a × honest first.b) c all first.state new.state a b before after ending
 stops_so_far honest history faults c events more behind all first old new a b before now after ending joined p q =
-    let weaker = stops_under (honest first.a × honest first.b) (honest old.a × honest old.b) c more old.state new.state a b now after ending (λ h. (p.disks.a.honesty.0 h.0, p.disks.b.honesty.0 h.1)) q in
-    let on = stops_on (honest first.a × honest first.b) c events more first.state old.state new.state a b before now after ending p.served weaker in
+    let weaker = stops_under (honest first.a × honest first.b) (honest old.a × honest old.b) c more old.state new.state a b now after ending
+    (λ h. (p.disks.a.honesty.0 h.0, p.disks.b.honesty.0 h.1)) q in
+    let on = stops_on (honest first.a × honest first.b) c events more first.state old.state new.state a b before now after ending p.served
+    weaker in
     subst (λ (v : List Event). Stops (honest first.a × honest first.b) c v first.state new.state a b before after ending) joined
     (stops_before (honest first.a × honest first.b) c (events ++ more) behind first.state new.state a b before after ending on)
 
 -- ---- requests
 
 -- of all these requests some were served, and these are left
-pub record ServesRequests {D : Type 0} (honest : D → Type 0) (history : D → List Change) (faults : D → ℕ) (c : ℕ) (all left : List Request) (first now : LiveState D) (before after : Option (List ℕ)) : Type 0 where
+pub record ServesRequests {D : Type 0} (honest : D → Type 0) (history : D → List Change) (faults : D → ℕ) (c : ℕ) (all left : List Request)
+    (first now : LiveState D) (before after : Option (List ℕ)) : Type 0 where
   pub done : List Request
   pub parts : done ++ left ≡ all
   pub so_far : IsServedSoFar honest history faults c (asked_by c done) first now before after
 
-pub requests_begin : {D : Type 0} (honest : D → Type 0) (history : D → List Change) (faults : D → ℕ) (c : ℕ) (all left : List Request) (first : LiveState D) (before : Option (List ℕ))
+pub requests_begin : {D : Type 0} (honest : D → Type 0) (history : D → List Change) (faults : D → ℕ) (c : ℕ) (all left : List Request)
+    (first : LiveState D) (before : Option (List ℕ))
     → left ≡ all → first.is_broken ≡ false → ServesRequests honest history faults c all left first first before before
-requests_begin honest history faults c all left first before same usable = record { done = []; parts = same; so_far = none_so_far honest history faults c first before usable }
+requests_begin honest history faults c all left first before same usable =
+    record { done = []; parts = same; so_far = none_so_far honest history faults c first before usable }
 
 pub asked_by-append : (c : ℕ) (xs ys : List Request) → asked_by c (xs ++ ys) ≡ asked_by c xs ++ asked_by c ys
 asked_by-append c xs ys = map-append (λ r. events.Request c r) xs ys
 
-pub requests_on : {D : Type 0} (honest : D → Type 0) (history : D → List Change) (faults : D → ℕ) (c : ℕ) (all left behind : List Request) (request : Request) (first old new : LiveState D) (before now after : Option (List ℕ))
+pub requests_on : {D : Type 0} (honest : D → Type 0) (history : D → List Change) (faults : D → ℕ) (c : ℕ) (all left behind : List Request)
+    (request : Request) (first old new : LiveState D) (before now after : Option (List ℕ))
     → left ≡ request ∷ behind → ServesRequests honest history faults c all left first old before now
-    → ServesAll c (events.Request c request ∷ []) old.state new.state now after → new.is_broken ≡ false → KeepsDisks honest history faults old new
+    → ServesAll c (events.Request c request ∷ []) old.state new.state now after → new.is_broken ≡ false
+    → KeepsDisks honest history faults old new
     → ServesRequests honest history faults c all behind first new before after
 requests_on honest history faults c all left behind request first old new before now after is far served usable disks = record {
   done = far.done ++ request ∷ [];
   parts = append_assoc far.done (request ∷ []) behind ∙ ap (λ (v : List Request). far.done ++ v) (sym is) ∙ far.parts;
-  so_far = more_so_far honest history faults c (asked_by c far.done) (events.Request c request ∷ []) (asked_by c (far.done ++ request ∷ [])) first old new before now after
+  so_far = more_so_far honest history faults c (asked_by c far.done) (events.Request c request ∷ []) (asked_by c (far.done ++ request ∷ []))
+      first old new before now after
       (sym (asked_by-append c far.done (request ∷ []))) far.so_far (record { served = served; usable = usable; disks = disks });
 }
 
-pub requests_stop : {D : Type 0} (honest : D → Type 0) (history : D → List Change) (faults : D → ℕ) (c : ℕ) (all left behind : List Request) (request : Request) (first old new : LiveState D) (a b : List Change) (before now after : Option (List ℕ)) (ending : Ending)
+pub requests_stop : {D : Type 0} (honest : D → Type 0) (history : D → List Change) (faults : D → ℕ) (c : ℕ) (all left behind : List Request)
+    (request : Request) (first old new : LiveState D) (a b : List Change) (before now after : Option (List ℕ)) (ending : Ending)
     → left ≡ request ∷ behind → ServesRequests honest history faults c all left first old before now
     → Stops (honest old.a × honest old.b) c (events.Request c request ∷ []) old.state new.state a b now after ending
     → Stops (honest first.a × honest first.b) c (asked_by c all) first.state new.state a b before after ending
@@ -395,9 +453,13 @@ requests_stop honest history faults c all left behind request first old new a b 
     ∙ sym (asked_by-append c far.done (request ∷ behind))
     ∙ ap (λ (v : List Request). asked_by c (far.done ++ v)) (sym is)
     ∙ ap (asked_by c) far.parts in
-    stops_so_far honest history faults c (asked_by c far.done) (events.Request c request ∷ []) (asked_by c behind) (asked_by c all) first old new a b before now after ending joined far.so_far stops
+    stops_so_far honest history faults c (asked_by c far.done) (events.Request c request ∷ []) (asked_by c behind) (asked_by c all) first
+    old new a b before now after ending joined far.so_far stops
 
-pub requests_all : {D : Type 0} (honest : D → Type 0) (history : D → List Change) (faults : D → ℕ) (c : ℕ) (all left : List Request) (first now : LiveState D) (before after : Option (List ℕ))
-    → left ≡ [] → ServesRequests honest history faults c all left first now before after → ServesAll c (asked_by c all) first.state now.state before after
+pub requests_all : {D : Type 0} (honest : D → Type 0) (history : D → List Change) (faults : D → ℕ) (c : ℕ) (all left : List Request)
+    (first now : LiveState D) (before after : Option (List ℕ))
+    → left ≡ [] → ServesRequests honest history faults c all left first now before after
+    → ServesAll c (asked_by c all) first.state now.state before after
 requests_all honest history faults c all left first now before after none far =
-    subst (λ (v : List Request). ServesAll c (asked_by c v) first.state now.state before after) (sym (append-nil far.done) ∙ ap (λ (v : List Request). far.done ++ v) (sym none) ∙ far.parts) far.so_far.served
+    subst (λ (v : List Request). ServesAll c (asked_by c v) first.state now.state before after)
+    (sym (append-nil far.done) ∙ ap (λ (v : List Request). far.done ++ v) (sym none) ∙ far.parts) far.so_far.served

@@ -9,8 +9,7 @@ use Rattle.live_stage.specs.declared.refusal.LiveError.{LiveError}
 use Rattle.live_stage.specs.declared.refusal.LiveError.TheVariants.{Broken, NoMemory, NumbersSpent}
 use Rattle.live_stage.specs.Found.{AllFindNow}
 use Rattle.live_stage.specs.Transcript.{replayed}
-use Rattle.client_session.specs.Lines.{BeginsTooLong}
-use Rattle.client_session.specs.Requests.{requests_of, rest_of}
+use Rattle.client_session.specs.Requests.{fault_of, left_of, requests_of}
 use Rattle.mpd_program.specs.Console.{bytes_to, asked, asked_by, asked_in, events_of, ComesInTurn, RunsNone}
 use Rattle.mpd_program.specs.declared.console.Ending.{Ending}
 use Rattle.mpd_program.specs.declared.console.Ending.TheVariants.{Whole, Cut, Faulted}
@@ -107,11 +106,11 @@ Stops Honest c events s t a b before after Whole = ServesToClose c events s t be
 Stops Honest c events s t a b before after Cut = ServesFront c events s t before after
 Stops Honest c events s t a b before after Faulted = ServesToFault Honest c events s a b before after
 
--- The input is at its end; or it was read 2^64 - 1 times and gave a byte each time, which is taken for its end. What is left of it
--- begins no line that is too long.
+-- The input is at its end; or it was read 2^64 - 1 times and gave a byte each time, which is taken for its end. Neither a line nor
+-- a command list of it is too long.
 pub record IsAllRead (read : List ℕ) (input : Option (List ℕ)) : Type 0 where
   pub ended : IsAtEnd input ⊎ (2 ^ 64 - 1 ≤ length read)
-  pub short : BeginsTooLong (rest_of read) → ⊥
+  pub whole : fault_of (left_of read) ≡ None
 
 -- What came of the input that was read: at its end all requests were served, and no job runs, else the serving stopped.
 pub record ServesInput (Honest : Type 0) (c : ℕ) (first last : Option (List ℕ)) (s t : State) (a b : List Change)

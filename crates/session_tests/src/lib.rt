@@ -4,6 +4,12 @@
 #[cfg(test)]
 mod assertions;
 #[cfg(test)]
+mod cutting;
+#[cfg(test)]
+mod feeding;
+#[cfg(test)]
 mod idle;
+#[cfg(test)]
+mod limits;
 #[cfg(test)]
 mod session;

@@ -69,8 +69,8 @@ fn lines_of(alloc: Global, texts: &[&[u8]]) -> Result<Vec<Event>, AllocError> {
 /// A list of two lines of client 1.
 fn list(alloc: Global, first: &[u8], second: &[u8]) -> Result<Event, AllocError> {
     let mut lines = Lines::new(alloc);
-    lines.push(Line::from_bytes(alloc, first)?)?;
-    lines.push(Line::from_bytes(alloc, second)?)?;
+    lines.push(first)?;
+    lines.push(second)?;
     Ok(Event::Request(1, Request::List(lines)))
 }
 

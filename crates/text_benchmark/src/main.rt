@@ -1,13 +1,15 @@
 //! Measures how lines are read and answers are written, each beside a plain copy of the same bytes in the same run.
 #![tactic(auto)]
 
-mod pace;
 mod reading;
 mod writing;
 
 use anyhow::Result;
-use pace::Pace;
+use benchmark_figures::Pace;
 use std::env;
+
+/// How often each piece of work is measured; the best time counts.
+pub const ROUNDS: u32 = 20;
 
 /// Prints what was measured of some work.
 fn show(rt: &HostRuntime, name: &str, pace: Pace) -> Result<()> {

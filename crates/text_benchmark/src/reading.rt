@@ -1,6 +1,7 @@
 // The commands of lines.
-use crate::pace::{Pace, ROUNDS, nanos_since};
+use crate::ROUNDS;
 use anyhow::{Result, anyhow};
+use benchmark_figures::{Pace, nanos_since};
 use command_text::{Command, CommandName, Place, read_words};
 use std::alloc::Global;
 use std::time::Instant;

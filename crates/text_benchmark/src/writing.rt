@@ -1,6 +1,7 @@
 // The lines of a long queue.
-use crate::pace::{Pace, ROUNDS, nanos_since};
+use crate::ROUNDS;
 use anyhow::{Result, anyhow};
+use benchmark_figures::{Pace, nanos_since};
 use command_text::{NoMemory, write_entry};
 use play_queue::Entry;
 use song_db::{SongRow, Uri};

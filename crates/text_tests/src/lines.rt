@@ -1,7 +1,9 @@
 // What this build answers to lines that are no command, and how it repeats a word.
 use crate::assertions::{equal, same_of};
 use crate::reading::answered;
-use command_text::{CommandName, Line, Lines, Place, Request, want_of_memory, write_ack};
+use command_text::{
+    CommandName, ControlLine, Lines, LinesRef, Place, Request, want_of_memory, write_ack,
+};
 use std::alloc::Global;
 use std::process::Abort;
 use std::test::Fail;
@@ -50,13 +52,13 @@ fn bad_lines(rt: HostRuntime) -> Result<(), Fail> {
     Ok(())
 }
 
-/// A name that this build doesn't have is unknown, and each that it has is found.
+/// Each name is found, and `commands` lists all but four.
 #[test]
-fn names_of_this_build(rt: HostRuntime) -> Result<(), Fail> {
+fn names(rt: HostRuntime) -> Result<(), Fail> {
     let mut listed: u32 = 0;
     for name in CommandName::all() {
         let found = CommandName::named(name.text().as_bytes());
-        equal(&rt, found.is_some(), name.is_built());
+        equal(&rt, found.is_some(), true);
         if name.is_listed() {
             listed = u32::saturating_add(listed, 1);
         }
@@ -78,16 +80,58 @@ ACK [52@0] {} out of memory\n";
     Ok(())
 }
 
+fn expect_lines(rt: &impl Abort, lines: LinesRef<'_>, expected: &[&[u8]]) {
+    equal(rt, lines.len(), expected.len());
+    let mut rest = lines;
+    for wanted in expected {
+        match rest.split_first() {
+            None => return same_of(rt, wanted, b"no line", b"a line"),
+            Some((line, behind)) => {
+                same_of(rt, b"line", line, wanted);
+                rest = behind;
+            }
+        }
+    }
+}
+
+// A line, and which of those that begin or end a list or a client's waiting it is.
+const CONTROL_LINES: [(&[u8], Option<ControlLine>); 13] = [
+    (b"command_list_begin", Some(ControlLine::ListBegin)),
+    (b"command_list_ok_begin", Some(ControlLine::OkListBegin)),
+    (b"command_list_end", Some(ControlLine::ListEnd)),
+    (b"noidle", Some(ControlLine::Noidle)),
+    (b" \"command_list_\\end\"\t\r", Some(ControlLine::ListEnd)),
+    (b"command_list_end x", None),
+    (b"command_list_en", None),
+    (b"\"command_list_end", None),
+    (b"command_list_end \"", None),
+    (b"Noidle", None),
+    (b"idle", None),
+    (b"", None),
+    (b"noidle\xff", None),
+];
+
+#[test]
+fn control_lines(rt: HostRuntime) -> Result<(), Fail> {
+    for (line, expected) in &CONTROL_LINES {
+        equal(&rt, ControlLine::of_line(line), *expected);
+    }
+    Ok(())
+}
+
 #[test]
 fn requests(rt: HostRuntime) -> Result<(), Fail> {
     let mut lines = Lines::new(rt.alloc());
-    lines.push(Line::from_bytes(rt.alloc(), b"ping")?)?;
-    for line in lines.as_slice() {
-        same_of(&rt, b"line", line.bytes(), b"ping");
-    }
+    lines.push(b"ping")?;
+    lines.push(b"")?;
+    lines.push(b"status")?;
+    equal(&rt, lines.byte_len(), 10);
+    expect_lines(&rt, lines.as_ref(), &[b"ping", b"", b"status"]);
+    expect_lines(&rt, LinesRef::of_line(b"stop"), &[b"stop"]);
     let request = Request::OkList(lines);
     let text = format!(in rt.alloc(); "{request:?}")?;
-    let expected = b"OkList(Lines { lines: [Line { bytes: [112, 105, 110, 103] }] })";
+    let expected =
+        b"OkList(Lines { text: [112, 105, 110, 103, 115, 116, 97, 116, 117, 115], lengths: [4, 0, 6] })";
     same_of(&rt, b"request", text.as_bytes(), expected);
     Ok(())
 }

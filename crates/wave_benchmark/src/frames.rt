@@ -1,6 +1,7 @@
 // Frames of a large file at a volume, beside reads of the same bytes.
-use crate::pace::{Pace, ROUNDS, nanos_since};
+use crate::ROUNDS;
 use crate::samples::{LARGE_HEAD, LAST_SAMPLE, PIECE_LEN, PIECES};
+use benchmark_figures::{Pace, nanos_since};
 use std::fs::File;
 use std::io::{self, Read};
 use std::time::Instant;

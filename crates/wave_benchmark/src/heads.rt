@@ -1,5 +1,6 @@
 // Heads of many small files, beside opens of the same files.
-use crate::pace::{Pace, ROUNDS, nanos_since};
+use crate::ROUNDS;
+use benchmark_figures::{Pace, nanos_since};
 use std::fs::File;
 use std::io::{self, Read};
 use std::time::Instant;

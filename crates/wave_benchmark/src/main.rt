@@ -4,16 +4,17 @@
 
 mod frames;
 mod heads;
-mod pace;
 mod rows;
 mod samples;
 mod scans;
 
 use anyhow::Result;
-use benchmark_figures::per_second;
-use pace::Pace;
+use benchmark_figures::{Pace, per_second};
 use rows::Times;
 use std::{env, io};
+
+/// How often each piece of work is measured; the best time counts.
+const ROUNDS: u32 = 3;
 
 /// Makes the files where they are missing, and prints what was measured.
 fn measure(rt: &HostRuntime, folder: &str) -> io::Result<()> {

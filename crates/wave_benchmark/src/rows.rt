@@ -1,5 +1,5 @@
 // Batches of new rows into a database, and the last of them once more.
-use crate::pace::nanos_since;
+use benchmark_figures::nanos_since;
 use song_db::{MAX_CHANGES, RowChange, SongDb, SongRow, Uri};
 use std::alloc::{AllocError, Global};
 use std::io;

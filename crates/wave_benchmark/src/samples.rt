@@ -15,11 +15,13 @@ const SONG_LEN: u64 = 65_536;
 
 /// A small file: two frames, two tags, and a chunk that is passed over.
 const SMALL: [u8; 94] =
-    *b"RIFF\0\0\0\0WAVEjunk\x03\0\0\0\x01\x02\x03\0fmt \x10\0\0\0\x01\0\x01\0\x40\x1f\0\0\x80\x3e\0\0\x02\0\x10\0data\x04\0\0\0\x01\0\xfe\xffLIST\x1a\0\0\0INFOINAM\x03\0\0\0Hi\0\0IART\x02\0\0\0A\0";
+    *b"RIFF\0\0\0\0WAVEjunk\x03\0\0\0\x01\x02\x03\0fmt \x10\0\0\0\x01\0\x01\0\x40\x1f\0\0\x80\x3e\0\0\x02\0\x10\0\
+data\x04\0\0\0\x01\0\xfe\xffLIST\x1a\0\0\0INFOINAM\x03\0\0\0Hi\0\0IART\x02\0\0\0A\0";
 
 /// What stands before the samples of a file that is scanned: the format and two tags. The samples go to its end.
 const SONG: [u8; 78] =
-    *b"RIFF\0\0\0\0WAVEfmt \x10\0\0\0\x01\0\x01\0\x40\x1f\0\0\x80\x3e\0\0\x02\0\x10\0LIST\x1a\0\0\0INFOINAM\x03\0\0\0Hi\0\0IART\x02\0\0\0A\0data\xff\xff\xff\xff";
+    *b"RIFF\0\0\0\0WAVEfmt \x10\0\0\0\x01\0\x01\0\x40\x1f\0\0\x80\x3e\0\0\x02\0\x10\0LIST\x1a\0\0\0INFOINAM\x03\0\0\0Hi\0\0\
+IART\x02\0\0\0A\0data\xff\xff\xff\xff";
 
 /// What stands before the samples of the large file: 64 MiB of stereo at 44,100 frames a second.
 pub const LARGE_HEAD: [u8; 44] =

@@ -1,6 +1,6 @@
 // The scan of many folders of files, beside a plain pass that lists them, opens each file and reads its front.
-use crate::pace::{Pace, ROUNDS, nanos_since};
-use crate::samples;
+use crate::{ROUNDS, samples};
+use benchmark_figures::{Pace, nanos_since};
 use song_db::{Scan, ScanOrder};
 use std::fs::{self, File};
 use std::io::{self, Read};

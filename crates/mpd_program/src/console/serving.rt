@@ -1,9 +1,8 @@
 // One client, from its connect on.
-ghost use Rattle.std.specs.Prelude.{◌≡◌, ◌≢◌, ◌⊎◌, ◌↔◌, ◌≤◌, ◌++◌, [], false, Err, OnOk, IfErr};
+ghost use Rattle.std.specs.Prelude.{◌≡◌, ◌≢◌, ◌⊎◌, ◌↔◌, ◌≤◌, [], false, None, Err, OnOk, IfErr};
 ghost use Rattle.std.specs.Io.KnownBytes.{Appends};
 ghost use Rattle.disk_model.specs.Later.{AreLater, HasFailed};
-ghost use Rattle.client_session.specs.Lines.{BeginsTooLong};
-ghost use Rattle.client_session.specs.Requests.{requests_of, rest_of};
+ghost use Rattle.client_session.specs.Requests.{brought, fault_at, left_by, nothing};
 ghost use Rattle.mpd_program.specs.Console.{asked, asked_by, ComesInTurn, RunsNone};
 ghost use Rattle.mpd_program.specs.Serving.{ending_of, ServesAll, Stops, ServesInput, ServesClient, StepsTo};
 
@@ -128,7 +127,7 @@ fn serve_requests<D: Disk, F: Folder, W: Write>(
     Ok(())
 }
 
-// Serves what a piece of the input brings. An empty piece meets a line that is too long, which waits for the next one.
+// Serves what a piece of the input brings. An empty piece meets a line or a list that is too long, which waits for the next one.
 fn serve_piece<D: Disk, F: Folder, W: Write>(
     alloc: Global,
     live: &mut Live<D>,
@@ -141,13 +140,13 @@ fn serve_piece<D: Disk, F: Folder, W: Write>(
     requires usable { live.old.is_broken ≡ false }
     requires sent { session.old.queued ≡ [] }
     requires idle { RunsNone live.old.state.machine.job }
-    ensures session { OnOk result (session.new ≡ record session.old { pending = rest_of (session.old.pending ++ piece.now) }) }
-    ensures short { OnOk result (BeginsTooLong (session.old.pending ++ piece.now) → ⊥) }
+    ensures session { OnOk result (session.new ≡ record session.old { left = left_by session.old.left piece.now }) }
+    ensures whole { OnOk result (fault_at session.old.left piece.now ≡ None) }
     ensures idle { OnOk result (RunsNone live.new.state.machine.job) }
-    ensures served { OnOk result (ServesAll client (asked_by client (requests_of (session.old.pending ++ piece.now)))
+    ensures served { OnOk result (ServesAll client (asked_by client (brought session.old.left piece.now))
         live.old.state live.new.state (W.contents writer.old) (W.contents writer.new)) }
     ensures stopped { IfErr result (λ e. Stops (D.honest live.old.a × D.honest live.old.b) client
-        (asked_by client (requests_of (session.old.pending ++ piece.now))) live.old.state live.new.state
+        (asked_by client (brought session.old.left piece.now)) live.old.state live.new.state
         (D.history live.new.a) (D.history live.new.b) (W.contents writer.old) (W.contents writer.new) e) }
     ensures usable { result ≢ Err Ending.Faulted → live.new.is_broken ≡ false }
     ensures failed { D.honest live.old.a → D.honest live.old.b → result ≡ Err Ending.Faulted
@@ -173,7 +172,7 @@ fn serve_input<D: Disk, F: Folder, R: Read, W: Write>(
 ) -> Result<(), Ending>
     requires usable { live.old.is_broken ≡ false }
     requires sent { session.old.queued ≡ [] }
-    requires fresh { session.old.pending ≡ [] }
+    requires fresh { session.old.left ≡ nothing }
     requires idle { RunsNone live.old.state.machine.job }
     ensures served { ServesInput (D.honest live.old.a × D.honest live.old.b) client (R.remaining reader.old) (R.remaining reader.new)
         live.old.state live.new.state (D.history live.new.a) (D.history live.new.b) (W.contents writer.old) (W.contents writer.new) result }

@@ -12,6 +12,8 @@ returns-in_err-ok c =
 pub returns : goal.returns
 returns c =
     let h : are_digits c.args.word.now ≡ true = sym c.are_digits.ensures ∙ c.if-not-are_digits.false in
-    let same : c.in_ok-ok.field-0.now ≡ c.args.word.now = (at_ok c.from_utf8.result _ _ c.in_ok-ok.field-0 c.from_utf8.ensures.cases c.in_ok-ok.ensures.value).0 in
+    let same : c.in_ok-ok.field-0.now ≡ c.args.word.now =
+    (at_ok c.from_utf8.result _ _ c.in_ok-ok.field-0 c.from_utf8.ensures.cases c.in_ok-ok.ensures.value).0 in
     c.ok-2.ensures.value
-    ∙ is_parsed c.args.word.now c.parse.result h (subst (λ (bytes : List ℕ). ParsesUnsigned 32 10 bytes c.parse.result) same c.parse.ensures.value.0)
+    ∙ is_parsed c.args.word.now c.parse.result h
+    (subst (λ (bytes : List ℕ). ParsesUnsigned 32 10 bytes c.parse.result) same c.parse.ensures.value.0)

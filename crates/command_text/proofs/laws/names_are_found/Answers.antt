@@ -1,4 +1,4 @@
-use Rattle.command_text.proofs.Naming.{are_rising, is_listed, is_known, is_found, only_its_name}
+use Rattle.command_text.proofs.Naming.{are_rising, is_listed, is_found, only_its_name}
 use Rattle.command_text.proofs.laws.names_are_found.Goals as goal
 
 pub returns-clause-rising : goal.returns-clause-rising
@@ -6,9 +6,6 @@ returns-clause-rising c = λ k d low lt. are_rising k d lt
 
 pub returns-clause-listed : goal.returns-clause-listed
 returns-clause-listed c = is_listed
-
-pub returns-clause-known : goal.returns-clause-known
-returns-clause-known c = is_known
 
 pub returns-clause-found : goal.returns-clause-found
 returns-clause-found c = is_found

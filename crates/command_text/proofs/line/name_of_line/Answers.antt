@@ -24,10 +24,12 @@ returns-then-parts_into_words c =
     let at = name_at c.args.line.now c.text_of_line.result.now (sym c.is_utf8.ensures ∙ c.if-not-is_utf8.false) c.text_of_line.ensures in
     let found = c.in-Found.ensures in
     c.named_by.ensures
-    ∙ sym (at ∙ name_found (words_from Between c.text_of_line.result.now) (words_from Between c.in-Found.rest.now) (spelled c.in-Found.word) found.0 (sym c.parts_into_words.ensures ∙ c.if-parts_into_words.true))
+    ∙ sym (at ∙ name_found (words_from Between c.text_of_line.result.now) (words_from Between c.in-Found.rest.now) (spelled c.in-Found.word)
+    found.0 (sym c.parts_into_words.ensures ∙ c.if-parts_into_words.true))
 
 pub returns-else-parts_into_words : goal.returns-else-parts_into_words
 returns-else-parts_into_words c =
     let at = name_at c.args.line.now c.text_of_line.result.now (sym c.is_utf8.ensures ∙ c.if-not-is_utf8.false) c.text_of_line.ensures in
     let found = c.in-Found.ensures in
-    sym (at ∙ no_name_behind (words_from Between c.text_of_line.result.now) (words_from Between c.in-Found.rest.now) (spelled c.in-Found.word) found.0 (sym c.parts_into_words.ensures ∙ c.if-parts_into_words.false))
+    sym (at ∙ no_name_behind (words_from Between c.text_of_line.result.now) (words_from Between c.in-Found.rest.now)
+    (spelled c.in-Found.word) found.0 (sym c.parts_into_words.ensures ∙ c.if-parts_into_words.false))

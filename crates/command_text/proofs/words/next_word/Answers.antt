@@ -5,7 +5,8 @@ use Rattle.command_text.proofs.words.next_word.Goals as goal
 pub returns-then-is_empty : goal.returns-then-is_empty
 returns-then-is_empty c =
     let rest = c.without_blanks-rest in
-    nothing_left c.args.bytes.now rest.result.now rest.ensures.same (hollow rest.result.now c.is_empty.result c.is_empty.ensures c.if-is_empty.true)
+    nothing_left c.args.bytes.now rest.result.now rest.ensures.same
+    (hollow rest.result.now c.is_empty.result c.is_empty.ensures c.if-is_empty.true)
 
 pub returns-then-rest-eq34 : goal.returns-then-rest-eq34
 returns-then-rest-eq34 c =

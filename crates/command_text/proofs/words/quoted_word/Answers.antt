@@ -3,7 +3,8 @@ use Rattle.command_text.proofs.Lists.{filled, hollow}
 use Rattle.command_text.proofs.Searches.{behind}
 use Rattle.command_text.proofs.Following.{quoted_refused, quoted_found}
 use Rattle.command_text.proofs.words.quoted_word.Goals as goal
-use Rattle.command_text.proofs.words.quoted_word.Goals.{else-not-is_empty-via-then-not-is_empty+else-not-is_blank, else-not-is_empty-via-else-not-is_empty}
+use Rattle.command_text.proofs.words.quoted_word.Goals.{else-not-is_empty-via-then-not-is_empty+else-not-is_blank}
+use Rattle.command_text.proofs.words.quoted_word.Goals.{else-not-is_empty-via-else-not-is_empty}
 
 pub returns-then-not-is_blank : goal.returns-then-not-is_blank
 returns-then-not-is_blank c =
@@ -16,5 +17,10 @@ returns c =
     quoted_found c.args.inside.now c.in-Some.end c.in-Some.ensures
     (λ more. elim c.else-not-is_empty.branch [
       | else-not-is_empty-via-then-not-is_empty+else-not-is_blank w ↦ sym w.is_blank.ensures ∙ w.if-not-is_blank.false
-      | else-not-is_empty-via-else-not-is_empty w ↦ absurd (omega (arith, more, ap length (hollow (behind c.args.inside.now (c.in-Some.end + 1)) c.is_empty.result c.is_empty.ensures w.if-not-is_empty.false)))
+      | else-not-is_empty-via-else-not-is_empty w ↦ absurd
+          (omega (
+            arith,
+            more,
+            ap length (hollow (behind c.args.inside.now (c.in-Some.end + 1)) c.is_empty.result c.is_empty.ensures w.if-not-is_empty.false),
+          ))
     ])

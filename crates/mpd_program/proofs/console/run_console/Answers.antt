@@ -9,12 +9,17 @@ returns-clause-transcript g c =
     let first = c.serve_life-first.ensures in
     let second = c.serve_life-second.ensures in
     rw c.ended-2.ensures
-    (two_lives (g.D.Disk.honest c.args.a × g.D.Disk.honest c.args.b) (g.D.Disk.honest c.serve_life-first.result.a × g.D.Disk.honest c.serve_life-first.result.b)
-    (moment_of g.D.Disk.content g.D.Disk.history g.D.Disk.faults c.args.a c.args.b (g.R.Read.remaining c.args.reader.now) (g.W.Write.contents c.args.writer.now))
-    (moment_of g.D.Disk.content g.D.Disk.history g.D.Disk.faults c.serve_life-first.result.a c.serve_life-first.result.b (g.R.Read.remaining c.serve_life-first.new.reader) (g.W.Write.contents c.serve_life-first.new.writer))
-    (moment_of g.D.Disk.content g.D.Disk.history g.D.Disk.faults c.serve_life-second.result.a c.serve_life-second.result.b (g.R.Read.remaining c.serve_life-second.new.reader) (g.W.Write.contents c.serve_life-second.new.writer))
+    (two_lives (g.D.Disk.honest c.args.a × g.D.Disk.honest c.args.b) (g.D.Disk.honest c.serve_life-first.result.a
+    × g.D.Disk.honest c.serve_life-first.result.b)
+    (moment_of g.D.Disk.content g.D.Disk.history g.D.Disk.faults c.args.a c.args.b (g.R.Read.remaining c.args.reader.now)
+    (g.W.Write.contents c.args.writer.now))
+    (moment_of g.D.Disk.content g.D.Disk.history g.D.Disk.faults c.serve_life-first.result.a c.serve_life-first.result.b
+    (g.R.Read.remaining c.serve_life-first.new.reader) (g.W.Write.contents c.serve_life-first.new.writer))
+    (moment_of g.D.Disk.content g.D.Disk.history g.D.Disk.faults c.serve_life-second.result.a c.serve_life-second.result.b
+    (g.R.Read.remaining c.serve_life-second.new.reader) (g.W.Write.contents c.serve_life-second.new.writer))
     c.serve_life-first.result.came_to c.serve_life-second.result.came_to _ _
-    (c.is_faulted.ensures.0 c.if-not-is_faulted.false) first.life (λ h. (first.later.a.honesty.0 h.0, first.later.b.honesty.0 h.1)) second.life second.later.a.counted second.later.b.counted refl refl)
+    (c.is_faulted.ensures.0 c.if-not-is_faulted.false) first.life (λ h. (first.later.a.honesty.0 h.0, first.later.b.honesty.0 h.1))
+    second.life second.later.a.counted second.later.b.counted refl refl)
 
 pub returns-clause-opens : goal.returns-clause-opens
 returns-clause-opens g c = λ ha hb all number is. only_memory _ _ _ _ _ (returns-clause-transcript g c) (ha, hb) all number is

@@ -28,11 +28,15 @@ returns-clause-life g c =
     rw c.into_disks-a.ensures
     (opened_life _ c.args.client
     (moment_of g.D.Disk.content g.D.Disk.history g.D.Disk.faults c.args.a c.args.b input output)
-    (moment_of g.D.Disk.content g.D.Disk.history g.D.Disk.faults live.a live.b (g.R.Read.remaining c.serve_client-ending.new.reader) (g.W.Write.contents c.serve_client-ending.new.writer))
+    (moment_of g.D.Disk.content g.D.Disk.history g.D.Disk.faults live.a live.b (g.R.Read.remaining c.serve_client-ending.new.reader)
+    (g.W.Write.contents c.serve_client-ending.new.writer))
     c.in-Ok.live.state live.state c.serve_client-ending.result was.begun.state (λ h. was.found h.0 h.1)
-    (client_under _ _ c.args.client _ _ _ _ _ _ _ _ c.serve_client-ending.result (λ h. (was.later.a.honesty.0 h.0, was.later.b.honesty.0 h.1)) served.served)
-    (λ other h. c.is_broken-broken.ensures.kept (served.later.a.honesty.0 (was.later.a.honesty.0 h.0)) (served.later.b.honesty.0 (was.later.b.honesty.0 h.1)) (served.usable other))
-    (λ is h. failed_since _ _ _ _ _ _ was.later.a.counted was.later.b.counted (served.failed (was.later.a.honesty.0 h.0) (was.later.b.honesty.0 h.1) is)))
+    (client_under _ _ c.args.client _ _ _ _ _ _ _ _ c.serve_client-ending.result
+    (λ h. (was.later.a.honesty.0 h.0, was.later.b.honesty.0 h.1)) served.served)
+    (λ other h. c.is_broken-broken.ensures.kept (served.later.a.honesty.0 (was.later.a.honesty.0 h.0))
+    (served.later.b.honesty.0 (was.later.b.honesty.0 h.1)) (served.usable other))
+    (λ is h. failed_since _ _ _ _ _ _ was.later.a.counted was.later.b.counted
+    (served.failed (was.later.a.honesty.0 h.0) (was.later.b.honesty.0 h.1) is)))
 
 pub returns-clause-later : goal.returns-clause-later
 returns-clause-later g c = rw c.into_disks-a.ensures (pair_on c.in-Ok.ensures.later c.serve_client-ending.ensures.later)

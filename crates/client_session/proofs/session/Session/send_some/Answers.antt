@@ -9,4 +9,5 @@ pub returns-then-is_empty-clause-sent : goal.returns-then-is_empty-clause-sent
 returns-then-is_empty-clause-sent g c = (search rules, refl, appends_nothing _)
 
 pub returns-clause-in_order : goal.returns-clause-in_order
-returns-clause-in_order g c = rw (← c.self.view_is, c.drop_sent.ensures) (sent_in_order _ _ _ _ (rw c.as_slice.ensures at c.in_ok-sent.ensures.bytes))
+returns-clause-in_order g c = rw (← c.self.view_is, c.drop_sent.ensures)
+    (sent_in_order _ _ _ _ (rw c.as_slice.ensures at c.in_ok-sent.ensures.bytes))

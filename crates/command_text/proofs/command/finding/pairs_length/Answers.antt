@@ -7,14 +7,18 @@ returns-then-begins_part-clause-value c =
     let words = c.args.words.now in
     let p = c.pairs.passed in
     let le : p + 2 ≤ length words = omega arith in
-    sym (pairs_stop c.args.adds words p c.index-words-passed.result c.bytes.result.now le c.index-words-passed.is c.bytes.ensures (sym c.begins_part.ensures ∙ c.if-begins_part.true)) ∙ c.pairs.invariant.1
+    sym (pairs_stop c.args.adds words p c.index-words-passed.result c.bytes.result.now le c.index-words-passed.is c.bytes.ensures
+    (sym c.begins_part.ensures ∙ c.if-begins_part.true)) ∙ c.pairs.invariant.1
 
 pub pairs-preserved : goal.pairs-preserved
 pairs-preserved c =
     let words = c.args.words.now in
     let p = c.pairs.passed in
-    let le : p + 2 ≤ length words = omega arith in
-    (le, sym (pairs_go c.args.adds words p c.index-words-passed.result c.bytes.result.now le c.index-words-passed.is c.bytes.ensures (sym c.begins_part.ensures ∙ c.if-begins_part.false)) ∙ c.pairs.invariant.1)
+    let le : p + 2 ≤ length words = omega arith in (
+      le,
+      sym (pairs_go c.args.adds words p c.index-words-passed.result c.bytes.result.now le c.index-words-passed.is c.bytes.ensures
+          (sym c.begins_part.ensures ∙ c.if-begins_part.false)) ∙ c.pairs.invariant.1,
+    )
 
 pub returns-clause-value : goal.returns-clause-value
 returns-clause-value c =

@@ -18,10 +18,12 @@ returns-clause-ok c =
 
 pub returns-clause-rebuilt : goal.returns-clause-rebuilt
 returns-clause-rebuilt c = rebuilt_by c.ops_rebuild_the_state.ensures _ _ _ _
-    (subst (IsReported c.args.event) (c.take_room.ensures.machine ∙ ap (λ (s : State). s.machine) c.self.view_is) c.in_ok-outputs.ensures.reported)
+    (subst (IsReported c.args.event) (c.take_room.ensures.machine ∙ ap (λ (s : State). s.machine) c.self.view_is)
+    c.in_ok-outputs.ensures.reported)
     (returns-clause-ok c)
 
 pub returns-clause-fits : goal.returns-clause-fits
 returns-clause-fits c = fits_by c.ops_rebuild_the_state.ensures _ _ _ _
-    (subst (IsReported c.args.event) (c.take_room.ensures.machine ∙ ap (λ (s : State). s.machine) c.self.view_is) c.in_ok-outputs.ensures.reported)
+    (subst (IsReported c.args.event) (c.take_room.ensures.machine ∙ ap (λ (s : State). s.machine) c.self.view_is)
+    c.in_ok-outputs.ensures.reported)
     (returns-clause-ok c)

@@ -16,13 +16,13 @@ end_request-requires-clause-known c =
 
 pub returns-clause-ok : goal.returns-clause-ok
 returns-clause-ok c =
-    lines_do c.args.client c.args.place (separator c.args.separated) c.args.lines.now c.args.self.now c.run_lines-end.new.self
+    lines_do c.args.client c.args.place (separator c.args.separated) c.args.lines c.args.self.now c.run_lines-end.new.self
     c.end_request.new.self c.in_ok-work.work c.run_lines-end.new.work c.run_lines-end.result c.end_request.result
     c.in_ok-work.ensures.text c.in_ok-work.ensures.ops c.in_ok-work.ensures.size c.run_lines-end.ensures.ran
     c.run_lines-end.ensures.watch c.end_request.ensures
 
 pub returns-clause-place : goal.returns-clause-place
 returns-clause-place c =
-    lines_place c.args.client c.args.place (separator c.args.separated) c.args.lines.now c.args.self.now.machine
+    lines_place c.args.client c.args.place (separator c.args.separated) c.args.lines c.args.self.now.machine
     c.run_lines-end.new.self.machine c.run_lines-end.new.self c.end_request.new.self c.in_ok-work.work c.run_lines-end.new.work
     c.run_lines-end.result c.end_request.result c.run_lines-end.ensures.ran c.end_request.ensures

@@ -6,7 +6,7 @@ use Rattle.daemon_core.proofs.parts.CoreParts.run_lines.Given as goal
 
 abbrev pub invariant-loop-line : goal.invariant-loop-line
 invariant-loop-line l = record {
-  far : SoFar l.place (separator l.separated) l.lines l.rest l.index l.fn.self.machine l.self.machine l.fn.work l.work l.changed;
+  far : SoFar l.place (separator l.separated) l.fn.lines l.rest l.index l.fn.self.machine l.self.machine l.fn.work l.work l.changed;
   watch : l.self.watch ≡ l.fn.self.watch;
   kept : KeepsRoom l.fn.self.room l.self.room;
 }

@@ -16,14 +16,16 @@ pub returns-then-is_none_due-clause-outputs : goal.returns-then-is_none_due-clau
 returns-then-is_none_due-clause-outputs c =
     let ws : List Watched = marked c.args.self.now.watch c.args.changed in
     let same : c.as_slice.result.now ≡ ws = c.as_slice.ensures ∙ c.mark.ensures in
-    let none : list_all (λ w. is_empty (due w)) ws ≡ true = ap (list_all (λ w. is_empty (due w))) (sym same) ∙ sym c.if-is_none_due.ensures in
+    let none : list_all (λ w. is_empty (due w)) ws ≡ true = ap (list_all (λ w. is_empty (due w))) (sym same)
+    ∙ sym c.if-is_none_due.ensures in
     sym (append-nil c.args.answer.items) ∙ ap (λ rs. c.args.answer.items ++ map told_to rs) (sym (none_reported ws none))
 
 pub returns-then-is_none_due-clause-watch : goal.returns-then-is_none_due-clause-watch
 returns-then-is_none_due-clause-watch c =
     let ws : List Watched = marked c.args.self.now.watch c.args.changed in
     let same : c.as_slice.result.now ≡ ws = c.as_slice.ensures ∙ c.mark.ensures in
-    let none : list_all (λ w. is_empty (due w)) ws ≡ true = ap (list_all (λ w. is_empty (due w))) (sym same) ∙ sym c.if-is_none_due.ensures in
+    let none : list_all (λ w. is_empty (due w)) ws ≡ true = ap (list_all (λ w. is_empty (due w))) (sym same)
+    ∙ sym c.if-is_none_due.ensures in
     c.mark.ensures ∙ sym (none_taken ws none)
 
 pub unreachable-requires : goal.unreachable-requires

@@ -31,7 +31,8 @@ pub returns-clause-stopped : goal.returns-clause-stopped
 returns-clause-stopped g c =
     let done = c.in_ok-serve_changes.ensures in
     err_under _ _ c.serve_event.result
-    (λ e stops. job_stops g.D.Disk.honest g.D.Disk.history g.D.Disk.faults c.args.client [] c.args.live.now c.serve_changes.new.live c.serve_event.new.live
+    (λ e stops. job_stops g.D.Disk.honest g.D.Disk.history g.D.Disk.faults c.args.client [] c.args.live.now c.serve_changes.new.live
+    c.serve_event.new.live
     (g.D.Disk.history c.serve_event.new.live.a) (g.D.Disk.history c.serve_event.new.live.b)
     (g.W.Write.contents c.args.writer.now) (g.W.Write.contents c.serve_changes.new.writer) (g.W.Write.contents c.serve_event.new.writer) e
     (record { served = done.served; usable = done.usable (λ is. cc); disks = done.later }) stops)

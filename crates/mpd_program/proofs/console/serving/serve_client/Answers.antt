@@ -14,14 +14,18 @@ returns-in-Err-clause-served g c =
 
 pub returns-in-Ok-clause-served : goal.returns-in-Ok-clause-served
 returns-in-Ok-clause-served g c =
-    ends_with_input _ _ c.args.client c.args.live.now.state c.serve_event.new.live.state c.serve_input.new.live.state _ _ (g.R.Read.remaining c.args.reader.now) (g.R.Read.remaining c.serve_input.new.reader)
-    (g.W.Write.contents c.args.writer.now) (g.W.Write.contents c.serve_event.new.writer) (g.W.Write.contents c.serve_input.new.writer) c.in-Ok.field-0 c.in_default.ensures.served c.in-Ok.ensures.served
+    ends_with_input _ _ c.args.client c.args.live.now.state c.serve_event.new.live.state c.serve_input.new.live.state _ _
+    (g.R.Read.remaining c.args.reader.now) (g.R.Read.remaining c.serve_input.new.reader)
+    (g.W.Write.contents c.args.writer.now) (g.W.Write.contents c.serve_event.new.writer) (g.W.Write.contents c.serve_input.new.writer)
+    c.in-Ok.field-0 c.in_default.ensures.served c.in-Ok.ensures.served
 
 pub returns-clause-served : goal.returns-clause-served
 returns-clause-served g c =
     let first = c.in_default.ensures in
-    stops_in_input _ _ c.args.client c.args.live.now.state c.serve_event.new.live.state c.serve_input.new.live.state _ _ (g.R.Read.remaining c.args.reader.now) (g.R.Read.remaining c.serve_input.new.reader)
-    (g.W.Write.contents c.args.writer.now) (g.W.Write.contents c.serve_event.new.writer) (g.W.Write.contents c.serve_input.new.writer) c.in-Err-serve_input.ending
+    stops_in_input _ _ c.args.client c.args.live.now.state c.serve_event.new.live.state c.serve_input.new.live.state _ _
+    (g.R.Read.remaining c.args.reader.now) (g.R.Read.remaining c.serve_input.new.reader)
+    (g.W.Write.contents c.args.writer.now) (g.W.Write.contents c.serve_event.new.writer) (g.W.Write.contents c.serve_input.new.writer)
+    c.in-Err-serve_input.ending
     (λ h. (first.later.a.honesty.0 h.0, first.later.b.honesty.0 h.1)) first.served c.in-Err-serve_input.ensures.served
 
 pub returns-in-Ok-clause-later : goal.returns-in-Ok-clause-later

@@ -5,7 +5,8 @@ use Rattle.mpd_program.proofs.console.serving.serve_input.Given as goal
 
 abbrev pub invariant-loop-reads : goal.invariant-loop-reads
 invariant-loop-reads g l = record {
-  reads : ReadsSoFar g.D.Disk.honest g.D.Disk.history g.D.Disk.faults l.client l.fn.live l.live l.session (g.R.Read.remaining l.fn.reader) (g.R.Read.remaining l.reader) (g.W.Write.contents l.fn.writer) (g.W.Write.contents l.writer) l.reads;
+  reads : ReadsSoFar g.D.Disk.honest g.D.Disk.history g.D.Disk.faults l.client l.fn.live l.live l.session (g.R.Read.remaining l.fn.reader)
+      (g.R.Read.remaining l.reader) (g.W.Write.contents l.fn.writer) (g.W.Write.contents l.writer) l.reads;
   room : vec_len l.buffer ≡ 8192;
   idle : RunsNone l.live.state.machine.job;
 }

@@ -8,7 +8,8 @@ use Rattle.mpd_program.proofs.console.serving.serve_request.Goals as goal
 pub returns-clause-served : goal.returns-clause-served
 returns-clause-served g c =
     ok_under _ _ c.serve_job.result
-    (λ more. serves_on c.args.client (events.Request c.args.client c.args.request ∷ []) [] c.args.live.now.state c.serve_event.new.live.state c.serve_job.new.live.state
+    (λ more. serves_on c.args.client (events.Request c.args.client c.args.request ∷ []) [] c.args.live.now.state
+    c.serve_event.new.live.state c.serve_job.new.live.state
     (g.W.Write.contents c.args.writer.now) (g.W.Write.contents c.serve_event.new.writer) (g.W.Write.contents c.serve_job.new.writer)
     c.in_ok-serve_event.ensures.served more)
     c.serve_job.ensures.served

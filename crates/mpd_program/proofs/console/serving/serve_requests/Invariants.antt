@@ -5,7 +5,8 @@ use Rattle.mpd_program.proofs.console.serving.serve_requests.Given as goal
 
 abbrev pub invariant-loop-request : goal.invariant-loop-request
 invariant-loop-request g l = record {
-  requests : ServesRequests g.D.Disk.honest g.D.Disk.history g.D.Disk.faults l.client l.fn.requests l.request-iterator l.fn.live l.live (g.W.Write.contents l.fn.writer) (g.W.Write.contents l.writer);
+  requests : ServesRequests g.D.Disk.honest g.D.Disk.history g.D.Disk.faults l.client l.fn.requests l.request-iterator l.fn.live l.live
+      (g.W.Write.contents l.fn.writer) (g.W.Write.contents l.writer);
   same : l.session ≡ l.fn.session;
   idle : RunsNone l.live.state.machine.job;
 }
