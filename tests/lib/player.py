@@ -1,0 +1,269 @@
+"""The player and the queue as plain values: what commands and the output's reports do by docs/PROTOCOL.md, found anew each time."""
+
+import model
+
+STOP, PLAY, PAUSE = "stop", "play", "pause"
+ANSWERED = "OK\n"
+
+
+def refused(code, name, text):
+    return f"ACK [{code}@0] {{{name}}} {text}\n"
+
+
+class Player(model.State):
+    """What is kept, and what plays. A method named as a command does it and gives the answer; songs have 8,000 frames a second."""
+
+    def __init__(self, songs, key):
+        super().__init__(songs, key)
+        self.state, self.current, self.ticket, self.frame = STOP, None, 0, 0
+        self.played, self.error = [], None
+
+    # What comes next.
+
+    def is_on(self, name):
+        return self.settings[name] == "1"
+
+    def place(self, number):
+        return next((at for at, it in enumerate(self.queue) if it.id == number), None)
+
+    def least(self, order, without):
+        """The entry that comes first in random order, of those that aren't left out."""
+        open_to_it = [it for it in self.queue if it.id not in without]
+        return min(open_to_it, key=lambda it: (-it.prio, model.random_word(self.key, order, it.id), it.id), default=None)
+
+    def next_song(self, gone=()):
+        """The id of the song behind the current one, and whether a round begins with it; those that are gone don't count."""
+        if self.is_on("random"):
+            found = self.least(self.order_number, {self.current, *self.played, *gone})
+            if found is None and self.is_on("repeat"):
+                found = self.least(self.order_number + 1, set(gone))
+                return (found and found.id), found is not None
+            return (found and found.id), False
+        behind = [it.id for it in self.queue[self.place(self.current) + 1 :] if it.id not in gone]
+        if not behind and self.is_on("repeat"):
+            behind = [it.id for it in self.queue if it.id not in gone]
+        return (behind[0] if behind else None), False
+
+    def after_the_end(self):
+        """What the end of the current song would start, and whether a random round begins with it; none where it would stop."""
+        if self.settings["single"] != "0":
+            stays = self.is_on("repeat") and not self.is_on("consume")
+            return (self.current if stays else None), False
+        return self.next_song({self.current} if self.is_on("consume") else ())
+
+    # Steps.
+
+    def start(self, number, frame=0, is_round=False):
+        if is_round or (self.is_on("random") and self.current is None):
+            self.order_number, self.played = self.order_number + 1, []
+        if self.is_on("random"):
+            self.played = [it for it in self.played if it != number] + [number]
+        self.state, self.current, self.frame, self.error = PLAY, number, frame, None
+        self.ticket += 1
+
+    def halt(self, current=None):
+        self.state, self.current, self.frame = STOP, current, 0
+
+    def go_on(self):
+        """The next song is found before the one that is left goes, under consume."""
+        left, (number, is_round) = self.current, self.next_song({self.current} if self.is_on("consume") else ())
+        if self.is_on("consume"):
+            self.take_out({left})
+        if number is None:
+            self.halt()
+        else:
+            self.current = left
+            self.start(number, 0, is_round)
+
+    def take_out(self, gone):
+        """Entries leave the queue."""
+        self.edit(tuple(it for it in self.queue if it.id not in gone))
+        self.played = [it for it in self.played if it not in gone]
+
+    def leave(self, gone):
+        """Entries leave the queue by a command or a batch; the player follows."""
+        if self.current not in gone:
+            self.take_out(gone)
+            return
+        number, is_round = self.next_song(gone) if self.state == PLAY else (None, False)
+        self.take_out(gone)
+        if number is None:
+            self.halt()
+        else:
+            self.start(number, 0, is_round)
+
+    # The output's reports.
+
+    def fed(self, ticket, frames):
+        if ticket == self.ticket and self.state != STOP:
+            self.frame = min(self.frame + frames, self.frames())
+
+    def ended(self, ticket):
+        if ticket != self.ticket or self.state != PLAY:
+            return
+        single = self.settings["single"]
+        number, is_round = self.after_the_end()
+        if single == "0":
+            self.go_on()
+        elif number is not None:
+            self.start(number)
+        elif self.is_on("consume"):
+            self.take_out({self.current})
+            self.halt()
+        else:
+            self.halt(self.current)
+        if single == "oneshot":
+            self.settings["single"] = "0"
+
+    def broken(self, ticket, cause):
+        if ticket == self.ticket and self.state != STOP:
+            uri = self.queue[self.place(self.current)].uri
+            self.error = f"cannot play {uri}" if cause == "source" else "output failed"
+            self.state = STOP
+
+    # Commands.
+
+    def song(self):
+        return self.songs[self.queue[self.place(self.current)].uri]
+
+    def frames(self):
+        return self.song().frames
+
+    def cut(self, milliseconds):
+        return min(milliseconds * 8000 // 1000, self.frames())
+
+    def play_at(self, number):
+        self.start(number)
+        return ANSWERED
+
+    def play(self, position=None):
+        if position is None:
+            return self.play_on()
+        if int(position) >= len(self.queue):
+            return refused(2, "play", "Bad song index")
+        return self.play_at(self.queue[int(position)].id)
+
+    def playid(self, number):
+        if self.place(int(number)) is None:
+            return refused(50, "playid", "No such song")
+        return self.play_at(int(number))
+
+    def play_on(self):
+        if self.state == PAUSE:
+            self.state = PLAY
+        elif self.state == STOP and self.current is not None:
+            self.start(self.current)
+        elif self.state == STOP and self.queue:
+            self.start(self.least(self.order_number + 1, ()).id if self.is_on("random") else self.queue[0].id)
+        return ANSWERED
+
+    def pause(self, switch=None):
+        if self.state != STOP:
+            self.state = {"1": PAUSE, "0": PLAY, None: PAUSE if self.state == PLAY else PLAY}[switch]
+        return ANSWERED
+
+    def stop(self):
+        if self.state != STOP:
+            self.halt(self.current)
+            self.ticket += 1
+        return ANSWERED
+
+    def next(self):
+        if self.state == STOP:
+            return refused(55, "next", "Not playing")
+        self.go_on()
+        return ANSWERED
+
+    def previous(self):
+        if self.state == STOP:
+            return refused(55, "previous", "Not playing")
+        number = self.current
+        if self.is_on("random"):
+            self.played = [it for it in self.played if it != number]
+            number = self.played[-1] if self.played else number
+        else:
+            at = self.place(number)
+            if at or self.is_on("repeat"):
+                number = self.queue[at - 1].id
+        return self.play_at(number)
+
+    def seek_to(self, number, milliseconds):
+        state = self.state
+        self.start(number)
+        self.frame = self.cut(milliseconds)
+        if state == PAUSE:
+            self.state = PAUSE
+        return ANSWERED
+
+    def seek(self, position, time):
+        if int(position) >= len(self.queue):
+            return refused(2, "seek", "Bad song index")
+        return self.seek_to(self.queue[int(position)].id, thousandths(time))
+
+    def seekid(self, number, time):
+        if self.place(int(number)) is None:
+            return refused(50, "seekid", "No such song")
+        return self.seek_to(int(number), thousandths(time))
+
+    def seekcur(self, time):
+        if self.state == STOP:
+            return refused(55, "seekcur", "Not playing")
+        frame, sign, offset = self.frame, time[0], thousandths(time.lstrip("+-")) * 8000 // 1000
+        self.seek_to(self.current, 0)
+        self.frame = min(max({"+": frame + offset, "-": frame - offset}.get(sign, offset), 0), self.frames())
+        return ANSWERED
+
+    def clearerror(self):
+        self.error = None
+        return ANSWERED
+
+    def delete(self, text):
+        first, end = model.span(text, len(self.queue))
+        self.leave({it.id for it in self.queue[first:end]})
+
+    def clear(self):
+        self.leave({it.id for it in self.queue})
+
+    def random(self, value):
+        was = self.settings["random"]
+        super().random(value)
+        if (was, value) == ("0", "1"):
+            self.played = [self.current] if self.current is not None else []
+        elif value == "0":
+            self.played = []
+
+    def drop(self, uri):
+        """A scan finds that a song is gone."""
+        self.songs = {it: song for it, song in self.songs.items() if it != uri}
+        self.leave({it.id for it in self.queue if it.uri == uri})
+
+    # What a client and the output read.
+
+    def status(self):
+        lines = [f"{name}: {value}" for name, value in self.settings.items()]
+        lines += [f"playlist: {self.version}", f"playlistlength: {len(self.queue)}", f"state: {self.state}"]
+        if self.current is not None:
+            lines += [f"song: {self.place(self.current)}", f"songid: {self.current}"]
+            number, is_round = self.after_the_end()
+            if number is not None and not is_round:
+                lines += [f"nextsong: {self.place(number)}", f"nextsongid: {number}"]
+            if self.state != STOP:
+                elapsed, whole = self.frame * 1000 // 8000, self.frames() * 1000 // 8000
+                lines += [f"time: {elapsed // 1000}:{whole // 1000}", f"elapsed: {shown(elapsed)}", f"duration: {shown(whole)}"]
+                lines += ["audio: 8000:16:1"]
+        lines += [f"error: {self.error}"] if self.error else []
+        return [*lines, "OK"]
+
+    def order(self):
+        if self.state != PLAY:
+            return ["wait"]
+        return [f"play {self.ticket} {self.frame} {self.queue[self.place(self.current)].uri}"]
+
+
+def shown(milliseconds):
+    return f"{milliseconds // 1000}.{milliseconds % 1000:03}"
+
+
+def thousandths(time):
+    whole, _, part = time.partition(".")
+    return int(whole) * 1000 + int((part + "000")[:3])
