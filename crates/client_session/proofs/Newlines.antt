@@ -1,5 +1,5 @@
 -- Where newlines stand, and what a search for one says.
-use Rattle.std.proofs.Common.{◌≡◌, ◌≢◌, ℕ, suc, ◌+◌, ◌-◌, ◌<◌, ◌≤◌, min, List, [], ◌∷◌, ◌++◌, length, take, get_or, Option, Some, None}
+use Rattle.std.proofs.Common.{◌≡◌, ◌≢◌, ℕ, zero, suc, ◌+◌, ◌-◌, ◌<◌, ◌≤◌, min, List, [], ◌∷◌, ◌++◌, length, take, get_or, Option, Some, None}
 use Rattle.std.proofs.Common.{MatchOption, sym, ◌∙◌, ap, subst, arith, ⊎_elim}
 use Rattle.std.proofs.lemmas.Bool.{eq-eqb, eqb-true, cases_lt}
 use Rattle.std.proofs.lemmas.List.{get_or-take, take_all, take-take, length-take, take_min, take-append-le}
@@ -61,3 +61,12 @@ line_end_of n room rest (Some k) e h =
       one = subst HasNoNewline (take-take k room rest le) found.1;
       ends = sym (get_or-take room rest k 0 lt) ∙ found.2;
     }
+
+-- where no byte is a newline, no line ends
+pub no_newline_at : (xs : List ℕ) (k : ℕ) → HasNoNewline xs → k < length xs → get_or xs k 0 ≢ newline
+no_newline_at [] k none lt = absurd (omega arith)
+no_newline_at (x ∷ xs) zero none lt = none.0
+no_newline_at (x ∷ xs) (suc k) none lt = no_newline_at xs k none.1 (omega arith)
+
+pub no_line_ends : (n : ℕ) (rest : List ℕ) (k : ℕ) → HasNoNewline rest → IsLineEnd n rest k → ⊥
+no_line_ends n rest k none at = no_newline_at rest k none at.within at.ends

@@ -1,6 +1,6 @@
 -- The requests of a stream of bytes, and what of it is no whole request.
 use Rattle.std.specs.Prelude.{◌≡◌, ◌≢◌, ℕ, nat_lt, List, [], ◌∷◌, ◌++◌, length, drop}
-use Rattle.std.specs.Prelude.{Bool, if◌then◌else◌, Option, Some, None, Result, Ok, Err}
+use Rattle.std.specs.Prelude.{Bool, if◌then◌else◌, Option, Some, None, IfSome, Result, Ok, Err}
 use Rattle.std.specs.Option.{option_to_list}
 use Rattle.std.specs.List.{flat_map, AllByRecursion}
 use Rattle.command_text.specs.declared.request.Request.{Request}
@@ -8,7 +8,7 @@ use Rattle.client_session.specs.declared.listing.Listing.{Listing}
 use Rattle.client_session.specs.declared.listing.Listing.TheVariants.{Outside, Inside, Overlong}
 use Rattle.client_session.specs.declared.refusal.SessionError.{SessionError}
 use Rattle.client_session.specs.declared.refusal.SessionError.TheVariants.{NoMemory, LineTooLong, ListTooLong, OutputTooLong}
-use Rattle.client_session.specs.Lines.{ended, line_limit, taken_lines, IsLine}
+use Rattle.client_session.specs.Lines.{ended, line_limit, taken_lines, HasNoNewline, IsLine}
 use Rattle.client_session.specs.Lists.{after_line, made_whole}
 
 -- what stands behind lines, of a list that stood before them
@@ -76,6 +76,10 @@ Meets fault (Err NoMemory) = Unit {0}
 Meets fault (Err LineTooLong) = fault ≡ Some LineTooLong
 Meets fault (Err ListTooLong) = fault ≡ Some ListTooLong
 Meets fault (Err OutputTooLong) = ⊥
+
+-- a piece that ends no line is refused with the fault, if there is one, and with nothing else
+abbrev pub RefusesExactly : {A : Type 0} → Option SessionError → List ℕ → Result A SessionError → Type 0
+RefusesExactly fault piece result = HasNoNewline piece → IfSome fault (λ refusal. result ≡ Err refusal)
 
 -- behind any stream that left this, the piece brings these requests and leaves that
 pub record Continues (left : Unread) (piece : List ℕ) (requests : List Request) (next : Unread) : Type 0 where

@@ -1,7 +1,7 @@
 ghost use Rattle.std.specs.Prelude.{◌≡◌, ◌+◌, ◌-◌, [], ◌++◌, take, option_to_list, MatchOption, IfOk, OnOk};
 ghost use Rattle.client_session.specs.Lines.{line_limit, HasNoNewline, IsUnended, IsLineEnd};
 ghost use Rattle.client_session.specs.Lists.{after_line, made_whole, IsWithinLimits};
-ghost use Rattle.client_session.specs.Requests.{brought, fault_at, fault_behind, left_by, unread, Meets};
+ghost use Rattle.client_session.specs.Requests.{brought, fault_at, fault_behind, left_by, unread, Meets, RefusesExactly};
 
 use crate::LINE_LIMIT;
 use crate::listing::Listing;
@@ -83,6 +83,7 @@ pub(crate) fn cut_requests(
     ensures unended { IsUnended pending.new.items }
     ensures within { IsWithinLimits listing.new }
     ensures fault { Meets (fault_at (unread listing.old pending.old.items) piece.now) result }
+    ensures exact { RefusesExactly (fault_at (unread listing.old pending.old.items) piece.now) piece.now result }
 {
     let mut requests = Requests::new(alloc);
     let mut rest = piece;

@@ -1,7 +1,7 @@
 ghost use Rattle.std.specs.Prelude.{◌≡◌, ◌+◌, ◌<◌, ◌≤◌, ◌↔◌, [], ◌++◌, length, take, drop, None, IsTrue, IsSome, IfSome};
 ghost use Rattle.std.specs.Prelude.{IfOk, IfErr, IsErrOf, OnOk, OnErr, ◌⊎◌};
 ghost use Rattle.std.specs.Io.KnownBytes.{Appends, Keeps, append_known};
-ghost use Rattle.client_session.specs.Requests.{brought, fault_at, left_by, left_of, nothing, requests_of, Continues, Meets};
+ghost use Rattle.client_session.specs.Requests.{brought, fault_at, left_by, left_of, nothing, requests_of, Continues, Meets, RefusesExactly};
 ghost use Rattle.client_session.specs.Session.{fresh, closed_by, output_limit, IsHeld};
 
 use crate::OUTPUT_LIMIT;
@@ -95,6 +95,8 @@ impl Session {
 
         ensures closed { IfSome self.old.closed (λ refusal. result ≡ Err refusal) }
         ensures fault { self.old.closed ≡ None → Meets (fault_at self.old.left piece.now) result }
+        // A piece that ends no line is refused with its fault, and with nothing else.
+        ensures exact { self.old.closed ≡ None → RefusesExactly (fault_at self.old.left piece.now) piece.now result }
         ensures err { IfErr result (λ refusal. self.new ≡ closed_by refusal) }
     {
         if let Some(refusal) = self.closed {
