@@ -1,4 +1,4 @@
-"""Changes at random, each one that the daemon carries out in the state it is drawn for."""
+"""Commands at random, each one that the daemon carries out in the state it is drawn for."""
 
 import model
 
@@ -100,8 +100,39 @@ def unsticking(state, draw):
         return ["sticker", "delete", "song", uri, *draw.choice([[name], []])]
 
 
+def pairs(state, draw):
+    """Pairs of a tag and a value, which some song has more often than not."""
+    song = draw.choice([*state.songs])
+    values = {"title": state.songs[song].title or "none", "file": song, "any": "One", "base": draw.choice(["", "d", song])}
+    tags = draw.sample([*values], draw.choice([1, 1, 2]))
+    return [word for tag in tags for word in (tag, values[tag])]
+
+
+def finding(state, draw):
+    """An addition of what is found."""
+    order = draw.choice([[], ["sort", draw.choice(["title", "-title", "file", "-file"])]])
+    parts = [*order, *draw.choice([[], ["window", "0:2"], ["window", "1:"]])]
+    place = [it for place in place_for(len(state.queue), draw) for it in ("position", place)]
+    ways = [[draw.choice(["findadd", "searchadd"]), *pairs(state, draw), *parts, *place]]
+    name = draw.choice(PLAYLISTS)
+    if len(state.playlists.get(name, ())) < MOST_ENTRIES:
+        ways.append(["searchaddpl", name, *pairs(state, draw)])
+    return draw.choice(ways)
+
+
 # How often each kind is drawn, beside the others.
-KINDS = {setting: 4, adding: 4, loading: 1, ordering: 7, deleting: 3, listing: 3, list_editing: 4, sticking: 2, unsticking: 1}
+KINDS = {
+    setting: 4,
+    adding: 4,
+    finding: 2,
+    loading: 1,
+    ordering: 7,
+    deleting: 3,
+    listing: 3,
+    list_editing: 4,
+    sticking: 2,
+    unsticking: 1,
+}
 
 
 def listed(state, draw):
@@ -109,14 +140,44 @@ def listed(state, draw):
     commands = []
     for _ in range(draw.randint(1, MOST_LISTED)):
         commands.append(change(state, draw))
-        state, _ = state.done(commands[-1])
+        state, _ = state.after(commands[-1:])
     return commands
 
 
 def change(state, draw):
     """The words of a change, which may leave the state as it is."""
-    kinds = {it: often for it, often in KINDS.items() if len(state.queue) < MOST_ENTRIES or it not in (adding, loading)}
+    kinds = {it: often for it, often in KINDS.items() if len(state.queue) < MOST_ENTRIES or it not in (adding, finding, loading)}
     while True:
         kind = draw.choices([*kinds], [*kinds.values()])[0]
         if words := kind(state, draw):
             return words
+
+
+# What plays is lost with the daemon, and what is read changes nothing.
+
+
+def playing(state, draw):
+    """A command of the player."""
+    ways = [["play"], ["pause"], ["pause", draw.choice("01")], ["stop"], ["clearerror"], ["currentsong"]]
+    if state.state != "stop":
+        ways += [["next"], ["previous"], ["seekcur", draw.choice(["0", "+0.5", "-0.25"])]] * 2
+    if state.queue:
+        place, number = str(draw.randrange(len(state.queue))), str(draw.choice(state.queue).id)
+        ways += [["play", place], ["playid", number], ["seek", place, "0.05"], ["seekid", number, "1.5"]]
+    return draw.choice(ways)
+
+
+def reading(state, draw):
+    """A command that reads."""
+    ways = [[it] for it in ("ping", "commands", "notcommands", "tagtypes", "status", "stats", "listplaylists", "playlistinfo", "playlistid")]
+    ways += [[it, *draw.choice([[], ["/"], [draw.choice([*state.songs])]])] for it in ("listall", "listallinfo", "lsinfo")]
+    ways += [[it, *pairs(state, draw)] for it in ("find", "search", "count", "playlistfind", "playlistsearch")]
+    ways += [["list", draw.choice(["title", "Artist"]), *draw.choice([[], pairs(state, draw)])]]
+    ways += [[it, str(draw.randrange(state.version + 2))] for it in ("plchanges", "plchangesposid")]
+    ways += [[it, draw.choice([*state.playlists])] for it in ("listplaylist", "listplaylistinfo") if state.playlists]
+    uri, name = draw.choice([*state.songs]), draw.choice(STICKERS)
+    ways += [["sticker", "get", "song", uri, name], ["sticker", "list", "song", uri]]
+    ways += [["sticker", "find", "song", draw.choice(["", uri]), name, *draw.choice([[], [draw.choice("=<>"), "5"]])]]
+    if state.queue:
+        ways += [["playlistinfo", a_range(len(state.queue), draw)], ["playlistid", str(draw.choice(state.queue).id)]]
+    return draw.choice(ways)

@@ -1,6 +1,7 @@
-"""What the daemon keeps, as plain lists: the state after each change by docs/PROTOCOL.md, and what a client then reads.
+"""What the daemon keeps, as plain lists: the state after each change by docs/PROTOCOL.md. lib/readings.py has what a client reads of it,
+lib/player.py what plays.
 
-Nothing plays and no song is current, so no place is relative and no command starts a song.
+No place is relative.
 """
 
 import copy
@@ -16,6 +17,17 @@ SETTINGS = {
     "single": ["0", "1", "oneshot"],
     "consume": ["0", "1"],
 }
+
+
+class Refused(Exception):
+    """A command is refused: its code and its text."""
+
+    def __init__(self, code, text):
+        super().__init__(text)
+        self.code, self.text = code, text
+
+
+NO_FILE = 50, "No such file or directory"
 
 
 class Song(typing.NamedTuple):
@@ -54,11 +66,6 @@ def list_request(commands, is_list_ok):
     """The lines of a command list."""
     begin = ["command_list_ok_begin" if is_list_ok else "command_list_begin"]
     return b"".join(map(request, [begin, *commands, ["command_list_end"]]))
-
-
-def told(lines):
-    """An answer of these lines."""
-    return ("".join(lines) + "OK\n").encode()
 
 
 def by_bytes(texts):
@@ -111,31 +118,43 @@ class State:
         self.version, self.next_id, self.order_number = 1, 1, 0
         self.playlists, self.stickers = {}, {}
 
+    def perform(self, words):
+        """Does a command, and gives its lines."""
+        name = words[0] + ("_" + words[1] if words[0] == "sticker" else "")
+        return getattr(self, name)(*words[3 if words[0] == "sticker" else 1 :]) or ""
+
     def done(self, words):
         """The state after a command, and the lines that it gives."""
         state = copy.copy(self)
         state.settings, state.playlists, state.stickers = dict(self.settings), dict(self.playlists), dict(self.stickers)
-        name = words[0] + ("_" + words[1] if words[0] == "sticker" else "")
-        lines = getattr(state, name)(*words[3 if words[0] == "sticker" else 1 :])
-        return state, lines or ""
+        return state, state.perform(words)
 
     def after(self, commands, is_list_ok=False):
         """The state after commands, alone or as a list, and their answer."""
-        state, given = self, []
-        for words in commands:
-            state, lines = state.done(words)
-            given += [lines, "list_OK\n" * is_list_ok]
-        return state, told(given)
+        state, given = self, ""
+        for index, words in enumerate(commands):
+            try:
+                state, lines = state.done(words)
+            except Refused as refusal:
+                return state, f"{given}ACK [{refusal.code}@{index}] {{{words[0]}}} {refusal.text}\n".encode()
+            given += lines + "list_OK\n" * is_list_ok
+        return state, f"{given}OK\n".encode()
 
     def seen(self):
-        """All that a client can read of it but the stamps, to be told from other states."""
-        parts = [frozenset(it.items()) for it in (self.settings, self.playlists, self.stickers)]
+        """All that a client can read of what is kept but the stamps, to be told from other states."""
+        parts = [frozenset(it.items()) for it in (self.settings, self.playlists, self.stickers, self.songs)]
         return self.version, self.queue, *parts
 
-    def songs_at(self, uri):
-        """The song, or the songs below the folder."""
+    def songs_of(self, uri):
+        """The song, or the songs below the folder, if one is there."""
         folder = "" if uri in ("", "/") else uri + "/"
         return [uri] if uri in self.songs else by_bytes(it for it in self.songs if it.startswith(folder))
+
+    def songs_at(self, uri):
+        """The same; a place that isn't there is refused."""
+        if not (found := self.songs_of(uri)) and uri not in ("", "/"):
+            raise Refused(*NO_FILE)
+        return found
 
     def position(self, number):
         return next(at for at, entry in enumerate(self.queue) if entry.id == int(number))
@@ -163,13 +182,15 @@ class State:
 
     # The queue.
 
-    def edit(self, queue):
-        """Where the queue differs, the version grows by one and is the stamp of just the positions that differ."""
-        if queue != self.queue:
+    def edit(self, queue, songs=None):
+        """Where the queue differs, with its songs, the version grows by one and is the stamp of just the positions that differ."""
+        was = [(it, self.songs[it.uri]) for it in self.queue]
+        self.queue, self.songs = queue, self.songs if songs is None else songs
+        now = [(it, self.songs[it.uri]) for it in queue]
+        if now != was:
             self.version += 1
-            same = [one == other for one, other in zip(self.queue, queue)]
-            self.stamps = tuple(self.stamps[at] if at < len(same) and same[at] else self.version for at in range(len(queue)))
-            self.queue = queue
+            same = [one == other for one, other in zip(was, now)] + [False] * len(now)
+            self.stamps = tuple(self.stamps[at] if same[at] else self.version for at in range(len(now)))
 
     def insert(self, uris, to):
         place = len(self.queue) if to is None else int(to)
@@ -224,6 +245,42 @@ class State:
         first, end = span(text, len(self.playlists[name]))
         self.insert([it for it in self.playlists[name][first:end] if it in self.songs], to)
 
+    # What is found, by pairs of a tag and a value.
+
+    def texts(self, uri, tag):
+        """What the song has of the tag; the songs have no tag but a title."""
+        song = self.songs[uri]
+        return [uri] if tag == "file" else [song.title] if song.title and tag in ("title", "any") else []
+
+    def holds(self, uri, tag, value, is_folded):
+        if tag == "base":
+            return uri in self.songs_of(value)
+        if not value:
+            return not self.texts(uri, tag)
+        return any(value.casefold() in it.casefold() if is_folded else value == it for it in self.texts(uri, tag))
+
+    def matching(self, uris, pairs, is_folded):
+        return [uri for uri in uris if all(self.holds(uri, tag, value, is_folded) for tag, value in zip(pairs[::2], pairs[1::2]))]
+
+    def found(self, words, is_folded):
+        """The songs that match, sorted and cut, and the place that is named."""
+        pairs, parts = list(words), {}
+        while pairs[-2] in ("sort", "window", "position"):
+            *pairs, name, parts[name] = pairs
+        found, order = self.matching(by_bytes(self.songs), pairs, is_folded), parts.get("sort", "file")
+        found.sort(key=lambda uri: [it.encode() for it in self.texts(uri, order.removeprefix("-"))], reverse=order.startswith("-"))
+        first, end = span(parts.get("window", "0:"), len(found))
+        return found[first:end], parts.get("position")
+
+    def findadd(self, *words):
+        self.insert(*self.found(words, False))
+
+    def searchadd(self, *words):
+        self.insert(*self.found(words, True))
+
+    def searchaddpl(self, name, *words):
+        self.playlists[name] = self.playlists.get(name, ()) + tuple(self.found(words, True)[0])
+
     # Playlists.
 
     def save(self, name):
@@ -256,30 +313,3 @@ class State:
     def sticker_delete(self, uri, name=None):
         gone = {it for it in self.stickers if it[0] == uri and name in (None, it[1])}
         self.stickers = {it: value for it, value in self.stickers.items() if it not in gone}
-
-    # What a client reads.
-
-    def readings(self, names):
-        """Requests that tell all of it but the stamps, with their answers; `names` are those that playlists may have."""
-        status = [*self.settings.items(), ("playlist", self.version), ("playlistlength", len(self.queue)), ("state", "stop")]
-        yield ["status"], told(f"{key}: {value}\n" for key, value in status)
-        yield ["playlistinfo"], told(it.lines(self.songs[it.uri], at) for at, it in enumerate(self.queue))
-        yield ["listplaylists"], told(f"playlist: {it}\n" for it in by_bytes(self.playlists))
-        for name in names:
-            songs = told(f"file: {it}\n" for it in self.playlists.get(name, ()))
-            yield ["listplaylist", name], songs if name in self.playlists else b"ACK [50@0] {listplaylist} No such playlist\n"
-        for uri in self.songs:
-            stickers = by_bytes(name for it, name in self.stickers if it == uri)
-            yield ["sticker", "list", "song", uri], told(f"sticker: {it}={self.stickers[uri, it]}\n" for it in stickers)
-        yield ["listall"], told(f"{kind}: {path}\n" for path, kind in self.paths())
-
-    def paths(self):
-        """The folders and the songs, by the bytes of their paths, a folder before a song."""
-        folders = {(uri[:at], "directory") for uri in self.songs for at, it in enumerate(uri) if it == "/"}
-        return sorted([*folders, *((it, "file") for it in self.songs)], key=lambda it: (it[0].encode(), it[1]))
-
-    def stamp_readings(self):
-        """Requests that tell the stamp of each position, with their answers."""
-        for version in sorted({0} | {it - before for it in self.stamps for before in (0, 1)}):
-            late = [at for at, stamp in enumerate(self.stamps) if stamp > version]
-            yield ["plchangesposid", str(version)], told(f"cpos: {at}\nId: {self.queue[at].id}\n" for at in late)

@@ -1,22 +1,31 @@
 """The player and the queue as plain values: what commands and the output's reports do by docs/PROTOCOL.md, found anew each time."""
 
+import copy
+
 import model
+import readings
 
 STOP, PLAY, PAUSE = "stop", "play", "pause"
-ANSWERED = "OK\n"
+NOT_PLAYING, BAD_INDEX = (55, "Not playing"), (2, "Bad song index")
 
 
-def refused(code, name, text):
-    return f"ACK [{code}@0] {{{name}}} {text}\n"
-
-
-class Player(model.State):
-    """What is kept, and what plays. A method named as a command does it and gives the answer; songs have 8,000 frames a second."""
+class Player(readings.Readable):
+    """What is kept, and what plays. A method named as a command does it and gives its lines; songs have 8,000 frames a second."""
 
     def __init__(self, songs, key):
         super().__init__(songs, key)
+        self.begin()
+
+    def begin(self):
+        """What plays behind a start."""
         self.state, self.current, self.ticket, self.frame = STOP, None, 0, 0
-        self.played, self.error = [], None
+        self.played, self.error, self.jobs = [], None, 0
+
+    def restarted(self):
+        """What is found behind a restart."""
+        state = copy.copy(self)
+        state.begin()
+        return state
 
     # What comes next.
 
@@ -75,18 +84,18 @@ class Player(model.State):
             self.current = left
             self.start(number, 0, is_round)
 
-    def take_out(self, gone):
-        """Entries leave the queue."""
-        self.edit(tuple(it for it in self.queue if it.id not in gone))
+    def take_out(self, gone, songs=None):
+        """Entries leave the queue, and the songs become these."""
+        self.edit(tuple(it for it in self.queue if it.id not in gone), songs)
         self.played = [it for it in self.played if it not in gone]
 
-    def leave(self, gone):
+    def leave(self, gone, songs=None):
         """Entries leave the queue by a command or a batch; the player follows."""
         if self.current not in gone:
-            self.take_out(gone)
+            self.take_out(gone, songs)
             return
         number, is_round = self.next_song(gone) if self.state == PLAY else (None, False)
-        self.take_out(gone)
+        self.take_out(gone, songs)
         if number is None:
             self.halt()
         else:
@@ -117,36 +126,38 @@ class Player(model.State):
 
     def broken(self, ticket, cause):
         if ticket == self.ticket and self.state != STOP:
-            uri = self.queue[self.place(self.current)].uri
-            self.error = f"cannot play {uri}" if cause == "source" else "output failed"
+            self.error = f"cannot play {self.current_uri()}" if cause == "source" else "output failed"
             self.state = STOP
 
     # Commands.
 
-    def song(self):
-        return self.songs[self.queue[self.place(self.current)].uri]
+    def current_uri(self):
+        return None if self.current is None else self.queue[self.place(self.current)].uri
 
     def frames(self):
-        return self.song().frames
+        return self.songs[self.current_uri()].frames
 
     def cut(self, milliseconds):
         return min(milliseconds * 8000 // 1000, self.frames())
 
-    def play_at(self, number):
-        self.start(number)
-        return ANSWERED
+    def id_at(self, position):
+        if int(position) >= len(self.queue):
+            raise model.Refused(*BAD_INDEX)
+        return self.queue[int(position)].id
+
+    def known(self, number):
+        if self.place(int(number)) is None:
+            raise model.Refused(50, "No such song")
+        return int(number)
 
     def play(self, position=None):
         if position is None:
-            return self.play_on()
-        if int(position) >= len(self.queue):
-            return refused(2, "play", "Bad song index")
-        return self.play_at(self.queue[int(position)].id)
+            self.play_on()
+        else:
+            self.start(self.id_at(position))
 
     def playid(self, number):
-        if self.place(int(number)) is None:
-            return refused(50, "playid", "No such song")
-        return self.play_at(int(number))
+        self.start(self.known(number))
 
     def play_on(self):
         if self.state == PAUSE:
@@ -155,28 +166,26 @@ class Player(model.State):
             self.start(self.current)
         elif self.state == STOP and self.queue:
             self.start(self.least(self.order_number + 1, ()).id if self.is_on("random") else self.queue[0].id)
-        return ANSWERED
 
     def pause(self, switch=None):
         if self.state != STOP:
             self.state = {"1": PAUSE, "0": PLAY, None: PAUSE if self.state == PLAY else PLAY}[switch]
-        return ANSWERED
 
     def stop(self):
         if self.state != STOP:
             self.halt(self.current)
             self.ticket += 1
-        return ANSWERED
+
+    def must_play(self):
+        if self.state == STOP:
+            raise model.Refused(*NOT_PLAYING)
 
     def next(self):
-        if self.state == STOP:
-            return refused(55, "next", "Not playing")
+        self.must_play()
         self.go_on()
-        return ANSWERED
 
     def previous(self):
-        if self.state == STOP:
-            return refused(55, "previous", "Not playing")
+        self.must_play()
         number = self.current
         if self.is_on("random"):
             self.played = [it for it in self.played if it != number]
@@ -185,7 +194,7 @@ class Player(model.State):
             at = self.place(number)
             if at or self.is_on("repeat"):
                 number = self.queue[at - 1].id
-        return self.play_at(number)
+        self.start(number)
 
     def seek_to(self, number, milliseconds):
         state = self.state
@@ -193,29 +202,21 @@ class Player(model.State):
         self.frame = self.cut(milliseconds)
         if state == PAUSE:
             self.state = PAUSE
-        return ANSWERED
 
     def seek(self, position, time):
-        if int(position) >= len(self.queue):
-            return refused(2, "seek", "Bad song index")
-        return self.seek_to(self.queue[int(position)].id, thousandths(time))
+        self.seek_to(self.id_at(position), thousandths(time))
 
     def seekid(self, number, time):
-        if self.place(int(number)) is None:
-            return refused(50, "seekid", "No such song")
-        return self.seek_to(int(number), thousandths(time))
+        self.seek_to(self.known(number), thousandths(time))
 
     def seekcur(self, time):
-        if self.state == STOP:
-            return refused(55, "seekcur", "Not playing")
+        self.must_play()
         frame, sign, offset = self.frame, time[0], thousandths(time.lstrip("+-")) * 8000 // 1000
         self.seek_to(self.current, 0)
         self.frame = min(max({"+": frame + offset, "-": frame - offset}.get(sign, offset), 0), self.frames())
-        return ANSWERED
 
     def clearerror(self):
         self.error = None
-        return ANSWERED
 
     def delete(self, text):
         first, end = model.span(text, len(self.queue))
@@ -232,12 +233,23 @@ class Player(model.State):
         elif value == "0":
             self.played = []
 
-    def drop(self, uri):
-        """A scan finds that a song is gone."""
-        self.songs = {it: song for it, song in self.songs.items() if it != uri}
-        self.leave({it.id for it in self.queue if it.uri == uri})
+    # Scans.
+
+    def update(self, uri=""):
+        self.jobs += 1
+        return f"updating_db: {self.jobs}\n"
+
+    rescan = update
+
+    def scanned(self, songs):
+        """A scan finds these songs: those that are gone leave the queue and take their stickers along."""
+        self.stickers = {it: value for it, value in self.stickers.items() if it[0] in songs}
+        self.leave({it.id for it in self.queue if it.uri not in songs}, songs)
 
     # What a client and the output read.
+
+    def currentsong(self):
+        return "" if self.current is None else self.entry_lines([self.place(self.current)])
 
     def status(self):
         lines = [f"{name}: {value}" for name, value in self.settings.items()]
@@ -252,12 +264,12 @@ class Player(model.State):
                 lines += [f"time: {elapsed // 1000}:{whole // 1000}", f"elapsed: {shown(elapsed)}", f"duration: {shown(whole)}"]
                 lines += ["audio: 8000:16:1"]
         lines += [f"error: {self.error}"] if self.error else []
-        return [*lines, "OK"]
+        return "".join(f"{it}\n" for it in lines)
 
     def order(self):
         if self.state != PLAY:
             return ["wait"]
-        return [f"play {self.ticket} {self.frame} {self.queue[self.place(self.current)].uri}"]
+        return [f"play {self.ticket} {self.frame} {self.current_uri()}"]
 
 
 def shown(milliseconds):

@@ -31,7 +31,7 @@ NAMED = """
 MOST_OTHERS = 3
 NAME = re.compile(r"[A-Za-z0-9_-][A-Za-z0-9_.-]*\.edit")
 FUNCTION = re.compile(r"(?m)^( *)(?:pub(?:\([^)]*\))? )?(?:const )?(?:unsafe )?fn (\w+)")
-TYPE = re.compile(r"(?m)^(?:unsafe )?(impl|trait)\b([^{]*)\{")
+TYPE = re.compile(r"(?m)^(?:pub )?(?:unsafe )?(impl|trait)\b([^{]*)\{")
 LINE = re.compile(r"(?m)^fn (\S+): (proved|.*)$")
 # A goal of the function's own, in the line of a function that has no answer for it.
 GOAL = re.compile(r"did not prove `[^`]*`")

@@ -8,11 +8,12 @@ use std::alloc::Global;
 use std::fs::{self, Metadata};
 use std::io::{self, ErrorKind};
 use std::os::unix::fs::MetadataExt;
+use std::path::{AsPath, Path};
 
 /// The files below a folder of the operating system. Links are followed, but a link to a folder that it stands in can't
 /// be listed, since it would go on for ever. What is neither a folder nor a plain file isn't listed, can't be opened,
-/// and counts as no file. Where the folder itself isn't there, as on a disk that was taken out, that is a fault of its
-/// listing.
+/// and counts as no file. Where the folder itself isn't there, or a link leads nowhere, as to a disk that was taken out,
+/// every listing and opening below it is a fault.
 ///
 /// No contract can say what a folder holds, so its honesty is a premise that no code supplies.
 #[derive(Drop)]
@@ -66,6 +67,39 @@ impl<'a> FileFolder<'a> {
         }
     }
 
+    // What a refusal of the operating system says of a path: nothing stands there, unless the way to it is cut off.
+    fn refused<T>(
+        &self,
+        alloc: Global,
+        path: &str,
+        error: &io::Error,
+    ) -> Result<Option<T>, FolderFault> {
+        if !is_absent(error) || path.is_empty() {
+            return Err(fault_of(error));
+        }
+        match self.is_cut_off(alloc, path) {
+            Ok(false) => Ok(None),
+            Ok(true) => Err(FolderFault::Source),
+            Err(other) => Err(fault_of(&other)),
+        }
+    }
+
+    // Whether the folder itself isn't there, or a link on the way to a path leads nowhere.
+    fn is_cut_off(&self, alloc: Global, path: &str) -> io::Result<bool> {
+        let mut over = String::from_str(alloc, self.root.as_str())?;
+        if fs::metadata(self.rt, over.as_str()).is_err() {
+            return Ok(true);
+        }
+        for part in path.split('/') {
+            over.push_str("/")?;
+            over.push_str(part)?;
+            if fs::metadata(self.rt, over.as_str()).is_err() && is_link(self.rt, over.as_str()) {
+                return Ok(true);
+            }
+        }
+        Ok(false)
+    }
+
     // A file, if one stands there. What isn't known to be a file is looked at first: the opening of a pipe would wait for its other end.
     fn open_file(&self, alloc: Global, path: &str, place: &str) -> io::Result<Option<FileSource>> {
         if self.is_known(path) {
@@ -109,8 +143,7 @@ impl Folder for FileFolder<'_> {
                 self.known = Some(KnownFiles::of(alloc, path, &entries)?);
                 Ok(Some(entries))
             }
-            Err(error) if is_absent(&error) && !path.is_empty() => Ok(None),
-            Err(error) => Err(fault_of(&error)),
+            Err(error) => self.refused(alloc, path, &error),
         }
     }
 
@@ -118,8 +151,7 @@ impl Folder for FileFolder<'_> {
         let place = self.place(alloc, path)?;
         match self.open_file(alloc, path, place.as_str()) {
             Ok(file) => Ok(file),
-            Err(error) if is_absent(&error) => Ok(None),
-            Err(error) => Err(fault_of(&error)),
+            Err(error) => self.refused(alloc, path, &error),
         }
     }
 }
@@ -129,7 +161,7 @@ fn entries_of(rt: &HostRuntime, alloc: Global, place: &str) -> io::Result<Vec<Fo
     let mut entries = Vec::new(alloc);
     for found in fs::read_dir(rt, place)? {
         let found = found?;
-        if let Some(is_folder) = kind_of(fs::metadata(rt, found.path()))? {
+        if let Some(is_folder) = kind_of(rt, found.path())? {
             let name = String::from_str(alloc, found.file_name())?;
             entries.push(FolderEntry { name, is_folder })?;
         }
@@ -137,15 +169,29 @@ fn entries_of(rt: &HostRuntime, alloc: Global, place: &str) -> io::Result<Vec<Fo
     Ok(entries)
 }
 
-// Whether a folder stands there or a file; `None` for anything else, for a link to nothing, and for what vanished since it was listed.
-fn kind_of(metadata: io::Result<Metadata>) -> io::Result<Option<bool>> {
-    match metadata {
-        Ok(metadata) if metadata.is_dir() => Ok(Some(true)),
-        Ok(metadata) if metadata.is_file() => Ok(Some(false)),
+// Whether a folder stands there or a file; `None` for anything else, and for what vanished since it was listed. A link that leads nowhere
+// is what its name says: so it is looked for, which is a fault, and what is known of it is kept.
+fn kind_of(rt: &HostRuntime, place: Path<'_>) -> io::Result<Option<bool>> {
+    match fs::metadata(rt, place) {
+        Ok(found) if found.is_dir() => Ok(Some(true)),
+        Ok(found) if found.is_file() => Ok(Some(false)),
         Ok(_) => Ok(None),
+        Err(_) if is_link(rt, place) => Ok(Some(!is_named_as_a_song(place.as_str()))),
         Err(error) if is_absent(&error) => Ok(None),
         Err(error) => Err(error),
     }
+}
+
+fn is_link<P: AsPath>(rt: &HostRuntime, place: P) -> bool {
+    match fs::symlink_metadata(rt, place) {
+        Ok(found) => found.is_symlink(),
+        Err(_) => false,
+    }
+}
+
+fn is_named_as_a_song(place: &str) -> bool {
+    let text = place.as_bytes();
+    text[text.len().saturating_sub(4)..].eq_ignore_ascii_case(b".wav")
 }
 
 fn is_same(folder: &Metadata, other: &Metadata) -> bool {

@@ -29,6 +29,12 @@ fn is_refused<F: Folder>(rt: &impl Abort, alloc: Global, folder: &mut F, path: &
     );
 }
 
+/// An opening is refused.
+fn is_closed<F: Folder + Drop>(rt: &impl Abort, alloc: Global, folder: &mut F, path: &str) {
+    let fault = folder.open(alloc, path).err();
+    equal(rt, fault, Some(FolderFault::Source));
+}
+
 #[test]
 fn real_files(rt: HostRuntime) -> Result<(), Fail> {
     let alloc = rt.alloc();
@@ -43,11 +49,12 @@ fn real_files(rt: HostRuntime) -> Result<(), Fail> {
     equal(&rt, has_file(alloc, &mut folder, "c.wav")?, false);
     fs::remove_dir_all(&rt, "real_files")?;
     is_refused(&rt, alloc, &mut folder, "");
+    is_refused(&rt, alloc, &mut folder, "d");
+    is_closed(&rt, alloc, &mut folder, "a.wav");
     Ok(())
 }
 
-/// A link to a folder beside it is listed; links to folders that they stand in are refused, however they lead there;
-/// and a link to nothing isn't there.
+/// A link to a folder beside it is listed; links to folders that they stand in are refused, however they lead there.
 #[test]
 fn real_links(rt: HostRuntime) -> Result<(), Fail> {
     let alloc = rt.alloc();
@@ -55,14 +62,34 @@ fn real_links(rt: HostRuntime) -> Result<(), Fail> {
     symlink(&rt, "d/e", "real_links/beside")?;
     symlink(&rt, ".", "real_links/d/itself")?;
     symlink(&rt, "../..", "real_links/d/e/root")?;
-    symlink(&rt, "nowhere", "real_links/d/e/c.wav")?;
     let mut folder = folder(&rt, "real_links")?;
     equal(&rt, frames_at(alloc, &mut folder, "beside/b.wav")?, 2);
     is_refused(&rt, alloc, &mut folder, "d/itself");
     is_refused(&rt, alloc, &mut folder, "d/e/root");
     is_refused(&rt, alloc, &mut folder, "beside/root");
-    equal(&rt, has_file(alloc, &mut folder, "d/e/c.wav")?, false);
     fs::remove_dir_all(&rt, "real_links")?;
+    Ok(())
+}
+
+/// Nothing is found over a link that leads nowhere, and that is a fault; what stands beside it is listed all the same.
+#[test]
+fn links_to_nothing(rt: HostRuntime) -> Result<(), Fail> {
+    let alloc = rt.alloc();
+    make_songs(&rt, "links_to_nothing", "links_to_nothing/d")?;
+    symlink(&rt, "nowhere", "links_to_nothing/d/c.wav")?;
+    symlink(&rt, "/nowhere/at/all", "links_to_nothing/disk")?;
+    symlink(&rt, "round", "links_to_nothing/round")?;
+    let mut folder = folder(&rt, "links_to_nothing")?;
+    is_closed(&rt, alloc, &mut folder, "d/c.wav");
+    is_closed(&rt, alloc, &mut folder, "disk/a.wav");
+    is_closed(&rt, alloc, &mut folder, "round");
+    is_refused(&rt, alloc, &mut folder, "disk");
+    is_refused(&rt, alloc, &mut folder, "disk/album");
+    is_refused(&rt, alloc, &mut folder, "round");
+    holds(&rt, alloc, &mut folder, "a.wav", "no folder")?;
+    equal(&rt, has_file(alloc, &mut folder, "d/e/f.wav")?, false);
+    equal(&rt, frames_at(alloc, &mut folder, "d/b.wav")?, 2);
+    fs::remove_dir_all(&rt, "links_to_nothing")?;
     Ok(())
 }
 

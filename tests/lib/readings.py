@@ -1,0 +1,157 @@
+"""What a client reads of what is kept: each method is named as a command, and gives its lines."""
+
+import model
+import refusals
+
+NO_LIST = 50, "No such playlist"
+
+
+def listed_commands():
+    """What `commands` lists: `noidle` is known, and not listed."""
+    return sorted({it.name for it in refusals.commands(refusals.Situation(False, False))} - {"noidle"})
+
+
+class Readable(model.State):
+    """What is kept, with the commands that read it."""
+
+    def ping(self):
+        return ""
+
+    def commands(self):
+        return "".join(f"command: {it}\n" for it in listed_commands())
+
+    def notcommands(self):
+        return ""
+
+    def tagtypes(self):
+        return "".join(f"tagtype: {it}\n" for it in ("Title", "Artist", "Album", "Date", "Genre", "Comment"))
+
+    # The songs.
+
+    def song_lines(self, uris):
+        return "".join(f"file: {it}\n{self.songs[it].lines()}" for it in uris)
+
+    def milliseconds(self, uris):
+        return sum(self.songs[it].frames * 1000 // 8000 for it in uris) // 1000
+
+    def stats(self):
+        return f"artists: 0\nalbums: 0\nsongs: {len(self.songs)}\ndb_playtime: {self.milliseconds(self.songs)}\n"
+
+    def paths(self):
+        """The folders and the songs, by the bytes of their paths, a folder before a song."""
+        folders = {(uri[:at], "directory") for uri in self.songs for at, it in enumerate(uri) if it == "/"}
+        return sorted([*folders, *((it, "file") for it in self.songs)], key=lambda it: (it[0].encode(), it[1]))
+
+    def below(self, uri):
+        """The folders and songs below a place, with what stands behind it; of a song's URI that song alone."""
+        if uri in self.songs:
+            return [(uri, "file", uri)]
+        front = "" if uri in ("", "/") else uri + "/"
+        found = [(path, kind, path.removeprefix(front)) for path, kind in self.paths() if path.startswith(front)]
+        if front and not found:
+            raise model.Refused(*model.NO_FILE)
+        return found
+
+    def listall(self, uri=""):
+        return "".join(f"{kind}: {path}\n" for path, kind, _ in self.below(uri))
+
+    def listallinfo(self, uri=""):
+        return "".join(self.song_lines([path]) if kind == "file" else f"{kind}: {path}\n" for path, kind, _ in self.below(uri))
+
+    def lsinfo(self, uri=""):
+        found = self.below(uri)
+        right = [(path, kind) for path, kind, rest in found if "/" not in rest or path == uri]
+        folders = "".join(f"directory: {path}\n" for path, kind in right if kind == "directory")
+        return folders + self.song_lines(path for path, kind in right if kind == "file")
+
+    def find(self, *words):
+        return self.song_lines(self.found(words, False)[0])
+
+    def search(self, *words):
+        return self.song_lines(self.found(words, True)[0])
+
+    def count(self, *words):
+        found, _ = self.found(words, False)
+        return f"songs: {len(found)}\nplaytime: {self.milliseconds(found)}\n"
+
+    def list(self, tag, *words):
+        found = self.found(words, False)[0] if words else self.songs
+        values = {it for uri in found for it in self.texts(uri, tag.lower())}
+        return "".join(f"{tag.capitalize()}: {it}\n" for it in model.by_bytes(values))
+
+    # The queue.
+
+    def entry_lines(self, places):
+        return "".join(self.queue[it].lines(self.songs[self.queue[it].uri], it) for it in places)
+
+    def playlistinfo(self, text="0:"):
+        return self.entry_lines(range(*model.span(text, len(self.queue))))
+
+    def playlistid(self, number=None):
+        return self.entry_lines(range(len(self.queue)) if number is None else [self.position(number)])
+
+    def changed_since(self, version, text):
+        late = 0 if int(version) > self.version else int(version)
+        return [it for it in range(*model.span(text, len(self.queue))) if self.stamps[it] > late]
+
+    def plchanges(self, version, text="0:"):
+        return self.entry_lines(self.changed_since(version, text))
+
+    def plchangesposid(self, version, text="0:"):
+        return "".join(f"cpos: {it}\nId: {self.queue[it].id}\n" for it in self.changed_since(version, text))
+
+    def playlistfind(self, *pairs):
+        return self.entry_lines(at for at, it in enumerate(self.queue) if self.matching([it.uri], pairs, False))
+
+    def playlistsearch(self, *pairs):
+        return self.entry_lines(at for at, it in enumerate(self.queue) if self.matching([it.uri], pairs, True))
+
+    # Playlists and stickers.
+
+    def listplaylists(self):
+        return "".join(f"playlist: {it}\n" for it in model.by_bytes(self.playlists))
+
+    def listed(self, name):
+        if name not in self.playlists:
+            raise model.Refused(*NO_LIST)
+        return self.playlists[name]
+
+    def listplaylist(self, name):
+        return "".join(f"file: {it}\n" for it in self.listed(name))
+
+    def listplaylistinfo(self, name):
+        return "".join(self.song_lines([it]) if it in self.songs else f"file: {it}\n" for it in self.listed(name))
+
+    def sticker_get(self, uri, name):
+        if uri not in self.songs:
+            raise model.Refused(*model.NO_FILE)
+        if (uri, name) not in self.stickers:
+            raise model.Refused(50, "no such sticker")
+        return f"sticker: {name}={self.stickers[uri, name]}\n"
+
+    def sticker_list(self, uri):
+        if uri not in self.songs:
+            raise model.Refused(*model.NO_FILE)
+        names = model.by_bytes(name for it, name in self.stickers if it == uri)
+        return "".join(f"sticker: {it}={self.stickers[uri, it]}\n" for it in names)
+
+    def sticker_find(self, uri, name, sign=None, bound=""):
+        tests = {"=": lambda it: it == bound, "<": lambda it: it.encode() < bound.encode(), ">": lambda it: it.encode() > bound.encode()}
+        holds = tests.get(sign, lambda it: True)
+        having = [it for it in model.by_bytes(self.songs_at(uri)) if (it, name) in self.stickers and holds(self.stickers[it, name])]
+        return "".join(f"file: {it}\nsticker: {name}={self.stickers[it, name]}\n" for it in having)
+
+    # All of it.
+
+    def readings(self, names, uris):
+        """Requests that tell all that is kept but the stamps and the order number, with their answers; `names` are those that playlists
+        may have, `uris` those that songs may have."""
+        requests = [["status"], ["playlistinfo"], ["listplaylists"], ["listallinfo"], *(["listplaylist", it] for it in names)]
+        for words in [*requests, *(["sticker", "list", "song", it] for it in uris)]:
+            yield words, self.after([words])[1]
+
+    def stamp_readings(self):
+        """Requests that tell the stamp of each position, with their answers."""
+        for version in sorted({0} | {it - before for it in self.stamps for before in (0, 1)}):
+            words = ["plchangesposid", str(version)]
+            yield words, self.after([words])[1]
