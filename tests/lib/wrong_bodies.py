@@ -198,15 +198,15 @@ def is_within(name, function):
 
 
 class Trial:
-    """The trials of one crate's edits over the libraries that were built below it."""
+    """The trials of one crate's edits, which stand in the original, over the libraries that were built below the crate."""
 
-    def __init__(self, crate, say=print):
-        self.crate, self.say = crate, say
+    def __init__(self, crate, original, jobs=1, say=print):
+        self.crate, self.original, self.flags, self.say = crate, original, ["--jobs", str(jobs)], say
         self.functions = {}
 
     def run(self):
-        """Gives (edit, whether it was refused, what is to be said) for each edit."""
-        edits = edits_of(self.crate)[0]
+        """Gives (whether it was refused, what is to be said) for each edit."""
+        edits = edits_of(self.original)[0]
         self.functions = {it: functions_of(it, self.crate.folder) for it in edits}
         with tempfile.TemporaryDirectory(prefix="wrong-bodies-kept-") as self.kept:
             refused = self.in_batches([it for it in edits if self.functions[it]])
@@ -214,7 +214,7 @@ class Trial:
             if refused and not self.control(refused):
                 self.say(f"{self.crate.name}: the functions as they are weren't proved over the same folder; each is tried from nothing")
                 refused = {}
-        return [(it, True, refused[it]) if it in refused else (it, *RT.must_fail(self.crate, it, ["--jobs", "1"])) for it in edits]
+        return [(True, refused[it]) if it in refused else RT.must_fail(self.crate, it, self.flags) for it in edits]
 
     def check(self, texts, only):
         """A check of these functions, in a copy of the crate with these texts in place of its own."""
@@ -225,7 +225,7 @@ class Trial:
             for path, text in texts.items():
                 with open(f"{room}/{path}", "w", encoding="utf-8") as file:
                     file.write(text)
-            words = [RT.rtlib.RATTLE, "check", *self.crate.words(["--jobs", "1"], keeps=False), "--incremental", self.kept]
+            words = [RT.rtlib.RATTLE, "check", *self.crate.words(self.flags, keeps=False), "--incremental", self.kept]
             for name in sorted(only):
                 words += ["--only", name]
             how = {"cwd": room, "stdin": subprocess.DEVNULL, "stdout": subprocess.PIPE, "stderr": subprocess.STDOUT, "errors": "replace"}
@@ -293,4 +293,4 @@ class Trial:
         return self.check({}, set().union(*(self.functions[it] for it in refused))).proves_all()
 
     def line(self, edit, why):
-        return f"wrong body {self.crate.name}/{os.path.relpath(edit, self.crate.folder)}: refused: {why[:160]}"
+        return f"wrong body {self.crate.name}/{os.path.relpath(edit, self.original.folder)}: refused: {why[:160]}"
