@@ -84,10 +84,10 @@ impl<'a> FileFolder<'a> {
         }
     }
 
-    // Whether the folder itself isn't there, or a link on the way to a path leads nowhere.
+    // Whether the folder itself isn't there, or is no folder, or a link on the way to a path leads nowhere.
     fn is_cut_off(&self, alloc: Global, path: &str) -> io::Result<bool> {
         let mut over = String::from_str(alloc, self.root.as_str())?;
-        if fs::metadata(self.rt, over.as_str()).is_err() {
+        if !is_folder(self.rt, over.as_str()) {
             return Ok(true);
         }
         for part in path.split('/') {
@@ -179,6 +179,13 @@ fn kind_of(rt: &HostRuntime, place: Path<'_>) -> io::Result<Option<bool>> {
         Err(_) if is_link(rt, place) => Ok(Some(!is_named_as_a_song(place.as_str()))),
         Err(error) if is_absent(&error) => Ok(None),
         Err(error) => Err(error),
+    }
+}
+
+fn is_folder(rt: &HostRuntime, place: &str) -> bool {
+    match fs::metadata(rt, place) {
+        Ok(found) => found.is_dir(),
+        Err(_) => false,
     }
 }
 
