@@ -121,6 +121,17 @@ is_some-option_map : {X Y : Type 0} (f : X → Y) (o : Option X) → is_some (op
 is_some-option_map f None = refl
 is_some-option_map f (Some x) = refl
 
+-- a song without stickers has no value
+pub empty_absent : (all : List Sticker) (uri name : List ℕ) → stickers_of all uri ≡ [] → value_at all uri name ≡ None
+empty_absent [] uri name empty = refl
+empty_absent (t ∷ ts) uri name empty = by_cases (bytes_eq uri t.uri) empty (empty_absent ts uri name)
+  where
+    by_cases : (b : Bool) → cond b (t ∷ stickers_of ts uri) (stickers_of ts uri) ≡ []
+        → (stickers_of ts uri ≡ [] → value_at ts uri name ≡ None)
+        → option_map (λ (s : Sticker). s.value) (cond (b && bytes_eq name t.name) (Some t) (find (is_at uri name) ts)) ≡ None
+    by_cases true empty rest = absurd (cc)
+    by_cases false empty rest = rest empty
+
 pub counted_new : (all : List Sticker) (n : ℕ) (uri name value : List ℕ) → IsCounted all n
     → IsSticker (record { uri = uri; name = name; value = value }) → is_some (value_at all uri name) ≡ false → n < MAX_STICKERS
     → IsCounted (with_sticker all uri name value) (n + 1)

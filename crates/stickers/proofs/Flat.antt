@@ -14,7 +14,7 @@ use Rattle.std.proofs.lemmas.Map.Text.{is_eq-slice_cmp}
 use Rattle.stickers.specs.Named.{Values, Songs, IsRising, under, with_name, with_other, without_name, with_value, with_value_in}
 use Rattle.stickers.specs.Sticker.{Sticker, sticker, in_song, flat, compare, placed, is_of_song, is_at, with_sticker, without_sticker}
 use Rattle.stickers.specs.Sticker.{without_song, value_at, stickers_of}
-use Rattle.stickers.proofs.Named.{IsBefore, before_tail, before_trans, rising_tail, under_before, same_name}
+use Rattle.stickers.proofs.Named.{IsBefore, before_tail, before_trans, rising_tail, under_before, with_name_there, same_name}
 
 -- all stickers come after this one
 abbrev IsFirst : Sticker → List Sticker → Type 0
@@ -277,6 +277,20 @@ pub flat-without_empty : (songs : Songs) (uri : List ℕ) → IsRising songs →
     → flat (without_name songs uri) ≡ flat songs
 flat-without_empty songs uri rising found = flat-without_name songs uri
     ∙ without_song_none (flat songs) uri (flat-stickers_of songs uri [] rising found)
+
+-- a song without stickers, there or not, has one then
+pub flat-with_first : (songs : Songs) (uri name value : List ℕ) → IsRising songs → stickers_of (flat songs) uri ≡ []
+    → flat (with_name songs uri ((name, value) ∷ [])) ≡ with_sticker (flat songs) uri name value
+flat-with_first songs uri name value rising empty = by_cases (under songs uri) refl
+  where
+    by_cases : (o : Option Values) → under songs uri ≡ o
+        → flat (with_name songs uri ((name, value) ∷ [])) ≡ with_sticker (flat songs) uri name value
+    by_cases None none = flat-with_name songs uri name value rising none
+    by_cases (Some []) found = ap flat (with_name_there songs uri ((name, value) ∷ []) [] rising found)
+        ∙ flat-with_other songs uri name value [] rising found
+    by_cases (Some (v ∷ vs)) found =
+        let some : stickers_of (flat songs) uri ≡ sticker uri v ∷ in_song (uri, vs) = flat-stickers_of songs uri (v ∷ vs) rising found in
+        absurd (cc)
 
 -- the song that a look-up finds has all stickers under its URI
 pub song_found : (songs : Songs) (uri : List ℕ) (o : Option (Bor Values)) → IsRising songs → option_copied o ≡ under songs uri

@@ -1,7 +1,8 @@
 -- Lists under names, rising by the names' bytes.
-use Rattle.std.proofs.Common.{◌≡◌, ℕ, Bool, true, false, not, cond, List, [], ◌∷◌, None, refl, sym, ap, ◌∙◌}
-use Rattle.std.specs.declared.cmp.Ordering.TheVariants.{Less}
-use Rattle.std.specs.Ordering.{nat_cmp, is_eq}
+use Rattle.std.proofs.Common.{◌≡◌, ℕ, Bool, true, false, not, cond, List, [], ◌∷◌, Some, None, refl, sym, ap, ◌∙◌}
+use Rattle.std.specs.declared.cmp.Ordering.{Ordering}
+use Rattle.std.specs.declared.cmp.Ordering.TheVariants.{Less, Equal, Greater}
+use Rattle.std.specs.Ordering.{nat_cmp, match_ordering, is_eq}
 use Rattle.std.specs.Cmp.Lexicographic.{slice_cmp, nat_list_cmp_total}
 use Rattle.std.specs.List.{AllByRecursion}
 use Rattle.std.specs.Str.{bytes_eq}
@@ -9,7 +10,7 @@ use Rattle.std.specs.Map.{keys_of, remove_entry}
 use Rattle.std.proofs.lemmas.Map.Text.{is_eq-slice_cmp}
 use Rattle.std.proofs.lemmas.Map.Keys.{sorted_head, sorted_tail}
 use Rattle.std.proofs.lemmas.Slice.Eq.{bytes_eq-Decides}
-use Rattle.stickers.specs.Named.{IsRising, under, without_name}
+use Rattle.stickers.specs.Named.{IsRising, under, with_name, with_other, without_name}
 
 -- the name is below all of them
 abbrev pub IsBefore : {X : Type 0} → List ℕ → List (List ℕ × X) → Type 0
@@ -39,6 +40,24 @@ without_before (e ∷ named) name before = rw (apart_before name e.0 before.0) (
 pub under_before : {X : Type 0} (named : List (List ℕ × X)) (name : List ℕ) → IsBefore name named → under named name ≡ None
 under_before [] name before = refl
 under_before (e ∷ named) name before = rw (apart_before name e.0 before.0) (under_before named name before.1)
+
+-- what is put under a name that is there takes the old one's place
+pub with_name_there : {X : Type 0} (named : List (List ℕ × X)) (name : List ℕ) (x old : X) → IsRising named → under named name ≡ Some old
+    → with_name named name x ≡ with_other named name x
+with_name_there [] name x old rising found = absurd (cc)
+with_name_there (e ∷ named) name x old rising found =
+    rw (← is_eq-slice_cmp name e.0) (by_cases (slice_cmp nat_cmp name e.0) refl (rw (← is_eq-slice_cmp name e.0) at found)
+    (with_name_there named name x old (rising_tail e named rising)))
+  where
+    by_cases : (o : Ordering) → slice_cmp nat_cmp name e.0 ≡ o → cond (is_eq o) (Some e.1) (under named name) ≡ Some old
+        → (under named name ≡ Some old → with_name named name x ≡ with_other named name x)
+        → match_ordering o ((name, x) ∷ e ∷ named) ((e.0, x) ∷ named) (e ∷ with_name named name x)
+        ≡ cond (is_eq o) ((e.0, x) ∷ named) (e ∷ with_other named name x)
+    by_cases Less is found rest =
+        let none : under named name ≡ None = under_before named name (before_trans named name e.0 is (before_tail e named rising)) in
+        absurd (cc)
+    by_cases Equal is found rest = refl
+    by_cases Greater is found rest = ap (λ l. e ∷ l) (rest found)
 
 pub same_name : (name other : List ℕ) → bytes_eq name other ≡ true → name ≡ other
 same_name name other same = (bytes_eq-Decides name other).0 same

@@ -1,4 +1,4 @@
-ghost use Rattle.std.specs.Prelude.{◌≡◌, [], length, OnOk, OnErr, option_map, MatchOption, IfOk};
+ghost use Rattle.std.specs.Prelude.{◌≡◌, [], length, OnOk, OnErr, option_map, MatchOption, IfOk, string_bytes};
 ghost use Rattle.stickers.specs.Find.{found_in};
 ghost use Rattle.stickers.specs.Sticker.{flat, in_song, value_at, stickers_of, with_sticker, without_sticker, without_song};
 
@@ -111,13 +111,27 @@ impl StickersBySong {
                 song.insert(name, value)?;
                 Ok(())
             }
-            None => {
-                let song = SongStickers::with_one(alloc, name, value)?;
-                let uri = String::from_str(alloc, uri)?;
-                self.songs.insert(uri, song)?;
-                Ok(())
-            }
+            None => self.set_first(alloc, uri, name, value),
         }
+    }
+
+    // Sets the first value of a song, which takes one search of the songs. What needs memory is taken before anything
+    // changes.
+    pub(crate) fn set_first(
+        &mut self,
+        alloc: Global,
+        uri: &str,
+        name: String,
+        value: StickerValue,
+    ) -> Result<(), AllocError>
+        requires empty { stickers_of self.old uri.now ≡ [] }
+        ensures ok { OnOk result (self.new ≡ with_sticker self.old uri.now (string_bytes name) value) }
+        ensures err { OnErr result (self.new ≡ self.old) }
+    {
+        let song = SongStickers::with_one(alloc, name, value)?;
+        let uri = String::from_str(alloc, uri)?;
+        self.songs.insert(uri, song)?;
+        Ok(())
     }
 
     // Takes the stickers of a song out, and says how many there were.

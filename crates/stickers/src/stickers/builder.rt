@@ -1,9 +1,10 @@
 // Stickers as they were saved, made one by one.
-ghost use Rattle.std.specs.Prelude.{◌≡◌, [], ◌∷◌, ◌++◌, IsTrue, OnOk, OnErr};
+ghost use Rattle.std.specs.Prelude.{◌≡◌, [], ◌∷◌, ◌++◌, IsTrue, None, OnOk, OnErr};
+ghost use Rattle.song_db.specs.Uri.{is_uri};
 ghost use Rattle.stickers.specs.Fits.{HasRoom};
 ghost use Rattle.stickers.specs.Part.{is_last, is_behind, part_refusal};
 ghost use Rattle.stickers.specs.Refusal.{Answers, AnswersUnless};
-ghost use Rattle.stickers.specs.Sticker.{sticker};
+ghost use Rattle.stickers.specs.Sticker.{sticker, value_at, stickers_of, with_sticker};
 
 use super::Stickers;
 use crate::limits::MAX_STICKERS;
@@ -11,7 +12,7 @@ use crate::name::is_good_name;
 use crate::refusal::PartError;
 use crate::value::StickerValue;
 use song_db::Uri;
-use std::alloc::Global;
+use std::alloc::{AllocError, Global};
 use std::cmp::Ordering;
 use std::marker::Model;
 
@@ -79,9 +80,20 @@ impl StickersBuilder {
     {
         self.check(&uri, name)?;
         let last = String::from_str(alloc, name)?;
-        self.stickers.put(alloc, uri.as_str(), name, value)?;
+        if self.begins_song(&uri) {
+            self.stickers.add_first(alloc, uri.as_str(), name, value)?;
+        } else {
+            self.stickers.add(alloc, uri.as_str(), name, value)?;
+        }
         self.last = Some((uri, last));
         Ok(())
+    }
+
+    // Whether a sticker of this URI stands behind the last one whatever its name, so that the song has none yet.
+    fn begins_song(&self, uri: &Uri) -> bool
+        ensures { result ≡ is_last self.now uri.now [] }
+    {
+        is_behind(&self.last, uri, "")
     }
 
     /// All these stickers.
@@ -89,6 +101,50 @@ impl StickersBuilder {
         ensures { result ≡ self }
     {
         self.stickers
+    }
+}
+
+// What the builder adds is new: it takes one search of the songs.
+impl Stickers {
+    // Adds a sticker that isn't there yet.
+    fn add(
+        &mut self,
+        alloc: Global,
+        uri: &str,
+        name: &str,
+        value: StickerValue,
+    ) -> Result<(), AllocError>
+        requires form { IsTrue (is_uri uri.now) }
+        requires room { HasRoom self.old uri.now name.now }
+        requires absent { value_at self.old uri.now name.now ≡ None }
+        ensures ok { OnOk result (self.new ≡ with_sticker self.old uri.now name.now value) }
+        ensures err { OnErr result (self.new ≡ self.old) }
+    {
+        let _form = value.as_str();
+        self.songs.set(alloc, uri, name, value)?;
+        self.count += 1;
+        Ok(())
+    }
+
+    // Adds the first sticker of a song.
+    fn add_first(
+        &mut self,
+        alloc: Global,
+        uri: &str,
+        name: &str,
+        value: StickerValue,
+    ) -> Result<(), AllocError>
+        requires form { IsTrue (is_uri uri.now) }
+        requires room { HasRoom self.old uri.now name.now }
+        requires empty { stickers_of self.old uri.now ≡ [] }
+        ensures ok { OnOk result (self.new ≡ with_sticker self.old uri.now name.now value) }
+        ensures err { OnErr result (self.new ≡ self.old) }
+    {
+        let _form = value.as_str();
+        let name = String::from_str(alloc, name)?;
+        self.songs.set_first(alloc, uri, name, value)?;
+        self.count += 1;
+        Ok(())
     }
 }
 

@@ -1,12 +1,10 @@
-use Rattle.std.proofs.Common.{◌≡◌, ◌∙◌, [], ◌∷◌, ap, refl, sym, Some, None}
-use Rattle.std.specs.BTreeMap.{insert_entry}
-use Rattle.std.specs.String.{string_cmp}
+use Rattle.std.proofs.Common.{◌≡◌, ◌∙◌, ap, sym, Some, None}
 use Rattle.std.proofs.lemmas.Map.Steps.{set_value_same}
 use Rattle.stickers.specs.ByName.{by_name}
 use Rattle.stickers.specs.Named.{under, with_name, with_other}
 use Rattle.stickers.specs.Sticker.{flat, with_sticker}
-use Rattle.stickers.proofs.ByName.{lookup-by_name, set_value-by_name, insert_entry-by_name, sorted-by_name}
-use Rattle.stickers.proofs.Flat.{flat-with_name, flat-with_other, on_err}
+use Rattle.stickers.proofs.ByName.{lookup-by_name, set_value-by_name, sorted-by_name}
+use Rattle.stickers.proofs.Flat.{none_of_song, flat-with_other, on_err}
 use Rattle.stickers.proofs.by_song.StickersBySong.set.Goals as goal
 
 pub invariant_of-self : goal.invariant_of-self
@@ -39,21 +37,10 @@ returns-in_ok-insert-in-Some-clause-ok c =
     ∙ flat-with_other songs c.args.uri.now c.args.name.now c.args.value c.in-Some.song.now c.self.invariant found
     ∙ ap (λ all. with_sticker all c.args.uri.now c.args.name.now c.args.value) c.self.view_is
 
-pub invariant_of-self-in-None : goal.invariant_of-self-in-None
-invariant_of-self-in-None c = sorted-by_name _ c.in_ok-insert-in-None.ensures.ordered
-
-pub returns-in_ok-insert-in-None-clause-ok : goal.returns-in_ok-insert-in-None-clause-ok
-returns-in_ok-insert-in-None-clause-ok c =
+-- a song that isn't there has no sticker
+pub set_first-requires : goal.set_first-requires
+set_first-requires c =
     let songs = by_name c.self.inside.songs.entries in
     let none : under songs c.args.uri.now ≡ None =
     sym (c.in-None.ensures.value ∙ lookup-by_name c.args.uri.now c.self.inside.songs.entries) in
-    let song : c.in_ok-song-in-None.song ≡ (c.args.name.now, c.args.value) ∷ [] =
-    c.in_ok-song-in-None.ensures ∙ rw (c.in_ok-name.ensures.ok) refl in
-    let entered : c.insert-in-None.new.self.entries ≡ insert_entry string_cmp c.self.inside.songs.entries c.in_ok-uri-in-None.uri
-    c.in_ok-song-in-None.song =
-    c.in_ok-insert-in-None.ensures.entries
-    ∙ ap (λ m. insert_entry string_cmp m.entries c.in_ok-uri-in-None.uri c.in_ok-song-in-None.song) c.get_mut.follows.holds-at-none in
-    ap (λ es. flat (by_name es)) entered
-    ∙ ap flat (insert_entry-by_name c.self.inside.songs.entries c.in_ok-uri-in-None.uri c.in_ok-song-in-None.song)
-    ∙ rw (c.in_ok-uri-in-None.ensures.ok, song) (flat-with_name songs c.args.uri.now c.args.name.now c.args.value c.self.invariant none)
-    ∙ ap (λ all. with_sticker all c.args.uri.now c.args.name.now c.args.value) c.self.view_is
+    record { empty = rw c.get_mut.follows.holds-at-none (none_of_song songs c.args.uri.now none) }
