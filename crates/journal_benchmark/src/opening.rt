@@ -41,14 +41,14 @@ fn make(rt: &HostRuntime, a: &str, b: &str, records: u32, snapshot: usize) -> Re
     Ok(())
 }
 
-/// The nanoseconds that opening the journal takes.
+/// The nanoseconds that opening the journal takes, without closing it again.
 fn opens(rt: &HostRuntime, a: &str, b: &str) -> Result<u64> {
     let a = FileDisk::open(rt, a)?;
     let b = FileDisk::open(rt, b)?;
     let start = Instant::now(rt)?;
-    let opened = Journal::open(rt.alloc(), a, b).is_ok();
+    let opened = Journal::open(rt.alloc(), a, b);
     let taken = nanos_since(rt, start)?;
-    if !opened {
+    if opened.is_err() {
         return Err(anyhow!("the journal was not opened"));
     }
     Ok(taken)
