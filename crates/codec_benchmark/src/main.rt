@@ -2,6 +2,7 @@
 //! records of one setting are applied, whatever the size of the state.
 #![tactic(auto)]
 
+mod parts;
 mod records;
 mod snapshots;
 mod states;
@@ -9,7 +10,7 @@ mod timing;
 
 use anyhow::Result;
 use snapshots::Times;
-use states::{EMPTY, FULL, ROWS, Size};
+use states::{EMPTY, FULL, HOME, ROWS, Size};
 use std::env;
 
 /// Prints what a snapshot of a state of the size takes.
@@ -20,9 +21,13 @@ fn print_snapshot(rt: &HostRuntime, size: Size) -> Result<()> {
         copy,
         write,
         read,
+        parts,
     } = times;
     println!(rt;
-        "a snapshot of {bytes} bytes; a plain copy of it takes {} microseconds",
+        "a snapshot of {} rows, {} entries and {} stickers, {bytes} bytes; a plain copy of it takes {} microseconds",
+        size.rows,
+        size.entries,
+        size.stickers,
         copy / 1_000
     )?;
     println!(rt;
@@ -34,6 +39,11 @@ fn print_snapshot(rt: &HostRuntime, size: Size) -> Result<()> {
         "  read: {} microseconds, {} copies",
         read / 1_000,
         times.read_in()
+    )?;
+    println!(rt;
+        "  its parts made in plain loops: {} microseconds; reading takes {} times that and a copy",
+        parts / 1_000,
+        times.beside_parts()
     )?;
     Ok(())
 }
@@ -55,6 +65,7 @@ fn main(rt: HostRuntime) -> Result<()> {
         return Ok(println!(rt; "usage: codec_benchmark measure")?);
     }
     print_snapshot(&rt, FULL)?;
+    print_snapshot(&rt, HOME)?;
     print_records(&rt, EMPTY)?;
     print_records(&rt, ROWS)
 }

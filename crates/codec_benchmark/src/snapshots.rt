@@ -1,4 +1,5 @@
-// A snapshot, written, read and copied.
+// A snapshot, written, read and copied, and its parts made in plain loops.
+use crate::parts;
 use crate::states::{Size, state};
 use crate::timing::{ROUNDS, nanos_since};
 use anyhow::{Result, anyhow};
@@ -14,6 +15,8 @@ pub struct Times {
     pub copy: u64,
     pub write: u64,
     pub read: u64,
+    /// What it takes to make the same parts in plain loops.
+    pub parts: u64,
 }
 
 impl Times {
@@ -26,6 +29,11 @@ impl Times {
     pub fn read_in(&self) -> Hundredths {
         ratio(self.read, self.copy)
     }
+
+    /// How many times reading takes what a copy of the bytes and making the parts take.
+    pub fn beside_parts(&self) -> Hundredths {
+        ratio(self.read, self.copy.saturating_add(self.parts))
+    }
 }
 
 /// The best times of some rounds, for a state of the size.
@@ -37,12 +45,14 @@ pub fn measure(rt: &HostRuntime, size: Size) -> Result<Times> {
         copy: u64::MAX,
         write: u64::MAX,
         read: u64::MAX,
+        parts: u64::MAX,
     };
     let mut copy = Vec::from_slice(rt.alloc(), bytes.as_slice())?;
     for _ in 0..ROUNDS {
         times.copy = times.copy.min(time_copy(rt, bytes.as_slice(), &mut copy)?);
         times.write = times.write.min(time_write(rt, &saved)?);
         times.read = times.read.min(time_read(rt, bytes.as_slice())?);
+        times.parts = times.parts.min(time_parts(rt, &saved)?);
     }
     Ok(times)
 }
@@ -75,6 +85,17 @@ fn time_read(rt: &HostRuntime, bytes: &[u8]) -> Result<u64> {
     let nanos = nanos_since(rt, start)?;
     if saved.songs().is_empty() {
         return Err(anyhow!("a snapshot has no rows"));
+    }
+    Ok(nanos)
+}
+
+/// The nanoseconds of plain loops that make the same parts.
+fn time_parts(rt: &HostRuntime, saved: &Saved) -> Result<u64> {
+    let start = Instant::now(rt)?;
+    let made = parts::make(rt.alloc(), saved)?;
+    let nanos = nanos_since(rt, start)?;
+    if made.songs.is_empty() {
+        return Err(anyhow!("a copy has no rows"));
     }
     Ok(nanos)
 }

@@ -34,6 +34,13 @@ pub const FULL: Size = Size {
     stickers: 20_000,
 };
 
+/// A large home's.
+pub const HOME: Size = Size {
+    rows: 20_032,
+    entries: 16_384,
+    stickers: 0,
+};
+
 /// A state of the size.
 pub fn state(alloc: Global, size: Size) -> Result<Saved> {
     let mut saved = Saved::fresh(alloc, [7; 32]);
