@@ -162,12 +162,11 @@ fn add_lines(lines: &mut Lines, alloc: Global, texts: &[&str]) -> Result<(), All
     Ok(())
 }
 
-/// A list of these lines of client 1, with `list_OK` or without.
-pub fn list_of(alloc: Global, separated: bool, texts: &[&str]) -> Result<Event, AllocError> {
+/// A list of these lines of client 1, with `list_OK`.
+fn list_of(alloc: Global, texts: &[&str]) -> Result<Event, AllocError> {
     let mut lines = Lines::new(alloc);
     match add_lines(&mut lines, alloc, texts) {
-        Ok(()) if separated => Ok(Event::Request(1, Request::OkList(lines))),
-        Ok(()) => Ok(Event::Request(1, Request::List(lines))),
+        Ok(()) => Ok(Event::Request(1, Request::OkList(lines))),
         Err(error) => Err(error),
     }
 }
@@ -175,7 +174,7 @@ pub fn list_of(alloc: Global, separated: bool, texts: &[&str]) -> Result<Event, 
 pub fn event(alloc: Global, happens: Happens) -> Result<Event, AllocError> {
     match happens {
         Happens::Line(client, text) => line_of(alloc, client, text),
-        Happens::AfterSetvol(text) => list_of(alloc, true, &["setvol 40", text]),
+        Happens::AfterSetvol(text) => list_of(alloc, &["setvol 40", text]),
         Happens::Noidle(client) => Ok(Event::Request(client, Request::Noidle)),
         Happens::Connect(client) => Ok(Event::Connect(client)),
         Happens::Gone(client) => Ok(Event::Gone(client)),

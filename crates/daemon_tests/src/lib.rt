@@ -1,29 +1,13 @@
-//! The tests of the daemon over its clients: requests, lists, waiting clients, refused memory.
+//! The tests of the daemon that no script of clients shows: refused memory, recovering, its calls.
 #![tactic(auto)]
 
 #[cfg(test)]
 mod assertions;
 #[cfg(test)]
-mod clients;
-#[cfg(test)]
-mod commands;
-#[cfg(test)]
-mod database;
-#[cfg(test)]
-mod finding;
+mod calls;
 #[cfg(test)]
 mod given;
 #[cfg(test)]
-mod lines;
-#[cfg(test)]
 mod memory;
 #[cfg(test)]
-mod player;
-#[cfg(test)]
-mod playlists;
-#[cfg(test)]
-mod queue;
-#[cfg(test)]
 mod recovered;
-#[cfg(test)]
-mod sizes;

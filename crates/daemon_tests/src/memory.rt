@@ -12,14 +12,24 @@ use std::test::Fail;
 /// the refusal, if one does; and what is given out where memory is there.
 type Row<'a> = (Happens<'a>, &'a str, &'a str);
 
+// A daemon has many parts, and to let it go on many ways costs the prover most. So what may fail while one is there borrows it, and a
+// function that has one ends in one call.
+
 fn waiting(alloc: Global) -> Result<Core, Fail> {
     let mut core = filled(alloc)?;
-    connect_both(&mut core, alloc)?;
+    match second_waits(&mut core, alloc) {
+        Ok(()) => Ok(core),
+        Err(error) => Err(error),
+    }
+}
+
+fn second_waits(core: &mut Core, alloc: Global) -> Result<(), Fail> {
+    connect_both(core, alloc)?;
     let idle = event(alloc, Happens::Line(2, "idle mixer"))?;
-    if stepped(&mut core, alloc, idle)?.refused_at.is_some() {
+    if stepped(core, alloc, idle)?.refused_at.is_some() {
         return Err(Fail::from(NoMemory));
     }
-    Ok(core)
+    Ok(())
 }
 
 /// What is given out where the answer may say that there was no memory.
@@ -52,28 +62,55 @@ fn second_answer(alloc: Global, name: &str) -> Result<String, AllocError> {
 /// The state after `setvol 40`.
 fn quiet(alloc: Global) -> Result<Core, Fail> {
     let mut core = waiting(alloc)?;
-    tried(&mut core, alloc, Happens::Line(1, "setvol 40"))?;
-    Ok(core)
+    match tried(&mut core, alloc, Happens::Line(1, "setvol 40")) {
+        Ok(_) => Ok(core),
+        Err(error) => Err(error),
+    }
+}
+
+fn is_first_answer(alloc: Global, name: &str, found: &str) -> Result<bool, AllocError> {
+    Ok(found == first_answer(alloc, name)?.as_str())
+}
+
+fn is_second_answer(alloc: Global, name: &str, found: &str) -> Result<bool, AllocError> {
+    Ok(found == second_answer(alloc, name)?.as_str())
+}
+
+/// Whether the first command was refused, or nothing could be said at all.
+fn is_first_refused(alloc: Global, name: &str, found: &str) -> Result<bool, AllocError> {
+    Ok(
+        found == "no memory\n"
+            || is_first_answer(alloc, name, found)?
+            || is_first_answer(alloc, "setvol", found)?,
+    )
+}
+
+fn saves_what_was(alloc: Global, core: &Core) -> Result<bool, Fail> {
+    saves_the_same(alloc, core, &waiting(alloc)?)
+}
+
+fn saves_what_is_quiet(alloc: Global, core: &Core) -> Result<bool, Fail> {
+    saves_the_same(alloc, core, &quiet(alloc)?)
 }
 
 /// Nothing was done, or the commands before the refused one.
 fn is_refusal(alloc: Global, name: &str, core: &Core, found: &str) -> Result<bool, Fail> {
-    if found == "no memory\n"
-        || found == first_answer(alloc, name)?.as_str()
-        || found == first_answer(alloc, "setvol")?.as_str()
-    {
-        return saves_the_same(alloc, core, &waiting(alloc)?);
+    if is_first_refused(alloc, name, found)? {
+        return saves_what_was(alloc, core);
     }
-    if found == second_answer(alloc, name)?.as_str() {
-        return saves_the_same(alloc, core, &quiet(alloc)?);
+    if is_second_answer(alloc, name, found)? {
+        return saves_what_is_quiet(alloc, core);
     }
     Ok(false)
 }
 
 /// With memory enough it goes well.
 fn goes_well(rt: &impl Abort, alloc: Global, row: Row) -> Result<(), Fail> {
-    let mut core = waiting(alloc)?;
-    same_given(rt, row.1, tried(&mut core, alloc, row.0)?.as_str(), row.2);
+    gives_row(rt, &mut waiting(alloc)?, alloc, row)
+}
+
+fn gives_row(rt: &impl Abort, core: &mut Core, alloc: Global, row: Row) -> Result<(), Fail> {
+    same_given(rt, row.1, tried(core, alloc, row.0)?.as_str(), row.2);
     Ok(())
 }
 
@@ -84,13 +121,20 @@ fn is_for_want_of_memory(rt: &impl Abort, refused: bool, found: &str) {
 
 /// What is expected was given out, or a refusal for want of memory.
 fn is_given_or_refused(rt: &impl Abort, alloc: Global, row: Row) -> Result<(), Fail> {
-    let mut core = waiting(alloc)?;
-    let found = tried(&mut core, alloc, row.0)?;
+    gives_or_refuses(rt, &mut waiting(alloc)?, alloc, row)
+}
+
+fn gives_or_refuses(rt: &impl Abort, core: &mut Core, alloc: Global, row: Row) -> Result<(), Fail> {
+    let found = tried(core, alloc, row.0)?;
     if found.as_str() == row.2 {
         return Ok(());
     }
-    let refused = is_refusal(alloc, row.1, &core, found.as_str())?;
-    is_for_want_of_memory(rt, refused, found.as_str());
+    refuses(rt, core, alloc, row, found.as_str())
+}
+
+fn refuses(rt: &impl Abort, core: &Core, alloc: Global, row: Row, found: &str) -> Result<(), Fail> {
+    let refused = is_refusal(alloc, row.1, core, found)?;
+    is_for_want_of_memory(rt, refused, found);
     goes_well(rt, alloc, row)
 }
 
