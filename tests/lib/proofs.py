@@ -17,8 +17,9 @@ sys.path.insert(0, os.path.dirname(os.path.abspath(__file__)))
 import wrong_bodies
 from toolchain import RT, crates_of
 
-# How many of the tasks that took longest are named.
-LONGEST = 20
+# How many of the tasks that took longest are named, and how many functions the control of a crate's wrong bodies has at most where all
+# crates are proved from nothing.
+LONGEST, CONTROLS = 20, 6
 
 
 def take_below(checkout, tried):
@@ -41,13 +42,13 @@ def take_below(checkout, tried):
     RT.Crate.ci = ci
 
 
-def try_beside(checkout, tried, results, taken):
+def try_beside(checkout, tried, controls, results, taken):
     """Has the wrong bodies of these crates tried in the lanes of the proofs; what came of each is added to the results, and the seconds and
     jobs of each task to what was taken."""
     in_lanes = RT.in_lanes
 
     def with_bodies(tasks):
-        tasks = {**tasks, **dict(tasks_of(checkout, tried, results))}
+        tasks = {**tasks, **dict(tasks_of(checkout, tried, controls, results))}
         return in_lanes({key: (*task, timed(key, call, taken)) for key, (*task, call) in tasks.items()})
 
     RT.in_lanes = with_bodies
@@ -63,19 +64,18 @@ def timed(key, call, taken):
     return work
 
 
-def tasks_of(checkout, tried, results):
+def tasks_of(checkout, tried, controls, results):
     copies = {it.name: it for it in crates_of(os.getcwd())}
     for original in crates_of(checkout):
         count = len(wrong_bodies.edits_of(original)[0])
         if count and original.name in tried:
             crate = copies[original.name]
-            proof = crate.name, "proof"
-            work = lambda given, jobs, it=crate, at=original, proof=proof: given[proof] and results.extend(try_bodies(it, at, jobs))
-            yield (crate.name, "bodies"), ([proof], crate.count(rb"\n") + 100 * count, RT.need(crate), work)
+            work = lambda given, jobs, it=crate, at=original: given[it.name, "proof"] and results.extend(try_bodies(it, at, jobs, controls))
+            yield (crate.name, "bodies"), ([(crate.name, "proof")], crate.count(rb"\n") + 100 * count, RT.need(crate), work)
 
 
-def try_bodies(crate, original, jobs):
-    found = wrong_bodies.Trial(crate, original, jobs, RT.say).run()
+def try_bodies(crate, original, jobs, controls):
+    found = wrong_bodies.Trial(crate, original, jobs, controls, RT.say).run()
     RT.say(f"{crate.name}: {sum(is_refused for is_refused, _ in found)} of {len(found)} wrong bodies refused")
     return found
 
@@ -85,7 +85,7 @@ def main(checkout, names):
     tried, results, taken = set(names) or {it.name for it in crates_of(checkout)}, [], []
     if names:
         take_below(checkout, tried)
-    try_beside(checkout, tried, results, taken)
+    try_beside(checkout, tried, None if names else CONTROLS, results, taken)
     status = RT.ci()
     # one that was not tried, since its crate isn't proved, is not refused
     wanted = sum(len(wrong_bodies.edits_of(it)[0]) for it in crates_of(checkout) if it.name in tried)

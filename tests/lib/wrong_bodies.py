@@ -6,8 +6,9 @@ each judged at its own function: it is refused where the prover names a goal of 
 which no such line comes (a function that it calls was not proved in that check either, say) goes into the next round, then it
 is tried alone, and at last by the toolchain's own trial, a check of the whole crate from nothing, whose verdict stands.
 
-As a control the functions that were changed are checked once more as they are, over what those checks kept: all must be
-proved there, else each edit of the crate is tried by the toolchain's own trial.
+As a control functions that were changed are checked once more as they are, over what those checks kept: all must be proved
+there, else each edit of the crate is tried by the toolchain's own trial. Where the crate has just been proved from nothing some
+of them are enough, spread over the crate: they show that what was kept serves a right body.
 """
 
 import os
@@ -200,9 +201,10 @@ def is_within(name, function):
 class Trial:
     """The trials of one crate's edits, which stand in the original, over the libraries that were built below the crate."""
 
-    def __init__(self, crate, original, jobs=1, say=print):
+    def __init__(self, crate, original, jobs=1, controls=None, say=print):
+        """Controls: how many functions the control has, all that were changed where nothing is said."""
         self.crate, self.original, self.flags, self.say = crate, original, ["--jobs", str(jobs)], say
-        self.functions = {}
+        self.controls, self.functions = controls, {}
 
     def run(self):
         """Gives (whether it was refused, what is to be said) for each edit."""
@@ -289,8 +291,10 @@ class Trial:
         return {edit: why for it in edits for edit, why in self.judge([it], self.functions[it]).items()}
 
     def control(self, refused):
-        """Whether the functions that were changed are proved as they are, over what the checks before kept."""
-        return self.check({}, set().union(*(self.functions[it] for it in refused))).proves_all()
+        """Whether functions that were changed are proved as they are, over what the checks before kept."""
+        changed = sorted(set().union(*(self.functions[it] for it in refused)))
+        step = -(-len(changed) // self.controls) if self.controls else 1
+        return self.check({}, changed[::step]).proves_all()
 
     def line(self, edit, why):
         return f"wrong body {self.crate.name}/{os.path.relpath(edit, self.original.folder)}: refused: {why[:160]}"
