@@ -13,11 +13,9 @@ of them are enough, spread over the crate: they show that what was kept serves a
 
 import os
 import re
-import shutil
-import subprocess
 import tempfile
 
-from toolchain import RT
+import toolchain
 
 FOLDERS = ("must-fail", "further-edits")
 # The wrong bodies that the project's promises name. Plain `rt ci` tries what stands in must-fail/ one by one: these, and a few more.
@@ -63,8 +61,7 @@ def unreadable(crate):
     for path in bad:
         yield f"{crate.name}: {os.path.relpath(path, crate.folder)} is no edit: letters, digits, _, - and ., and .edit at the end"
     for path in good:
-        why = RT.read_edit(path, crate.folder)[1]
-        if why:
+        if why := toolchain.fault_of_edit(path, crate):
             yield f"{crate.name}: {os.path.relpath(path, crate.folder)}: {why}"
     others = [it for it in good if "/must-fail/" in it and os.path.basename(it).removesuffix(".edit") not in NAMED]
     if len(others) > MOST_OTHERS:
@@ -153,8 +150,8 @@ def functions_of(path, folder):
 class Verdicts:
     """What a check printed of each function."""
 
-    def __init__(self, ran, crate):
-        self.output, self.status = ran.stdout, ran.returncode
+    def __init__(self, status, output, crate):
+        self.output, self.status = output, status
         self.lines = self.output.rstrip("\n").split("\n")
         self.of = {name.removeprefix(f"{crate.name}::"): said for name, said in LINE.findall(self.output)}
         self.answers = ANSWER.findall(self.output)
@@ -201,37 +198,39 @@ def is_within(name, function):
 class Trial:
     """The trials of one crate's edits, which stand in the original, over the libraries that were built below the crate."""
 
-    def __init__(self, crate, original, jobs=1, controls=None, say=print):
+    def __init__(self, crate, original, jobs=1, controls=None):
         """Controls: how many functions the control has, all that were changed where nothing is said."""
-        self.crate, self.original, self.flags, self.say = crate, original, ["--jobs", str(jobs)], say
+        self.crate, self.original, self.jobs = crate, original, jobs
         self.controls, self.functions = controls, {}
 
     def run(self):
         """Gives (whether it was refused, what is to be said) for each edit."""
         edits = edits_of(self.original)[0]
         self.functions = {it: functions_of(it, self.crate.folder) for it in edits}
+        earlier = toolchain.Refused(self.crate, edits)
+        known = earlier.known()
+        if known:
+            self.say(f"{len(known)} of {len(edits)} wrong bodies were refused by an earlier run on this machine")
+        found = {it: (True, said) for it, said in known.items()} | self.tried([it for it in edits if it not in known])
+        for it in edits:
+            if found[it][0] and it not in known:
+                earlier.keep(it, found[it][1])
+        return [found[it] for it in edits]
+
+    def tried(self, edits):
         with tempfile.TemporaryDirectory(prefix="wrong-bodies-kept-") as self.kept:
             refused = self.in_batches([it for it in edits if self.functions[it]])
             refused |= self.alone([it for it in edits if self.functions[it] and it not in refused])
             if refused and not self.control(refused):
-                self.say(f"{self.crate.name}: the functions as they are weren't proved over the same folder; each is tried from nothing")
+                self.say("the functions as they are weren't proved over the same folder; each is tried from nothing")
                 refused = {}
-        return [(True, refused[it]) if it in refused else RT.must_fail(self.crate, it, self.flags) for it in edits]
+        return {it: (True, refused[it]) if it in refused else toolchain.try_from_nothing(self.crate, it, self.jobs) for it in edits}
+
+    def say(self, text):
+        toolchain.say(f"{self.crate.name}: {text}")
 
     def check(self, texts, only):
-        """A check of these functions, in a copy of the crate with these texts in place of its own."""
-        with tempfile.TemporaryDirectory(prefix="wrong-bodies-") as room:
-            for part in RT.rtlib.PARTS:
-                if os.path.isdir(f"{self.crate.folder}/{part}"):
-                    shutil.copytree(f"{self.crate.folder}/{part}", f"{room}/{part}")
-            for path, text in texts.items():
-                with open(f"{room}/{path}", "w", encoding="utf-8") as file:
-                    file.write(text)
-            words = [RT.rtlib.RATTLE, "check", *self.crate.words(self.flags, keeps=False), "--incremental", self.kept]
-            for name in sorted(only):
-                words += ["--only", name]
-            how = {"cwd": room, "stdin": subprocess.DEVNULL, "stdout": subprocess.PIPE, "stderr": subprocess.STDOUT, "errors": "replace"}
-            return Verdicts(subprocess.run([*RT.rtlib.guarded(), *words], **how), self.crate)
+        return Verdicts(*toolchain.check_functions(self.crate, texts, only, self.jobs, self.kept), self.crate)
 
     def texts_of(self, edits):
         """The texts that these edits make together, or None where they don't fit together."""
@@ -265,7 +264,7 @@ class Trial:
             found = self.judge(batch, names)
             again = [os.path.basename(it).removesuffix(".edit") for it in batch if it not in found]
             left_over = f"; not yet: {', '.join(again)}" if again else ""
-            self.say(f"{self.crate.name}: wrong bodies, round {number}: {len(found)} of {len(batch)} refused{left_over}")
+            self.say(f"wrong bodies, round {number}: {len(found)} of {len(batch)} refused{left_over}")
             refused |= found
             rest = [it for it in left if it not in batch]
             # those for which nothing was said come last, so that each round has new ones
@@ -276,7 +275,7 @@ class Trial:
         """Those of a batch that the prover refused, each with the goal; none where a text of it couldn't be read."""
         texts = self.texts_of(batch)
         said = self.check(texts, names)
-        if not said.reached() or RT.rtlib.STALE.search(said.output) or any(RT.unread(it, texts) for it in said.lines):
+        if not said.reached() or toolchain.is_unread(said.output, texts):
             return self.in_halves(batch)
         return {it: self.line(it, why) for it in batch if (why := said.refuses(self.functions[it]))}
 
