@@ -25,7 +25,7 @@ pub struct FileFolder<'a> {
 }
 
 impl<'a> FileFolder<'a> {
-    /// The files below `root`, whose own path is empty.
+    /// The files below `root`, or below the present folder where that is empty; its own path is empty.
     pub fn new(rt: &'a HostRuntime, root: String) -> Self {
         FileFolder {
             rt,
@@ -34,11 +34,19 @@ impl<'a> FileFolder<'a> {
         }
     }
 
+    fn root(&self) -> &str {
+        if self.root.is_empty() {
+            return ".";
+        }
+        self.root.as_str()
+    }
+
     // Where the operating system has what stands under a path.
     fn place(&self, alloc: Global, path: &str) -> Result<String, FolderFault> {
-        let len = self.root.len().saturating_add(path.len()).saturating_add(1);
+        let root = self.root();
+        let len = root.len().saturating_add(path.len()).saturating_add(1);
         let mut place = String::with_capacity(alloc, len)?;
-        place.push_str(self.root.as_str())?;
+        place.push_str(root)?;
         if !path.is_empty() {
             place.push_str("/")?;
             place.push_str(path)?;
@@ -48,7 +56,7 @@ impl<'a> FileFolder<'a> {
 
     // Whether a folder is one of those that it stands in.
     fn stands_in(&self, alloc: Global, path: &str, folder: &Metadata) -> io::Result<bool> {
-        let mut over = String::from_str(alloc, self.root.as_str())?;
+        let mut over = String::from_str(alloc, self.root())?;
         for part in path.split('/') {
             if is_same(&fs::metadata(self.rt, over.as_str())?, folder) {
                 return Ok(true);
@@ -86,7 +94,7 @@ impl<'a> FileFolder<'a> {
 
     // Whether the folder itself isn't there, or is no folder, or a link on the way to a path leads nowhere.
     fn is_cut_off(&self, alloc: Global, path: &str) -> io::Result<bool> {
-        let mut over = String::from_str(alloc, self.root.as_str())?;
+        let mut over = String::from_str(alloc, self.root())?;
         if !is_folder(self.rt, over.as_str()) {
             return Ok(true);
         }
@@ -161,23 +169,26 @@ fn entries_of(rt: &HostRuntime, alloc: Global, place: &str) -> io::Result<Vec<Fo
     let mut entries = Vec::new(alloc);
     for found in fs::read_dir(rt, place)? {
         let found = found?;
-        if let Some(is_folder) = kind_of(rt, found.path())? {
+        for is_folder in kinds_of(rt, found.path())? {
             let name = String::from_str(alloc, found.file_name())?;
-            entries.push(FolderEntry { name, is_folder })?;
+            entries.push(FolderEntry {
+                name,
+                is_folder: *is_folder,
+            })?;
         }
     }
     Ok(entries)
 }
 
-// Whether a folder stands there or a file; `None` for anything else, and for what vanished since it was listed. A link that leads nowhere
-// is what its name says: so it is looked for, which is a fault, and what is known of it is kept.
-fn kind_of(rt: &HostRuntime, place: Path<'_>) -> io::Result<Option<bool>> {
+// Whether what stands there is a folder; nothing for what is neither a folder nor a file, and for what vanished since it was listed. A link
+// that leads nowhere may have led to either: so it is looked for as both, which is a fault, and what is known of it is kept.
+fn kinds_of(rt: &HostRuntime, place: Path<'_>) -> io::Result<&'static [bool]> {
     match fs::metadata(rt, place) {
-        Ok(found) if found.is_dir() => Ok(Some(true)),
-        Ok(found) if found.is_file() => Ok(Some(false)),
-        Ok(_) => Ok(None),
-        Err(_) if is_link(rt, place) => Ok(Some(!is_named_as_a_song(place.as_str()))),
-        Err(error) if is_absent(&error) => Ok(None),
+        Ok(found) if found.is_dir() => Ok(&[true]),
+        Ok(found) if found.is_file() => Ok(&[false]),
+        Ok(_) => Ok(&[]),
+        Err(_) if is_link(rt, place) => Ok(&[true, false]),
+        Err(error) if is_absent(&error) => Ok(&[]),
         Err(error) => Err(error),
     }
 }
@@ -194,11 +205,6 @@ fn is_link<P: AsPath>(rt: &HostRuntime, place: P) -> bool {
         Ok(found) => found.is_symlink(),
         Err(_) => false,
     }
-}
-
-fn is_named_as_a_song(place: &str) -> bool {
-    let text = place.as_bytes();
-    text[text.len().saturating_sub(4)..].eq_ignore_ascii_case(b".wav")
 }
 
 fn is_same(folder: &Metadata, other: &Metadata) -> bool {
