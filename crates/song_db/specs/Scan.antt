@@ -52,11 +52,12 @@ is_among uris uri = list_any (bytes_eq uri) uris
 abbrev pub ArePartOf : List (List ℕ) → List (List ℕ) → Type 0
 ArePartOf part uris = (test : List ℕ → Bool) × (part ≡ filter test uris)
 
--- what one answer of changes does: each known URI is dropped once at most, in their order, and none that was read is
--- dropped with it or later
+-- what one answer of changes does: one that isn't full is the last; each known URI is dropped once at most, in their
+-- order, and none that was read is dropped with it or later
 pub record IsAnswer (before after : Progress) (changes : List RowChange) : Type 0 where
   pub some : 0 < length changes
   pub few : length changes ≤ MAX_CHANGES
+  pub last : length changes < MAX_CHANGES → (after.pending ≡ []) × (after.droppable ≡ [])
   pub sought : All (λ row. is_sought before.place row.uri ≡ true) (puts_of changes)
   pub drops : ArePartOf (drops_of changes ++ after.droppable) before.droppable
   pub read_stay : All (λ row. is_among (drops_of changes ++ after.droppable) row.uri ≡ false) (puts_of changes)

@@ -75,7 +75,7 @@ impl Scan {
         })
     }
 
-    /// The next changes, 1 to 64 of them; `None` at the end, and from then on.
+    /// The next changes: 64, or the last ones, 1 to 64 of them; `None` at the end, and from then on.
     ///
     /// Refused by `NoMemory`, the scan is over: what it hasn't read keeps its row.
     pub fn next<F: Folder>(

@@ -26,7 +26,7 @@ pub(crate) struct Reader {
 }
 
 impl Reader {
-    // The changes of a batch; none at the end.
+    // The changes of a batch; none at the end, and fewer than a batch may have right before it.
     pub(crate) fn batch<F: Folder>(
         &mut self,
         alloc: Global,
@@ -36,7 +36,8 @@ impl Reader {
         ensures place { self.new.walk.place ≡ self.old.walk.place }
         ensures few { IfOk result (λ changes. length changes.items ≤ MAX_CHANGES) }
         ensures read { IfOk result (λ changes. IsRead self.old.walk.place self.old.droppable self.new.droppable changes.items) }
-        ensures none { IfOk result (λ changes. changes.items ≡ [] → (self.new.droppable ≡ []) × (self.new.walk.pending ≡ [])) }
+        ensures last { IfOk result (λ changes. length changes.items < MAX_CHANGES →
+            (self.new.walk.pending ≡ []) × (self.new.droppable ≡ [])) }
         ensures begun { IfOk result (λ changes. self.new.is_begun ≡ true) }
         ensures honest_read { F.honest folder.old →
             IfOk result (λ changes. AreSongs (F.files folder.old) changes.items → IsHonestRead (F.files folder.old) self.old.walk.place
