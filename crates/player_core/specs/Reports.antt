@@ -62,10 +62,6 @@ followed_at entries settings block dropped player (Some place) =
 abbrev pub followed : List Entry → PlaySettings → Block → Uris → PlayerState → Step
 followed entries settings block dropped player = followed_at entries settings block dropped player (placed entries player.current)
 
--- what the player does when all entries leave the queue
-abbrev pub emptied : PlayerState → PlayerState
-emptied player = record (stopped_without_song player) { played = [] }
-
 abbrev pub only : Option ℕ → List ℕ
 only None = []
 only (Some id) = id ∷ []

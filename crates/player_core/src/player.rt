@@ -19,7 +19,7 @@ mod starting;
 /// What plays: the state, the current song, the ticket of its start, the frame position, the songs that this
 /// random round has played, and the error.
 ///
-/// A ticket names one start or seek of a song; it counts from 1, and 1 follows 2^64-1. Calls that read the
+/// A ticket names one start, seek or stop of a song; it counts from 1, and 1 follows 2^64-1. Calls that read the
 /// queue are given its entries, and answer what they change of the saved half as data. A refused call leaves
 /// the player as it was.
 #[derive(Drop)]

@@ -331,7 +331,7 @@ fn plays_all(alloc: Global, world: &mut World, count: u32) -> Result<(), Fail> {
 const AFTER_ALL: [(Act, usize); 3] = [
     (Act::Delete(16_383, 16_384), 16_383),
     (Act::Delete(0, 100), 16_283),
-    (Act::Clear, 0),
+    (Act::Delete(0, 16_283), 0),
 ];
 
 fn leaves(

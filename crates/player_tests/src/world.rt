@@ -30,7 +30,6 @@ pub enum Act {
     Cut(u64),
     Delete(usize, usize),
     DropSong(&'static str),
-    Clear,
     Random(bool),
     Single(Single),
     ClearError,
@@ -185,11 +184,6 @@ fn answer_of(alloc: Global, world: &mut World, act: Act) -> Result<Answer, Fail>
         Act::SeekCurrent(time) => seek_current(player, settings, time),
         Act::Ended(ticket) => ended(player, queue, settings, ticket),
         Act::Broken(ticket, cause) => broken(player, alloc, ticket, cause)?,
-        Act::Clear => {
-            player.follow_clear();
-            queue.clear();
-            Ok(Changes::NONE)
-        }
         Act::Delete(start, end) => delete(player, queue, settings, Block { start, end })?,
         Act::DropSong(uri) => drop_song(player, queue, settings, alloc, uri)?,
         Act::Random(random) => turn(player, settings, random),

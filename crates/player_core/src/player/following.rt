@@ -1,7 +1,7 @@
 // What the player does when entries leave the queue.
 ghost use Rattle.std.specs.Prelude.{◌≡◌, IfOk, IsOkUnless, OnErr};
 ghost use Rattle.player_core.specs.Answered.{OnStep};
-ghost use Rattle.player_core.specs.Reports.{takes_at, followed, emptied};
+ghost use Rattle.player_core.specs.Reports.{takes_at, followed};
 
 use super::Player;
 use crate::block::Block;
@@ -84,13 +84,5 @@ impl Player {
             return None;
         }
         choose(entries, settings, block, dropped, &self.played, at, current).order
-    }
-
-    /// All entries leave the queue: the player stops without a current song, and nothing is played.
-    pub fn follow_clear(&mut self)
-        ensures { self.new ≡ emptied self.old }
-    {
-        stop_without_song(&mut self.playing);
-        self.played.clear();
     }
 }
