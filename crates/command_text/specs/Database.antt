@@ -1,5 +1,5 @@
 -- The commands of the database and its scans.
-use Rattle.std.specs.Prelude.{List, Bool, ◌||◌, [], Option, Some, None, Result, Ok, codes, if◌then◌else◌}
+use Rattle.std.specs.Prelude.{List, Bool, true, false, ◌||◌, [], Option, Some, None, Result, Ok, codes, if◌then◌else◌}
 use Rattle.std.specs.Option.{option_map}
 use Rattle.std.specs.Str.{bytes_eq}
 use Rattle.song_db.specs.Uri.{is_uri}
@@ -29,6 +29,18 @@ scan_of words = do
   word ← optional_argument words
   place ← optional 1 scanned_place word
   Ok (commands.Update (place_or_root place))
+
+-- the commands that keep the place that they name
+abbrev pub keeps_place : DatabaseName → Bool
+keeps_place names.Commands = false
+keeps_place names.ListAll = false
+keeps_place names.ListAllInfo = false
+keeps_place names.ListInfo = false
+keeps_place names.NotCommands = false
+keeps_place names.Rescan = true
+keeps_place names.Stats = false
+keeps_place names.TagTypes = false
+keeps_place names.Update = true
 
 unfoldable pub database_of : DatabaseName → List Word → Result DatabaseCommand CommandRefusal
 database_of names.Commands words = no_argument commands.Commands words

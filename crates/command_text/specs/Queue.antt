@@ -1,5 +1,5 @@
 -- The commands of the queue.
-use Rattle.std.specs.Prelude.{ℕ, List, Option, Result, Ok}
+use Rattle.std.specs.Prelude.{ℕ, Bool, true, false, List, Option, Result, Ok}
 use Rattle.play_queue.specs.declared.target.Target.{Target}
 use Rattle.command_text.specs.declared.command.queue.QueueCommand.{QueueCommand}
 use Rattle.command_text.specs.declared.command.queue.QueueCommand.TheVariants as commands
@@ -69,6 +69,25 @@ priority_id_of words = do
   priority ← argument 1 (number_to 255 given.0)
   ids ← each number_of 2 given.1
   Ok (commands.PriorityId priority ids)
+
+-- the commands that keep as many ranges or ids as are given
+abbrev pub keeps_many : QueueName → Bool
+keeps_many names.Add = false
+keeps_many names.AddId = false
+keeps_many names.Clear = false
+keeps_many names.Delete = false
+keeps_many names.DeleteId = false
+keeps_many names.Move = false
+keeps_many names.MoveId = false
+keeps_many names.QueueChanges = false
+keeps_many names.QueueChangesPositions = false
+keeps_many names.QueueId = false
+keeps_many names.QueueInfo = false
+keeps_many names.Priority = true
+keeps_many names.PriorityId = true
+keeps_many names.Shuffle = false
+keeps_many names.Swap = false
+keeps_many names.SwapId = false
 
 unfoldable pub queue_of : QueueName → List Word → Result QueueCommand CommandRefusal
 queue_of names.Add words = added words >>= λ x. Ok (commands.Add x.0 x.1)

@@ -26,8 +26,8 @@ use Rattle.command_text.specs.Names.{named, stands_in_lists}
 use Rattle.command_text.specs.Topics.{topic_of}
 use Rattle.command_text.specs.Counts.{◌>>=◌, Word}
 use Rattle.command_text.specs.Settings.{settings_of}
-use Rattle.command_text.specs.Database.{database_of}
-use Rattle.command_text.specs.Queue.{queue_of}
+use Rattle.command_text.specs.Database.{database_of, keeps_place}
+use Rattle.command_text.specs.Queue.{queue_of, keeps_many}
 use Rattle.command_text.specs.Finding.{finding_of}
 use Rattle.command_text.specs.Lists.{lists_of}
 use Rattle.command_text.specs.Stickers.{stickers_of}
@@ -111,8 +111,8 @@ Gives (Err errors.NoMemory) read = Unit {0}
 -- the commands that may want memory: those with a filter, a tag, a scanned place, or as many ranges or ids as are given
 abbrev pub takes_memory : Topic → Bool
 takes_memory (topics.Settings name) = false
-takes_memory (topics.Database name) = true
-takes_memory (topics.Queue name) = true
+takes_memory (topics.Database name) = keeps_place name
+takes_memory (topics.Queue name) = keeps_many name
 takes_memory (topics.Finding name) = true
 takes_memory (topics.Lists name) = false
 takes_memory topics.Stickers = false

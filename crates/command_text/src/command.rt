@@ -74,8 +74,7 @@ impl<'w> Command<'w> {
         }
     }
 
-    /// The command of this name in this place with these arguments, or the first refusal, as `read` gives them; also of a name that this
-    /// build doesn't have.
+    /// The command of this name in this place with these arguments, or the first refusal, as `read` gives them.
     pub fn of(
         alloc: Global,
         place: Place,

@@ -34,7 +34,7 @@ pub struct StatusLines<'a> {
     pub length: usize,
     pub state: PlayState,
     pub current: Option<CurrentSong<'a>>,
-    /// The position and the id of the song that the end of the current one would start.
+    /// The position and the id of the song that the end of the current one would start, where no new random round begins with it.
     pub next: Option<(usize, u32)>,
     /// The job that updates the database.
     pub job: Option<u32>,

@@ -1,5 +1,6 @@
-ghost use Rattle.std.specs.Prelude.{◌≡◌};
-ghost use Rattle.command_text.specs.Database.{scanned_place, path_argument, scan_of, database_of};
+ghost use Rattle.std.specs.Prelude.{◌≡◌, true, Err};
+ghost use Rattle.command_text.specs.Database.{scanned_place, path_argument, scan_of, database_of, keeps_place};
+ghost use Rattle.command_text.specs.declared.stop.Stop.TheVariants as stops;
 ghost use Rattle.command_text.specs.Counts.{argument};
 ghost use Rattle.command_text.specs.Stops.{Reads};
 
@@ -35,7 +36,8 @@ pub(crate) fn read<'w>(
     name: DatabaseName,
     words: &'w [LineWord<'_>],
 ) -> Result<DatabaseCommand<'w>, Stop>
-    ensures { Reads result (database_of name words.now) }
+    ensures exact { Reads result (database_of name words.now) }
+    ensures memory { result ≡ Err stops.NoMemory → keeps_place name ≡ true }
 {
     match name {
         DatabaseName::Commands => Ok(no_argument(DatabaseCommand::Commands, words)?),

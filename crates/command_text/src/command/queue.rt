@@ -1,8 +1,9 @@
-ghost use Rattle.std.specs.Prelude.{◌≡◌};
-ghost use Rattle.command_text.specs.Queue.{queue_of, added, two_numbers, changes_since, shown_id, shown_range, move_of, move_id_of};
+ghost use Rattle.std.specs.Prelude.{◌≡◌, true, Err};
+ghost use Rattle.command_text.specs.Queue.{queue_of, keeps_many, added, two_numbers, changes_since, shown_id, shown_range, move_of, move_id_of};
 ghost use Rattle.command_text.specs.Queue.{priority_of, priority_id_of};
 ghost use Rattle.command_text.specs.Arguments.{number_to};
 ghost use Rattle.command_text.specs.Stops.{Reads};
+ghost use Rattle.command_text.specs.declared.stop.Stop.TheVariants as stops;
 
 use crate::argument::{
     argument, number, number_to, optional_number, optional_range, optional_target, range, target,
@@ -51,7 +52,8 @@ pub(crate) fn read<'w>(
     name: QueueName,
     words: &'w [LineWord<'_>],
 ) -> Result<QueueCommand<'w>, Stop>
-    ensures { Reads result (queue_of name words.now) }
+    ensures exact { Reads result (queue_of name words.now) }
+    ensures memory { result ≡ Err stops.NoMemory → keeps_many name ≡ true }
 {
     match name {
         QueueName::Add => {
