@@ -49,8 +49,8 @@ pub trait Disk {
         ensures counted { IsCounted (faults self.old) (faults self.new) result };
 
     /// Writes over what is there, and past the end. A write that would pass 2^63 - 1 is a fault.
-    /// Until a sync, a crash may leave any bytes in the range. One that fails counts as made, and a read then gives one of the
-    /// images.
+    /// Until a sync, a crash may leave any bytes in the range. One that fails counts as made, if it did anything, and a read then gives
+    /// one of the images.
     fn write_at(&mut self, at: u64, bytes: &[u8]) -> Result<(), DiskError>
         ensures honest { honest self.old ↔ honest self.new }
         ensures written { honest self.old →

@@ -27,7 +27,7 @@ pub enum JournalError {
     /// A record over 2,097,152 bytes, or a snapshot over 4,294,967,295. Nothing was written.
     #[error("too long")]
     TooLong,
-    /// The last record has the number 2^64 - 1. Nothing was written.
+    /// The last record has the number 2^64 - 1, or, where a checkpoint is made, the file the generation 2^64 - 1. Nothing was written.
     #[error("record numbers are spent")]
     NumbersSpent,
 }
