@@ -1,0 +1,40 @@
+use Rattle.std.proofs.Common.{◌≡◌, ◌↔◌, ◌∙◌, refl, sym, ap, subst, Bool, true, false, if◌then◌else◌, List, [], ◌∷◌, ◌++◌, ℕ, Option, Some, None}
+use Rattle.std.proofs.lemmas.Bool.{false≢true}
+use Rattle.song_db.specs.declared.change.RowChange.{RowChange}
+use Rattle.state_codec.specs.Applied.{all_applied}
+use Rattle.state_codec.specs.declared.op.Op.{Op}
+use Rattle.state_codec.specs.declared.op.Op.TheVariants.{Batch}
+use Rattle.machine_core.specs.Followed.{followed}
+use Rattle.machine_core.specs.Happening.{nothing_happens}
+use Rattle.machine_core.specs.Meaning.{order_ops}
+use Rattle.machine_core.specs.Reports.{when_ended}
+use Rattle.machine_core.specs.Scanning.{finds, is_running, telling}
+use Rattle.machine_core.specs.State.{MachineState}
+use Rattle.machine_core.specs.declared.steps.PlayerStep.TheVariants.{Ended}
+use Rattle.machine_core.proofs.StepsLawful.{moves_lawful}
+use Rattle.machine_core.proofs.laws.no_op_of_an_event_without_a_change.Goals as goal
+
+pub returns-clause-none : goal.returns-clause-none
+returns-clause-none c = λ ticket m kept same. ((moves_lawful (Ended ticket) m).tells kept).none same
+
+pub returns-clause-same : goal.returns-clause-same
+returns-clause-same c = λ ticket m empty.
+    let rebuilt : Some m.saved ≡ Some (when_ended ticket m).after.saved =
+    sym (ap (λ ops. all_applied ops m.saved) empty) ∙ (moves_lawful (Ended ticket) m).rebuilt in
+    cc
+
+behind_order : (order : Option ℕ) (op : Op) → order_ops order ++ op ∷ [] ≡ [] → ⊥
+behind_order None op e = absurd (cc)
+behind_order (Some g) op e = absurd (cc)
+
+finds_none : (told : List RowChange) (m : MachineState) → (finds told m).ops ≡ [] → told ≡ []
+finds_none [] m e = refl
+finds_none (change ∷ told) m e = absurd (behind_order (followed (Batch (change ∷ told)) m).order (Batch (change ∷ told)) e)
+
+of_running : (runs : Bool) (told : List RowChange) (m : MachineState) → runs ≡ true
+    → ((if runs then finds told m else nothing_happens m).ops ≡ [] ↔ told ≡ [])
+of_running true told m is = (finds_none told m, λ e. subst (λ (t : List RowChange). (finds t m).ops ≡ []) (sym e) refl)
+of_running false told m is = absurd (false≢true is)
+
+pub returns-clause-found : goal.returns-clause-found
+returns-clause-found c = λ job changes m runs. of_running (is_running job m) (telling m.saved.songs changes) m runs
