@@ -7,7 +7,7 @@ use Rattle.state_codec.specs.SavedState.{SavedState}
 use Rattle.live_stage.specs.declared.refusal.StartError.{StartError}
 use Rattle.live_stage.specs.declared.refusal.StartError.TheVariants.{NotEmpty, NoJournal, Damaged, NoMemory, Broken}
 use Rattle.live_stage.specs.Errors.{IsRefusalOfOpen, start_number_of}
-use Rattle.mpd_program.specs.Lives.{Moment, HasFailed, AllFind, IsFaulted, IsRefused, IsLife, status_of, ending_of, IsConsole}
+use Rattle.mpd_program.specs.Lives.{Moment, HasFailed, AreImages, AllFind, IsFaulted, IsRefused, IsLife, status_of, ending_of, IsConsole}
 use Rattle.mpd_program.specs.declared.console.Ending.{Ending}
 use Rattle.mpd_program.specs.declared.console.Ending.TheVariants.{Whole, Cut, Faulted}
 use Rattle.mpd_program.specs.declared.console.Status.{Status}
@@ -116,12 +116,14 @@ faulted_or_refused Honest status ending first last (inr two) honest is =
 -- ---- two lives
 
 pub two_lives : (Honest Later : Type 0) (first between last : Moment) (before came_to : Result Ending ℕ) (status : Status) (ending : Ending)
-    → before ≡ Ok Faulted → IsLife Honest 1 before first between → (Honest → Later) → IsLife Later 2 came_to between last
+    → before ≡ Ok Faulted → IsLife Honest 1 before first between → (Honest → Later) → (Later → AreImages between)
+    → IsLife Later 2 came_to between last
     → between.faults_a ≤ last.faults_a → between.faults_b ≤ last.faults_b
     → status ≡ status_of came_to → ending ≡ Faulted → IsConsole Honest status ending first last
-two_lives Honest Later first between last before came_to status ending is life given second later_a later_b same_status same_ending =
+two_lives Honest Later first between last before came_to status ending is life given read second later_a later_b same_status same_ending =
     inr (record {
       between = between;
+      images = λ honest. read (given honest);
       came_to = came_to;
       fault = subst (λ (r : Result Ending ℕ). IsLife Honest 1 r first between) is life;
       life = life_under Honest Later 2 came_to between last given second;

@@ -3,6 +3,7 @@ use Rattle.std.specs.Prelude.{◌≡◌, ◌≢◌, ◌≤◌, ◌⊎◌, ℕ, L
 use Rattle.std.specs.Io.KnownBytes.{Appends, Consumes, Keeps}
 use Rattle.disk_model.specs.Faults.{HasGrown}
 use Rattle.disk_model.specs.History.{Change}
+use Rattle.disk_model.specs.Images.{window, IsImage}
 use Rattle.state_codec.specs.SavedState.{SavedState}
 use Rattle.daemon_core.specs.declared.event.Event.{Event}
 use Rattle.daemon_core.specs.Replay.{Entry, replay}
@@ -46,6 +47,10 @@ moment_of content history faults a b input output =
 -- a disk has failed between these moments
 abbrev pub HasFailed : Moment → Moment → Type 0
 HasFailed first last = HasGrown first.faults_a last.faults_a ⊎ HasGrown first.faults_b last.faults_b
+
+-- what a read gives at this moment is among what a crash may leave at it
+abbrev pub AreImages : Moment → Type 0
+AreImages now = IsImage (window now.history_a) now.content_a × IsImage (window now.history_b) now.content_b
 
 -- whatever a crash leaves at this moment, a restart finds a state with P
 abbrev pub AllFind : (Option SavedState → Type 0) → Moment → Type 0
@@ -169,9 +174,11 @@ pub record IsOneLife (Honest : Type 0) (status : Status) (ending : Ending) (firs
   pub same_status : status ≡ status_of came_to
   pub same_ending : ending ≡ ending_of came_to
 
--- a life of client 1 that a disk fault ended, and then one of client 2
+-- A life of client 1 that a disk fault ended, and then one of client 2, over what the files give: where a crash leaves one state at that
+-- moment alone, over that.
 pub record IsTwoLives (Honest : Type 0) (status : Status) (ending : Ending) (first last : Moment) : Type 0 where
   pub between : Moment
+  pub images : Honest → AreImages between
   pub came_to : Result Ending ℕ
   pub fault : IsFaulted Honest 1 first between
   pub life : IsLife Honest 2 came_to between last

@@ -28,7 +28,7 @@ const SECOND_CLIENT: u64 = 2;
 pub enum Status {
     /// The client was served.
     Done,
-    /// The journal was refused, with the number of the refusal: 4, 5 or 7.
+    /// The journal was refused, with the number of the refusal: 3 where one is made, 4, 5 or 7.
     JournalRefused(u8),
     /// A second disk fault.
     DiskFault,

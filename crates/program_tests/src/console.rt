@@ -218,16 +218,23 @@ fn streams_that_fail(rt: HostRuntime) -> Result<(), Fail> {
     Ok(())
 }
 
-// Runs a console of three lines over fresh files, of which the first has this fuse.
-fn run_fused(alloc: Global, fuse: Fuse) -> Result<(ConsoleEnd<FuseDisk<MemDisk>>, Vec<u8>), Fail> {
+// A fuse that no call here comes to.
+const NONE: Fuse = Fuse::Fail(100);
+
+// Runs a console of three lines over fresh files that have these fuses.
+fn run_fused(
+    alloc: Global,
+    first: Fuse,
+    second: Fuse,
+) -> Result<(ConsoleEnd<FuseDisk<MemDisk>>, Vec<u8>), Fail> {
     let (a, b) = fresh_disks(alloc)?;
-    let disks = (FuseDisk::new(a, fuse), FuseDisk::new(b, Fuse::Fail(100)));
+    let disks = (FuseDisk::new(a, first), FuseDisk::new(b, second));
     Ok(run_lines(alloc, disks, b"ping\nsetvol 40\nping\n"))
 }
 
 // The console goes on after a fault of this call. Whether the fault came in the event, so that the client had to be greeted again.
 fn goes_on(rt: &(impl Abort + AllocGlobal), call: u64) -> Result<bool, Fail> {
-    let (end, written) = run_fused(rt.alloc(), Fuse::Fail(call))?;
+    let (end, written) = run_fused(rt.alloc(), Fuse::Fail(call), NONE)?;
     equal(rt, end.status, Status::Done);
     let has_failed = end.a.faults() > 0;
     equal(rt, end.ending == Ending::Faulted, has_failed);
@@ -251,6 +258,47 @@ fn disks_that_fail(rt: HostRuntime) -> Result<(), Fail> {
     Ok(())
 }
 
+// The console goes on after one fault, and gives up at the second. Whether there was a second.
+fn ends_by_the_second(
+    rt: &(impl Abort + AllocGlobal),
+    first: u64,
+    second: u64,
+) -> Result<bool, Fail> {
+    let (end, _written) = run_fused(rt.alloc(), Fuse::Fail(first), Fuse::Fail(second))?;
+    let faults = end.a.faults().saturating_add(end.b.faults());
+    let status = if faults < 2 {
+        Status::Done
+    } else {
+        Status::DiskFault
+    };
+    let ending = if faults == 0 {
+        Ending::Whole
+    } else {
+        Ending::Faulted
+    };
+    has_ended(rt, &end, status, ending);
+    Ok(faults > 1)
+}
+
+// How many calls of the second file end the console, where this call of the first fails too.
+fn second_faults(rt: &(impl Abort + AllocGlobal), first: u64) -> Result<u32, Fail> {
+    let mut count = 0u32;
+    for second in 1..30 {
+        count = count.saturating_add(u32::from(ends_by_the_second(rt, first, second)?));
+    }
+    Ok(count)
+}
+
+#[test]
+fn disks_that_fail_twice(rt: HostRuntime) -> Result<(), Fail> {
+    let mut count = 0u32;
+    for first in 1..30 {
+        count = count.saturating_add(second_faults(&rt, first)?);
+    }
+    equal(&rt, count > 0, true);
+    Ok(())
+}
+
 // The console has ended so, without a word to its client, and the program prints this line.
 fn ends_silently<D>(
     rt: &(impl Abort + AllocGlobal),
@@ -266,7 +314,7 @@ fn ends_silently<D>(
 
 #[test]
 fn disk_that_stops(rt: HostRuntime) -> Result<(), Fail> {
-    let done = run_fused(rt.alloc(), Fuse::Stop(1))?;
+    let done = run_fused(rt.alloc(), Fuse::Stop(1), NONE)?;
     ends_silently(&rt, &done, Status::DiskFault, "disk fault")?;
     equal(&rt, done.0.status.code(), 3);
     Ok(())

@@ -19,6 +19,10 @@ returns-clause-transcript g c =
     (g.R.Read.remaining c.serve_life-second.new.reader) (g.W.Write.contents c.serve_life-second.new.writer))
     c.serve_life-first.result.came_to c.serve_life-second.result.came_to _ _
     (c.is_faulted.ensures.0 c.if-not-is_faulted.false) first.life (λ h. (first.later.a.honesty.0 h.0, first.later.b.honesty.0 h.1))
+    (λ h. (
+      g.met.D.Disk.content_is_image c.serve_life-first.result.a h.0,
+      g.met.D.Disk.content_is_image c.serve_life-first.result.b h.1,
+    ))
     second.life second.later.a.counted second.later.b.counted refl refl)
 
 pub returns-clause-opens : goal.returns-clause-opens
