@@ -20,6 +20,12 @@ from toolchain import ci_with, crates_of, memory_of_check, say
 LONGEST, CONTROLS = 20, 6
 
 
+def memory_seen(needs):
+    """The memory in bytes that a check takes, by what was seen of such: the toolchain reckons with up to three times as much, and then the
+    large crates of the longest chain wait for room that small tasks take again and again."""
+    return 1_000_000_000 + 2 * needs // 5
+
+
 class Bodies:
     """The trials of the crates' wrong bodies as tasks in the lanes of the proofs, with what came of each, and what each task took."""
 
@@ -31,7 +37,7 @@ class Bodies:
     def beside(self, tasks):
         """These tasks with one for the wrong bodies of each crate behind the crate's proof."""
         tasks = {**tasks, **dict(self.tasks())}
-        return {key: (*task, self.timed(key, call)) for key, (*task, call) in tasks.items()}
+        return {key: (waits, lines, memory_seen(needs), self.timed(key, call)) for key, (waits, lines, needs, call) in tasks.items()}
 
     def tasks(self):
         copies = {it.name: it for it in crates_of(os.getcwd())}
