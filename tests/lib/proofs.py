@@ -23,7 +23,7 @@ LONGEST, CONTROLS = 20, 6
 def memory_seen(needs):
     """The memory in bytes that a check takes, by what was seen of such: the toolchain reckons with up to three times as much, and then the
     large crates of the longest chain wait for room that small tasks take again and again."""
-    return 1_000_000_000 + 2 * needs // 5
+    return 1_500_000_000 + 2 * needs // 5
 
 
 class Bodies:
