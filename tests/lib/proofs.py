@@ -13,17 +13,11 @@ import time
 
 sys.path.insert(0, os.path.dirname(os.path.abspath(__file__)))
 import wrong_bodies
-from toolchain import ci_with, crates_of, memory_of_check, say
+from toolchain import ci_with, crates_of, memory_of_check, memory_seen, say
 
 # How many of the tasks that took longest are named, and how many functions the control of a crate's wrong bodies has at most where all
 # crates are proved from nothing.
 LONGEST, CONTROLS = 20, 6
-
-
-def memory_seen(needs):
-    """The memory in bytes that a check takes, by what was seen of such: the toolchain reckons with up to three times as much, and then the
-    large crates of the longest chain wait for room that small tasks take again and again."""
-    return 1_500_000_000 + 2 * needs // 5
 
 
 class Bodies:
@@ -36,8 +30,8 @@ class Bodies:
 
     def beside(self, tasks):
         """These tasks with one for the wrong bodies of each crate behind the crate's proof."""
-        tasks = {**tasks, **dict(self.tasks())}
-        return {key: (waits, lines, memory_seen(needs), self.timed(key, call)) for key, (waits, lines, needs, call) in tasks.items()}
+        proofs = {key: (waits, lines, memory_seen(needs), call) for key, (waits, lines, needs, call) in tasks.items()}
+        return {key: (*task, self.timed(key, call)) for key, (*task, call) in {**proofs, **dict(self.tasks())}.items()}
 
     def tasks(self):
         copies = {it.name: it for it in crates_of(os.getcwd())}

@@ -8,7 +8,8 @@ is tried alone, and at last by the toolchain's own trial, a check of the whole c
 
 As a control functions that were changed are checked once more as they are, over what those checks kept: all must be proved
 there, else each edit of the crate is tried by the toolchain's own trial. Where the crate has just been proved from nothing some
-of them are enough, spread over the crate: they show that what was kept serves a right body.
+of them are enough, spread over the crate: they show that what was kept serves a right body. They stand in the checks of the
+later rounds, beside the edits of other functions, and what is missing then has a check of its own.
 """
 
 import os
@@ -166,9 +167,10 @@ class Verdicts:
         """Whether the prover was reached and judged these functions."""
         return self.lines[-1].startswith(("only=", "logic=")) or re.search(r"(?m)^only=\d+ proved=\d+", self.output)
 
-    def proves_all(self):
-        found = re.search(r"(?m)^only=(\d+) proved=(\d+)", self.output)
-        return self.status == 0 and found and found[1] == found[2]
+    def proves(self, function):
+        """Whether the function was proved, and each closure in it."""
+        said = [said for name, said in self.of.items() if is_within(name, function)]
+        return bool(said) and all(it == "proved" for it in said)
 
     def refuses(self, functions):
         """A goal of one of these functions that was not proved, or None."""
@@ -201,13 +203,13 @@ class Trial:
     def __init__(self, crate, original, jobs=1, controls=None):
         """Controls: how many functions the control has, all that were changed where nothing is said."""
         self.crate, self.original, self.jobs = crate, original, jobs
-        self.controls, self.functions = controls, {}
+        self.controls, self.functions, self.as_they_are = controls, {}, set()
 
     def run(self):
         """Gives (whether it was refused, what is to be said) for each edit."""
         edits = edits_of(self.original)[0]
         self.functions = {it: functions_of(it, self.crate.folder) for it in edits}
-        earlier = toolchain.Refused(self.crate, edits)
+        earlier = toolchain.refused_before(self.crate, edits)
         known = earlier.known()
         if known:
             self.say(f"{len(known)} of {len(edits)} wrong bodies were refused by an earlier run on this machine")
@@ -261,7 +263,7 @@ class Trial:
         while len(left) > 1:
             batch, names = self.batch_of(left)
             number += 1
-            found = self.judge(batch, names)
+            found = self.judge(batch, names, self.wanted(refused, names))
             again = [os.path.basename(it).removesuffix(".edit") for it in batch if it not in found]
             left_over = f"; not yet: {', '.join(again)}" if again else ""
             self.say(f"wrong bodies, round {number}: {len(found)} of {len(batch)} refused{left_over}")
@@ -271,12 +273,14 @@ class Trial:
             left = [*rest, *(it for it in batch if it not in found)] if found else rest
         return refused
 
-    def judge(self, batch, names):
-        """Those of a batch that the prover refused, each with the goal; none where a text of it couldn't be read."""
+    def judge(self, batch, names, others=frozenset()):
+        """Those of a batch that the prover refused, each with the goal; none where a text of it couldn't be read. The others are functions
+        of the control, which no edit of the batch changes."""
         texts = self.texts_of(batch)
-        said = self.check(texts, names)
+        said = self.check(texts, names | others)
         if not said.reached() or toolchain.is_unread(said.output, texts):
             return self.in_halves(batch)
+        self.as_they_are |= {it for it in others if said.proves(it)}
         return {it: self.line(it, why) for it in batch if (why := said.refuses(self.functions[it]))}
 
     def in_halves(self, batch):
@@ -289,11 +293,18 @@ class Trial:
     def alone(self, edits):
         return {edit: why for it in edits for edit, why in self.judge([it], self.functions[it]).items()}
 
+    def wanted(self, refused, changed_now=frozenset()):
+        """The functions that are still missing in the control of these edits, but for those that are changed now: of those that the edits
+        change all, or some, spread over the crate."""
+        changed = sorted(set().union(*(self.functions[it] for it in refused)) - self.as_they_are - changed_now)
+        count = min(len(changed), self.controls - len(self.as_they_are)) if self.controls else len(changed)
+        return {changed[at * len(changed) // count] for at in range(count)}
+
     def control(self, refused):
-        """Whether functions that were changed are proved as they are, over what the checks before kept."""
-        changed = sorted(set().union(*(self.functions[it] for it in refused)))
-        step = -(-len(changed) // self.controls) if self.controls else 1
-        return self.check({}, changed[::step]).proves_all()
+        """Whether the functions of the control are proved as they are, over what the checks before kept."""
+        missing = self.wanted(refused)
+        said = self.check({}, missing) if missing else None
+        return all(said.proves(it) for it in missing)
 
     def line(self, edit, why):
         return f"wrong body {self.crate.name}/{os.path.relpath(edit, self.original.folder)}: refused: {why[:160]}"
