@@ -9,7 +9,8 @@ use anyhow::Result;
 use benchmark_figures::{per_second, ratio};
 use pass::Pass;
 use rows::{ROWS, rows};
-use std::env;
+use song_db::SongRow;
+use std::{env, io};
 use timing::measure;
 
 /// The passes in the order in which they are printed; the plain one comes first.
@@ -24,20 +25,26 @@ const PASSES: [Pass; 5] = [
 /// Prints the rows a second of each pass, and how many times as long it takes as the plain one.
 fn print_all(rt: &HostRuntime) -> Result<()> {
     let rows = rows(rt.alloc())?;
+    print_passes(rt, &rows)
+}
+
+fn print_passes(rt: &HostRuntime, rows: &[SongRow]) -> Result<()> {
     let mut plain = 0;
     for pass in PASSES {
-        let time = measure(rt, pass, rows.as_slice())?;
+        let time = measure(rt, pass, rows)?;
         if plain == 0 {
             plain = time;
         }
-        println!(rt;
-            "{}: {} rows a second, ratio {}",
-            pass.name(),
-            per_second(u64::from(ROWS), time),
-            ratio(time, plain)
-        )?;
+        print_pass(rt, pass, time, plain)?;
     }
     Ok(())
+}
+
+fn print_pass(rt: &HostRuntime, pass: Pass, time: u64, plain: u64) -> io::Result<()> {
+    let name = pass.name();
+    let rows = per_second(u64::from(ROWS), time);
+    let ratio = ratio(time, plain);
+    println!(rt; "{name}: {rows} rows a second, ratio {ratio}")
 }
 
 fn main(rt: HostRuntime) -> Result<()> {

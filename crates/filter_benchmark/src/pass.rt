@@ -7,7 +7,7 @@ use std::alloc::Global;
 use wave_pcm::Tag;
 
 /// One pass over all rows.
-#[derive(Clone, Copy, Debug)]
+#[derive(Clone, Copy)]
 pub enum Pass {
     /// Compares the length of one tag.
     Plain,
@@ -75,11 +75,15 @@ fn read(alloc: Global, words: &[LineWord<'_>]) -> Result<Filter> {
 pub fn count_matches(alloc: Global, filter: &Filter, case: Case, rows: &[SongRow]) -> Result<u32> {
     let mut count = 0u32;
     for row in rows {
-        if filter.matches(alloc, row, case)? {
+        if is_match(alloc, filter, case, row)? {
             count = count.saturating_add(1);
         }
     }
     Ok(count)
+}
+
+fn is_match(alloc: Global, filter: &Filter, case: Case, row: &SongRow) -> Result<bool> {
+    Ok(filter.matches(alloc, row, case)?)
 }
 
 /// How many rows have an artist of so many bytes.

@@ -1,9 +1,10 @@
 // What is measured. The best of some rounds counts.
-use crate::songs::{SETTINGS, player_after, queue_of};
+use crate::songs::{SETTINGS, fill, play_first};
 use anyhow::{Result, anyhow};
-use benchmark_figures::ratio;
+use benchmark_figures::{nanos_since, ratio};
 use play_queue::{Entry, Queue};
 use player_core::{KeptNext, PlaySettings, Player, word};
+use std::io;
 use std::time::Instant;
 
 /// The lengths at which the choice is measured.
@@ -26,61 +27,121 @@ enum Work {
     Looks,
 }
 
+/// The nanoseconds of each.
+#[derive(Clone, Copy)]
+struct Times {
+    words: u64,
+    choice: u64,
+    halfway: u64,
+    look: u64,
+}
+
 /// Prints the nanoseconds of one word for each entry, of the choice, and of a look at what is kept.
 pub fn print_all(rt: &HostRuntime) -> Result<()> {
     for length in LENGTHS {
-        let queue = queue_of(rt.alloc(), length)?;
-        let early = player_after(rt.alloc(), &queue, 1)?;
-        let late = player_after(rt.alloc(), &queue, length / 2)?;
-        let words = best(rt, Work::Words, &queue, &early)?;
-        let choice = best(rt, Work::Choice, &queue, &early)?;
-        let halfway = best(rt, Work::Choice, &queue, &late)?;
-        let look = best(rt, Work::Looks, &queue, &early)? / u64::from(LOOKS);
-        let ratio = ratio(choice, words);
-        println!(rt; "{length} entries")?;
-        println!(rt; "  a word for each: {words} nanoseconds")?;
-        println!(rt; "  the next song: {choice} nanoseconds, ratio {ratio}")?;
-        println!(rt; "  the next song, half of them played: {halfway} nanoseconds")?;
-        println!(rt; "  the same with nothing changed: {look} nanoseconds")?;
+        let times = measure(rt, length)?;
+        print_times(rt, length, times)?;
     }
     Ok(())
 }
 
-/// The nanoseconds of the best of some rounds.
+fn print_times(rt: &HostRuntime, length: u32, times: Times) -> io::Result<()> {
+    println!(rt; "{length} entries")?;
+    print_choice(rt, times.words, times.choice)?;
+    println!(rt;
+        "  the next song, half of them played: {} nanoseconds",
+        times.halfway
+    )?;
+    println!(rt;
+        "  the same with nothing changed: {} nanoseconds",
+        times.look
+    )
+}
+
+fn print_choice(rt: &HostRuntime, words: u64, choice: u64) -> io::Result<()> {
+    let ratio = ratio(choice, words);
+    println!(rt; "  a word for each: {words} nanoseconds")?;
+    println!(rt; "  the next song: {choice} nanoseconds, ratio {ratio}")
+}
+
+/// What takes how long in a queue of so many entries.
+///
+/// Here and in `best_after` a value is made and merely lent: whoever owns it lets it go on each way out.
+fn measure(rt: &HostRuntime, length: u32) -> Result<Times> {
+    let mut queue = Queue::new(rt.alloc());
+    measure_filled(rt, &mut queue, length)
+}
+
+fn measure_filled(rt: &HostRuntime, queue: &mut Queue, length: u32) -> Result<Times> {
+    fill(rt.alloc(), queue, length)?;
+    let words = best_after(rt, Work::Words, queue, 1)?;
+    let choice = best_after(rt, Work::Choice, queue, 1)?;
+    let halfway = best_after(rt, Work::Choice, queue, length / 2)?;
+    let looks = best_after(rt, Work::Looks, queue, 1)?;
+    Ok(Times {
+        words,
+        choice,
+        halfway,
+        look: looks / u64::from(LOOKS),
+    })
+}
+
+/// The nanoseconds of the best of some rounds, for a player that has played so many of the first songs.
+fn best_after(rt: &HostRuntime, work: Work, queue: &Queue, songs: u32) -> Result<u64> {
+    let mut player = Player::new(rt.alloc());
+    best_playing(rt, work, queue, &mut player, songs)
+}
+
+fn best_playing(
+    rt: &HostRuntime,
+    work: Work,
+    queue: &Queue,
+    player: &mut Player,
+    songs: u32,
+) -> Result<u64> {
+    play_first(queue, player, &SETTINGS, songs)?;
+    best(rt, work, queue, player)
+}
+
 fn best(rt: &HostRuntime, work: Work, queue: &Queue, player: &Player) -> Result<u64> {
     let mut best = u64::MAX;
     for _ in 0..ROUNDS {
-        let start = Instant::now(rt)?;
-        let seen = apply(work, queue, player);
-        let time = start.elapsed(rt)?;
-        // What was found is looked at, so that no compiler leaves the work out.
-        if seen == 0 {
-            return Err(anyhow!("nothing was found"));
-        }
-        best = best.min(u64::try_from(time.as_nanos()).unwrap_or(u64::MAX));
+        best = best.min(time(rt, work, queue, player)?);
     }
     Ok(best)
 }
 
+/// The nanoseconds of one round.
+fn time(rt: &HostRuntime, work: Work, queue: &Queue, player: &Player) -> Result<u64> {
+    let start = Instant::now(rt)?;
+    let seen = apply(work, queue, player, &SETTINGS);
+    let nanos = nanos_since(rt, start)?;
+    // What was found is looked at, so that no compiler leaves the work out.
+    if seen == 0 {
+        return Err(anyhow!("nothing was found"));
+    }
+    Ok(nanos)
+}
+
 /// Does the work once.
-fn apply(work: Work, queue: &Queue, player: &Player) -> u32 {
+fn apply(work: Work, queue: &Queue, player: &Player, settings: &PlaySettings) -> u32 {
     match work {
-        Work::Words => all_words(queue),
-        Work::Choice => choice(queue, player),
-        Work::Looks => looks(queue.entries(), &SETTINGS, player),
+        Work::Words => all_words(queue, settings),
+        Work::Choice => choice(queue, player, settings),
+        Work::Looks => looks(queue.entries(), settings, player),
     }
 }
 
-fn all_words(queue: &Queue) -> u32 {
+fn all_words(queue: &Queue, settings: &PlaySettings) -> u32 {
     let mut seen = 0;
     for entry in queue.entries() {
-        seen |= word(SETTINGS.key, SETTINGS.order, entry.id);
+        seen |= word(settings.key, settings.order, entry.id);
     }
     seen
 }
 
-fn choice(queue: &Queue, player: &Player) -> u32 {
-    match player.shown(queue.entries(), &SETTINGS).next {
+fn choice(queue: &Queue, player: &Player, settings: &PlaySettings) -> u32 {
+    match player.shown(queue.entries(), settings).next {
         Some((_, id)) => id,
         None => 0,
     }

@@ -17,23 +17,47 @@ pub const SETTINGS: PlaySettings = PlaySettings {
     order: 1,
 };
 
-/// A queue of so many songs.
-pub fn queue_of(alloc: Global, length: u32) -> Result<Queue> {
-    let mut queue = Queue::new(alloc);
-    let mut songs = Vec::new(alloc);
-    for number in 0..length {
-        let text = format!(in alloc; "album/{number:010}.wav")?;
-        songs.push(Uri::read(alloc, text.as_str())?.ok_or(anyhow!("a song has no URI"))?)?;
-    }
-    queue.add_at(0, songs)?;
-    Ok(queue)
+/// Adds so many songs to an empty queue.
+pub fn fill(alloc: Global, queue: &mut Queue, length: u32) -> Result<()> {
+    let songs = songs(alloc, length)?;
+    add(queue, songs)
 }
 
-/// A player that has played so many of the first songs.
-pub fn player_after(alloc: Global, queue: &Queue, songs: u32) -> Result<Player> {
-    let mut player = Player::new(alloc);
-    for position in 0..songs {
-        player.play(queue.entries(), &SETTINGS, Selector::Position(position))?;
+fn add(queue: &mut Queue, songs: Vec<Uri>) -> Result<()> {
+    queue.add_at(0, songs)?;
+    Ok(())
+}
+
+fn songs(alloc: Global, count: u32) -> Result<Vec<Uri>> {
+    let mut songs = Vec::new(alloc);
+    for number in 0..count {
+        songs.push(song(alloc, number)?)?;
     }
-    Ok(player)
+    Ok(songs)
+}
+
+fn song(alloc: Global, number: u32) -> Result<Uri> {
+    let text = format!(in alloc; "album/{number:010}.wav")?;
+    match Uri::read(alloc, text.as_str())? {
+        Some(song) => Ok(song),
+        None => Err(anyhow!("a song has no URI")),
+    }
+}
+
+/// Plays so many of the first songs.
+pub fn play_first(
+    queue: &Queue,
+    player: &mut Player,
+    settings: &PlaySettings,
+    songs: u32,
+) -> Result<()> {
+    for position in 0..songs {
+        play(queue, player, settings, position)?;
+    }
+    Ok(())
+}
+
+fn play(queue: &Queue, player: &mut Player, settings: &PlaySettings, position: u32) -> Result<()> {
+    player.play(queue.entries(), settings, Selector::Position(position))?;
+    Ok(())
 }
