@@ -44,12 +44,18 @@ fn frames(
     read_frames(alloc, &mut MemSource::new(bytes), info, from, most)
 }
 
-/// Adds the texts of the tags, each behind a space and its tag.
+/// Adds the text of a tag, if it has one, behind a space and the tag.
+fn add_text(text: &mut String, tag: Tag, value: Option<&str>) -> Result<(), Fail> {
+    if let Some(value) = value {
+        write!(text, " {tag:?}={value}")?;
+    }
+    Ok(())
+}
+
+/// Adds the texts of the tags.
 fn add_texts(text: &mut String, tags: &Tags) -> Result<(), Fail> {
-    for tag in Tag::ALL {
-        if let Some(value) = tags.get(tag) {
-            write!(text, " {tag:?}={value}")?;
-        }
+    for tag in &Tag::ALL {
+        add_text(text, *tag, tags.get(*tag))?;
     }
     Ok(())
 }
@@ -68,12 +74,22 @@ fn in_words(alloc: Global, info: &WaveInfo) -> Result<String, Fail> {
     Ok(text)
 }
 
+fn refused(alloc: Global, refusal: &WaveError) -> Result<String, Fail> {
+    Ok(format!(in alloc; "refused {}", refusal.number())?)
+}
+
+/// A head in words, or the number of its refusal.
+fn answer(alloc: Global, head: &Result<WaveInfo, WaveError>) -> Result<String, Fail> {
+    match head {
+        Ok(info) => in_words(alloc, info),
+        Err(refusal) => refused(alloc, refusal),
+    }
+}
+
 /// What the head of a file tells, in words, or the number of its refusal.
 fn told(alloc: Global, bytes: &[u8]) -> Result<String, Fail> {
-    match head(alloc, bytes) {
-        Ok(info) => in_words(alloc, &info),
-        Err(e) => Ok(format!(in alloc; "refused {}", e.number())?),
-    }
+    let head = head(alloc, bytes);
+    answer(alloc, &head)
 }
 
 /// The heads of these files tell this.

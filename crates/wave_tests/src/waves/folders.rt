@@ -15,14 +15,19 @@ fn add_names(text: &mut String, entries: &[FolderEntry]) -> Result<(), Fail> {
     Ok(())
 }
 
-/// The names that stand in a folder, or that there is none.
-fn listed<F: Folder + Drop>(alloc: Global, folder: &mut F, path: &str) -> Result<String, Fail> {
+fn names_of(alloc: Global, entries: Option<&[FolderEntry]>) -> Result<String, Fail> {
     let mut text = String::new(alloc);
-    match folder.list(alloc, path)? {
-        Some(entries) => add_names(&mut text, &entries)?,
+    match entries {
+        Some(entries) => add_names(&mut text, entries)?,
         None => text.push_str("no folder")?,
     }
     Ok(text)
+}
+
+/// The names that stand in a folder, or that there is none.
+fn listed<F: Folder + Drop>(alloc: Global, folder: &mut F, path: &str) -> Result<String, Fail> {
+    let entries = folder.list(alloc, path)?;
+    names_of(alloc, entries.as_deref())
 }
 
 /// These names stand in a folder.
@@ -45,9 +50,13 @@ pub(super) fn has_file<F: Folder + Drop>(
     Ok(folder.open(alloc, path)?.is_some())
 }
 
-fn frames_of<S: Source + Drop>(alloc: Global, file: Option<S>) -> Result<u64, Fail> {
+fn frames_of_file<S: Source>(alloc: Global, file: &mut S) -> Result<u64, WaveError> {
+    Ok(read_head(alloc, file)?.frames)
+}
+
+fn frames_of<S: Source>(alloc: Global, file: Option<&mut S>) -> Result<u64, Fail> {
     match file {
-        Some(mut file) => Ok(read_head(alloc, &mut file)?.frames),
+        Some(file) => Ok(frames_of_file(alloc, file)?),
         None => Ok(0),
     }
 }
@@ -58,12 +67,17 @@ pub(super) fn frames_at<F: Folder + Drop>(
     folder: &mut F,
     path: &str,
 ) -> Result<u64, Fail> {
-    frames_of(alloc, folder.open(alloc, path)?)
+    let mut file = folder.open(alloc, path)?;
+    frames_of(alloc, file.as_mut())
+}
+
+fn add_song(alloc: Global, folder: &mut MemFolder, path: &str) -> Result<(), Fail> {
+    Ok(folder.add(alloc, path, &WAVE_A)?)
 }
 
 fn fill(alloc: Global, folder: &mut MemFolder) -> Result<(), Fail> {
-    for path in ["d/A.wav", "x.wav", "d/e/f.wav", "d/e/g.wav", "dd/A.wav"] {
-        folder.add(alloc, path, &WAVE_A)?;
+    for path in &["d/A.wav", "x.wav", "d/e/f.wav", "d/e/g.wav", "dd/A.wav"] {
+        add_song(alloc, folder, path)?;
     }
     Ok(())
 }
