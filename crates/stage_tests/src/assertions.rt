@@ -1,5 +1,4 @@
 // What the tests compare by. The prover takes an assertion of two values apart for ten seconds and more: here alone, once for all.
-use disk_model::MemDisk;
 use std::alloc::{AllocError, Global};
 use std::fmt::{Debug, Display};
 use std::process::Abort;
@@ -12,11 +11,6 @@ pub fn equal<T: Copy + PartialEq + Debug>(rt: &impl Abort, left: T, right: T) {
 /// These bytes are the same.
 pub fn same_bytes(rt: &impl Abort, left: &[u8], right: &[u8]) {
     equal(rt, left, right);
-}
-
-/// The same of the row in this place.
-pub fn same_at(rt: &impl Abort, place: usize, left: &[u8], right: &[u8]) {
-    equal(rt, (place, left), (place, right));
 }
 
 /// The same of texts.
@@ -34,9 +28,4 @@ pub fn prints(
     let text = format!(in alloc; "{}", error)?;
     same_text(rt, text.as_str(), expected);
     Ok(())
-}
-
-/// A disk with these bytes.
-pub fn disk(alloc: Global, bytes: &[u8]) -> Result<MemDisk, AllocError> {
-    MemDisk::from_bytes(alloc, bytes.to_vec(alloc)?)
 }

@@ -1,184 +1,150 @@
 // Each call of a disk fails in turn.
+use super::files::{empty_files, files_with, play, play_over};
 use super::*;
+use std::process::Abort;
+use std::test::Fail;
 
-/// A stage met one fault of the disk of file a, and a restart shows this.
-fn leaves(
-    rt: &impl Abort,
-    alloc: Global,
-    live: Live<FuseDisk<MemDisk>>,
-    expected: (u64, &[u8]),
-) -> Result<(), Fail> {
-    let (a, b) = live.into_disks();
-    equal(rt, a.faults(), 1);
-    restart_shows(
-        rt,
-        alloc,
-        a.into_inner().as_bytes(),
-        b.into_inner().as_bytes(),
-        expected,
-    )
+/// What `setvol 40` is in a stage that breaks at it: from then on it says neither what is to be played nor what is to be read.
+const BREAKS_AT_SETVOL: &[Step] = &[
+    CONNECT,
+    Step::Turn(Happens::Line(b"setvol 40"), Err(LiveError::Broken)),
+    Step::Broken(true),
+    Step::Waits(Err(LiveError::Broken)),
+    Step::Scans(Err(LiveError::Broken)),
+];
+
+/// A restart finds no record.
+const BREAKS_BEFORE: [Row; 3] = [
+    Row::Life(Begin::Make, BREAKS_AT_SETVOL),
+    Row::Faults(1, 0),
+    Row::Shows(FRESH),
+];
+
+/// A restart finds the record.
+const BREAKS_BEHIND: [Row; 3] = [
+    Row::Life(Begin::Make, BREAKS_AT_SETVOL),
+    Row::Faults(1, 0),
+    Row::Shows(QUIET),
+];
+
+/// The fuse is a call too late.
+const NOT_BROKEN: [Row; 1] = [Row::Life(
+    Begin::Make,
+    &[
+        CONNECT,
+        Step::Turn(Happens::Line(b"setvol 40"), Ok((b"OK\n", Some(1)))),
+    ],
+)];
+
+/// The same happens by both kinds of fuse at this call of file a.
+fn by_both(rt: &impl Abort, alloc: Global, call: u64, rows: &[Row]) -> Result<(), Fail> {
+    play_over(rt, alloc, Fuse::Stop(call), rows)?;
+    play_over(rt, alloc, Fuse::Fail(call), rows)
 }
 
-/// A broken stage says neither what is to be played nor what is to be read.
-fn tells_nothing<D: Disk>(rt: &impl Abort, alloc: Global, live: &Live<D>) {
-    equal(rt, waits(live, alloc), Err(LiveError::Broken));
-    equal(rt, scans(live, alloc), Err(LiveError::Broken));
-}
-
-/// `setvol 40` over this fuse breaks the stage, and a restart shows this.
-fn setvol_breaks(
-    rt: &impl Abort,
-    alloc: Global,
-    fuse: Fuse,
-    expected: (u64, &[u8]),
-) -> Result<(), Fail> {
-    let mut live = fused(alloc, fuse)?;
-    refuses(rt, &mut live, alloc, b"setvol 40", LiveError::Broken)?;
-    has_failed(rt, &live);
-    tells_nothing(rt, alloc, &live);
-    leaves(rt, alloc, live, expected)
-}
-
-/// The same for both kinds of fuse at this call.
-fn setvol_breaks_at(
-    rt: &impl Abort,
-    alloc: Global,
-    call: u64,
-    expected: (u64, &[u8]),
-) -> Result<(), Fail> {
-    setvol_breaks(rt, alloc, Fuse::Stop(call), expected)?;
-    setvol_breaks(rt, alloc, Fuse::Fail(call), expected)
-}
-
-// A record is four calls of the disk, the 10th to the 13th. A write that fails is made all the same here, and a read gives it: so the
-// gate is shut until the third.
+// Making a stage is 9 calls of the disk. A record is four, the 10th to the 13th. A write that fails is made all the same here, and a read
+// gives it: so the gate is shut until the third.
 #[test]
 fn each_call_of_a_record_fails(rt: HostRuntime) -> Result<(), Fail> {
-    let alloc = rt.alloc();
-    for k in 10..12u64 {
-        setvol_breaks_at(&rt, alloc, k, (0, FRESH_STATUS))?;
+    for call in 10..12u64 {
+        by_both(&rt, rt.alloc(), call, &BREAKS_BEFORE)?;
     }
-    for k in 12..14u64 {
-        setvol_breaks_at(&rt, alloc, k, (1, QUIET_STATUS))?;
+    for call in 12..14u64 {
+        by_both(&rt, rt.alloc(), call, &BREAKS_BEHIND)?;
     }
-    let mut live = fused(alloc, Fuse::Stop(14))?;
-    answers(&rt, &mut live, alloc, b"setvol 40", b"OK\n")
+    play_over(&rt, rt.alloc(), Fuse::Stop(14), &NOT_BROKEN)
 }
 
-/// Opening met one fault, and a restart shows what was there.
-fn start_met_a_fault(
+/// Opening is broken by a fault of file a, and a restart shows what was there.
+const OPENING_BREAKS_AT_A: [Row; 3] = [
+    Row::Refused(Begin::Open, StartError::Broken),
+    Row::Faults(1, 0),
+    Row::Shows(QUIET),
+];
+
+/// The same by a fault of file b.
+const OPENING_BREAKS_AT_B: [Row; 3] = [
+    Row::Refused(Begin::Open, StartError::Broken),
+    Row::Faults(0, 1),
+    Row::Shows(QUIET),
+];
+
+/// A fresh file is opened.
+const OPENS: [Row; 1] = [Row::Life(Begin::Open, &[Step::Numbers(0, 0)])];
+
+/// This happens to a file with one record beside an empty one, over these fuses.
+fn opened(
     rt: &impl Abort,
     alloc: Global,
-    refused: Refused<FuseDisk<MemDisk>>,
+    on_a: Fuse,
+    on_b: Fuse,
+    rows: &[Row],
 ) -> Result<(), Fail> {
-    let Refused { error, a, b } = refused;
-    equal(rt, error, StartError::Broken);
-    equal(rt, a.faults().max(b.faults()), 1);
-    restart_shows(
-        rt,
-        alloc,
-        a.into_inner().as_bytes(),
-        b.into_inner().as_bytes(),
-        (1, QUIET_STATUS),
-    )
+    let file = file_with(alloc, &QUIET_RECORD)?;
+    let mut files = files_with(alloc, &file, &[], (on_a, on_b))?;
+    play(rt, alloc, &mut files, rows)
 }
 
-/// Opening over these fuses is broken, and a restart shows what was there.
-fn open_breaks(rt: &impl Abort, alloc: Global, on_a: Fuse, on_b: Fuse) -> Result<(), Fail> {
-    let a = FuseDisk::new(disk(alloc, &file_with(alloc, &QUIET_RECORD)?)?, on_a);
-    let b = FuseDisk::new(MemDisk::new(alloc), on_b);
-    match open(alloc, a, b) {
-        Ok(_live) => Err(Fail::from("opened over a disk that fails")),
-        Err(refused) => start_met_a_fault(rt, alloc, refused),
-    }
-}
-
-/// The number of the last record of a fresh file, opened over fuses that are a call too late.
-fn opened_in_time(alloc: Global) -> Result<u64, Fail> {
-    let a = FuseDisk::new(disk(alloc, &FRESH_FILE)?, Fuse::Stop(6));
-    let b = FuseDisk::new(MemDisk::new(alloc), Fuse::Stop(2));
-    Ok(open(alloc, a, b)?.last_record())
+/// A fresh file is opened over fuses that are a call too late.
+fn opened_in_time(rt: &impl Abort, alloc: Global) -> Result<(), Fail> {
+    let fuses = (Fuse::Stop(6), Fuse::Stop(2));
+    let mut files = files_with(alloc, &FRESH_FILE, &[], fuses)?;
+    play(rt, alloc, &mut files, &OPENS)
 }
 
 // Opening is five calls of the file in use, and one of the empty one.
 #[test]
 fn each_call_of_opening_fails(rt: HostRuntime) -> Result<(), Fail> {
     let alloc = rt.alloc();
-    for k in 1..6u64 {
-        open_breaks(&rt, alloc, Fuse::Stop(k), NEVER)?;
-        open_breaks(&rt, alloc, Fuse::Fail(k), NEVER)?;
+    for call in 1..6u64 {
+        opened(&rt, alloc, Fuse::Stop(call), NEVER, &OPENING_BREAKS_AT_A)?;
+        opened(&rt, alloc, Fuse::Fail(call), NEVER, &OPENING_BREAKS_AT_A)?;
     }
-    open_breaks(&rt, alloc, NEVER, Fuse::Stop(1))?;
-    open_breaks(&rt, alloc, NEVER, Fuse::Fail(1))?;
-    equal(&rt, opened_in_time(alloc)?, 0);
-    Ok(())
+    opened(&rt, alloc, NEVER, Fuse::Stop(1), &OPENING_BREAKS_AT_B)?;
+    opened(&rt, alloc, NEVER, Fuse::Fail(1), &OPENING_BREAKS_AT_B)?;
+    opened_in_time(&rt, alloc)
 }
 
-/// What making a stage over these fuses is refused with, if it is.
-fn created(alloc: Global, on_a: Fuse, on_b: Fuse) -> Option<StartError> {
-    let a = FuseDisk::new(MemDisk::new(alloc), on_a);
-    let b = FuseDisk::new(MemDisk::new(alloc), on_b);
-    match create(alloc, a, b) {
-        Ok(_live) => None,
-        Err(refused) => Some(refused.error),
-    }
-}
+const MAKING_BREAKS: [Row; 1] = [Row::Refused(Begin::Make, StartError::Broken)];
 
-/// Making a stage over these fuses is broken.
-fn create_breaks(rt: &impl Abort, alloc: Global, on_a: Fuse, on_b: Fuse) {
-    equal(rt, created(alloc, on_a, on_b), Some(StartError::Broken));
+const MAKES: [Row; 1] = [Row::Life(Begin::Make, &[])];
+
+/// This happens to two empty files over these fuses.
+fn made(rt: &impl Abort, alloc: Global, on_a: Fuse, on_b: Fuse, rows: &[Row]) -> Result<(), Fail> {
+    let mut files = empty_files(alloc, on_a, on_b);
+    play(rt, alloc, &mut files, rows)
 }
 
 #[test]
-fn each_call_of_making_fails(rt: HostRuntime) {
+fn each_call_of_making_fails(rt: HostRuntime) -> Result<(), Fail> {
     let alloc = rt.alloc();
-    for k in 1..10u64 {
-        create_breaks(&rt, alloc, Fuse::Stop(k), NEVER);
-        create_breaks(&rt, alloc, Fuse::Fail(k), NEVER);
+    for call in 1..10u64 {
+        by_both(&rt, alloc, call, &MAKING_BREAKS)?;
     }
-    create_breaks(&rt, alloc, NEVER, Fuse::Fail(1));
-    equal(&rt, created(alloc, Fuse::Stop(10), Fuse::Stop(2)), None);
+    made(&rt, alloc, NEVER, Fuse::Fail(1), &MAKING_BREAKS)?;
+    made(&rt, alloc, Fuse::Stop(10), Fuse::Stop(2), &MAKES)
 }
 
-/// Why each event of a run was refused, if it was.
-fn refused_in_run<D: Disk + Drop>(
-    live: &mut Live<D>,
-    alloc: Global,
-    events: Vec<Event>,
-) -> Result<Vec<Option<LiveError>>, Fail> {
-    let mut refused = Vec::new(alloc);
-    for answer in ran(live, alloc, events)? {
-        refused.push(refusal(answer))?;
-    }
-    Ok(refused)
-}
-
-/// Of four events the first alone was answered.
-fn second_is_the_first_refused(rt: &impl Abort, refused: &[Option<LiveError>]) {
-    let broken = Some(LiveError::Broken);
-    let expected = [None, broken, broken, broken];
-    equal(rt, refused, expected.as_slice());
-}
-
-/// Of four events the first alone is answered.
-fn run_breaks_at_the_second(
-    rt: &impl Abort,
-    alloc: Global,
-    live: &mut Live<FuseDisk<MemDisk>>,
-) -> Result<(), Fail> {
-    let texts: [&[u8]; 3] = [b"setvol 40", b"repeat 1", b"ping"];
-    let mut events = lines_of(alloc, &texts)?;
-    events.push(Event::Gone(1))?;
-    let refused = refused_in_run(live, alloc, events)?;
-    second_is_the_first_refused(rt, refused.as_slice());
-    Ok(())
-}
+/// Of four events the first alone is answered, and a restart finds it.
+const RUN_BREAKS: [Row; 3] = [
+    Row::Life(
+        Begin::Make,
+        &[
+            CONNECT,
+            Step::Run(&[
+                (Happens::Line(b"setvol 40"), Ok((b"OK\n", Some(1)))),
+                (Happens::Line(b"repeat 1"), Err(LiveError::Broken)),
+                (Happens::Line(b"ping"), Err(LiveError::Broken)),
+                (Happens::Gone, Err(LiveError::Broken)),
+            ]),
+        ],
+    ),
+    Row::Faults(1, 0),
+    Row::Shows(QUIET),
+];
 
 // From the fault on each answer of a run is `Broken`, and a restart finds what was given out.
 #[test]
 fn run_over_a_fault(rt: HostRuntime) -> Result<(), Fail> {
-    let alloc = rt.alloc();
-    let mut live = fused(alloc, Fuse::Fail(15))?;
-    run_breaks_at_the_second(&rt, alloc, &mut live)?;
-    leaves(&rt, alloc, live, (1, QUIET_STATUS))
+    play_over(&rt, rt.alloc(), Fuse::Fail(15), &RUN_BREAKS)
 }

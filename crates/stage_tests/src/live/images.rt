@@ -1,109 +1,85 @@
 // What crashes may leave of the files, chosen by hand, and what a restart finds in it.
+use super::files::play_over;
 use super::*;
+use std::process::Abort;
+use std::test::Fail;
 
-/// A crash since this moment may have left this of file a, and a restart over it shows this.
-fn shows(
-    rt: &impl Abort,
-    alloc: Global,
-    a: &MemDisk,
-    moment: usize,
-    rest: &[u8],
-    expected: (u64, &[u8]),
-) -> Result<(), Fail> {
-    let image = file_with(alloc, rest)?;
-    equal(rt, a.is_image_since(alloc, moment, &image)?, true);
-    restart_shows(rt, alloc, &image, &[], expected)
-}
+/// The second command changes back what the first one changed.
+const BACK_AND_FORTH: Happens = Happens::List(b"setvol 40", b"setvol 100");
 
-/// A list whose second command changes back what its first one changed is answered as one record.
-fn list_is_answered(rt: &impl Abort, alloc: Global, live: &mut Live<MemDisk>) -> Result<(), Fail> {
-    let event = list(alloc, b"setvol 40", b"setvol 100")?;
-    hears(rt, live, alloc, event, (b"OK\n", Some(1)))
-}
-
-/// What that list leaves of file a.
-fn list_is_one_record(
-    rt: &impl Abort,
-    alloc: Global,
-    a: MemDisk,
-    b: MemDisk,
-) -> Result<MemDisk, Fail> {
-    let mut live = reconnected(alloc, a, b)?;
-    let done = list_is_answered(rt, alloc, &mut live);
-    first_disk(live, done)
-}
-
-/// A restart finds nothing before the write of the list's record, inside it and after it, and the record once its gate is open.
-fn list_is_whole_or_absent(
-    rt: &impl Abort,
-    alloc: Global,
-    a: &MemDisk,
-    moment: usize,
-    record: &[u8],
-) -> Result<(), Fail> {
-    let shut: [&[u8]; 3] = [
-        &[0],
-        &[0, 4, 0, 0, 0, 2],
-        &[0, 4, 0, 0, 0, 2, 0x28, 2, 0x64, 0],
-    ];
-    for rest in shut {
-        shows(rt, alloc, a, moment, rest, (0, FRESH_STATUS))?;
-    }
-    shows(rt, alloc, a, moment, record, (1, FRESH_STATUS))
-}
-
-/// From the answer on only the whole record is left.
-fn only_the_record_is_left(rt: &impl Abort, alloc: Global, a: &MemDisk) -> Result<(), Fail> {
-    let lost = file_with(alloc, &[0, 4, 0, 0, 0, 2, 0x28, 2, 0x64, 0])?;
-    equal(rt, a.is_image(alloc, &lost)?, false);
-    equal(rt, a.is_image(alloc, a.as_bytes())?, true);
-    Ok(())
-}
+/// Before the write of the list's record, inside it and after it a restart finds nothing, and the record once its gate is open. From the
+/// answer on only the whole record is left.
+const LIST_IS_ATOMIC: [Row; 8] = [
+    Row::Life(Begin::Make, &[CONNECT]),
+    Row::Life(
+        Begin::Open,
+        &[CONNECT, Step::Turn(BACK_AND_FORTH, Ok((b"OK\n", Some(1))))],
+    ),
+    Row::Behind(&[0xa5, 4, 0, 0, 0, 2, 0x28, 2, 0x64, 0], 111),
+    Row::MayLeave(Since::Begun, &[0], FRESH),
+    Row::MayLeave(Since::Begun, &[0, 4, 0, 0, 0, 2], FRESH),
+    Row::MayLeave(Since::Begun, &[0, 4, 0, 0, 0, 2, 0x28, 2, 0x64, 0], FRESH),
+    Row::MayLeave(
+        Since::Begun,
+        &[0xa5, 4, 0, 0, 0, 2, 0x28, 2, 0x64, 0],
+        (1, FRESH_STATUS),
+    ),
+    Row::NeverLeaves(&[0, 4, 0, 0, 0, 2, 0x28, 2, 0x64, 0]),
+];
 
 // A list whose second command changes back what its first one changed is one record. Until its gate is open there is none.
 #[test]
 fn list_is_atomic(rt: HostRuntime) -> Result<(), Fail> {
-    let alloc = rt.alloc();
-    let (a, b) = fresh(alloc)?.into_disks();
-    let moment = a.moment();
-    let a = list_is_one_record(&rt, alloc, a, b)?;
-    let record = [0xa5, 4, 0, 0, 0, 2, 0x28, 2, 0x64, 0];
-    same_bytes(&rt, a.as_bytes(), file_with(alloc, &record)?.as_slice());
-    list_is_whole_or_absent(&rt, alloc, &a, moment, &record)?;
-    only_the_record_is_left(&rt, alloc, &a)
+    play_over(&rt, rt.alloc(), NEVER, &LIST_IS_ATOMIC)
 }
 
-/// A list that changes two things, over fresh files: what it leaves of file a.
-fn both_changed(alloc: Global) -> Result<MemDisk, Fail> {
-    let mut live = fresh(alloc)?;
-    turned(&mut live, alloc, list(alloc, b"setvol 40", b"repeat 1")?)?;
-    let (a, _b) = live.into_disks();
-    Ok(a)
-}
+/// Two things are changed.
+const TWO_CHANGES: Happens = Happens::List(b"setvol 40", b"repeat 1");
+
+/// What `status` answers then.
+const BOTH_STATUS: &[u8] = b"volume: 40\nrepeat: 1\nrandom: 0\nsingle: 0\nconsume: 0\nplaylist: 1\n\
+playlistlength: 0\nstate: stop\nOK\n";
+
+const BOTH_OR_NONE: [Row; 3] = [
+    Row::Life(
+        Begin::Make,
+        &[CONNECT, Step::Turn(TWO_CHANGES, Ok((b"OK\n", Some(1))))],
+    ),
+    Row::MayLeave(Since::Ever, &[0, 5, 0, 0, 0, 2, 0x28, 1, 1, 1, 0], FRESH),
+    Row::MayLeave(
+        Since::Ever,
+        &[0xa5, 5, 0, 0, 0, 2, 0x28, 1, 1, 1, 0],
+        (1, BOTH_STATUS),
+    ),
+];
 
 // Of a list that changes two things, a restart finds both or none.
 #[test]
 fn list_of_two_changes(rt: HostRuntime) -> Result<(), Fail> {
-    let alloc = rt.alloc();
-    let a = both_changed(alloc)?;
-    let both = b"volume: 40\nrepeat: 1\nrandom: 0\nsingle: 0\nconsume: 0\nplaylist: 1\n\
-playlistlength: 0\nstate: stop\nOK\n"
-        .as_slice();
-    let shut = [0, 5, 0, 0, 0, 2, 0x28, 1, 1, 1, 0];
-    shows(&rt, alloc, &a, 0, &shut, (0, FRESH_STATUS))?;
-    let opened = [0xa5, 5, 0, 0, 0, 2, 0x28, 1, 1, 1, 0];
-    shows(&rt, alloc, &a, 0, &opened, (1, both))
+    play_over(&rt, rt.alloc(), NEVER, &BOTH_OR_NONE)
 }
 
-/// A stage whose disk fails at the next record serves nothing more.
-fn serves_no_more(
-    rt: &impl Abort,
-    alloc: Global,
-    live: &mut Live<FuseDisk<MemDisk>>,
-) -> Result<(), Fail> {
-    refuses(rt, live, alloc, b"setvol 40", LiveError::Broken)?;
-    has_failed(rt, live);
-    refuses(rt, live, alloc, b"ping", LiveError::Broken)
+/// A stage whose disk fails at a record serves nothing more.
+const SERVES_NO_MORE: Row = Row::Life(
+    Begin::Make,
+    &[
+        CONNECT,
+        Step::Turn(Happens::Line(b"setvol 40"), Err(LiveError::Broken)),
+        Step::Broken(true),
+        Step::Turn(Happens::Line(b"ping"), Err(LiveError::Broken)),
+    ],
+);
+
+/// Where this call fails, a restart finds volume 100 or 40, by the image.
+fn shut_or_open(rt: &impl Abort, alloc: Global, call: u64) -> Result<(), Fail> {
+    let rows = [
+        SERVES_NO_MORE,
+        Row::Calls(call, 1),
+        Row::Faults(1, 0),
+        Row::MayLeave(Since::Now, &[0, 2, 0, 0, 0, 2, 0x28, 0], FRESH),
+        Row::MayLeave(Since::Now, &QUIET_RECORD, QUIET),
+    ];
+    play_over(rt, alloc, Fuse::Fail(call), &rows)
 }
 
 // Where the gate's write of a record fails, or the sync behind it, nothing more is served. The file may have the gate shut or open.
@@ -111,17 +87,4 @@ fn serves_no_more(
 fn second_sync_fails(rt: HostRuntime) -> Result<(), Fail> {
     shut_or_open(&rt, rt.alloc(), 12)?;
     shut_or_open(&rt, rt.alloc(), 13)
-}
-
-/// Where this call fails, a restart finds volume 100 or 40, by the image.
-fn shut_or_open(rt: &impl Abort, alloc: Global, call: u64) -> Result<(), Fail> {
-    let mut live = fused(alloc, Fuse::Fail(call))?;
-    let done = serves_no_more(rt, alloc, &mut live);
-    let a = first_disk(live, done)?;
-    equal(rt, (a.calls(), a.faults()), (call, 1));
-    let a = a.into_inner();
-    let now = a.moment();
-    let shut = [0, 2, 0, 0, 0, 2, 0x28, 0];
-    shows(rt, alloc, &a, now, &shut, (0, FRESH_STATUS))?;
-    shows(rt, alloc, &a, now, &QUIET_RECORD, (1, QUIET_STATUS))
 }

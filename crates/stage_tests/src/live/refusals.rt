@@ -1,16 +1,23 @@
 // What a stage refuses, and what that leaves.
+use super::files::{files_with, play};
 use super::*;
+use crate::assertions::{equal, prints, same_bytes};
+use std::process::Abort;
+use std::test::Fail;
 
-/// A start over these files was refused so, and leaves them as they are.
-fn refused_is(
+/// No stage begins over these files for this reason, and they are left as they are.
+fn refuses(
     rt: &impl Abort,
-    refused: Refused<MemDisk>,
-    expected: (StartError, &[u8], &[u8]),
+    alloc: Global,
+    begin: Begin,
+    (a, b): (&[u8], &[u8]),
+    expected: StartError,
 ) -> Result<(), Fail> {
-    equal(rt, refused.error, expected.0);
-    same_bytes(rt, refused.a.as_bytes(), expected.1);
-    same_bytes(rt, refused.b.as_bytes(), expected.2);
-    Ok(())
+    let mut files = files_with(alloc, a, b, (NEVER, NEVER))?;
+    let done = play(rt, alloc, &mut files, &[Row::Refused(begin, expected)]);
+    same_bytes(rt, files.a.as_bytes(), a);
+    same_bytes(rt, files.b.as_bytes(), b);
+    done
 }
 
 /// Opening these files is refused so, and leaves them as they are.
@@ -21,20 +28,12 @@ fn open_refuses(
     b: &[u8],
     expected: StartError,
 ) -> Result<(), Fail> {
-    let (disk_a, disk_b) = (disk(alloc, a)?, disk(alloc, b)?);
-    match open(alloc, disk_a, disk_b) {
-        Ok(_live) => Err(Fail::from("opened")),
-        Err(refused) => refused_is(rt, refused, (expected, a, b)),
-    }
+    refuses(rt, alloc, Begin::Open, (a, b), expected)
 }
 
 /// Making a stage over these files is refused, and leaves them as they are.
 fn create_refuses(rt: &impl Abort, alloc: Global, a: &[u8], b: &[u8]) -> Result<(), Fail> {
-    let (disk_a, disk_b) = (disk(alloc, a)?, disk(alloc, b)?);
-    match create(alloc, disk_a, disk_b) {
-        Ok(_live) => Err(Fail::from("made")),
-        Err(refused) => refused_is(rt, refused, (StartError::NotEmpty, a, b)),
-    }
+    refuses(rt, alloc, Begin::Make, (a, b), StartError::NotEmpty)
 }
 
 #[test]
@@ -64,17 +63,6 @@ fn changed_byte(place: usize, byte: u8) -> [u8; 102] {
     file
 }
 
-/// Opening a fresh file with these records in place of its last byte is refused, damaged at this byte.
-fn records_are_damaged(
-    rt: &impl Abort,
-    alloc: Global,
-    records: &[u8],
-    byte: u64,
-) -> Result<(), Fail> {
-    let file = file_with(alloc, records)?;
-    open_refuses(rt, alloc, &file, b"", StartError::Damaged(byte))
-}
-
 // Bytes that are no journal's, a snapshot that spells no state, and records that spell no ops: the field, the snapshot and the
 // gate are named by their offsets, and the first that is wrong is.
 #[test]
@@ -89,23 +77,12 @@ fn damaged_files(rt: HostRuntime) -> Result<(), Fail> {
     Ok(())
 }
 
-/// Records that spell no ops, and the byte that is named.
-const DAMAGED: [(&[u8], u64); 3] = [
+/// Records that stand in place of the last byte of a fresh file, and the byte that is named. The first three spell no ops. The last op of
+/// the others drops a playlist that isn't there, alone and behind a change of the volume.
+const DAMAGED: [(&[u8], u64); 6] = [
     (&[0xa5, 2, 0, 0, 0, 2, 101, 0], 101),
     (&[0xa5, 2, 0, 0, 0, 2, 40, 0xa5, 1, 0, 0, 0, 0, 0], 108),
     (&[0xa5, 0, 0, 0, 0, 0xa5, 1, 0, 0, 0, 0, 0], 101),
-];
-
-#[test]
-fn damaged_records(rt: HostRuntime) -> Result<(), Fail> {
-    for (records, byte) in &DAMAGED {
-        records_are_damaged(&rt, rt.alloc(), records, *byte)?;
-    }
-    Ok(())
-}
-
-/// Records whose last op drops a playlist that isn't there, alone and behind a change of the volume, and the byte that is named.
-const UNAPPLIED: [(&[u8], u64); 3] = [
     (&[0xa5, 4, 0, 0, 0, 0x10, 1, 0, b'x', 0], 101),
     (&[0xa5, 6, 0, 0, 0, 2, 40, 0x10, 1, 0, b'x', 0], 101),
     (
@@ -116,22 +93,23 @@ const UNAPPLIED: [(&[u8], u64); 3] = [
     ),
 ];
 
-#[test]
-fn an_op_that_does_not_apply(rt: HostRuntime) -> Result<(), Fail> {
-    for (records, byte) in &UNAPPLIED {
-        records_are_damaged(&rt, rt.alloc(), records, *byte)?;
-    }
-    Ok(())
+/// Opening a file with these records is refused, damaged at this byte.
+fn records_are_damaged(
+    rt: &impl Abort,
+    alloc: Global,
+    records: &[u8],
+    byte: u64,
+) -> Result<(), Fail> {
+    let file = file_with(alloc, records)?;
+    open_refuses(rt, alloc, &file, b"", StartError::Damaged(byte))
 }
 
-/// A stage that gave out the last number refuses each line of client 1, and counts none.
-fn numbers_are_spent(rt: &impl Abort, alloc: Global, live: &mut Live<MemDisk>) -> Result<(), Fail> {
-    equal(rt, live.last_record(), u64::MAX);
-    equal(rt, live.are_numbers_spent(), true);
-    refuses(rt, live, alloc, b"ping", LiveError::NumbersSpent)?;
-    refuses(rt, live, alloc, b"setvol 41", LiveError::NumbersSpent)?;
-    equal(rt, live.last_event(), 2);
-    is_whole(rt, live);
+// Records that spell no ops, and ops that don't apply.
+#[test]
+fn damaged_records(rt: HostRuntime) -> Result<(), Fail> {
+    for (records, byte) in &DAMAGED {
+        records_are_damaged(&rt, rt.alloc(), records, *byte)?;
+    }
     Ok(())
 }
 
@@ -150,27 +128,38 @@ fn file_after_the_last(alloc: Global) -> Result<Vec<u8>, AllocError> {
     Ok(file)
 }
 
-/// The next record of a stage is the last one.
-fn next_is_the_last(rt: &impl Abort, alloc: Global, live: &mut Live<MemDisk>) -> Result<(), Fail> {
-    equal(rt, live.are_numbers_spent(), false);
-    let event = line(alloc, b"setvol 40")?;
-    hears(rt, live, alloc, event, (b"OK\n", Some(u64::MAX)))?;
-    numbers_are_spent(rt, alloc, live)
-}
+const NEXT_IS_SPENT: Answer<'static> = Err(LiveError::NumbersSpent);
 
-/// What is left of such a file after its last record.
-fn last_record(rt: &impl Abort, alloc: Global, file: &[u8]) -> Result<MemDisk, Fail> {
-    let mut live = reconnected(alloc, disk(alloc, file)?, MemDisk::new(alloc))?;
-    let done = next_is_the_last(rt, alloc, &mut live);
-    first_disk(live, done)
+/// A stage gives out the last number, and then refuses each line of client 1 and counts none.
+const LAST_NUMBER: [Row; 1] = [Row::Life(
+    Begin::Open,
+    &[
+        CONNECT,
+        Step::Spent(false),
+        Step::Turn(Happens::Line(b"setvol 40"), Ok((b"OK\n", Some(u64::MAX)))),
+        Step::Numbers(2, u64::MAX),
+        Step::Spent(true),
+        Step::Turn(Happens::Line(b"ping"), NEXT_IS_SPENT),
+        Step::Turn(Happens::Line(b"setvol 41"), NEXT_IS_SPENT),
+        Step::Numbers(2, u64::MAX),
+        Step::Broken(false),
+    ],
+)];
+
+/// What those files are then.
+fn has_the_last(rt: &impl Abort, alloc: Global, a: &MemDisk) -> Result<(), AllocError> {
+    let file = file_after_the_last(alloc)?;
+    same_bytes(rt, a.as_bytes(), file.as_slice());
+    Ok(())
 }
 
 // The last record has the number 2^64 - 1.
 #[test]
 fn last_number(rt: HostRuntime) -> Result<(), Fail> {
     let alloc = rt.alloc();
-    let a = last_record(&rt, alloc, &file_before_the_last())?;
-    same_bytes(&rt, a.as_bytes(), file_after_the_last(alloc)?.as_slice());
+    let mut files = files_with(alloc, &file_before_the_last(), &[], (NEVER, NEVER))?;
+    play(&rt, alloc, &mut files, &LAST_NUMBER)?;
+    has_the_last(&rt, alloc, &files.a)?;
     Ok(())
 }
 
