@@ -18,6 +18,8 @@ from toolchain import ci_with, crates_of, memory_of_check, memory_seen, say
 # How many of the tasks that took longest are named, and how many functions the control of a crate's wrong bodies has at most where all
 # crates are proved from nothing.
 LONGEST, CONTROLS = 20, 6
+# How the name of a task of wrong bodies ends.
+BODIES = ", wrong bodies"
 
 
 class Bodies:
@@ -39,7 +41,14 @@ class Bodies:
             crate, count = copies[original.name], len(wrong_bodies.edits_of(original)[0])
             if count:
                 work = lambda given, jobs, it=crate, at=original: given[it.name, "proof"] and self.try_all(it, at, jobs)
-                yield (crate.name, "bodies"), ([(crate.name, "proof")], crate.count(rb"\n") + 100 * count, memory_of_check(crate), work)
+                # The lanes give a proof or tests one job while others are ready: with more it takes half as much again of the processors.
+                # So wrong bodies go by the kind of tests, or a proof would get the processors that they are ready for.
+                yield (f"{crate.name}{BODIES}", "tests"), (
+                    [(crate.name, "proof")],
+                    crate.count(rb"\n") + 100 * count,
+                    memory_of_check(crate),
+                    work,
+                )
 
     def try_all(self, crate, original, jobs):
         found = wrong_bodies.Trial(crate, original, jobs, self.controls).run()
@@ -61,7 +70,7 @@ class Bodies:
         refused = sum(is_refused for is_refused, _ in self.found)
         print("\n".join(text for _, text in self.found))
         for seconds, jobs, name, what in sorted(self.taken, reverse=True)[:LONGEST]:
-            say(f"{name}, {what}: {seconds} seconds, jobs: {jobs}")
+            say(f"{name}{'' if name.endswith(BODIES) else f', {what}'}: {seconds} seconds, jobs: {jobs}")
         print(f"bodies: {refused} passed, {wanted - refused} failed")
         return refused == wanted
 
