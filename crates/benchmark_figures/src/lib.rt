@@ -4,8 +4,10 @@
 ghost use Rattle.std.specs.Prelude.{◌≡◌, ◌*◌, ◌/◌, max};
 
 mod pace;
+mod start;
 
 pub use pace::{Pace, nanos_since};
+pub use start::argument;
 use std::fmt;
 
 /// How many times as long one time is as another.

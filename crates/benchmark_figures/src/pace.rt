@@ -48,6 +48,13 @@ impl Pace {
         self.nanos / self.units.max(1)
     }
 
+    /// Nanoseconds a unit of the plain work.
+    pub fn plain_each(&self) -> u64
+        ensures { result ≡ self.now.plain_nanos / max self.now.units 1 }
+    {
+        self.plain_nanos / self.units.max(1)
+    }
+
     /// Units of the work a second.
     pub fn own(&self) -> u128
         ensures { result ≡ self.now.units * 1_000_000_000 / max self.now.nanos 1 }

@@ -6,66 +6,63 @@ mod parts;
 mod records;
 mod snapshots;
 mod states;
-mod timing;
 
-use anyhow::Result;
+use benchmark_figures::{argument, ratio};
 use snapshots::Times;
+use state_codec::Saved;
 use states::{EMPTY, FULL, HOME, ROWS, Size};
-use std::env;
+use std::io;
 
-/// Prints what a snapshot of a state of the size takes.
-fn print_snapshot(rt: &HostRuntime, size: Size) -> Result<()> {
-    let times = snapshots::measure(rt, size)?;
-    let Times {
-        bytes,
-        copy,
-        write,
-        read,
-        parts,
-    } = times;
-    println!(rt;
-        "a snapshot of {} rows, {} entries and {} stickers, {bytes} bytes; a plain copy of it takes {} microseconds",
-        size.rows,
-        size.entries,
-        size.stickers,
-        copy / 1_000
-    )?;
-    println!(rt;
-        "  written: {} microseconds, {} copies",
-        write / 1_000,
-        times.written()
-    )?;
-    println!(rt;
-        "  read: {} microseconds, {} copies",
-        read / 1_000,
-        times.read_in()
-    )?;
-    println!(rt;
-        "  its parts made in plain loops: {} microseconds; reading takes {} times that and a copy",
-        parts / 1_000,
-        times.beside_parts()
-    )?;
-    Ok(())
+/// How often each piece of work is measured; the best time counts.
+const ROUNDS: u32 = 5;
+
+/// Measures a snapshot of a state of the size, and prints what it takes.
+///
+/// Here and in `records_at` the state is made and merely lent: whoever owns it lets it go on each way out.
+fn snapshot_of(rt: &HostRuntime, size: Size) -> io::Result<()> {
+    let mut saved = Saved::fresh(rt.alloc(), [7; 32]);
+    let times = snapshots::measure(rt, &mut saved, size)?;
+    print_snapshot(rt, size, times)
 }
 
-/// Prints what a record of one setting takes in a state of the size.
-fn print_records(rt: &HostRuntime, size: Size) -> Result<()> {
-    let nanos = records::measure(rt, size)?;
+fn print_snapshot(rt: &HostRuntime, size: Size, times: Times) -> io::Result<()> {
+    let (rows, entries, stickers) = (size.rows, size.entries, size.stickers);
+    let (bytes, copy) = (times.bytes, times.copy / 1_000);
     println!(rt;
-        "a record of one setting, applied at {} rows: {nanos} nanoseconds",
-        size.rows
+        "a snapshot of {rows} rows, {entries} entries and {stickers} stickers, {bytes} bytes; a plain copy of it takes {copy} microseconds"
     )?;
-    Ok(())
+    let (write, copies) = (times.write / 1_000, ratio(times.write, times.copy));
+    println!(rt; "  written: {write} microseconds, {copies} copies")?;
+    let (read, copies) = (times.read / 1_000, ratio(times.read, times.copy));
+    println!(rt; "  read: {read} microseconds, {copies} copies")?;
+    let parts = times.parts / 1_000;
+    let beside = ratio(times.read, times.copy.saturating_add(times.parts));
+    println!(rt;
+        "  its parts made in plain loops: {parts} microseconds; reading takes {beside} times that and a copy"
+    )
 }
 
-fn main(rt: HostRuntime) -> Result<()> {
-    let mut args = env::args(&rt)?;
-    let _program = args.next();
-    if args.next().is_none() {
-        return Ok(println!(rt; "usage: codec_benchmark measure")?);
+/// Measures a record of one setting in a state of the size, and prints what it takes.
+fn records_at(rt: &HostRuntime, size: Size) -> io::Result<()> {
+    let mut saved = Saved::fresh(rt.alloc(), [7; 32]);
+    let nanos = records::measure(rt, &mut saved, size)?;
+    let rows = size.rows;
+    println!(rt; "a record of one setting, applied at {rows} rows: {nanos} nanoseconds")
+}
+
+fn measure(rt: &HostRuntime) -> io::Result<()> {
+    for size in [FULL, HOME] {
+        snapshot_of(rt, size)?;
     }
-    print_snapshot(&rt, FULL)?;
-    print_snapshot(&rt, HOME)?;
-    print_records(&rt, EMPTY)?;
-    print_records(&rt, ROWS)
+    for size in [EMPTY, ROWS] {
+        records_at(rt, size)?;
+    }
+    Ok(())
+}
+
+fn main(rt: HostRuntime) -> io::Result<()> {
+    match argument(&rt, "codec_benchmark measure")? {
+        Some(_) => measure(&rt),
+        None => Ok(()),
+    }
 }

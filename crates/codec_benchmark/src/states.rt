@@ -1,8 +1,8 @@
 // States of a size, made by ops.
-use anyhow::{Result, anyhow};
 use song_db::{MAX_CHANGES, RowChange, SongRow, Uri};
 use state_codec::{Changes, Op, QueueOp, RowNumbers, Saved, StickerOp, Text};
-use std::alloc::Global;
+use std::alloc::{AllocError, Global};
+use std::io;
 use stickers::StickerValue;
 use wave_pcm::{Tag, Tags, WaveInfo};
 
@@ -41,67 +41,88 @@ pub const HOME: Size = Size {
     stickers: 0,
 };
 
-/// A state of the size.
-pub fn state(alloc: Global, size: Size) -> Result<Saved> {
-    let mut saved = Saved::fresh(alloc, [7; 32]);
+/// Makes a fresh state one of the size.
+pub fn fill(alloc: Global, saved: &mut Saved, size: Size) -> io::Result<()> {
     for batch in 0..size.rows / MAX_CHANGES {
-        let changes = batch_of(alloc, batch * MAX_CHANGES)?;
-        saved.apply(alloc, Op::Batch(changes))?;
+        apply(alloc, saved, batch_of(alloc, batch * MAX_CHANGES)?)?;
     }
     if size.entries > 0 {
-        let op = add(alloc, size.entries)?;
-        saved.apply(alloc, op)?;
+        apply(alloc, saved, add(alloc, size.entries)?)?;
     }
     for number in 0..size.stickers {
-        let op = set_sticker(alloc, number)?;
-        saved.apply(alloc, op)?;
+        apply(alloc, saved, set_sticker(alloc, number)?)?;
     }
-    Ok(saved)
+    Ok(())
+}
+
+fn apply(alloc: Global, saved: &mut Saved, op: Op) -> io::Result<()> {
+    match saved.apply(alloc, op) {
+        Ok(_) => Ok(()),
+        Err(_) => Err(io::Error::other("an op doesn't apply")),
+    }
 }
 
 /// The URI of a number; later ones rise.
-fn uri(alloc: Global, number: usize) -> Result<Uri> {
+fn uri(alloc: Global, number: usize) -> io::Result<Uri> {
     let artist = number / 512;
     let album = number / 16;
     let text = format!(in alloc; "Artist {artist:04}/Album {album:05}/{number:06} Song.wav")?;
-    Uri::read(alloc, text.as_str())?.ok_or(anyhow!("a song has no URI"))
+    read_uri(alloc, text.as_str())
 }
 
-fn tags(alloc: Global, number: usize) -> Result<Tags> {
+/// The URI of a text.
+pub fn read_uri(alloc: Global, text: &str) -> io::Result<Uri> {
+    match Uri::read(alloc, text)? {
+        Some(uri) => Ok(uri),
+        None => Err(io::Error::other("a text is no URI")),
+    }
+}
+
+fn put_tags(alloc: Global, number: usize, tags: &mut Tags) -> Result<(), AllocError> {
     let artist = number / 512;
     let album = number / 16;
-    let mut tags = Tags::new();
-    tags.set(
-        Tag::Title,
-        Some(format!(in alloc; "The Title of Song {number}")?),
-    );
+    let title = format!(in alloc; "The Title of Song {number}")?;
+    tags.set(Tag::Title, Some(title));
     tags.set(Tag::Artist, Some(format!(in alloc; "Artist {artist}")?));
     tags.set(Tag::Album, Some(format!(in alloc; "Album {album}")?));
-    Ok(tags)
+    Ok(())
 }
 
-fn row(alloc: Global, number: usize) -> Result<SongRow> {
+fn row(alloc: Global, number: usize) -> io::Result<SongRow> {
+    let mut tags = Tags::new();
+    put_tags(alloc, number, &mut tags)?;
     let info = WaveInfo {
         rate: 44_100,
         channels: 2,
         first_byte: 44,
         frames: 8_000_000,
-        tags: tags(alloc, number)?,
+        tags,
     };
-    SongRow::new(alloc, uri(alloc, number)?, info)?.ok_or(anyhow!("a song has no row"))
+    row_of(alloc, uri(alloc, number)?, info)
+}
+
+/// The row of a song.
+pub fn row_of(alloc: Global, uri: Uri, info: WaveInfo) -> io::Result<SongRow> {
+    match SongRow::new(alloc, uri, info)? {
+        Some(row) => Ok(row),
+        None => Err(io::Error::other("a song has no row")),
+    }
 }
 
 /// A batch that puts as many rows as it may, from a number on.
-fn batch_of(alloc: Global, first: usize) -> Result<Changes> {
+fn batch_of(alloc: Global, first: usize) -> io::Result<Op> {
     let mut changes = Vec::with_capacity(alloc, MAX_CHANGES)?;
     for number in first..first.saturating_add(MAX_CHANGES) {
         changes.push(RowChange::Put(row(alloc, number)?))?;
     }
-    Changes::new(changes).ok_or(anyhow!("no changes"))
+    match Changes::new(changes) {
+        Some(changes) => Ok(Op::Batch(changes)),
+        None => Err(io::Error::other("no changes")),
+    }
 }
 
 /// So many songs are added at the end.
-fn add(alloc: Global, count: u32) -> Result<Op> {
+fn add(alloc: Global, count: u32) -> io::Result<Op> {
     let mut numbers = Vec::new(alloc);
     for number in 0..count {
         // In another order than that of the rows.
@@ -109,17 +130,26 @@ fn add(alloc: Global, count: u32) -> Result<Op> {
     }
     match RowNumbers::new(numbers) {
         Some(rows) => Ok(Op::Queue(QueueOp::Add { at: 0, rows })),
-        None => Err(anyhow!("too many songs")),
+        None => Err(io::Error::other("too many songs")),
     }
 }
 
 /// A sticker of a song.
-fn set_sticker(alloc: Global, number: usize) -> Result<Op> {
+fn set_sticker(alloc: Global, number: usize) -> io::Result<Op> {
     let rating = number % 11;
     let value = format!(in alloc; "{rating}")?;
-    Ok(Op::Sticker(StickerOp::Set {
-        uri: uri(alloc, number)?,
-        name: Text::read(alloc, "rating")?.ok_or(anyhow!("no name"))?,
-        value: StickerValue::read(alloc, value.as_str())?.ok_or(anyhow!("no value"))?,
-    }))
+    let uri = uri(alloc, number)?;
+    let value = read_value(alloc, value.as_str())?;
+    match Text::read(alloc, "rating")? {
+        Some(name) => Ok(Op::Sticker(StickerOp::Set { uri, name, value })),
+        None => Err(io::Error::other("no name")),
+    }
+}
+
+/// The value of a text.
+pub fn read_value(alloc: Global, text: &str) -> io::Result<StickerValue> {
+    match StickerValue::read(alloc, text)? {
+        Some(value) => Ok(value),
+        None => Err(io::Error::other("a text is no value")),
+    }
 }

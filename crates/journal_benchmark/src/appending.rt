@@ -1,9 +1,9 @@
 // An append beside two bare writes and two bare syncs of the same bytes.
-use crate::timing::nanos_since;
-use anyhow::{Result, anyhow};
-use benchmark_figures::ratio;
+use benchmark_figures::{Pace, nanos_since};
 use disk_model::{Disk, FileDisk};
 use play_journal::Journal;
+use std::fs::File;
+use std::io;
 use std::time::Instant;
 
 /// How many records are appended in a round, and how many bytes a record has.
@@ -14,21 +14,19 @@ const BODY: [u8; 64] = [7; 64];
 /// How often the two are measured, in turn; the best time of each counts.
 const ROUNDS: u32 = 20;
 
-/// The nanoseconds that a round of appends takes.
-fn appends<D: Disk>(rt: &HostRuntime, journal: &mut Journal<D>) -> Result<u64> {
-    let start = Instant::now(rt)?;
-    for _ in 0..RECORDS {
+/// Appends so many records, and says whether it could.
+pub fn append_all<D: Disk>(journal: &mut Journal<D>, records: u32) -> bool {
+    for _ in 0..records {
         if journal.append(&BODY).is_err() {
-            return Err(anyhow!("an append failed"));
+            return false;
         }
     }
-    nanos_since(rt, start)
+    true
 }
 
-/// The nanoseconds that as many pairs of writes and syncs take: a record with its length and gate, and then one byte.
-fn bare<D: Disk>(rt: &HostRuntime, disk: &mut D) -> Result<u64> {
+/// Makes as many pairs of writes and syncs: a record with its length and gate, and then one byte.
+fn write_all<D: Disk>(disk: &mut D) -> bool {
     let record = [0u8; 69];
-    let start = Instant::now(rt)?;
     for _ in 0..RECORDS {
         let end = disk.len();
         let done = disk.write_at(end, &record).is_ok()
@@ -36,32 +34,53 @@ fn bare<D: Disk>(rt: &HostRuntime, disk: &mut D) -> Result<u64> {
             && disk.write_at(end, &[1]).is_ok()
             && disk.sync().is_ok();
         if !done {
-            return Err(anyhow!("a bare write failed"));
+            return false;
         }
     }
-    nanos_since(rt, start)
+    true
+}
+
+/// Measures the two in turn.
+fn pace<D: Disk>(rt: &HostRuntime, journal: &mut Journal<D>, plain: &mut D) -> io::Result<Pace> {
+    let mut pace = Pace::new(u64::from(RECORDS));
+    for _ in 0..ROUNDS {
+        let start = Instant::now(rt)?;
+        let appended = append_all(journal, RECORDS);
+        let nanos = nanos_since(rt, start)?;
+        let start = Instant::now(rt)?;
+        if !(write_all(plain) && appended) {
+            return Err(io::Error::other("a write failed"));
+        }
+        pace.add(nanos, nanos_since(rt, start)?);
+    }
+    Ok(pace)
+}
+
+/// Measures them over a journal in these two files, which is made here, and a plain file.
+fn pace_of<D: Disk + Drop>(rt: &HostRuntime, a: D, b: D, plain: &mut D) -> io::Result<Pace> {
+    match Journal::create(rt.alloc(), a, b, &[0; 69]) {
+        Ok(mut journal) => pace(rt, &mut journal, plain),
+        Err(_) => Err(io::Error::other("the folder holds files of an earlier run: remove them")),
+    }
 }
 
 /// Makes three files in the folder, and prints what was measured.
-pub fn run(rt: &HostRuntime, folder: &str) -> Result<()> {
-    let alloc = rt.alloc();
-    let a = FileDisk::open(rt, format!(in alloc; "{folder}/journal_a")?.as_str())?;
-    let b = FileDisk::open(rt, format!(in alloc; "{folder}/journal_b")?.as_str())?;
-    let mut plain = FileDisk::open(rt, format!(in alloc; "{folder}/plain")?.as_str())?;
-    let Ok(mut journal) = Journal::create(alloc, a, b, &[0; 69]) else {
-        return Err(anyhow!("the folder holds files of an earlier run: remove them"));
-    };
-    let mut best = u64::MAX;
-    let mut best_bare = u64::MAX;
-    for _ in 0..ROUNDS {
-        best = best.min(appends(rt, &mut journal)?);
-        best_bare = best_bare.min(bare(rt, &mut plain)?);
-    }
-    println!(rt;
-        "append: {} ns, two bare writes and syncs: {} ns, ratio {}",
-        best / u64::from(RECORDS),
-        best_bare / u64::from(RECORDS),
-        ratio(best, best_bare)
-    )?;
-    Ok(())
+pub fn measure(rt: &HostRuntime, folder: &str) -> io::Result<()> {
+    let a = file(rt, folder, "journal_a")?;
+    let b = file(rt, folder, "journal_b")?;
+    let mut plain = file(rt, folder, "plain")?;
+    print(rt, pace_of(rt, a, b, &mut plain)?)
+}
+
+fn print(rt: &HostRuntime, pace: Pace) -> io::Result<()> {
+    let nanos = pace.each();
+    let plain = pace.plain_each();
+    let ratio = pace.ratio();
+    println!(rt; "append: {nanos} ns, two bare writes and syncs: {plain} ns, ratio {ratio}")
+}
+
+/// A file of the folder.
+pub fn file(rt: &HostRuntime, folder: &str, name: &str) -> io::Result<FileDisk<File>> {
+    let path = format!(in rt.alloc(); "{folder}/{name}")?;
+    FileDisk::open(rt, path.as_str())
 }

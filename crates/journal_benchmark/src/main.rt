@@ -3,17 +3,18 @@
 
 mod appending;
 mod opening;
-mod timing;
 
-use anyhow::Result;
-use std::env;
+use benchmark_figures::argument;
+use std::io;
 
-fn main(rt: HostRuntime) -> Result<()> {
-    let mut args = env::args(&rt)?;
-    let _program = args.next();
-    let Some(folder) = args.next() else {
-        return Ok(println!(rt; "usage: journal_benchmark DIR")?);
-    };
-    appending::run(&rt, folder.as_str())?;
-    opening::run(&rt, folder.as_str())
+fn main(rt: HostRuntime) -> io::Result<()> {
+    match argument(&rt, "journal_benchmark DIR")? {
+        Some(folder) => measure(&rt, folder.as_str()),
+        None => Ok(()),
+    }
+}
+
+fn measure(rt: &HostRuntime, folder: &str) -> io::Result<()> {
+    appending::measure(rt, folder)?;
+    opening::measure(rt, folder)
 }

@@ -1,11 +1,10 @@
-// The edits that are measured.
+// The edits that are measured, and what looks at the queue beside them.
 use crate::supplies::Supplies;
-use anyhow::{Result, anyhow};
-use play_queue::{Queue, Ranges, SortedUris};
-use std::alloc::Global;
+use play_queue::{Queue, Ranges};
+use std::alloc::{AllocError, Global};
 
 /// One edit of a queue, or one look-up in it.
-#[derive(Clone, Copy, Debug, PartialEq, Eq)]
+#[derive(Clone, Copy)]
 pub enum Edit {
     AddAtEnd,
     DeleteAtEnd,
@@ -29,128 +28,140 @@ pub enum Edit {
     CompareAll,
 }
 
-/// Makes the edit once.
-pub fn apply(alloc: Global, edit: Edit, queue: &mut Queue, supplies: &mut Supplies) -> Result<()> {
+/// Makes the edit once, and says whether it was made.
+pub fn apply(alloc: Global, edit: Edit, queue: &mut Queue, supplies: &mut Supplies) -> bool {
     let len = queue.len();
     let last = len.saturating_sub(1);
     match edit {
-        Edit::AddAtEnd => {
-            let song = supplies.added.pop().ok_or(anyhow!("no song is left"))?;
-            queue.add_at(len, song)?;
-        }
-        Edit::DeleteAtEnd => queue.delete_range(last, len)?,
-        Edit::DeleteAtFront => queue.delete_range(0, 1)?,
-        Edit::MoveByOne => queue.move_range(0, 1, 1)?,
-        Edit::MoveToEnd => queue.move_range(0, 1, last)?,
-        Edit::SwapEnds => queue.swap(0, last)?,
-        Edit::ShuffleTen => shuffle(alloc, queue, supplies, 10)?,
-        Edit::ShuffleAll => shuffle(alloc, queue, supplies, len)?,
-        Edit::SetPriority => set_priority(alloc, queue)?,
-        Edit::SetManyRanges => set_many_ranges(alloc, queue, supplies)?,
-        Edit::DropOne => {
-            let song = supplies.dropped.pop().ok_or(anyhow!("no song is left"))?;
-            queue.follow_batch(&song, &supplies.none);
-        }
-        Edit::DropFirst => drop_many(queue, &mut supplies.first_dropped, &supplies.none)?,
-        Edit::DropLast => drop_many(queue, &mut supplies.last_dropped, &supplies.none)?,
+        Edit::AddAtEnd => add(queue, supplies, len),
+        Edit::DeleteAtEnd => delete(queue, last, len),
+        Edit::DeleteAtFront => delete(queue, 0, 1),
+        Edit::MoveByOne => move_first(queue, 1),
+        Edit::MoveToEnd => move_first(queue, last),
+        Edit::SwapEnds => queue.swap(0, last).is_ok(),
+        Edit::ShuffleTen => shuffle(alloc, queue, supplies, 10),
+        Edit::ShuffleAll => shuffle(alloc, queue, supplies, len),
+        Edit::SetPriority => set_one(alloc, queue),
+        Edit::SetManyRanges => set_many(alloc, queue, supplies),
+        Edit::DropOne | Edit::DropFirst | Edit::DropLast => drop_songs(queue, supplies),
         // New songs stand in no queue: none is dropped, and no row that was there has changed.
-        Edit::FollowNewSongs => queue.follow_batch(&supplies.none, &supplies.none),
-        Edit::ListLast => list(alloc, queue, queue.version().saturating_sub(1))?,
-        Edit::ListAll => list(alloc, queue, 0)?,
-        Edit::FindLast => find_last(queue)?,
-        Edit::FindMany => find_many(alloc, queue, supplies)?,
-        Edit::ReadAll => read_all(queue)?,
-        Edit::CompareAll => compare_all(queue)?,
+        Edit::FollowNewSongs => follow_none(queue, supplies),
+        Edit::ListLast => list(alloc, queue, queue.version().saturating_sub(1)),
+        Edit::ListAll => list(alloc, queue, 0),
+        Edit::FindLast => find_last(queue, last),
+        Edit::FindMany => find_many(alloc, queue, supplies),
+        Edit::ReadAll => read_all(queue),
+        Edit::CompareAll => compare_all(queue),
     }
-    Ok(())
 }
 
-/// Follows a batch that drops as many songs as it may.
-fn drop_many(queue: &mut Queue, dropped: &mut Vec<SortedUris>, none: &SortedUris) -> Result<()> {
-    let songs = dropped.pop().ok_or(anyhow!("no song is left"))?;
-    queue.follow_batch(&songs, none);
-    Ok(())
+fn add(queue: &mut Queue, supplies: &mut Supplies, at: usize) -> bool {
+    match supplies.added.pop() {
+        Some(songs) => queue.add_at(at, songs).is_ok(),
+        None => false,
+    }
+}
+
+// No contract: the prover reads the long ones of the queue in these two alone.
+pub fn delete(queue: &mut Queue, start: usize, end: usize) -> bool {
+    queue.delete_range(start, end).is_ok()
+}
+
+fn move_first(queue: &mut Queue, to: usize) -> bool {
+    queue.move_range(0, 1, to).is_ok()
 }
 
 /// Shuffles the first entries.
-fn shuffle(alloc: Global, queue: &mut Queue, supplies: &Supplies, count: usize) -> Result<()> {
+fn shuffle(alloc: Global, queue: &mut Queue, supplies: &Supplies, count: usize) -> bool {
     match supplies.words.get(0..count) {
-        Some(words) => Ok(queue.shuffle(alloc, 0, words.len(), words)?),
-        None => Err(anyhow!("too few words")),
+        Some(words) => queue.shuffle(alloc, 0, words.len(), words).is_ok(),
+        None => false,
     }
 }
 
 /// Gives the first entry another priority than it has.
-fn set_priority(alloc: Global, queue: &mut Queue) -> Result<()> {
-    let priority = other_priority(queue);
+fn set_one(alloc: Global, queue: &mut Queue) -> bool {
+    set(queue, first_entry(alloc))
+}
+
+fn first_entry(alloc: Global) -> Result<Ranges, AllocError> {
     let mut given = Vec::new(alloc);
     given.push((0, 1))?;
-    let ranges = Ranges::new(alloc, given)?;
-    Ok(queue.set_prio(&ranges, priority)?)
+    Ranges::new(alloc, given)
 }
 
 /// Gives all entries another priority than the first one has, by as many ranges as a line of a request may have.
-fn set_many_ranges(alloc: Global, queue: &mut Queue, supplies: &mut Supplies) -> Result<()> {
-    let priority = other_priority(queue);
-    let given = supplies.ranges.pop().ok_or(anyhow!("no range is left"))?;
-    let ranges = Ranges::new(alloc, given)?;
-    Ok(queue.set_prio(&ranges, priority)?)
+fn set_many(alloc: Global, queue: &mut Queue, supplies: &mut Supplies) -> bool {
+    match supplies.ranges.pop() {
+        Some(given) => set(queue, Ranges::new(alloc, given)),
+        None => false,
+    }
 }
 
-fn other_priority(queue: &Queue) -> u8 {
-    match queue.get(0) {
+fn set(queue: &mut Queue, ranges: Result<Ranges, AllocError>) -> bool {
+    let priority = match queue.get(0) {
         Some(entry) => 1 - entry.priority.min(1),
         None => 0,
+    };
+    match ranges {
+        Ok(ranges) => queue.set_prio(&ranges, priority).is_ok(),
+        Err(_) => false,
     }
 }
 
-/// Reads a number of each entry.
-fn read_all(queue: &Queue) -> Result<()> {
-    let later = queue
-        .entries()
-        .iter()
-        .filter(|entry| entry.stamp > queue.version())
-        .count();
-    if later > 0 {
-        return Err(anyhow!("a stamp is later than the version"));
+/// Follows a batch that drops songs.
+fn drop_songs(queue: &mut Queue, supplies: &mut Supplies) -> bool {
+    match supplies.dropped.pop() {
+        Some(songs) => {
+            queue.follow_batch(&songs, &supplies.none);
+            true
+        }
+        None => false,
     }
-    Ok(())
 }
 
-/// Compares each entry's URI with one as long as they are.
-fn compare_all(queue: &Queue) -> Result<()> {
-    let found = queue
-        .entries()
-        .iter()
-        .filter(|entry| entry.uri.as_str() == "album/9999999999.wav")
-        .count();
-    if found > 0 {
-        return Err(anyhow!("a song that isn't there is found"));
-    }
-    Ok(())
+fn follow_none(queue: &mut Queue, supplies: &Supplies) -> bool {
+    queue.follow_batch(&supplies.none, &supplies.none);
+    true
 }
 
 /// Lists what has changed. The list is looked at, so that no compiler leaves the work out.
-fn list(alloc: Global, queue: &Queue, version: u32) -> Result<()> {
-    if queue.changes_since(alloc, version)?.is_empty() {
-        return Err(anyhow!("nothing has changed"));
+fn list(alloc: Global, queue: &Queue, version: u32) -> bool {
+    match queue.changes_since(alloc, version) {
+        Ok(changes) => !changes.is_empty(),
+        Err(_) => false,
     }
-    Ok(())
 }
 
-fn find_last(queue: &Queue) -> Result<()> {
-    let last = queue.len().saturating_sub(1);
-    let id = queue.get(last).map(|entry| entry.id);
-    match queue.pos_of(id.unwrap_or(0)) {
-        Some(at) if at == last => Ok(()),
-        _ => Err(anyhow!("an id stands elsewhere")),
+fn find_last(queue: &Queue, last: usize) -> bool {
+    match queue.get(last) {
+        Some(entry) => queue.pos_of(entry.id) == Some(last),
+        None => false,
     }
 }
 
 /// Finds the positions of as many ids as a line of a request has room for.
-fn find_many(alloc: Global, queue: &Queue, supplies: &Supplies) -> Result<()> {
-    match queue.positions_of(alloc, &supplies.ids)? {
-        Ok(positions) if positions.len() == supplies.ids.len() => Ok(()),
-        _ => Err(anyhow!("an id stands nowhere")),
+fn find_many(alloc: Global, queue: &Queue, supplies: &Supplies) -> bool {
+    match queue.positions_of(alloc, &supplies.ids) {
+        Ok(Ok(positions)) => positions.len() == supplies.ids.len(),
+        _ => false,
     }
+}
+
+/// Reads a number of each entry.
+fn read_all(queue: &Queue) -> bool {
+    let mut is_later = false;
+    for entry in queue.entries() {
+        is_later |= entry.stamp > queue.version();
+    }
+    !is_later
+}
+
+/// Compares each entry's URI with one as long as they are.
+fn compare_all(queue: &Queue) -> bool {
+    let mut is_found = false;
+    for entry in queue.entries() {
+        is_found |= entry.uri.as_str() == "album/9999999999.wav";
+    }
+    !is_found
 }

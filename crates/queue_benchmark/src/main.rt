@@ -1,15 +1,23 @@
-//! Measures the edits of a queue: at three lengths, beside one plain pass over its entries in the same run.
+//! Measures the edits of a queue beside one plain pass over its entries, and the choice of the next song in random order beside
+//! one word for each entry; at three lengths, each in the same run as what stands beside it.
 #![tactic(auto)]
 
+mod choice;
 mod edit;
+mod songs;
 mod supplies;
 mod timing;
 
-use anyhow::Result;
-use benchmark_figures::ratio;
+use benchmark_figures::{argument, ratio};
 use edit::Edit;
-use std::env;
-use timing::{LENGTHS, measure};
+use std::io;
+use timing::measure;
+
+/// The lengths at which all is measured.
+const LENGTHS: [usize; 3] = [100, 1_000, 16_384];
+
+/// How often each is measured; the best time counts.
+const ROUNDS: u32 = 5;
 
 /// The edits, as they are printed.
 const EDITS: [(Edit, &str); 19] = [
@@ -41,7 +49,7 @@ const EDITS: [(Edit, &str); 19] = [
 ];
 
 /// Prints the nanoseconds of each edit in a queue of so many entries, and the ratio to those of one pass over it.
-fn print_all(rt: &HostRuntime, length: usize) -> Result<()> {
+fn print_edits(rt: &HostRuntime, length: usize) -> io::Result<()> {
     let pass = measure(rt, Edit::CompareAll, length)?;
     println!(rt;
         "{length} entries: a pass that compares each URI with one takes {pass} nanoseconds"
@@ -54,14 +62,13 @@ fn print_all(rt: &HostRuntime, length: usize) -> Result<()> {
     Ok(())
 }
 
-fn main(rt: HostRuntime) -> Result<()> {
-    let mut args = env::args(&rt)?;
-    let _program = args.next();
-    if args.next().is_none() {
-        return Ok(println!(rt; "usage: queue_benchmark measure")?);
+fn main(rt: HostRuntime) -> io::Result<()> {
+    if argument(&rt, "queue_benchmark measure")?.is_none() {
+        return Ok(());
     }
     for length in LENGTHS {
-        print_all(&rt, length)?;
+        print_edits(&rt, length)?;
+        choice::print(&rt, length)?;
     }
     Ok(())
 }
