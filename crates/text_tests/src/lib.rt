@@ -1,23 +1,15 @@
-//! The tests of how a line is read: its words, its command, and what is refused of it.
+//! The tests of `command_text` that no client's bytes can make.
 #![tactic(auto)]
 
 #[cfg(test)]
 mod assertions;
 #[cfg(test)]
-mod database;
-#[cfg(test)]
-mod finding;
-#[cfg(test)]
 mod lines;
 #[cfg(test)]
-mod lists;
+mod memory;
 #[cfg(test)]
-mod playing;
+mod refusals;
 #[cfg(test)]
-mod queue;
-#[cfg(test)]
-mod reading;
-#[cfg(test)]
-mod session;
+mod songs;
 #[cfg(test)]
 mod words;

@@ -1,6 +1,7 @@
-// The words of a line, also of bytes that are no text.
-use crate::assertions::{equal, same_of};
+// The words of a line, also of bytes that are no text, and lines that are no text.
+use crate::assertions::same_of;
 use command_text::words::words;
+use command_text::{ReadError, read_words, write_ack};
 use std::alloc::Global;
 use std::process::Abort;
 use std::test::Fail;
@@ -59,17 +60,33 @@ const LINES: [(&[u8], &[u8]); 26] = [
     (b"\"a\"b", b"35"),
 ];
 
+/// The longest line, of 8,192 bytes, is one word.
 #[test]
 fn words_of_a_line(rt: HostRuntime) -> Result<(), Fail> {
     for (line, expected) in &LINES {
         expect_parted(&rt, rt.alloc(), line, expected)?;
     }
-    Ok(())
+    let mut longest = [b'a'; 8193];
+    longest[0] = b'|';
+    expect_parted(&rt, rt.alloc(), &[b'a'; 8192], &longest)
 }
 
-/// A line of 8,192 bytes is one word.
+/// What a client gets for a line that gives no words.
+fn answered(alloc: Global, line: &[u8]) -> Result<Vec<u8>, Fail> {
+    let mut text = Vec::new(alloc);
+    if let Err(ReadError::Refused(refusal)) = read_words(alloc, line) {
+        write_ack(&mut text, 0, &refusal)?;
+    }
+    Ok(text)
+}
+
+const NO_TEXT: [&[u8]; 2] = [b"ping \xc3", b"ping \xc3 \xa9"];
+
 #[test]
-fn longest_line(rt: HostRuntime) -> Result<(), Fail> {
-    equal(&rt, parted(rt.alloc(), &[b'a'; 8192])?.len(), 8193);
+fn lines_that_are_no_text(rt: HostRuntime) -> Result<(), Fail> {
+    for line in &NO_TEXT {
+        let found = answered(rt.alloc(), line)?;
+        same_of(&rt, line, &found, b"ACK [2@0] {} invalid UTF-8\n");
+    }
     Ok(())
 }
