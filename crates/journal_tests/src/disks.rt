@@ -1,4 +1,0 @@
-// Disks: in memory, over a real file, and such as fail.
-mod file;
-mod fuse;
-mod memory;
