@@ -1,11 +1,11 @@
 //! A client: its session, and the stream that it is sent to.
 use crate::directive::Takes;
 use crate::stream::Stream;
-use anyhow::Result;
 use client_session::{Requests, Session, SessionError};
+use daemon_core::NoMemory;
 use idle_masks::ClientId;
 use std::alloc::Global;
-use std::io::{self, ErrorKind};
+use std::io::ErrorKind;
 
 #[derive(Drop)]
 pub struct Client {
@@ -14,13 +14,13 @@ pub struct Client {
 }
 
 /// Sends what the stream takes of the queued bytes.
-fn send_all(session: &mut Session, stream: &mut Stream) -> io::Result<()> {
+fn send_all(session: &mut Session, stream: &mut Stream) -> Result<(), NoMemory> {
     for _turn in 0..u64::MAX {
         match session.send_some(stream) {
             Ok(0) => return Ok(()),
             Ok(_) => {}
             Err(error) if error.kind() == ErrorKind::WouldBlock => return Ok(()),
-            Err(error) => return Err(error),
+            Err(_) => return Err(NoMemory),
         }
     }
     Ok(())
@@ -54,7 +54,7 @@ impl Client {
     }
 
     /// Sends what its stream takes, and adds what is printed of it.
-    pub fn send(&mut self, printed: &mut Vec<u8>) -> Result<()> {
+    pub fn send(&mut self, printed: &mut Vec<u8>) -> Result<(), NoMemory> {
         send_all(&mut self.session, &mut self.stream)?;
         printed.extend_from_slice(self.stream.printed())?;
         self.stream.clear();

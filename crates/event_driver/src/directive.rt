@@ -28,6 +28,12 @@ pub enum Directive<'a> {
     Batch(u32),
     /// The scan of this job is over.
     Scanned(u32),
+    /// The core is given a line of a client past any session.
+    Request(ClientId, &'a str),
+    /// A core from what was saved, in hexadecimal digits, and ops behind a space.
+    Recover(&'a str),
+    /// So many allocations are made, and nothing else.
+    Allocate(u32),
     /// Something is to be printed.
     Look(Look),
 }
@@ -52,6 +58,12 @@ pub enum Look {
     Holds,
     /// From now on each op is printed by its bytes.
     Spell,
+    /// What is saved, by its bytes.
+    Saved,
+    /// The same of a copy of it.
+    Copy,
+    /// The numbers and texts of the refusals that no line brings about.
+    Refusals,
 }
 
 /// What a client's stream takes.
@@ -138,6 +150,11 @@ fn read_put<'a>(text: &'a str) -> Result<NewRow<'a>> {
     })
 }
 
+fn read_request<'a>(text: &'a str) -> Result<Directive<'a>> {
+    let (client, line) = first_word(text);
+    Ok(Directive::Request(big_number(client)?, line))
+}
+
 /// The client of a send, and where its bytes are cut.
 fn read_sender(text: &str) -> Result<(ClientId, Option<usize>)> {
     match text.split_once('@') {
@@ -167,6 +184,9 @@ fn read_look<'a>(word: &str) -> Result<Directive<'a>> {
         "scan_order" => Ok(Directive::Look(Look::ScanOrder)),
         "holds" => Ok(Directive::Look(Look::Holds)),
         "spell" => Ok(Directive::Look(Look::Spell)),
+        "saved" => Ok(Directive::Look(Look::Saved)),
+        "copy" => Ok(Directive::Look(Look::Copy)),
+        "refusals" => Ok(Directive::Look(Look::Refusals)),
         _ => bail!("{word:?} is no directive"),
     }
 }
@@ -181,6 +201,8 @@ fn read_event<'a>(word: &str, rest: &'a str) -> Result<Directive<'a>> {
         "drop" => Ok(Directive::Drop(rest)),
         "batch" => Ok(Directive::Batch(number(rest)?)),
         "scanned" => Ok(Directive::Scanned(number(rest)?)),
+        "recover" => Ok(Directive::Recover(rest)),
+        "allocate" => Ok(Directive::Allocate(number(rest)?)),
         _ => bail!("{word:?} is no directive"),
     }
 }
@@ -190,6 +212,7 @@ fn read_words<'a>(word: &str, rest: &'a str) -> Result<Directive<'a>> {
     match word {
         "connect" => Ok(Directive::Connect(big_number(rest)?)),
         "gone" => Ok(Directive::Gone(big_number(rest)?)),
+        "request" => read_request(rest),
         "pieces" => Ok(Directive::Pieces(size(rest)?)),
         "takes" => Ok(Directive::Takes(read_takes(rest)?)),
         "again" => Ok(Directive::Again(number(rest)?)),

@@ -2,10 +2,13 @@
 #![tactic(auto)]
 
 mod client;
+mod connected;
 mod directive;
 mod driver;
 mod events;
 mod looks;
+mod printed;
+mod recover;
 mod rows;
 mod sends;
 mod signs;
@@ -19,21 +22,25 @@ use std::io::{self, BufRead, BufReader, Write};
 fn take_line<W: Write>(driver: &mut Driver, line: &str, writer: &mut W) -> Result<()> {
     driver.take(line)?;
     writer.write_all(driver.printed())?;
-    writer.write_all(b".\n")?;
-    writer.flush()?;
     driver.clear();
     Ok(())
 }
 
-fn main(rt: HostRuntime) -> Result<()> {
+/// Does what each line of the input asks for.
+fn take_lines(driver: &mut Driver, rt: &HostRuntime) -> Result<()> {
     let alloc = rt.alloc();
-    let mut driver = Driver::new(alloc);
-    let mut writer = io::writer(&rt);
+    let mut writer = io::writer(rt);
     for (place, line) in BufReader::new(alloc, rt.reader())?.lines(alloc).enumerate() {
         let line = line?;
-        if let Err(error) = take_line(&mut driver, line.as_str(), &mut writer) {
+        if let Err(error) = take_line(driver, line.as_str(), &mut writer) {
             bail!("line {}: {error}", place.saturating_add(1));
         }
     }
     Ok(())
+}
+
+// The core has many parts: this function has one way out, and all others borrow it.
+fn main(rt: HostRuntime) -> Result<()> {
+    let mut driver = Driver::new(rt.alloc());
+    take_lines(&mut driver, &rt)
 }

@@ -1,8 +1,10 @@
 //! The rows of a scan.
+use crate::connected::Connected;
 use crate::directive::NewRow;
-use crate::driver::Driver;
+use crate::events::handle;
+use crate::printed::Printed;
 use anyhow::{Context, Result, bail};
-use daemon_core::Event;
+use daemon_core::{Core, Event, NoMemory};
 use song_db::{MAX_CHANGES, RowChange, SongRow, Uri};
 use state_codec::Changes;
 use std::alloc::{AllocError, Global};
@@ -20,11 +22,7 @@ fn tag_of(name: &str) -> Result<Tag> {
 
 /// The text of a tag.
 fn text_of(alloc: Global, word: &str) -> Result<String, AllocError> {
-    let mut text = String::new(alloc);
-    for letter in word.chars() {
-        text.push(if letter == '_' { ' ' } else { letter })?;
-    }
-    Ok(text)
+    word.replace(alloc, '_', " ")
 }
 
 fn tags_of(alloc: Global, text: &str) -> Result<Tags> {
@@ -60,42 +58,39 @@ fn row_of(alloc: Global, row: NewRow<'_>) -> Result<SongRow> {
     SongRow::new(alloc, uri_of(alloc, row.uri)?, info)?.context("a tag has a text that no row has")
 }
 
-impl Driver {
-    /// Collects a row.
-    pub fn put(&mut self, row: NewRow<'_>) -> Result<()> {
-        let row = row_of(self.alloc, row)?;
-        self.changes.push(RowChange::Put(row))?;
-        Ok(())
-    }
+/// Collects a row.
+pub fn put(collected: &mut Vec<RowChange>, alloc: Global, row: NewRow<'_>) -> Result<()> {
+    let row = row_of(alloc, row)?;
+    collected.push(RowChange::Put(row))?;
+    Ok(())
+}
 
-    /// Collects that a row goes.
-    pub fn drop_row(&mut self, uri: &str) -> Result<()> {
-        let uri = uri_of(self.alloc, uri)?;
-        self.changes.push(RowChange::Drop(uri))?;
-        Ok(())
-    }
+/// Collects that a row goes.
+pub fn drop_row(collected: &mut Vec<RowChange>, alloc: Global, uri: &str) -> Result<()> {
+    let uri = uri_of(alloc, uri)?;
+    collected.push(RowChange::Drop(uri))?;
+    Ok(())
+}
 
-    /// The scan of a job finds what was collected, 64 changes a batch.
-    pub fn batch(&mut self, job: u32) -> Result<()> {
-        let collected = mem::replace(&mut self.changes, Vec::new(self.alloc));
-        let mut changes = Vec::new(self.alloc);
-        for change in collected {
-            changes.push(change)?;
-            if changes.len() == MAX_CHANGES {
-                self.find(job, mem::replace(&mut changes, Vec::new(self.alloc)))?;
-            }
-        }
-        if changes.is_empty() {
-            return Ok(());
-        }
-        self.find(job, changes)
-    }
+/// Takes the first changes, as many as a batch has; none where there are none.
+fn first_batch(collected: &mut Vec<RowChange>) -> Result<Option<Changes>, NoMemory> {
+    let rest = collected.split_off(collected.len().min(MAX_CHANGES))?;
+    Ok(Changes::new(mem::replace(collected, rest)))
+}
 
-    // One batch.
-    fn find(&mut self, job: u32, changes: Vec<RowChange>) -> Result<()> {
-        match Changes::new(changes) {
-            Some(changes) => self.handle(Event::Batch { job, changes }),
-            None => bail!("a batch has 1 to 64 changes"),
+/// The scan of a job finds what was collected, 64 changes a batch.
+pub fn batch(
+    core: &mut Core,
+    clients: &mut Connected,
+    printed: &mut Printed,
+    collected: &mut Vec<RowChange>,
+    job: u32,
+) -> Result<(), NoMemory> {
+    for _turn in 0..collected.len() {
+        match first_batch(collected)? {
+            Some(changes) => handle(core, clients, printed, Event::Batch { job, changes })?,
+            None => return Ok(()),
         }
     }
+    Ok(())
 }

@@ -1,106 +1,112 @@
 //! What clients send, in pieces.
-use crate::client::Client;
-use crate::directive::{Sending, Takes};
-use crate::driver::Driver;
+use crate::connected::{Connected, fed, refuse};
+use crate::directive::Sending;
+use crate::events::handle;
+use crate::printed::Printed;
 use crate::signs::bytes_of;
 use anyhow::Result;
-use client_session::{Requests, SessionError};
-use daemon_core::Event;
+use client_session::Requests;
+use command_text::{Line, Request};
+use daemon_core::{Core, Event, NoMemory};
 use idle_masks::ClientId;
-use std::alloc::Global;
-use std::collections::BTreeMap;
 
-/// The requests that a piece of an open client's bytes brings.
-fn fed(
-    clients: &mut BTreeMap<ClientId, Client>,
-    alloc: Global,
-    number: ClientId,
-    piece: &[u8],
-) -> Option<Result<Requests, SessionError>> {
-    match clients.get_mut(&number) {
-        Some(client) => Some(client.feed(alloc, piece)),
-        None => None,
-    }
-}
-
-/// Each stream takes so much from now on, and is sent what waits for it.
-fn retake(
-    clients: &mut BTreeMap<ClientId, Client>,
-    takes: Takes,
-    printed: &mut Vec<u8>,
+/// A client sends bytes so often, each time in pieces of this size.
+pub fn send_often(
+    core: &mut Core,
+    clients: &mut Connected,
+    printed: &mut Printed,
+    sending: Sending<'_>,
+    pieces: usize,
+    turns: u32,
 ) -> Result<()> {
-    for client in clients.values_mut() {
-        client.set_takes(takes);
-        client.send(printed)?;
+    for turn in 0..turns {
+        let bytes = bytes_of(printed.alloc, sending, turn)?;
+        send(core, clients, printed, sending, pieces, bytes.as_slice())?;
     }
     Ok(())
 }
 
-impl Driver {
-    /// From now on each stream takes so much with each write.
-    pub fn set_takes(&mut self, takes: Takes) -> Result<()> {
-        self.takes = takes;
-        retake(&mut self.clients, takes, &mut self.printed)
-    }
+// Behind the bytes stands an empty piece: what is too long is refused by the next one.
+fn send(
+    core: &mut Core,
+    clients: &mut Connected,
+    printed: &mut Printed,
+    sending: Sending<'_>,
+    pieces: usize,
+    bytes: &[u8],
+) -> Result<(), NoMemory> {
+    let cut = sending.cut.unwrap_or(bytes.len()).min(bytes.len());
+    let (front, back) = bytes.split_at(cut);
+    feed_pieces(core, clients, printed, sending.client, pieces, front)?;
+    feed_pieces(core, clients, printed, sending.client, pieces, back)?;
+    feed(core, clients, printed, sending.client, &[])
+}
 
-    /// A client sends bytes so often.
-    pub fn send_often(&mut self, sending: Sending<'_>, turns: u32) -> Result<()> {
-        for turn in 0..turns {
-            self.send(sending, turn)?;
-        }
-        Ok(())
+fn feed_pieces(
+    core: &mut Core,
+    clients: &mut Connected,
+    printed: &mut Printed,
+    number: ClientId,
+    size: usize,
+    bytes: &[u8],
+) -> Result<(), NoMemory> {
+    if size == 0 {
+        return feed(core, clients, printed, number, bytes);
     }
+    for piece in bytes.chunks(size) {
+        feed(core, clients, printed, number, piece)?;
+    }
+    Ok(())
+}
 
-    // Behind the bytes stands an empty piece: what is too long is refused by the next one.
-    fn send(&mut self, sending: Sending<'_>, turn: u32) -> Result<()> {
-        let mut bytes = bytes_of(self.alloc, sending.text, turn)?;
-        if sending.is_ended {
-            bytes.push(b'\n')?;
+// What a client that isn't connected sends is read by nobody.
+fn feed(
+    core: &mut Core,
+    clients: &mut Connected,
+    printed: &mut Printed,
+    number: ClientId,
+    piece: &[u8],
+) -> Result<(), NoMemory> {
+    match fed(clients, printed.alloc, number, piece) {
+        Some(Ok(requests)) => serve(core, clients, printed, number, requests),
+        Some(Err(refusal)) => {
+            refuse(clients, number, refusal, printed)?;
+            handle(core, clients, printed, Event::Gone(number))
         }
-        match sending.cut {
-            Some(place) => self.feed_cut(sending.client, bytes.as_slice(), place)?,
-            None => self.feed_pieces(sending.client, bytes.as_slice())?,
-        }
-        self.feed(sending.client, &[])
+        None => Ok(()),
     }
+}
 
-    fn feed_cut(&mut self, number: ClientId, bytes: &[u8], place: usize) -> Result<()> {
-        let (front, back) = bytes.split_at(place.min(bytes.len()));
-        self.feed_pieces(number, front)?;
-        self.feed_pieces(number, back)
+// Handles requests up to the first that closes their client.
+fn serve(
+    core: &mut Core,
+    clients: &mut Connected,
+    printed: &mut Printed,
+    number: ClientId,
+    requests: Requests,
+) -> Result<(), NoMemory> {
+    for request in requests {
+        if !clients.contains_key(&number) {
+            return Ok(());
+        }
+        handle(core, clients, printed, Event::Request(number, request))?;
     }
+    Ok(())
+}
 
-    fn feed_pieces(&mut self, number: ClientId, bytes: &[u8]) -> Result<()> {
-        let size = self.pieces;
-        if size == 0 {
-            return self.feed(number, bytes);
-        }
-        for piece in bytes.chunks(size) {
-            self.feed(number, piece)?;
-        }
-        Ok(())
-    }
-
-    // What a client that isn't connected sends is read by nobody.
-    fn feed(&mut self, number: ClientId, piece: &[u8]) -> Result<()> {
-        match fed(&mut self.clients, self.alloc, number, piece) {
-            Some(Ok(requests)) => self.serve(number, requests),
-            Some(Err(refusal)) => {
-                self.refuse(number, refusal)?;
-                self.tell_refused()
-            }
-            None => Ok(()),
-        }
-    }
-
-    // Handles requests up to the first that closes their client.
-    fn serve(&mut self, number: ClientId, requests: Requests) -> Result<()> {
-        for request in requests {
-            if !self.clients.contains_key(&number) {
-                return Ok(());
-            }
-            self.handle(Event::Request(number, request))?;
-        }
-        Ok(())
-    }
+/// The core is given a line of a client past any session.
+pub fn request(
+    core: &mut Core,
+    clients: &mut Connected,
+    printed: &mut Printed,
+    number: ClientId,
+    line: &str,
+) -> Result<(), NoMemory> {
+    let line = Line::from_bytes(printed.alloc, line.as_bytes())?;
+    handle(
+        core,
+        clients,
+        printed,
+        Event::Request(number, Request::Single(line)),
+    )
 }

@@ -1,8 +1,9 @@
 //! What a client is sent, as it is printed.
 use crate::directive::Takes;
-use crate::signs::add_number;
+use crate::printed::add_number;
+use daemon_core::NoMemory;
 use idle_masks::ClientId;
-use std::alloc::{AllocError, Global};
+use std::alloc::Global;
 use std::io::{self, ErrorKind, Write};
 
 /// A client's stream, which takes so much with each write and prints each line behind the client's number.
@@ -41,17 +42,16 @@ impl Stream {
     }
 
     // Prints a byte, and before the first of a line the client.
-    fn print_byte(&mut self, byte: u8) -> Result<(), AllocError> {
+    fn print_byte(&mut self, byte: u8) -> Result<(), NoMemory> {
         if !self.is_inside {
             add_number(&mut self.printed, self.alloc, self.client)?;
             self.printed.extend_from_slice(b"< ")?;
         }
         self.is_inside = byte != b'\n';
-        self.printed.push(byte)?;
-        Ok(())
+        Ok(self.printed.push(byte)?)
     }
 
-    fn print_all(&mut self, bytes: &[u8]) -> Result<(), AllocError> {
+    fn print_all(&mut self, bytes: &[u8]) -> Result<(), NoMemory> {
         for byte in bytes {
             self.print_byte(*byte)?;
         }
@@ -66,8 +66,10 @@ impl Write for Stream {
             Takes::All => buf.len(),
             Takes::Bytes(count) => buf.len().min(count),
         };
-        self.print_all(&buf[..count])?;
-        Ok(count)
+        match self.print_all(&buf[..count]) {
+            Ok(()) => Ok(count),
+            Err(NoMemory) => Err(ErrorKind::OutOfMemory.into()),
+        }
     }
 
     fn flush(&mut self) -> io::Result<()> {
