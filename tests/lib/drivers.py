@@ -124,6 +124,8 @@ class Run:
                 ender.cancel()
         if process.returncode or told or rest:
             raise Failure(f"it ended with status {process.returncode} and {rest[:80]!r}: {told}")
+        if len(self.printed) < len(lines):
+            raise Failure(f"it ended behind {len(self.printed)} of {len(lines)} lines")
 
     def read(self, process, count):
         """Reads what is printed behind so many lines, or until the program ends; a point stands behind each."""
