@@ -15,9 +15,9 @@ sys.path.insert(0, os.path.dirname(os.path.abspath(__file__)))
 import wrong_bodies
 from toolchain import ci_with, crates_of, memory_of_check, memory_seen, say
 
-# How many of the tasks that took longest are named, and how many functions the control of a crate's wrong bodies has at most where all
+# How many of the tasks that took longest are named, and how many functions are enough for the control of a crate's wrong bodies where all
 # crates are proved from nothing.
-LONGEST, CONTROLS = 20, 6
+LONGEST, CONTROLS = 20, 4
 # How the name of a task of wrong bodies ends.
 BODIES = ", wrong bodies"
 

@@ -2,14 +2,15 @@
 
 A wrong body is an edit of a crate's code, in the form of the toolchain's must-fail edits, in `must-fail/` or `further-edits/`.
 Proofs are modular: what its callers know of a function is its contract. So edits of different functions stand in one check,
-each judged at its own function: it is refused where the prover names a goal of that function which it did not prove. One for
-which no such line comes (a function that it calls was not proved in that check either, say) goes into the next round, then it
-is tried alone, and at last by the toolchain's own trial, a check of the whole crate from nothing, whose verdict stands.
+each judged at its own function: it is refused where the prover names a goal of that function which it did not prove. Of several
+edits of one function the first stands in its place, each other in a copy of the function; the functions that no edit changes are
+hollow, since the crate's own proof has them. One for which no such line comes goes into the next round, then it is tried alone,
+and at last by the toolchain's own trial, a check of the whole crate from nothing, whose verdict stands.
 
-As a control functions that were changed are checked once more as they are, over what those checks kept: all must be proved
-there, else each edit of the crate is tried by the toolchain's own trial. Where the crate has just been proved from nothing some
-of them are enough, spread over the crate: they show that what was kept serves a right body. They stand in the checks of the
-later rounds, beside the edits of other functions, and what is missing then has a check of its own.
+As a control copies without an edit stand in the same check, and each goal of theirs must be proved. A function that has copies
+with an edit has one of these, else nothing is said of those edits. So have the other functions that are changed; where the crate
+has just been proved from nothing some are enough, spread over the crate. What can't have a copy, as a method of a trait, has a
+check without an edit. Where the control fails, each edit of the crate is tried by the toolchain's own trial.
 """
 
 import os
@@ -17,6 +18,8 @@ import re
 import tempfile
 
 import toolchain
+from batches import Batch, Edit
+from functions import Code
 
 FOLDERS = ("must-fail", "further-edits")
 # The wrong bodies that the project's promises name. Plain `rt ci` tries what stands in must-fail/ one by one: these, and a few more.
@@ -30,11 +33,11 @@ NAMED = """
 """.split()
 MOST_OTHERS = 3
 NAME = re.compile(r"[A-Za-z0-9_-][A-Za-z0-9_.-]*\.edit")
-FUNCTION = re.compile(r"(?m)^( *)(?:pub(?:\([^)]*\))? )?(?:const )?(?:unsafe )?fn (\w+)")
-TYPE = re.compile(r"(?m)^(?:pub )?(?:unsafe )?(impl|trait)\b([^{]*)\{")
 LINE = re.compile(r"(?m)^fn (\S+): (proved|.*)$")
 # A goal of the function's own, in the line of a function that has no answer for it.
 GOAL = re.compile(r"did not prove `[^`]*`")
+# What is said of a function whose own goals are all proved, where something that it calls is not.
+INHERITED = re.compile(r"(?:no proof|not proved): it calls [^;]*(?:; it calls [^;]*)*")
 # One that the prover tells right before the line of a function whose proof file doesn't fit.
 NOTE = re.compile(r"note: src/\S+:\d+:\d+: it is not proved that .*\((`[^`]*`)\)")
 # One that its own proof file answers, and no longer rightly; a proof file that only names what an edit took away shows nothing.
@@ -69,85 +72,6 @@ def unreadable(crate):
         yield f"{crate.name}: must-fail/ has {len(others)} wrong bodies without a name; all but {MOST_OTHERS} belong in further-edits/"
 
 
-def pairs_of(text):
-    """The (file, old text, new text) of an edit, in order."""
-    path = old = None
-    for line in text.split("\n"):
-        if line.startswith("file: "):
-            path = line[6:].strip()
-        elif line.startswith("old: "):
-            old = line[5:]
-        elif line.startswith("new:"):
-            yield path, old, line[4:].removeprefix(" ")
-
-
-def type_name(head):
-    """The name that the prover gives to the methods of an `impl` or `trait` with this head: type and trait put together."""
-    head = re.split(r"\bwhere\b|\n\s*ghost\b", head)[0]
-    while re.match(r"\s*<", head):
-        depth = at = 0
-        for at, sign in enumerate(head):
-            depth += (sign == "<") - (sign == ">")
-            if sign == ">" and not depth:
-                break
-        head = head[at + 1 :]
-    words = lambda text: "".join(re.findall(r"[A-Za-z_]\w*", re.sub(r"'\w+|\b(mut|dyn)\b", "", text.replace("&", " Ref "))))
-    first = lambda text: words(re.sub(r"<.*", "", text, flags=re.S))
-    trait, _, target = head.partition(" for ")
-    if not target:
-        return first(trait.split(":")[0])
-    return first(target) + words(re.sub(r"<(\w+)<.*", r"<\1", trait, flags=re.S)).replace("fmt", "")
-
-
-def function_around(path, code, at):
-    """The function in whose body a place of a file is, by the end of its name: with its type, or a free one with its module. The
-    prover puts a method under its type's module, wherever it is written. None outside of all bodies."""
-    heads = [it for it in FUNCTION.finditer(code) if it.start() <= at]
-    if not heads:
-        return None
-    indent, name = heads[-1][1], heads[-1][2]
-    body = re.compile(rf"(?m)^{indent}(?! ).*\{{[^\S\n]*$").search(code, heads[-1].start())
-    end = re.compile(rf"(?m)^{indent}\}}").search(code, body.end()) if body else None
-    if not body or at < body.start() or not end or end.start() < at:
-        return None
-    if indent:
-        return f"{[type_name(it[2]) for it in TYPE.finditer(code) if it.start() < at][-1]}::{name}"
-    module = re.sub(r"^src/|\.rt$", "", path).removesuffix("/mod").replace("/", "::")
-    return name if module in ("lib", "main") else f"{module}::{name}"
-
-
-def users_of(constant, folder):
-    """The functions of a crate whose bodies name a constant."""
-    for at, _, files in os.walk(f"{folder}/src"):
-        for name in sorted(files):
-            path = os.path.relpath(f"{at}/{name}", folder)
-            with open(f"{at}/{name}", encoding="utf-8") as file:
-                code = file.read()
-            for found in re.finditer(rf"\b{constant}\b", code):
-                function = function_around(path, code, found.start())
-                if function:
-                    yield function
-
-
-def functions_of(path, folder):
-    """The functions that an edit changes, as paths below the crate: the one around each change, or those that name the constant
-    that it changes; none where it changes something else."""
-    with open(path, encoding="utf-8", errors="replace") as file:
-        pairs = list(pairs_of(file.read()))
-    names = set()
-    for source, old, _ in pairs:
-        with open(f"{folder}/{source}", encoding="utf-8") as file:
-            code = file.read()
-        if old not in code or not source.startswith("src/"):
-            return set()
-        function, constant = function_around(source, code, code.index(old)), re.search(r"\bconst (\w+):", old)
-        found = {function} if function else set(users_of(constant[1], folder)) if constant else set()
-        if not found:
-            return set()
-        names |= found
-    return names
-
-
 class Verdicts:
     """What a check printed of each function."""
 
@@ -167,19 +91,22 @@ class Verdicts:
         """Whether the prover was reached and judged these functions."""
         return self.lines[-1].startswith(("only=", "logic=")) or re.search(r"(?m)^only=\d+ proved=\d+", self.output)
 
-    def proves(self, function):
-        """Whether the function was proved, and each closure in it."""
-        said = [said for name, said in self.of.items() if is_within(name, function)]
-        return bool(said) and all(it == "proved" for it in said)
+    def holds(self, function):
+        """Whether each goal of the function's own was proved, and of each closure in it; what it calls may be unproved."""
+        said = {name: said for name, said in self.of.items() if is_within(name, function)}
+        return bool(said) and all(it == "proved" or INHERITED.fullmatch(it) and not self.goals(name, function) for name, it in said.items())
+
+    def goals(self, name, function):
+        """The goals that were not proved of the function, or of a closure in it, with this name."""
+        folder = function.replace("::", "/")
+        return [*GOAL.findall(self.of[name]), *self.notes[name], *(why for it, why in self.answers if is_end(folder, it, "/"))]
 
     def refuses(self, functions):
         """A goal of one of these functions that was not proved, or None."""
         for function in functions:
             for name, said in self.of.items():
                 if is_within(name, function) and said != "proved":
-                    folder = function.replace("::", "/")
-                    answers = [why for it, why in self.answers if is_end(folder, it, "/")]
-                    goals = [*GOAL.findall(said), *self.notes[name], *answers]
+                    goals = self.goals(name, function)
                     if goals:
                         return f"{name}: {goals[0]}"
         return None
@@ -203,12 +130,11 @@ class Trial:
     def __init__(self, crate, original, jobs=1, controls=None):
         """Controls: how many functions the control has, all that were changed where nothing is said."""
         self.crate, self.original, self.jobs = crate, original, jobs
-        self.controls, self.functions, self.as_they_are = controls, {}, set()
+        self.controls, self.as_they_are = controls, set()
 
     def run(self):
         """Gives (whether it was refused, what is to be said) for each edit."""
         edits = edits_of(self.original)[0]
-        self.functions = {it: functions_of(it, self.crate.folder) for it in edits}
         earlier = toolchain.refused_before(self.crate, edits)
         known = earlier.known()
         if known:
@@ -219,92 +145,88 @@ class Trial:
                 earlier.keep(it, found[it][1])
         return [found[it] for it in edits]
 
-    def tried(self, edits):
+    def tried(self, paths):
+        self.code = Code(self.crate.folder)
+        edits = [Edit(it, self.code) for it in paths]
         with tempfile.TemporaryDirectory(prefix="wrong-bodies-kept-") as self.kept:
-            refused = self.in_batches([it for it in edits if self.functions[it]])
-            refused |= self.alone([it for it in edits if self.functions[it] and it not in refused])
+            refused = self.in_batches([it for it in edits if it.functions])
+            for edit in edits:
+                if edit.functions and edit not in refused:
+                    refused |= self.judge(self.batch_of([edit]))
             if refused and not self.control(refused):
                 self.say("the functions as they are weren't proved over the same folder; each is tried from nothing")
                 refused = {}
-        return {it: (True, refused[it]) if it in refused else toolchain.try_from_nothing(self.crate, it, self.jobs) for it in edits}
+        said = {it.path: (True, text) for it, text in refused.items()}
+        return {it: said.get(it) or toolchain.try_from_nothing(self.crate, it, self.jobs) for it in paths}
 
     def say(self, text):
         toolchain.say(f"{self.crate.name}: {text}")
 
-    def check(self, texts, only):
-        return Verdicts(*toolchain.check_functions(self.crate, texts, only, self.jobs, self.kept), self.crate)
-
-    def texts_of(self, edits):
-        """The texts that these edits make together, or None where they don't fit together."""
-        texts = {}
-        for edit in edits:
-            with open(edit, encoding="utf-8") as file:
-                for path, old, new in pairs_of(file.read()):
-                    if path not in texts:
-                        with open(f"{self.crate.folder}/{path}", encoding="utf-8") as source:
-                            texts[path] = source.read()
-                    if texts[path].count(old) != 1:
-                        return None
-                    texts[path] = texts[path].replace(old, new)
-        return texts
+    def check(self, texts, names, files=(), without=()):
+        return Verdicts(*toolchain.check_functions(self.crate, texts, names, self.jobs, self.kept, files, without), self.crate)
 
     def batch_of(self, edits):
-        """As many of these edits as stand in functions of their own."""
-        batch, taken = [], set()
+        """As many of these edits as stand together, with the control of them that is wanted."""
+        batch = Batch(self.code)
         for edit in edits:
-            names = self.functions[edit]
-            if not names & taken and self.texts_of([*batch, edit]) is not None:
-                batch, taken = [*batch, edit], taken | names
-        return batch, taken
+            batch.add(edit)
+        seen = self.as_they_are | batch.controls.keys()
+        changed = [it.one for it in batch.edits if it.one and it.one.name not in seen]
+        count = max(0, min(len(changed), self.controls - len(seen))) if self.controls else len(changed)
+        for at in range(count):
+            batch.control(changed[at * len(changed) // count])
+        return batch
 
     def in_batches(self, edits):
-        """Tries edits of different functions together, round by round, as long as a round refuses some."""
+        """Tries edits together, round by round, as long as a round refuses some."""
         refused, left, number = {}, edits, 0
         while len(left) > 1:
-            batch, names = self.batch_of(left)
+            batch = self.batch_of(left)
             number += 1
-            found = self.judge(batch, names, self.wanted(refused, names))
-            again = [os.path.basename(it).removesuffix(".edit") for it in batch if it not in found]
-            left_over = f"; not yet: {', '.join(again)}" if again else ""
-            self.say(f"wrong bodies, round {number}: {len(found)} of {len(batch)} refused{left_over}")
+            found = self.judge(batch)
+            again = [it for it in batch.edits if it not in found]
+            left_over = f"; not yet: {', '.join(it.name for it in again)}" if again else ""
+            self.say(f"wrong bodies, round {number}: {len(found)} of {len(batch.edits)} refused{left_over}")
             refused |= found
-            rest = [it for it in left if it not in batch]
+            rest = [it for it in left if it not in batch.edits]
             # those for which nothing was said come last, so that each round has new ones
-            left = [*rest, *(it for it in batch if it not in found)] if found else rest
+            left = [*rest, *again] if found else rest
         return refused
 
-    def judge(self, batch, names, others=frozenset()):
-        """Those of a batch that the prover refused, each with the goal; none where a text of it couldn't be read. The others are functions
-        of the control, which no edit of the batch changes."""
-        texts = self.texts_of(batch)
-        said = self.check(texts, names | others)
-        if not said.reached() or toolchain.is_unread(said.output, texts):
-            return self.in_halves(batch)
-        self.as_they_are |= {it for it in others if said.proves(it)}
-        return {it: self.line(it, why) for it in batch if (why := said.refuses(self.functions[it]))}
+    def judge(self, batch):
+        """Those of a batch that the prover refused, each with the goal; none where a text of it couldn't be read."""
+        said = self.said_of(batch, batch.hollow()) or self.said_of(batch, [])
+        if not said:
+            return self.in_halves(batch.edits)
+        self.as_they_are |= {function for function, copy in batch.controls.items() if said.holds(copy)}
+        return {it: self.line(it, why) for it in batch.edits if (why := self.refused(batch, it, said))}
 
-    def in_halves(self, batch):
+    def said_of(self, batch, hollow):
+        """What a check says of a batch with these functions hollow, or None where a text couldn't be read."""
+        texts, holes = batch.texts(hollow), {path: text for it in hollow for path, text in it.hollow_proof(self.crate.name).items()}
+        said = self.check(texts, batch.names(), {**batch.files, **holes}, [it.proof for it in hollow])
+        return said if said.reached() and not toolchain.is_unread(said.output, texts) else None
+
+    def refused(self, batch, edit, said):
+        """The goal for which an edit is refused; None of one in a copy where the copy without an edit doesn't hold."""
+        is_copy = edit.one and edit.one.name not in batch.judged[edit.path]
+        return None if is_copy and edit.one.name not in self.as_they_are else said.refuses(batch.judged[edit.path])
+
+    def in_halves(self, edits):
         """A batch with an edit that can't be read is tried in two halves; alone, such an edit is left to the last trial."""
-        if len(batch) < 2:
+        if len(edits) < 2:
             return {}
-        halves = batch[: len(batch) // 2], batch[len(batch) // 2 :]
-        return {edit: why for half in halves for edit, why in self.judge(half, set().union(*(self.functions[it] for it in half))).items()}
-
-    def alone(self, edits):
-        return {edit: why for it in edits for edit, why in self.judge([it], self.functions[it]).items()}
-
-    def wanted(self, refused, changed_now=frozenset()):
-        """The functions that are still missing in the control of these edits, but for those that are changed now: of those that the edits
-        change all, or some, spread over the crate."""
-        changed = sorted(set().union(*(self.functions[it] for it in refused)) - self.as_they_are - changed_now)
-        count = min(len(changed), self.controls - len(self.as_they_are)) if self.controls else len(changed)
-        return {changed[at * len(changed) // count] for at in range(count)}
+        halves = edits[: len(edits) // 2], edits[len(edits) // 2 :]
+        return {edit: why for half in halves for edit, why in self.judge(self.batch_of(half)).items()}
 
     def control(self, refused):
-        """Whether the functions of the control are proved as they are, over what the checks before kept."""
-        missing = self.wanted(refused)
-        said = self.check({}, missing) if missing else None
-        return all(said.proves(it) for it in missing)
+        """Whether the functions hold as they are that are still wanted for the control."""
+        changed = sorted({name for it in refused for name in it.functions} - self.as_they_are)
+        count = max(0, min(len(changed), self.controls - len(self.as_they_are))) if self.controls else len(changed)
+        batch = Batch(self.code)
+        batch.leave({changed[at * len(changed) // count] for at in range(count)})
+        said = self.said_of(batch, batch.hollow()) if count else None
+        return all(said and said.holds(it) for it in batch.controls)
 
     def line(self, edit, why):
-        return f"wrong body {self.crate.name}/{os.path.relpath(edit, self.original.folder)}: refused: {why[:160]}"
+        return f"wrong body {self.crate.name}/{os.path.relpath(edit.path, self.original.folder)}: refused: {why[:160]}"
