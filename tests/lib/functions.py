@@ -1,8 +1,8 @@
 """The functions of a crate's code: where they stand, what the prover calls them, and what can stand in a check in their place.
 
 A copy stands right behind its function, under another name, with the files of the function's proof beside it: so a check holds several
-bodies of one function. A hollow function has its contract, which is all that its callers know of it, an empty body, and a hole for a proof:
-so a check leaves it unproved at once.
+bodies of one function. A hollow function has its contract, which is all that its callers know of it, an empty body, and an empty file for a
+proof: so a check leaves it unproved at once.
 """
 
 import os
@@ -50,11 +50,9 @@ class Function(NamedTuple):
         is_fixed = self.is_bound or re.search(r"\bconst (?:unsafe )?fn\b|->\s*impl\b", code[self.begin : self.body])
         return None if is_fixed else "\nloop {}\n}"
 
-    def hollow_proof(self, crate):
-        """The file of its proof by path where it is hollow: a hole."""
-        of, name = f"Rattle.{crate}.{self.proof.replace('/', '.')}", self.name.split("::")[-1]
-        text = f"use {of}.Statement.{{statement}}\n\npub {name}_spec : {{M : Type 1}} → statement M\n{name}_spec = ?\n"
-        return {f"{self.proof}/Proof.antt": text}
+    def hollow_proof(self):
+        """The file of its proof where it is hollow, by path: an empty one."""
+        return f"{self.proof}/Proof.antt", "\n"
 
 
 def type_name(head):

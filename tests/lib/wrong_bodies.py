@@ -203,8 +203,8 @@ class Trial:
 
     def said_of(self, batch, hollow):
         """What a check says of a batch with these functions hollow, or None where a text couldn't be read."""
-        texts, holes = batch.texts(hollow), {path: text for it in hollow for path, text in it.hollow_proof(self.crate.name).items()}
-        said = self.check(texts, batch.names(), {**batch.files, **holes}, [it.proof for it in hollow])
+        texts, files = batch.texts(hollow), {**batch.files, **dict(it.hollow_proof() for it in hollow)}
+        said = self.check(texts, batch.names(), files, [it.proof for it in hollow])
         return said if said.reached() and not toolchain.is_unread(said.output, texts) else None
 
     def refused(self, batch, edit, said):
