@@ -15,7 +15,6 @@ check without an edit. Where the control fails, each edit of the crate is tried 
 
 import os
 import re
-import tempfile
 
 import toolchain
 from batches import Batch, Edit
@@ -148,14 +147,13 @@ class Trial:
     def tried(self, paths):
         self.code = Code(self.crate.folder)
         edits = [Edit(it, self.code) for it in paths]
-        with tempfile.TemporaryDirectory(prefix="wrong-bodies-kept-") as self.kept:
-            refused = self.in_batches([it for it in edits if it.functions])
-            for edit in edits:
-                if edit.functions and edit not in refused:
-                    refused |= self.judge(self.batch_of([edit]))
-            if refused and not self.control(refused):
-                self.say("the functions as they are weren't proved over the same folder; each is tried from nothing")
-                refused = {}
+        refused = self.in_batches([it for it in edits if it.functions])
+        for edit in edits:
+            if edit.functions and edit not in refused:
+                refused |= self.judge(self.batch_of([edit]))
+        if refused and not self.control(refused):
+            self.say("the control, functions as they are, was not proved; each wrong body is tried alone and from nothing")
+            refused = {}
         said = {it.path: (True, text) for it, text in refused.items()}
         return {it: said.get(it) or toolchain.try_from_nothing(self.crate, it, self.jobs) for it in paths}
 
@@ -163,7 +161,7 @@ class Trial:
         toolchain.say(f"{self.crate.name}: {text}")
 
     def check(self, texts, names, files=(), without=()):
-        return Verdicts(*toolchain.check_functions(self.crate, texts, names, self.jobs, self.kept, files, without), self.crate)
+        return Verdicts(*toolchain.check_functions(self.crate, texts, names, self.jobs, files, without), self.crate)
 
     def batch_of(self, edits):
         """As many of these edits as stand together, with the control of them that is wanted."""
