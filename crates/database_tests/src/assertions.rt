@@ -1,4 +1,4 @@
-// What the tests compare by. The prover takes an assertion of two values apart for ten seconds and more: here alone, once for all.
+// What the tests compare by. An assertion of two values costs the prover a second or two in each place: it stands here alone.
 use std::fmt::Debug;
 use std::process::Abort;
 

@@ -1,5 +1,5 @@
-// What the tests compare by, and the URIs that they take. The prover takes an assertion of two values apart for ten seconds and more: here
-// alone, once for all.
+// What the tests compare by, and the URIs that they take. An assertion of two values costs the prover a second or two in each place: it
+// stands here alone.
 use song_db::Uri;
 use std::alloc::Global;
 use std::fmt::Debug;
