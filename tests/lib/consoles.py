@@ -8,6 +8,8 @@ import time
 from scripts import configuration
 
 GREETING = b"OK MPD 0.23.0\n"
+# A checkpoint is made before the next event where so many records stand in the journal's file.
+RECORDS = 4096
 
 
 class Console:
@@ -72,6 +74,15 @@ class Console:
         with open(f"/proc/{self.process.pid}/status", encoding="utf-8") as status:
             return next(int(line.split()[1]) for line in status if line.startswith("VmRSS:"))
 
+    def peak(self):
+        """The most memory that was resident since it began or since `forget_peak`, in KiB."""
+        with open(f"/proc/{self.process.pid}/status", encoding="utf-8") as status:
+            return next(int(line.split()[1]) for line in status if line.startswith("VmHWM:"))
+
+    def forget_peak(self):
+        with open(f"/proc/{self.process.pid}/clear_refs", "w", encoding="utf-8") as file:
+            file.write("5")
+
     def end(self):
         self.process.stdin.close()
         if self.process.wait() != 0:
@@ -131,3 +142,26 @@ def appended(path):
         lengths.append(5 + int.from_bytes(content[place + 1 : place + 5], "little"))
         place += lengths[-1]
     return lengths
+
+
+class Journal:
+    """The two files of a journal, as one who looks at them sees them."""
+
+    def __init__(self, *paths):
+        self.paths = paths
+
+    def generation(self, path):
+        """The generation of an open file, 0 of one that isn't open."""
+        with open(path, "rb") as file:
+            head = file.read(20)
+        return int.from_bytes(head[12:20], "little") if len(head) == 20 and head[0] == 0xA5 else 0
+
+    def in_use(self):
+        return max(self.paths, key=self.generation)
+
+    def other(self):
+        return min(self.paths, key=self.generation)
+
+    def records(self):
+        """How many records stand since the last checkpoint."""
+        return len(appended(self.in_use()))

@@ -1,6 +1,6 @@
-"""Wrong bodies that the prover must refuse, many tried in one check.
+"""Mutants that the prover must refuse, many tried in one check.
 
-A wrong body is an edit of a crate's code, in the form of the toolchain's must-fail edits, in `must-fail/` or `further-edits/`.
+A mutant is an edit of a crate's code, in the form of the toolchain's must-fail edits, in the crate's folder `further-edits/`.
 Proofs are modular: what its callers know of a function is its contract. So edits of different functions stand in one check,
 each judged at its own function: it is refused where the prover names a goal of that function which it did not prove. Of several
 edits of one function the first stands in its place, each other in a copy of the function; the functions that no edit changes are
@@ -8,9 +8,9 @@ hollow, since the crate's own proof has them. One for which no such line comes g
 and at last by the toolchain's own trial, a check of the whole crate from nothing, whose verdict stands.
 
 As a control copies without an edit stand in the same check, and each goal of theirs must be proved. A function that has copies
-with an edit has one of these, else nothing is said of those edits. So have the other functions that are changed; where the crate
-has just been proved from nothing some are enough, spread over the crate. What can't have a copy, as a method of a trait, has a
-check without an edit. Where the control fails, each edit of the crate is tried by the toolchain's own trial.
+with an edit has one of these, else nothing is said of those edits. So have the other functions that are changed, all of them or
+some, spread over the crate. What can't have a copy, as a method of a trait, has a check without an edit. Where the control fails,
+each edit of the crate is tried by the toolchain's own trial.
 """
 
 import os
@@ -20,17 +20,7 @@ import toolchain
 from batches import Batch, Edit
 from functions import Code
 
-FOLDERS = ("must-fail", "further-edits")
-# The wrong bodies that the project's promises name. Plain `rt ci` tries what stands in must-fail/ one by one: these, and a few more.
-NAMED = """
-    a_record_for_each_command always_broken always_out_of_memory always_refuses_to_settle body_and_gate_in_one_write
-    carriage_return_kept checkpoint_writes_nothing cut_request_refused idle_clears_unprinted late_end_removes_the_next
-    loop_drops_outputs loop_drops_requests move_stamps_the_moved_alone not_equal_drops_untagged ok_before_the_gate
-    old_gate_closed_first op_names_the_running_half open_gives_the_fresh_state order_dropped order_from_the_clock
-    outbox_dropped pcm_under_the_lock reads_past_the_gate settle_always_ok size_past_the_end_refused stops_one_early
-    tail_sent_again turn_invented write_changed write_dropped
-""".split()
-MOST_OTHERS = 3
+FOLDER = "further-edits"
 NAME = re.compile(r"[A-Za-z0-9_-][A-Za-z0-9_.-]*\.edit")
 LINE = re.compile(r"(?m)^fn (\S+): (proved|.*)$")
 # A goal of the function's own, in the line of a function that has no answer for it.
@@ -47,14 +37,13 @@ ANSWER = re.compile(
 
 
 def edits_of(crate):
-    """The crate's edits by path, and the files in their folders that are none."""
+    """The paths of the crate's edits, and the files in their folder that are none."""
     good, bad = [], []
-    for folder in FOLDERS:
-        for at, _, files in os.walk(f"{crate.folder}/{folder}"):
-            for name in sorted(files):
-                is_edit = NAME.fullmatch(name) and at == f"{crate.folder}/{folder}"
-                if is_edit or not name.endswith(".md"):
-                    (good if is_edit else bad).append(f"{at}/{name}")
+    for at, _, files in os.walk(f"{crate.folder}/{FOLDER}"):
+        for name in sorted(files):
+            is_edit = NAME.fullmatch(name) and at == f"{crate.folder}/{FOLDER}"
+            if is_edit or not name.endswith(".md"):
+                (good if is_edit else bad).append(f"{at}/{name}")
     return good, bad
 
 
@@ -66,9 +55,6 @@ def unreadable(crate):
     for path in good:
         if why := toolchain.fault_of_edit(path, crate):
             yield f"{crate.name}: {os.path.relpath(path, crate.folder)}: {why}"
-    others = [it for it in good if "/must-fail/" in it and os.path.basename(it).removesuffix(".edit") not in NAMED]
-    if len(others) > MOST_OTHERS:
-        yield f"{crate.name}: must-fail/ has {len(others)} wrong bodies without a name; all but {MOST_OTHERS} belong in further-edits/"
 
 
 class Verdicts:
@@ -124,20 +110,20 @@ def is_within(name, function):
 
 
 class Trial:
-    """The trials of one crate's edits, which stand in the original, over the libraries that were built below the crate."""
+    """The trials of one crate's edits, over the libraries that were built below the crate."""
 
-    def __init__(self, crate, original, jobs=1, controls=None):
+    def __init__(self, crate, kept, jobs=1, controls=None):
         """Controls: how many functions the control has, all that were changed where nothing is said."""
-        self.crate, self.original, self.jobs = crate, original, jobs
+        self.crate, self.kept, self.jobs = crate, kept, jobs
         self.controls, self.as_they_are = controls, set()
 
     def run(self):
         """Gives (whether it was refused, what is to be said) for each edit."""
-        edits = edits_of(self.original)[0]
-        earlier = toolchain.refused_before(self.crate, edits)
+        edits = edits_of(self.crate)[0]
+        earlier = toolchain.Refused(self.kept, self.crate, edits)
         known = earlier.known()
         if known:
-            self.say(f"{len(known)} of {len(edits)} wrong bodies were refused by an earlier run on this machine")
+            self.say(f"{len(known)} of {len(edits)} mutants were refused by an earlier run on this machine")
         found = {it: (True, said) for it, said in known.items()} | self.tried([it for it in edits if it not in known])
         for it in edits:
             if found[it][0] and it not in known:
@@ -152,7 +138,7 @@ class Trial:
             if edit.functions and edit not in refused:
                 refused |= self.judge(self.batch_of([edit]))
         if refused and not self.control(refused):
-            self.say("the control, functions as they are, was not proved; each wrong body is tried alone and from nothing")
+            self.say("the control, functions as they are, was not proved; each mutant is tried alone and from nothing")
             refused = {}
         said = {it.path: (True, text) for it, text in refused.items()}
         return {it: said.get(it) or toolchain.try_from_nothing(self.crate, it, self.jobs) for it in paths}
@@ -184,7 +170,7 @@ class Trial:
             found = self.judge(batch)
             again = [it for it in batch.edits if it not in found]
             left_over = f"; not yet: {', '.join(it.name for it in again)}" if again else ""
-            self.say(f"wrong bodies, round {number}: {len(found)} of {len(batch.edits)} refused{left_over}")
+            self.say(f"mutants, round {number}: {len(found)} of {len(batch.edits)} refused{left_over}")
             refused |= found
             rest = [it for it in left if it not in batch.edits]
             # those for which nothing was said come last, so that each round has new ones
@@ -227,4 +213,4 @@ class Trial:
         return all(said and said.holds(it) for it in batch.controls)
 
     def line(self, edit, why):
-        return f"wrong body {self.crate.name}/{os.path.relpath(edit.path, self.original.folder)}: refused: {why[:160]}"
+        return f"mutant {self.crate.name}/{os.path.basename(edit.path)}: refused: {why[:160]}"
