@@ -1,13 +1,15 @@
-//! Disks, journals and stages over two files in memory, to which the lines of the input happen.
+//! Disks, journals and stages over two files in memory, and the stored form of a state, to which the lines of the input happen.
 #![tactic(auto)]
 
 mod calls;
+mod codec;
 mod desk;
 mod driver;
 mod event;
 mod fake;
 mod fault;
 mod file;
+mod given;
 mod journal;
 mod printer;
 mod stage;

@@ -1,8 +1,9 @@
 //! Records and ops applied to the state.
-use crate::driver::Driver;
+use super::Codec;
+use super::ops::read;
+use crate::fault::Fault;
 use crate::given::numbered;
-use crate::ops::read;
-use anyhow::Result;
+use crate::printer::Printer;
 use state_codec::{ApplyError, BodyError, Op, OpRefusal, Saved};
 use std::alloc::Global;
 
@@ -20,44 +21,44 @@ fn apply(state: &mut Saved, alloc: Global, op: Op) -> Result<(), ApplyError> {
     state.apply(alloc, op)
 }
 
-fn apply_all(state: &mut Saved, alloc: Global, bytes: &[u8]) -> Result<()> {
+fn apply_all(state: &mut Saved, alloc: Global, bytes: &[u8]) -> Result<(), Fault> {
     for op in read(alloc, bytes)? {
-        apply(state, alloc, op)?;
+        if apply(state, alloc, op).is_err() {
+            return Err(Fault::Refused);
+        }
     }
     Ok(())
 }
 
-impl Driver {
+impl Codec {
     /// The bytes are the body of a record, which is applied.
-    pub fn apply_body(&mut self) -> Result<()> {
+    pub(super) fn apply_body(&mut self, printer: &mut Printer) {
         match apply_body(&mut self.state, self.alloc, &self.given) {
-            Ok(()) => self.print("applied\n"),
-            Err(error) => self.print_refused(error.number(), error),
+            Ok(()) => printer.line("applied"),
+            Err(error) => printer.refused(error.number(), error),
         }
     }
 
     /// The ops that the bytes spell are checked and applied one by one.
-    pub fn apply_given(&mut self) -> Result<()> {
+    pub(super) fn apply_given(&mut self, printer: &mut Printer) -> Result<(), Fault> {
         for op in read(self.alloc, &self.given)? {
-            self.apply_op(op)?;
+            self.apply_op(printer, op);
         }
         Ok(())
     }
 
-    fn apply_op(&mut self, op: Op) -> Result<()> {
-        let checked = check(&self.state, &op);
-        let applied = apply(&mut self.state, self.alloc, op);
-        if let Err(refusal) = checked {
-            self.print_refused(refusal.number(), refusal)?;
+    fn apply_op(&mut self, printer: &mut Printer, op: Op) {
+        if let Err(refusal) = check(&self.state, &op) {
+            printer.refused(refusal.number(), refusal);
         }
-        match applied {
-            Ok(()) => self.print("applied\n"),
-            Err(error) => self.print_refused(error.number(), error),
+        match apply(&mut self.state, self.alloc, op) {
+            Ok(()) => printer.line("applied"),
+            Err(error) => printer.refused(error.number(), error),
         }
     }
 
     /// The ops of a text are applied so often; its numbers go on from one time to the next.
-    pub fn apply_often(&mut self, count: u32, text: &str) -> Result<()> {
+    pub(super) fn apply_often(&mut self, count: u64, text: &str) -> Result<(), Fault> {
         let mut first = 0;
         for _ in 0..count {
             let (bytes, next) = numbered(self.alloc, text, first)?;

@@ -1,5 +1,5 @@
 //! Bytes by hexadecimal digits.
-use anyhow::{Context, Result};
+use crate::fault::Fault;
 use std::alloc::{AllocError, Global};
 
 /// Bytes, as far as their text was read.
@@ -29,9 +29,9 @@ fn add_number(bytes: &mut Vec<u8>, alloc: Global, number: u32) -> Result<(), All
 }
 
 impl Given {
-    fn take(&mut self, letter: char) -> Result<()> {
+    fn take(&mut self, letter: char) -> Result<(), Fault> {
         match letter {
-            ' ' => {}
+            ' ' | '-' => {}
             'n' => {
                 add_number(&mut self.bytes, self.alloc, self.number)?;
                 self.number = self.number.saturating_add(1);
@@ -40,9 +40,7 @@ impl Given {
                 self.bytes.extend_from_slice(&self.row.to_le_bytes())?;
                 self.row = self.row.saturating_add(1);
             }
-            _ => self.take_digit(digit_of(letter).context(format_args!(
-                "{letter:?} is no digit"
-            ))?)?,
+            _ => self.take_digit(digit_of(letter).ok_or(Fault::NoBytes)?)?,
         }
         Ok(())
     }
@@ -57,8 +55,8 @@ impl Given {
 }
 
 /// The bytes of a text of hexadecimal digits and spaces, in which each `n` stands for the next number from the first on, in six
-/// decimal digits, and each `r` for the next one from 0 on, in four bytes.
-pub fn numbered(alloc: Global, text: &str, first: u32) -> Result<(Vec<u8>, u32)> {
+/// decimal digits, and each `r` for the next one from 0 on, in four bytes; `-` has none. Behind them the number of the next `n`.
+pub fn numbered(alloc: Global, text: &str, first: u32) -> Result<(Vec<u8>, u32), Fault> {
     let mut given = Given {
         alloc,
         bytes: Vec::new(alloc),
@@ -69,18 +67,14 @@ pub fn numbered(alloc: Global, text: &str, first: u32) -> Result<(Vec<u8>, u32)>
     for letter in text.chars() {
         given.take(letter)?;
     }
-    Ok((given.bytes, given.number))
-}
-
-pub fn bytes_of(alloc: Global, text: &str, first: u32) -> Result<Vec<u8>> {
-    let (bytes, _) = numbered(alloc, text, first)?;
-    Ok(bytes)
-}
-
-/// Adds bytes by their digits.
-pub fn add_hex(printed: &mut String, bytes: &[u8]) -> Result<(), AllocError> {
-    for byte in bytes {
-        write!(printed, "{byte:02x}")?;
+    match given.high {
+        None => Ok((given.bytes, given.number)),
+        Some(_) => Err(Fault::NoBytes),
     }
-    Ok(())
+}
+
+/// The same from 0 on.
+pub fn read_bytes(alloc: Global, text: &str) -> Result<Vec<u8>, Fault> {
+    let (bytes, _) = numbered(alloc, text, 0)?;
+    Ok(bytes)
 }
