@@ -11,8 +11,18 @@ pub fn equal<T: Copy + PartialEq + Debug>(rt: &impl Abort, left: T, right: T) {
     assert_eq!(rt; left, right);
 }
 
+/// The same of texts.
+pub fn same_text(rt: &impl Abort, left: &str, right: &str) {
+    equal(rt, left, right);
+}
+
 /// The same of bytes.
 pub fn same_bytes(rt: &impl Abort, left: &[u8], right: &[u8]) {
+    equal(rt, left, right);
+}
+
+/// The same of samples.
+pub fn same_samples(rt: &impl Abort, left: &[i16], right: &[i16]) {
     equal(rt, left, right);
 }
 
