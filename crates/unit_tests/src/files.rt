@@ -16,7 +16,9 @@ const FAULT: Told = Err(FolderFault::Source);
 
 /// Listings and openings, one after the other, and what is told. A socket is no file, neither before its folder was listed nor right after;
 /// a file is no folder; a link is followed, but not to a folder that it stands in, however it leads there.
-const LOOKS: [(&str, Told); 11] = [
+const LOOKS: [(&str, Told); 13] = [
+    ("list f", Ok(None)),
+    ("open d/f/g.wav", Ok(None)),
     ("open d/s.wav", Ok(None)),
     ("list d", Ok(Some(2))),
     ("open d/s.wav", Ok(None)),

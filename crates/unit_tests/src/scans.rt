@@ -1,6 +1,6 @@
 ghost use Rattle.std.specs.Prelude.{[]};
 
-// `song_db`: scans of a folder that fails.
+// `song_db`: scans of a folder that fails, and the order of what a scan tells.
 use crate::assertions::{equal, uri};
 use crate::waves::WAVE_A;
 use song_db::{RowChange, Scan, ScanOrder, SongDbError, Uri};
@@ -45,26 +45,24 @@ impl Folder for BrokenFolder {
     }
 }
 
-/// A folder with a song and a file that is none.
-fn broken_folder(
-    alloc: Global,
-    calls_before: u64,
-    reads_before: u64,
-) -> Result<BrokenFolder, Fail> {
-    let mut folder = MemFolder::new(alloc);
-    folder.add(alloc, "d/A.wav", &WAVE_A)?;
-    folder.add(alloc, "x.wav", b"RIFF\0")?;
-    Ok(BrokenFolder {
-        folder: FaultyFolder {
-            folder,
-            calls_before,
-            calls: 0,
-        },
-        reads_before,
-    })
+/// The bytes of the file at a path: `x.wav` is no song.
+fn bytes_of(path: &str) -> &'static [u8] {
+    match path {
+        "x.wav" => b"RIFF\0",
+        _ => &WAVE_A,
+    }
 }
 
-/// The known URIs: the two files, and one that is gone.
+/// A folder of files with these paths, which a space parts.
+fn folder_of(alloc: Global, paths: &str) -> Result<MemFolder<'static>, Fail> {
+    let mut folder = MemFolder::new(alloc);
+    for path in paths.split_whitespace() {
+        folder.add(alloc, path, bytes_of(path))?;
+    }
+    Ok(folder)
+}
+
+/// The known URIs.
 fn known(alloc: Global) -> Result<Vec<Uri>, Fail> {
     let mut uris = Vec::new(alloc);
     for text in ["d/A.wav", "d/B.wav", "x.wav"] {
@@ -88,14 +86,19 @@ fn scan_of(alloc: Global, place: &str) -> Result<Scan, Fail> {
     Ok(Scan::begin(alloc, order)?)
 }
 
-fn compare(rt: &impl Abort, changes: &[RowChange], want: &[(bool, &str)]) {
-    equal(rt, changes.len(), want.len());
-    for (change, row) in changes.iter().zip(want) {
-        equal(
-            rt,
-            (matches!(change, RowChange::Put(_)), change.uri()),
-            *row,
-        );
+/// These are the changes: `+` before the URI of a row that comes, `-` before that of one that goes.
+fn compare(rt: &impl Abort, changes: &[RowChange], want: &str) {
+    equal(
+        rt,
+        (want, changes.len()),
+        (want, want.split_whitespace().count()),
+    );
+    for (change, word) in changes.iter().zip(want.split_whitespace()) {
+        let wanted = match change {
+            RowChange::Put(_) => word.strip_prefix('+'),
+            RowChange::Drop(_) => word.strip_prefix('-'),
+        };
+        equal(rt, Some(change.uri()), wanted);
     }
 }
 
@@ -105,7 +108,7 @@ fn tells(
     alloc: Global,
     scan: &mut Scan,
     folder: &mut BrokenFolder,
-    want: &[(bool, &str)],
+    want: &str,
 ) -> Result<(), SongDbError> {
     let changes = next(scan, alloc, folder)?;
     compare(rt, changes.as_deref().unwrap_or(&[]), want);
@@ -118,42 +121,46 @@ fn tells_only(
     alloc: Global,
     scan: &mut Scan,
     folder: &mut BrokenFolder,
-    want: &[(bool, &str)],
+    want: &str,
 ) -> Result<(), SongDbError> {
     tells(rt, alloc, scan, folder, want)?;
-    tells(rt, alloc, scan, folder, &[])
+    tells(rt, alloc, scan, folder, "")
 }
 
 /// No call, or no read, is so late.
 const NEVER: u64 = 100;
 
-const PUT: (bool, &str) = (true, "d/A.wav");
-
-const DROP_B: (bool, &str) = (false, "d/B.wav");
-
-const DROP_X: (bool, &str) = (false, "x.wav");
-
-/// The call of the folder that fails, the read of each file that does, the place, and what a scan of it tells: nothing is dropped that
-/// couldn't be read, and all else is told.
-const FAULTS: [(u64, u64, &str, &[(bool, &str)]); 9] = [
-    (0, NEVER, "", &[]),
-    (1, NEVER, "", &[DROP_X]),
-    (2, NEVER, "", &[DROP_B, DROP_X]),
-    (3, NEVER, "", &[PUT, DROP_B]),
-    (NEVER, NEVER, "", &[PUT, DROP_B, DROP_X]),
-    (NEVER, 0, "", &[DROP_B, DROP_X]),
-    (NEVER, 3, "", &[DROP_B, DROP_X]),
-    (NEVER, 0, "d/A.wav", &[DROP_B, DROP_X]),
-    (NEVER, 3, "d/A.wav", &[DROP_B, DROP_X]),
+/// The call of a folder of `d/A.wav` and `x.wav` that fails, the read of each file that does, the place, and what a scan of it tells:
+/// nothing is dropped that couldn't be read, and all else is told.
+const FAULTS: [(u64, u64, &str, &str); 9] = [
+    (0, NEVER, "", ""),
+    (1, NEVER, "", "-x.wav"),
+    (2, NEVER, "", "-d/B.wav -x.wav"),
+    (3, NEVER, "", "+d/A.wav -d/B.wav"),
+    (NEVER, NEVER, "", "+d/A.wav -d/B.wav -x.wav"),
+    (NEVER, 0, "", "-d/B.wav -x.wav"),
+    (NEVER, 3, "", "-d/B.wav -x.wav"),
+    (NEVER, 0, "d/A.wav", "-d/B.wav -x.wav"),
+    (NEVER, 3, "d/A.wav", "-d/B.wav -x.wav"),
 ];
 
+/// A scan of such a folder tells these changes, and no more.
 fn is_told(
     rt: &impl Abort,
     alloc: Global,
-    row: &(u64, u64, &str, &[(bool, &str)]),
+    folder: MemFolder<'static>,
+    row: (u64, u64, &str, &str),
 ) -> Result<(), Fail> {
-    let (calls_before, reads_before, place, want) = *row;
-    let mut folder = broken_folder(alloc, calls_before, reads_before)?;
+    let (calls_before, reads_before, place, want) = row;
+    let folder = FaultyFolder {
+        folder,
+        calls_before,
+        calls: 0,
+    };
+    let mut folder = BrokenFolder {
+        folder,
+        reads_before,
+    };
     let mut scan = scan_of(alloc, place)?;
     Ok(tells_only(rt, alloc, &mut scan, &mut folder, want)?)
 }
@@ -161,7 +168,24 @@ fn is_told(
 #[test]
 fn folders_that_fail(rt: HostRuntime) -> Result<(), Fail> {
     for row in &FAULTS {
-        is_told(&rt, rt.alloc(), row)?;
+        is_told(
+            &rt,
+            rt.alloc(),
+            folder_of(rt.alloc(), "d/A.wav x.wav")?,
+            *row,
+        )?;
     }
     Ok(())
+}
+
+/// The songs come by the bytes of their names, folders and files mixed and a folder before a file of its name, and then the drops.
+#[test]
+fn order_of_a_scan(rt: HostRuntime) -> Result<(), Fail> {
+    let folder = folder_of(
+        rt.alloc(),
+        "ä/ö.wav b.wav a.wav a/c.wav a.wav/b.wav a.b/c.wav B.wav",
+    )?;
+    let want =
+        "+B.wav +a/c.wav +a.b/c.wav +a.wav/b.wav +a.wav +b.wav +ä/ö.wav -d/A.wav -d/B.wav -x.wav";
+    is_told(&rt, rt.alloc(), folder, (NEVER, NEVER, "", want))
 }
