@@ -32,34 +32,50 @@ impl Codec {
     /// Does what a line asks for.
     pub fn take(&mut self, printer: &mut Printer, word: &str, rest: &str) -> Result<(), Fault> {
         match word {
-            "fresh" => self.state = Saved::fresh(self.alloc, [byte(rest)?; 32]),
-            "bytes" => self.given = read_bytes(self.alloc, rest)?,
-            "more" => self.give_more(rest)?,
-            "changed" => self.take_changed(printer, rest)?,
-            "often" => self.take_often(rest)?,
+            "fresh" => self.renew(rest),
+            "bytes" => self.give(rest),
+            "more" => self.give_more(rest),
+            "changed" => self.take_changed(printer, rest),
+            "often" => self.take_often(rest),
+            _ => self.take_given(printer, word, rest),
+        }
+    }
+
+    // Does what a line asks for of the bytes that it gives, or of the last ones where it gives none.
+    fn take_given(&mut self, printer: &mut Printer, word: &str, text: &str) -> Result<(), Fault> {
+        if !text.is_empty() {
+            self.give(text)?;
+        }
+        match word {
+            "ops" => ops::tell_ops(printer, &self.given),
+            "apply" => self.apply_given(printer),
+            "spelled" => self.tell_spelled(printer),
+            "again" => self.tell_again(printer),
+            _ => self.tell(printer, word),
+        }
+    }
+
+    // The same of what always goes well.
+    fn tell(&mut self, printer: &mut Printer, word: &str) -> Result<(), Fault> {
+        match word {
+            "cut_ops" => snapshots::tell_fronts(printer, &self.given, true),
+            "cut_snapshot" => snapshots::tell_fronts(printer, &self.given, false),
+            "snapshot" => self.read_snapshot(printer),
+            "body" => self.apply_body(printer),
+            "shown" => shown::tell_state(printer, &self.state),
             "refusals" => snapshots::tell_refusals(printer),
-            _ => self.take_bytes(printer, word, rest)?,
+            _ => return Err(Fault::NoDirective),
         }
         Ok(())
     }
 
-    // Does what a line asks for of the bytes that it gives, or of the last ones where it gives none.
-    fn take_bytes(&mut self, printer: &mut Printer, word: &str, text: &str) -> Result<(), Fault> {
-        if !text.is_empty() {
-            self.given = read_bytes(self.alloc, text)?;
-        }
-        match word {
-            "ops" => ops::tell_ops(printer, &self.given)?,
-            "cut_ops" => snapshots::tell_fronts(printer, &self.given, true),
-            "snapshot" => self.read_snapshot(printer),
-            "cut_snapshot" => snapshots::tell_fronts(printer, &self.given, false),
-            "body" => self.apply_body(printer),
-            "apply" => self.apply_given(printer)?,
-            "spelled" => self.tell_spelled(printer)?,
-            "again" => self.tell_again(printer)?,
-            "shown" => shown::tell_state(printer, &self.state),
-            _ => return Err(Fault::NoDirective),
-        }
+    fn renew(&mut self, text: &str) -> Result<(), Fault> {
+        self.state = Saved::fresh(self.alloc, [byte(text)?; 32]);
+        Ok(())
+    }
+
+    fn give(&mut self, text: &str) -> Result<(), Fault> {
+        self.given = read_bytes(self.alloc, text)?;
         Ok(())
     }
 

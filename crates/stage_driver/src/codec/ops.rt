@@ -32,15 +32,26 @@ pub fn fault_of(alloc: Global, bytes: &[u8]) -> Option<CodecError> {
     taken(alloc, bytes).err()
 }
 
-/// Copies of the ops, spelled in so much room.
-fn copies_in(alloc: Global, ops: &[Op], room: usize) -> Result<Vec<u8>, Fault> {
-    let mut out = Vec::with_capacity(alloc, room)?;
-    for op in ops {
-        if put(&mut out, &copy_of(alloc, op)?).is_err() {
-            return Err(Fault::NoMemory);
-        }
+/// Whether there was room for the bytes of an op.
+fn fits(out: &mut Vec<u8>, op: Op) -> bool {
+    put(out, &op).is_ok()
+}
+
+/// Adds the bytes of a copy of an op.
+fn add_copy(out: &mut Vec<u8>, alloc: Global, op: &Op) -> Result<(), Fault> {
+    if fits(out, copy_of(alloc, op)?) {
+        Ok(())
+    } else {
+        Err(Fault::NoMemory)
     }
-    Ok(out)
+}
+
+/// Adds those of all ops, for which there is room.
+fn add_copies(out: &mut Vec<u8>, alloc: Global, ops: &[Op]) -> Result<(), Fault> {
+    for op in ops {
+        add_copy(out, alloc, op)?;
+    }
+    Ok(())
 }
 
 /// Prints the bytes of an op in so much room, or that it is refused and how many bytes then stand there.
@@ -69,7 +80,8 @@ fn tell_all(printer: &mut Printer, ops: &[Op], room: usize) -> Result<(), Fault>
     for op in ops {
         tell_op(printer, op)?;
     }
-    let copies = copies_in(printer.alloc, ops, room)?;
+    let mut copies = Vec::with_capacity(printer.alloc, room)?;
+    add_copies(&mut copies, printer.alloc, ops)?;
     printer.hex("copies", &copies);
     Ok(())
 }
