@@ -37,36 +37,46 @@ impl Codec {
             "more" => self.give_more(rest),
             "changed" => self.take_changed(printer, rest),
             "often" => self.take_often(rest),
-            _ => self.take_given(printer, word, rest),
-        }
-    }
-
-    // Does what a line asks for of the bytes that it gives, or of the last ones where it gives none.
-    fn take_given(&mut self, printer: &mut Printer, word: &str, text: &str) -> Result<(), Fault> {
-        if !text.is_empty() {
-            self.give(text)?;
-        }
-        match word {
-            "ops" => ops::tell_ops(printer, &self.given),
-            "apply" => self.apply_given(printer),
-            "spelled" => self.tell_spelled(printer),
-            "again" => self.tell_again(printer),
+            "ops" | "cut_ops" | "snapshot" | "cut_snapshot" | "body" | "apply" => {
+                self.give_if_any(rest)?;
+                self.take_given(printer, word)
+            }
             _ => self.tell(printer, word),
         }
     }
 
-    // The same of what always goes well.
+    // Does what a line asks for of the bytes that were given last.
+    fn take_given(&mut self, printer: &mut Printer, word: &str) -> Result<(), Fault> {
+        match word {
+            "ops" => return ops::tell_ops(printer, &self.given),
+            "cut_ops" => snapshots::tell_fronts(printer, &self.given, true),
+            "snapshot" => self.read_snapshot(printer),
+            "cut_snapshot" => snapshots::tell_fronts(printer, &self.given, false),
+            "body" => self.apply_body(printer),
+            _ => return self.apply_given(printer),
+        }
+        Ok(())
+    }
+
+    // Does what a line asks for of the state.
     fn tell(&mut self, printer: &mut Printer, word: &str) -> Result<(), Fault> {
         match word {
-            "cut_ops" => snapshots::tell_fronts(printer, &self.given, true),
-            "cut_snapshot" => snapshots::tell_fronts(printer, &self.given, false),
-            "snapshot" => self.read_snapshot(printer),
-            "body" => self.apply_body(printer),
+            "spelled" => return self.tell_spelled(printer),
+            "again" => return self.tell_again(printer),
             "shown" => shown::tell_state(printer, &self.state),
             "refusals" => snapshots::tell_refusals(printer),
             _ => return Err(Fault::NoDirective),
         }
         Ok(())
+    }
+
+    // The bytes of a text are given, unless it is empty.
+    fn give_if_any(&mut self, text: &str) -> Result<(), Fault> {
+        if text.is_empty() {
+            Ok(())
+        } else {
+            self.give(text)
+        }
     }
 
     fn renew(&mut self, text: &str) -> Result<(), Fault> {
