@@ -1,5 +1,5 @@
-// The console over disks in memory: streams and disks that fail, and input that comes in pieces.
-use crate::assertions::{equal, same_bytes, same_text};
+// The console over disks in memory: input that comes in pieces, streams and disks that fail.
+use crate::assertions::{equal, same_bytes};
 use disk_model::{Disk, Fuse, FuseDisk, MemDisk};
 use live_stage::{Live, Refused};
 use mpd_program::{ConsoleEnd, Ending, Status, run_console};
@@ -7,14 +7,23 @@ use std::alloc::Global;
 use std::io::{self, Read, Write};
 use std::process::Abort;
 use std::test::Fail;
-use wave_pcm::MemFolder;
+use wave_pcm::{Folder, MemFolder};
 
-const GREETING: &[u8] = b"OK MPD 0.23.0\n";
-
-// The disks of a fresh journal.
-fn fresh_disks(alloc: Global) -> Result<(MemDisk, MemDisk), Refused<MemDisk>> {
+/// The disks of a fresh journal.
+pub fn fresh_disks(alloc: Global) -> Result<(MemDisk, MemDisk), Refused<MemDisk>> {
     let live = Live::create(alloc, MemDisk::new(alloc), MemDisk::new(alloc), [0; 32])?;
     Ok(live.into_disks())
+}
+
+/// Runs a console. (This has no contract: the prover then reads the long one of `run_console` here alone, and in no test.)
+pub fn run<D: Disk, F: Folder>(
+    alloc: Global,
+    (a, b): (D, D),
+    folder: &mut F,
+    reader: &mut impl Read,
+    writer: &mut impl Write,
+) -> ConsoleEnd<D> {
+    run_console(alloc, a, b, folder, reader, writer)
 }
 
 // An input that gives a line with each read, and fails at the read of this number.
@@ -68,90 +77,38 @@ impl Write for Narrow {
     }
 }
 
-// Runs a console over no songs. It has no contract, so the long one of `run_console` is read here alone.
-fn run<D: Disk>(
-    alloc: Global,
-    (a, b): (D, D),
-    reader: &mut impl Read,
-    writer: &mut impl Write,
-) -> ConsoleEnd<D> {
-    run_console(alloc, a, b, &mut MemFolder::new(alloc), reader, writer)
-}
-
-// Runs a console whose input comes line by line, and gives what it wrote too.
-fn run_lines<D: Disk>(alloc: Global, disks: (D, D), input: &[u8]) -> (ConsoleEnd<D>, Vec<u8>) {
-    let mut reader = Lines {
-        rest: input,
-        reads: 0,
-        failing: 0,
-    };
-    let mut written = Vec::new(alloc);
-    let end = run(alloc, disks, &mut reader, &mut written);
-    (end, written)
-}
-
-// A console has ended so.
-fn has_ended<D>(rt: &impl Abort, end: &ConsoleEnd<D>, status: Status, ending: Ending) {
-    equal(rt, end.status, status);
-    equal(rt, end.ending, ending);
-}
-
-// An input that comes in two pieces is answered like one that comes line by line.
+// Two requests that come in two pieces are answered like these in one.
 fn is_answered_cut(
     rt: &(impl Abort + AllocGlobal),
     front: &[u8],
     back: &[u8],
     whole: &[u8],
 ) -> Result<(), Fail> {
-    let alloc = rt.alloc();
-    let mut written = Vec::new(alloc);
+    let mut written = Vec::new(rt.alloc());
+    let mut reader = front.chain(back);
+    let mut none = MemFolder::new(rt.alloc());
     let end = run(
-        alloc,
-        fresh_disks(alloc)?,
-        &mut front.chain(back),
+        rt.alloc(),
+        fresh_disks(rt.alloc())?,
+        &mut none,
+        &mut reader,
         &mut written,
     );
-    has_ended(rt, &end, Status::Done, Ending::Whole);
+    equal(rt, end.ending, Ending::Whole);
     same_bytes(rt, &written, whole);
     Ok(())
 }
 
+const ANSWERED: &[u8] =
+    b"OK MPD 0.23.0\nOK\nvolume: 100\nrepeat: 0\nrandom: 0\nsingle: 0\nconsume: 0\n\
+playlist: 1\nplaylistlength: 0\nstate: stop\nOK\n";
+
 #[test]
 fn cut_anywhere(rt: HostRuntime) -> Result<(), Fail> {
-    let alloc = rt.alloc();
     let input = b"ping\nstatus\n";
-    let (_, whole) = run_lines(alloc, fresh_disks(alloc)?, input);
-    for cut in 1..input.len() {
+    for cut in 0..input.len() {
         let (front, back) = input.split_at(cut);
-        is_answered_cut(&rt, front, back, &whole)?;
-    }
-    Ok(())
-}
-
-// A console with this input writes its greeting and then this, and is served whole.
-fn writes_this(rt: &(impl Abort + AllocGlobal), input: &[u8], expected: &[u8]) -> Result<(), Fail> {
-    let (end, written) = run_lines(rt.alloc(), fresh_disks(rt.alloc())?, input);
-    has_ended(rt, &end, Status::Done, Ending::Whole);
-    let (front, behind) = written.split_at(GREETING.len().min(written.len()));
-    same_bytes(rt, front, GREETING);
-    same_bytes(rt, behind, expected);
-    Ok(())
-}
-
-// The input of a client that waits, and what it is given behind the greeting.
-const WAITING: [(&[u8], &[u8]); 6] = [
-    (b"idle\nnoidle\nping\n", b"OK\nOK\n"),
-    (b"idle\n \"no\\idle\"\t\r\nping\n", b"OK\nOK\n"),
-    (b"noidle\nping\n", b"OK\n"),
-    (b"setvol 40\nidle\nping\n", b"OK\nchanged: mixer\nOK\nOK\n"),
-    (b"idle\nping\nping\n", b""),
-    (b"idle\nnoidle x\nping\n", b""),
-];
-
-#[test]
-fn a_client_that_waits(rt: HostRuntime) -> Result<(), Fail> {
-    for (input, expected) in &WAITING {
-        writes_this(&rt, input, expected)?;
+        is_answered_cut(&rt, front, back, ANSWERED)?;
     }
     Ok(())
 }
@@ -173,13 +130,18 @@ const FAILING_STREAMS: [(usize, u64, u64, usize, Ending); 13] = [
     (0, 0, 0, 0, Ending::Cut),
 ];
 
+// What is written where nothing fails.
+const WHOLE: &[u8] =
+    b"OK MPD 0.23.0\nOK\nOK\nvolume: 40\nrepeat: 0\nrandom: 0\nsingle: 0\nconsume: 0\n\
+playlist: 1\nplaylistlength: 0\nstate: stop\nOK\n";
+
 // Runs a console whose read or write of these numbers fails, and gives how it ended and what it wrote.
 fn run_failing(
     alloc: Global,
     width: usize,
     failing_read: u64,
     failing_write: u64,
-) -> Result<(ConsoleEnd<MemDisk>, Vec<u8>), Fail> {
+) -> Result<(Ending, Vec<u8>), Fail> {
     let mut reader = Lines {
         rest: b"setvol 40\nping\nstatus\n",
         reads: 0,
@@ -191,151 +153,120 @@ fn run_failing(
         writes: 0,
         failing: failing_write,
     };
-    let end = run(alloc, fresh_disks(alloc)?, &mut reader, &mut writer);
-    Ok((end, writer.taken))
+    let mut none = MemFolder::new(alloc);
+    let end = run(
+        alloc,
+        fresh_disks(alloc)?,
+        &mut none,
+        &mut reader,
+        &mut writer,
+    );
+    Ok((end.ending, writer.taken))
 }
 
 // What such a console wrote is a front of this length of the whole.
 fn writes_a_front(
     rt: &(impl Abort + AllocGlobal),
     case: &(usize, u64, u64, usize, Ending),
-    whole: &[u8],
 ) -> Result<(), Fail> {
-    let (width, failing_read, failing_write, length, ending) = *case;
-    let (end, written) = run_failing(rt.alloc(), width, failing_read, failing_write)?;
-    has_ended(rt, &end, Status::Done, ending);
-    same_bytes(rt, &written, &whole[..length.min(whole.len())]);
+    let (width, failing_read, failing_write, length, wanted) = *case;
+    let (ending, written) = run_failing(rt.alloc(), width, failing_read, failing_write)?;
+    equal(rt, ending, wanted);
+    same_bytes(rt, &written, &WHOLE[..length.min(WHOLE.len())]);
     Ok(())
 }
 
 #[test]
 fn streams_that_fail(rt: HostRuntime) -> Result<(), Fail> {
-    let (_, whole) = run_failing(rt.alloc(), 64, 0, 0)?;
-    equal(&rt, whole.len(), 117);
     for case in &FAILING_STREAMS {
-        writes_a_front(&rt, case, &whole)?;
+        writes_a_front(&rt, case)?;
     }
     Ok(())
 }
 
-// A fuse that no call here comes to.
-const NONE: Fuse = Fuse::Fail(100);
+// What a console of three lines writes; and one whose client is greeted again, since a disk failed in the change.
+const SERVED: &[u8] = b"OK MPD 0.23.0\nOK\nOK\nOK\n";
 
-// Runs a console of three lines over fresh files that have these fuses.
+const GREETED_AGAIN: &[u8] = b"OK MPD 0.23.0\nOK\nOK MPD 0.23.0\nOK\n";
+
+// Runs it over fresh files that have these fuses: how it ended, how often its disks failed, and what it wrote.
 fn run_fused(
     alloc: Global,
     first: Fuse,
     second: Fuse,
-) -> Result<(ConsoleEnd<FuseDisk<MemDisk>>, Vec<u8>), Fail> {
+) -> Result<((Status, Ending), u64, Vec<u8>), Fail> {
     let (a, b) = fresh_disks(alloc)?;
     let disks = (FuseDisk::new(a, first), FuseDisk::new(b, second));
-    Ok(run_lines(alloc, disks, b"ping\nsetvol 40\nping\n"))
+    let mut reader = Lines {
+        rest: b"ping\nsetvol 40\nping\n",
+        reads: 0,
+        failing: 0,
+    };
+    let mut written = Vec::new(alloc);
+    let end = run(
+        alloc,
+        disks,
+        &mut MemFolder::new(alloc),
+        &mut reader,
+        &mut written,
+    );
+    let faults = end.a.faults().saturating_add(end.b.faults());
+    Ok(((end.status, end.ending), faults, written))
 }
 
-// The console goes on after a fault of this call. Whether the fault came in the event, so that the client had to be greeted again.
-fn goes_on(rt: &(impl Abort + AllocGlobal), call: u64) -> Result<bool, Fail> {
-    let (end, written) = run_fused(rt.alloc(), Fuse::Fail(call), NONE)?;
-    equal(rt, end.status, Status::Done);
-    let has_failed = end.a.faults() > 0;
-    equal(rt, end.ending == Ending::Faulted, has_failed);
-    let is_again = written.len() == 34;
-    if is_again {
-        equal(rt, has_failed, true);
-        same_bytes(rt, &written, b"OK MPD 0.23.0\nOK\nOK MPD 0.23.0\nOK\n");
-    } else {
-        same_bytes(rt, &written, b"OK MPD 0.23.0\nOK\nOK\nOK\n");
+// How a console ends whose disks failed so often.
+fn end_by(faults: u64) -> (Status, Ending) {
+    match faults {
+        0 => (Status::Done, Ending::Whole),
+        1 => (Status::Done, Ending::Faulted),
+        _ => (Status::DiskFault, Ending::Faulted),
     }
-    Ok(is_again)
+}
+
+// What is written where a console is given up at the second fault is a front of what is written else.
+fn is_a_front(written: &[u8]) -> bool {
+    SERVED.starts_with(written) || GREETED_AGAIN.starts_with(written)
+}
+
+// It goes on behind the first fault, and gives up at the second. Which of these it was: 1 without a fault, 2 with one that the client
+// doesn't see, 4 with one behind which the client is greeted again, 8 given up.
+fn ends_by_its_faults(
+    rt: &(impl Abort + AllocGlobal),
+    first: Fuse,
+    second: Fuse,
+) -> Result<u8, Fail> {
+    let (end, faults, written) = run_fused(rt.alloc(), first, second)?;
+    equal(rt, end, end_by(faults));
+    if faults > 1 {
+        equal(rt, is_a_front(&written), true);
+        return Ok(8);
+    }
+    if written.as_slice() == GREETED_AGAIN {
+        equal(rt, faults, 1);
+        return Ok(4);
+    }
+    same_bytes(rt, &written, SERVED);
+    Ok(if faults == 0 { 1 } else { 2 })
+}
+
+// The same of each call of the second file, where this call of the first fails.
+fn ends_by_the_second(rt: &(impl Abort + AllocGlobal), first: u64) -> Result<u8, Fail> {
+    let mut seen = 0;
+    for second in 1..30 {
+        seen |= ends_by_its_faults(rt, Fuse::Fail(first), Fuse::Fail(second))?;
+    }
+    Ok(seen)
 }
 
 #[test]
 fn disks_that_fail(rt: HostRuntime) -> Result<(), Fail> {
-    let mut in_event = 0u32;
-    for call in 1..30 {
-        in_event = in_event.saturating_add(u32::from(goes_on(&rt, call)?));
-    }
-    equal(&rt, in_event > 0, true);
-    Ok(())
-}
-
-// The console goes on after one fault, and gives up at the second. Whether there was a second.
-fn ends_by_the_second(
-    rt: &(impl Abort + AllocGlobal),
-    first: u64,
-    second: u64,
-) -> Result<bool, Fail> {
-    let (end, _written) = run_fused(rt.alloc(), Fuse::Fail(first), Fuse::Fail(second))?;
-    let faults = end.a.faults().saturating_add(end.b.faults());
-    let status = if faults < 2 {
-        Status::Done
-    } else {
-        Status::DiskFault
-    };
-    let ending = if faults == 0 {
-        Ending::Whole
-    } else {
-        Ending::Faulted
-    };
-    has_ended(rt, &end, status, ending);
-    Ok(faults > 1)
-}
-
-// How many calls of the second file end the console, where this call of the first fails too.
-fn second_faults(rt: &(impl Abort + AllocGlobal), first: u64) -> Result<u32, Fail> {
-    let mut count = 0u32;
-    for second in 1..30 {
-        count = count.saturating_add(u32::from(ends_by_the_second(rt, first, second)?));
-    }
-    Ok(count)
-}
-
-#[test]
-fn disks_that_fail_twice(rt: HostRuntime) -> Result<(), Fail> {
-    let mut count = 0u32;
+    let mut seen = 0;
     for first in 1..30 {
-        count = count.saturating_add(second_faults(&rt, first)?);
+        seen |= ends_by_the_second(&rt, first)?;
     }
-    equal(&rt, count > 0, true);
-    Ok(())
-}
-
-// The console has ended so, without a word to its client, and the program prints this line.
-fn ends_silently<D>(
-    rt: &(impl Abort + AllocGlobal),
-    (end, written): &(ConsoleEnd<D>, Vec<u8>),
-    status: Status,
-    line: &str,
-) -> Result<(), Fail> {
-    has_ended(rt, end, status, Ending::Faulted);
-    same_text(rt, format!(in rt.alloc(); "{}", end.status)?.as_str(), line);
-    same_bytes(rt, written, b"");
-    Ok(())
-}
-
-#[test]
-fn disk_that_stops(rt: HostRuntime) -> Result<(), Fail> {
-    let done = run_fused(rt.alloc(), Fuse::Stop(1), NONE)?;
-    ends_silently(&rt, &done, Status::DiskFault, "disk fault")?;
-    equal(&rt, done.0.status.code(), 3);
-    Ok(())
-}
-
-#[test]
-fn files_without_a_journal(rt: HostRuntime) -> Result<(), Fail> {
-    let alloc = rt.alloc();
-    let done = run_lines(alloc, (MemDisk::new(alloc), MemDisk::new(alloc)), b"ping\n");
-    ends_silently(&rt, &done, Status::JournalRefused(4), "journal refused: 4")?;
-    equal(&rt, done.0.status.code(), 2);
-    Ok(())
-}
-
-#[test]
-fn too_long_a_line(rt: HostRuntime) -> Result<(), Fail> {
-    let alloc = rt.alloc();
-    let line = vec![in alloc; b'x'; 8_193]?;
-    let (end, written) = run_lines(alloc, fresh_disks(alloc)?, &line);
-    has_ended(&rt, &end, Status::Done, Ending::Cut);
-    equal(&rt, end.status.code(), 0);
-    same_bytes(&rt, &written, GREETING);
+    equal(&rt, seen, 15);
+    let (end, _faults, written) = run_fused(rt.alloc(), Fuse::Stop(1), Fuse::Fail(100))?;
+    equal(&rt, end, (Status::DiskFault, Ending::Faulted));
+    same_bytes(&rt, &written, b"");
     Ok(())
 }

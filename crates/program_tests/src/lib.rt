@@ -1,10 +1,8 @@
-//! The tests of the program's library: configurations, exit statuses, and the console over disks and streams that fail.
+//! The tests of the program's library: the console over disks, streams and folders that fail, and want of memory told apart.
 #![tactic(auto)]
 
 #[cfg(test)]
 mod assertions;
-#[cfg(test)]
-mod config;
 #[cfg(test)]
 mod console;
 #[cfg(test)]

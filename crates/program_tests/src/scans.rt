@@ -1,10 +1,10 @@
-// Scans of the console: folders in memory, of which a call fails, and files that went.
+// Scans of the console: a folder in memory of which a call fails, and disks that fail.
 ghost use Rattle.std.specs.Prelude.{[]};
 
-use crate::assertions::{equal, same_bytes};
+use crate::assertions::equal;
+use crate::console::{fresh_disks, run};
 use disk_model::{Disk, Fuse, FuseDisk, MemDisk};
-use live_stage::{Live, Refused};
-use mpd_program::{ConsoleEnd, Ending, Status, run_console};
+use mpd_program::{ConsoleEnd, Ending, Status};
 use std::alloc::Global;
 use std::io::Read;
 use std::process::Abort;
@@ -16,15 +16,7 @@ const SONG: &[u8] =
     b"RIFF\0\0\0\0WAVEjunk\x03\0\0\0\x01\x02\x03\0fmt \x10\0\0\0\x01\0\x01\0\x40\x1f\0\0\x80\x3e\0\0\x02\0\x10\0\
 data\x04\0\0\0\x01\0\xfe\xffLIST\x1a\0\0\0INFOINAM\x03\0\0\0Hi\0\0IART\x02\0\0\0A\0";
 
-const GREETING: &[u8] = b"OK MPD 0.23.0\n";
-
 const LISTED: &[u8] = b"directory: d\nfile: d/A.wav\nOK\n";
-
-// The disks of a fresh journal.
-fn fresh_disks(alloc: Global) -> Result<(MemDisk, MemDisk), Refused<MemDisk>> {
-    let live = Live::create(alloc, MemDisk::new(alloc), MemDisk::new(alloc), [0; 32])?;
-    Ok(live.into_disks())
-}
 
 // A song in a folder, and beside the folder a file with the name of a song.
 fn two_files(alloc: Global) -> Result<MemFolder<'static>, Fail> {
@@ -32,94 +24,6 @@ fn two_files(alloc: Global) -> Result<MemFolder<'static>, Fail> {
     folder.add(alloc, "d/A.wav", SONG)?;
     folder.add(alloc, "x.wav", b"RIFF\0")?;
     Ok(folder)
-}
-
-// Runs a console over a folder, and gives what it wrote too. It has no contract, so the long one of `run_console` is read here alone.
-fn run<D: Disk, F: Folder>(
-    alloc: Global,
-    (a, b): (D, D),
-    folder: &mut F,
-    reader: &mut impl Read,
-) -> (ConsoleEnd<D>, Vec<u8>) {
-    let mut written = Vec::new(alloc);
-    let end = run_console(alloc, a, b, folder, reader, &mut written);
-    (end, written)
-}
-
-// A console over fresh disks and this folder was served whole, and wrote the greeting and then this. It gives its disks.
-fn writes_this<F: Folder>(
-    rt: &(impl Abort + AllocGlobal),
-    disks: (MemDisk, MemDisk),
-    folder: &mut F,
-    mut input: &[u8],
-    expected: &[u8],
-) -> (MemDisk, MemDisk) {
-    let (end, written) = run(rt.alloc(), disks, folder, &mut input);
-    equal(rt, end.status, Status::Done);
-    equal(rt, end.ending, Ending::Whole);
-    let (front, behind) = written.split_at(GREETING.len().min(written.len()));
-    same_bytes(rt, front, GREETING);
-    same_bytes(rt, behind, expected);
-    let ConsoleEnd { a, b, .. } = end;
-    (a, b)
-}
-
-// What is asked for over the two files, and answered.
-const ASKED: [(&[u8], &[u8]); 8] = [
-    (b"update\n", b"updating_db: 1\nOK\n"),
-    (
-        b"update\nlistall\n",
-        b"updating_db: 1\nOK\ndirectory: d\nfile: d/A.wav\nOK\n",
-    ),
-    (
-        b"update\nlsinfo d\n",
-        b"updating_db: 1\nOK\nfile: d/A.wav\nFormat: 8000:16:1\nTitle: Hi\nArtist: A\nTime: 0\nduration: 0.000\nOK\n",
-    ),
-    (
-        b"update\nlsinfo x.wav\n",
-        b"updating_db: 1\nOK\nACK [50@0] {lsinfo} No such file or directory\n",
-    ),
-    (
-        b"update d\nlsinfo\n",
-        b"updating_db: 1\nOK\ndirectory: d\nOK\n",
-    ),
-    (b"update x.wav\nlistall\n", b"updating_db: 1\nOK\nOK\n"),
-    (
-        b"update\nupdate\nlistall\n",
-        b"updating_db: 1\nOK\nupdating_db: 2\nOK\ndirectory: d\nfile: d/A.wav\nOK\n",
-    ),
-    (
-        b"rescan ../d\nlistall\n",
-        b"ACK [2@0] {rescan} bad argument 1\nOK\n",
-    ),
-];
-
-#[test]
-fn updates(rt: HostRuntime) -> Result<(), Fail> {
-    let alloc = rt.alloc();
-    for (input, expected) in &ASKED {
-        writes_this(
-            &rt,
-            fresh_disks(alloc)?,
-            &mut two_files(alloc)?,
-            input,
-            expected,
-        );
-    }
-    Ok(())
-}
-
-#[test]
-fn kept_and_removed(rt: HostRuntime) -> Result<(), Fail> {
-    let alloc = rt.alloc();
-    let disks = fresh_disks(alloc)?;
-    let (update, update_answer) = (b"update\n", b"updating_db: 1\nOK\n");
-    let disks = writes_this(&rt, disks, &mut two_files(alloc)?, update, update_answer);
-    let mut empty = MemFolder::new(alloc);
-    let disks = writes_this(&rt, disks, &mut empty, b"listall\n", LISTED);
-    let disks = writes_this(&rt, disks, &mut empty, update, update_answer);
-    writes_this(&rt, disks, &mut empty, b"listall\n", b"OK\n");
-    Ok(())
 }
 
 // The call of the folder that fails, how many there are in two updates, and how much is written. Without a fault the root, `d`, its
@@ -177,7 +81,9 @@ fn keeps_what_it_cannot_read(
     let alloc = rt.alloc();
     let mut broken = broken_folder(alloc, calls_before)?;
     let mut input: &[u8] = b"update\nlistall\nupdate\nlistall\n";
-    let (end, written) = run(alloc, fresh_disks(alloc)?, &mut broken, &mut input);
+    let mut written = Vec::new(alloc);
+    let disks = fresh_disks(alloc)?;
+    let end = run(alloc, disks, &mut broken, &mut input, &mut written);
     equal(rt, end.ending, Ending::Whole);
     equal(rt, broken.folder.calls, calls);
     equal(rt, written.len(), length);
@@ -199,7 +105,10 @@ fn run_fused(alloc: Global, fuse: Fuse) -> Result<(ConsoleEnd<FuseDisk<MemDisk>>
     let disks = (FuseDisk::new(a, fuse), FuseDisk::new(b, Fuse::Fail(100)));
     let (update, listall): (&[u8], &[u8]) = (b"update\n", b"listall\n");
     let mut reader = update.chain(update).chain(listall);
-    Ok(run(alloc, disks, &mut two_files(alloc)?, &mut reader))
+    let mut folder = two_files(alloc)?;
+    let mut written = Vec::new(alloc);
+    let end = run(alloc, disks, &mut folder, &mut reader, &mut written);
+    Ok((end, written))
 }
 
 // Wherever the first disk fails once, the next update reads what the one before it could not keep.

@@ -1,7 +1,8 @@
 //! Calls of a disk, and what each gives.
 use crate::fault::Fault;
+use crate::given::read_bytes;
 use crate::printer::Printer;
-use crate::words::{first_word, number, read_bytes};
+use crate::words::{first_word, number};
 use disk_model::{Disk, FileDisk};
 use std::os::unix::fs::FileExt;
 use std::rt::Files;

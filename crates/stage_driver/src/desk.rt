@@ -1,5 +1,6 @@
 //! The two files, and what is done with them between two lives.
 use crate::calls::call_file;
+use crate::codec::Codec;
 use crate::fake::call_fake;
 use crate::fault::Fault;
 use crate::file::{File, TestDisk};
@@ -24,6 +25,7 @@ pub struct Desk {
     aside: Option<(File, File)>,
     /// The events of the next run.
     pub later: Vec<Event>,
+    codec: Codec,
 }
 
 /// What is printed where memory is refused to a journal, a stage that begins, and one that runs.
@@ -41,6 +43,7 @@ impl Desk {
             b: File::empty(alloc),
             aside: None,
             later: Vec::new(alloc),
+            codec: Codec::new(alloc),
         }
     }
 
@@ -98,7 +101,7 @@ impl Desk {
                 tell_no_memory(&mut self.printer);
                 Ok(())
             }
-            _ => Err(Fault::NoDirective),
+            _ => self.codec.take(&mut self.printer, word, rest),
         }
     }
 }

@@ -7,6 +7,8 @@ pub enum Fault {
     NoDirective,
     NoNumber,
     NoBytes,
+    /// An op that is applied often was refused.
+    Refused,
     /// The program itself had no memory for it.
     NoMemory,
 }
@@ -17,6 +19,7 @@ impl Fault {
             Fault::NoDirective => "no directive, or none here",
             Fault::NoNumber => "no number",
             Fault::NoBytes => "no bytes",
+            Fault::Refused => "an op was refused",
             Fault::NoMemory => "no memory for the line itself",
         }
     }

@@ -1,8 +1,9 @@
 //! A file in memory, and what may be left of it.
 use crate::calls::make_calls;
 use crate::fault::Fault;
+use crate::given::read_bytes;
 use crate::printer::Printer;
-use crate::words::{first_word, number, read_bytes};
+use crate::words::{first_word, number};
 use disk_model::{Disk, Fuse, FuseDisk, MemDisk};
 use std::alloc::{AllocError, Global};
 use std::mem;

@@ -1,13 +1,15 @@
-//! Disks, journals and stages over two files in memory, to which the lines of the input happen.
+//! Disks, journals and stages over two files in memory, and the stored form of a state, to which the lines of the input happen.
 #![tactic(auto)]
 
 mod calls;
+mod codec;
 mod desk;
 mod driver;
 mod event;
 mod fake;
 mod fault;
 mod file;
+mod given;
 mod journal;
 mod printer;
 mod stage;
@@ -51,10 +53,14 @@ fn serve<R: BufRead>(
     Ok(())
 }
 
+/// Serves all lines by a driver of its own.
+fn serve_all<R: BufRead>(rt: &HostRuntime, reader: &mut R, line: &mut String) -> io::Result<()> {
+    let mut driver = Driver::new(rt.alloc());
+    serve(rt, &mut driver, reader, line)
+}
+
 fn main(rt: HostRuntime) -> io::Result<()> {
-    let alloc = rt.alloc();
-    let mut reader = BufReader::new(alloc, rt.reader())?;
-    let mut line = String::new(alloc);
-    let mut driver = Driver::new(alloc);
-    serve(&rt, &mut driver, &mut reader, &mut line)
+    let mut reader = BufReader::new(rt.alloc(), rt.reader())?;
+    let mut line = String::new(rt.alloc());
+    serve_all(&rt, &mut reader, &mut line)
 }

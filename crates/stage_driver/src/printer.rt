@@ -51,7 +51,8 @@ impl Printer {
         self.add(b"\n");
     }
 
-    fn add_text(&mut self, text: Option<String>) {
+    /// A text that was made, or memory was refused to it.
+    pub fn text(&mut self, text: Option<String>) {
         match text {
             Some(text) => self.add(text.as_bytes()),
             None => self.is_short = true,
@@ -59,7 +60,7 @@ impl Printer {
     }
 
     pub fn number(&mut self, number: u64) {
-        self.add_text(format!(in self.alloc; "{number}").ok());
+        self.text(format!(in self.alloc; "{number}").ok());
     }
 
     /// A word and a number.
@@ -70,6 +71,11 @@ impl Printer {
         self.add(b"\n");
     }
 
+    /// The bytes in hex digits.
+    pub fn digits(&mut self, bytes: &[u8]) {
+        self.text(hex::encode(self.alloc, bytes).ok());
+    }
+
     /// A word and the bytes in hex digits, or `-` where there are none.
     pub fn hex(&mut self, word: &str, bytes: &[u8]) {
         self.add(word.as_bytes());
@@ -77,13 +83,13 @@ impl Printer {
         if bytes.is_empty() {
             self.add(b"-");
         }
-        self.add_text(hex::encode(self.alloc, bytes).ok());
+        self.digits(bytes);
         self.add(b"\n");
     }
 
     /// A refusal's number and its text.
     pub fn refused(&mut self, number: u8, error: impl Display + Drop) {
-        self.add_text(format!(in self.alloc; "refused {number} {error}\n").ok());
+        self.text(format!(in self.alloc; "refused {number} {error}\n").ok());
     }
 
     /// What a call of a disk gave.

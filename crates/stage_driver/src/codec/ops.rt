@@ -1,0 +1,98 @@
+//! Ops as they are read, and their bytes.
+use crate::fault::Fault;
+use crate::printer::Printer;
+use no_memory::NoMemory;
+use state_codec::{CodecError, Op, put_op, take_ops};
+use std::alloc::{AllocError, Global};
+
+// The next functions have no contract: the prover then reads the long ones here alone.
+
+fn taken(alloc: Global, bytes: &[u8]) -> Result<Vec<Op>, CodecError> {
+    take_ops(alloc, bytes)
+}
+
+fn put(out: &mut Vec<u8>, op: &Op) -> Result<(), NoMemory> {
+    put_op(out, op)
+}
+
+fn copy_of(alloc: Global, op: &Op) -> Result<Op, AllocError> {
+    op.try_clone(alloc)
+}
+
+/// The ops that bytes spell, where they spell some.
+pub fn read(alloc: Global, bytes: &[u8]) -> Result<Vec<Op>, Fault> {
+    match taken(alloc, bytes) {
+        Ok(ops) => Ok(ops),
+        Err(_) => Err(Fault::NoBytes),
+    }
+}
+
+/// What is wrong with ops, if anything is.
+pub fn fault_of(alloc: Global, bytes: &[u8]) -> Option<CodecError> {
+    taken(alloc, bytes).err()
+}
+
+/// Whether there was room for the bytes of an op.
+fn fits(out: &mut Vec<u8>, op: Op) -> bool {
+    put(out, &op).is_ok()
+}
+
+/// Adds the bytes of a copy of an op.
+fn add_copy(out: &mut Vec<u8>, alloc: Global, op: &Op) -> Result<(), Fault> {
+    if fits(out, copy_of(alloc, op)?) {
+        Ok(())
+    } else {
+        Err(Fault::NoMemory)
+    }
+}
+
+/// Adds those of all ops, for which there is room.
+fn add_copies(out: &mut Vec<u8>, alloc: Global, ops: &[Op]) -> Result<(), Fault> {
+    for op in ops {
+        add_copy(out, alloc, op)?;
+    }
+    Ok(())
+}
+
+/// Prints the bytes of an op in so much room, or that it is refused and how many bytes then stand there.
+fn tell_in_room(printer: &mut Printer, op: &Op, room: usize) -> Result<(), Fault> {
+    let mut out = Vec::with_capacity(printer.alloc, room)?;
+    match put(&mut out, op) {
+        Ok(()) => printer.hex("written", &out),
+        Err(refusal) => {
+            let (number, len) = (refusal.number(), out.len());
+            printer.text(format!(in printer.alloc;
+                "refused {number} in {room}, {len} written\n"
+            ).ok());
+        }
+    }
+    Ok(())
+}
+
+fn tell_op(printer: &mut Printer, op: &Op) -> Result<(), Fault> {
+    printer.text(format!(in printer.alloc; "op {op:?}\n").ok());
+    let len = op.spelled_len();
+    tell_in_room(printer, op, len)?;
+    tell_in_room(printer, op, len.saturating_sub(1))
+}
+
+fn tell_all(printer: &mut Printer, ops: &[Op], room: usize) -> Result<(), Fault> {
+    for op in ops {
+        tell_op(printer, op)?;
+    }
+    let mut copies = Vec::with_capacity(printer.alloc, room)?;
+    add_copies(&mut copies, printer.alloc, ops)?;
+    printer.hex("copies", &copies);
+    Ok(())
+}
+
+/// Prints the ops that the bytes spell: each of them and what it is spelled to, and then copies of them all.
+pub fn tell_ops(printer: &mut Printer, bytes: &[u8]) -> Result<(), Fault> {
+    match taken(printer.alloc, bytes) {
+        Ok(ops) => tell_all(printer, &ops, bytes.len()),
+        Err(error) => {
+            printer.refused(error.number(), error);
+            Ok(())
+        }
+    }
+}

@@ -1,0 +1,123 @@
+//! Snapshots.
+use super::{Codec, ops};
+use crate::fault::Fault;
+use crate::printer::Printer;
+use no_memory::NoMemory;
+use state_codec::{ApplyError, BodyError, CodecError, Saved, put_saved, take_saved};
+use std::alloc::Global;
+
+// The next functions have no contract: the prover then reads the long ones here alone.
+
+fn read(alloc: Global, bytes: &[u8]) -> Result<Saved, CodecError> {
+    take_saved(alloc, bytes)
+}
+
+fn put(alloc: Global, saved: &Saved) -> Result<Vec<u8>, NoMemory> {
+    put_saved(alloc, saved)
+}
+
+fn spelled(alloc: Global, saved: &Saved) -> Result<Vec<u8>, Fault> {
+    match put(alloc, saved) {
+        Ok(bytes) => Ok(bytes),
+        Err(_) => Err(Fault::NoMemory),
+    }
+}
+
+/// What is read of the bytes, spelled again.
+fn again(alloc: Global, bytes: &[u8]) -> Result<Vec<u8>, Fault> {
+    match read(alloc, bytes) {
+        Ok(saved) => spelled(alloc, &saved),
+        Err(_) => Err(Fault::NoBytes),
+    }
+}
+
+/// What is wrong with the first bytes, so many, as ops or as a snapshot.
+fn fault_of_front(alloc: Global, bytes: &[u8], len: usize, as_ops: bool) -> Option<CodecError> {
+    let front = bytes.get(..len).unwrap_or(bytes);
+    if as_ops {
+        ops::fault_of(alloc, front)
+    } else {
+        read(alloc, front).err()
+    }
+}
+
+/// The bytes with one of them changed.
+fn changed(alloc: Global, bytes: &[u8], place: u64, byte: u8) -> Result<Vec<u8>, Fault> {
+    let mut bytes = Vec::from_slice(alloc, bytes)?;
+    *bytes.get_mut(place as usize).ok_or(Fault::NoBytes)? = byte;
+    Ok(bytes)
+}
+
+/// Prints what is wrong with bytes, or that nothing is.
+fn tell_fault(printer: &mut Printer, fault: Option<CodecError>) {
+    match fault {
+        Some(error) => printer.refused(error.number(), error),
+        None => printer.line("read"),
+    }
+}
+
+/// Prints how long bytes are that were spelled again, and whether they are the same.
+fn tell_same(printer: &mut Printer, bytes: &[u8], again: &[u8]) {
+    let (len, is_same) = (again.len(), bytes == again);
+    printer.text(format!(in printer.alloc; "again {len} {is_same}\n").ok());
+}
+
+/// Prints the fault of each front of the bytes, read as ops or as a snapshot.
+pub fn tell_fronts(printer: &mut Printer, bytes: &[u8], as_ops: bool) {
+    for len in 0..bytes.len() {
+        printer.number(len as u64);
+        printer.add(b" ");
+        let fault = fault_of_front(printer.alloc, bytes, len, as_ops);
+        tell_fault(printer, fault);
+    }
+}
+
+/// Prints the refusals that no bytes show.
+pub fn tell_refusals(printer: &mut Printer) {
+    printer.refused(CodecError::NoMemory.number(), CodecError::NoMemory);
+    printer.refused(BodyError::NoMemory.number(), BodyError::NoMemory);
+    printer.refused(ApplyError::NoMemory.number(), ApplyError::NoMemory);
+}
+
+impl Codec {
+    /// The state is the one that the bytes spell.
+    pub(super) fn read_snapshot(&mut self, printer: &mut Printer) {
+        match read(self.alloc, &self.given) {
+            Ok(saved) => {
+                self.state = saved;
+                printer.line("read");
+            }
+            Err(error) => printer.refused(error.number(), error),
+        }
+    }
+
+    /// Prints what is wrong with the bytes where one of them is changed, or what they are spelled to again.
+    pub(super) fn read_changed(
+        &self,
+        printer: &mut Printer,
+        place: u64,
+        byte: u8,
+    ) -> Result<(), Fault> {
+        let bytes = changed(self.alloc, &self.given, place, byte)?;
+        match read(self.alloc, &bytes) {
+            Ok(saved) => tell_same(printer, &bytes, &spelled(self.alloc, &saved)?),
+            Err(error) => printer.refused(error.number(), error),
+        }
+        Ok(())
+    }
+
+    /// Prints the snapshot of the state.
+    pub(super) fn tell_spelled(&self, printer: &mut Printer) -> Result<(), Fault> {
+        printer.digits(&spelled(self.alloc, &self.state)?);
+        printer.add(b"\n");
+        Ok(())
+    }
+
+    /// Prints how long the snapshot of the state is, and whether what is read of it is spelled so again.
+    pub(super) fn tell_again(&self, printer: &mut Printer) -> Result<(), Fault> {
+        let bytes = spelled(self.alloc, &self.state)?;
+        let again = again(self.alloc, &bytes)?;
+        tell_same(printer, &bytes, &again);
+        Ok(())
+    }
+}

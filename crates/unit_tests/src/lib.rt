@@ -1,0 +1,21 @@
+//! The tests of the crates below the core: what neither their contracts say nor a script shows.
+#![tactic(auto)]
+
+#[cfg(test)]
+mod assertions;
+#[cfg(test)]
+mod files;
+#[cfg(test)]
+mod player;
+#[cfg(test)]
+mod queue;
+#[cfg(test)]
+mod requests;
+#[cfg(test)]
+mod scans;
+#[cfg(test)]
+mod sessions;
+#[cfg(test)]
+mod watch;
+#[cfg(test)]
+mod waves;

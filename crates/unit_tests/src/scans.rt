@@ -1,0 +1,191 @@
+ghost use Rattle.std.specs.Prelude.{[]};
+
+// `song_db`: scans of a folder that fails, and the order of what a scan tells.
+use crate::assertions::{equal, uri};
+use crate::waves::WAVE_A;
+use song_db::{RowChange, Scan, ScanOrder, SongDbError, Uri};
+use std::alloc::Global;
+use std::process::Abort;
+use std::test::Fail;
+use wave_pcm::{
+    FaultyFolder, FaultySource, Folder, FolderEntry, FolderFault, MemFolder, MemSource, ReadTrouble,
+};
+
+/// A folder in memory of which one call fails, or one read of each file.
+#[derive(Drop)]
+struct BrokenFolder {
+    folder: FaultyFolder<MemFolder<'static>>,
+    reads_before: u64,
+}
+
+impl Folder for BrokenFolder {
+    type File = FaultySource<'static>;
+
+    ghost files = { λ _. [] };
+
+    ghost honest = { λ _. ⊥ };
+
+    ghost steady = { λ _. ⊥ };
+
+    fn list(&mut self, alloc: Global, path: &str) -> Result<Option<Vec<FolderEntry>>, FolderFault> {
+        self.folder.list(alloc, path)
+    }
+
+    fn open(&mut self, alloc: Global, path: &str) -> Result<Option<Self::File>, FolderFault> {
+        match self.folder.open(alloc, path)? {
+            Some(source) => Ok(Some(FaultySource {
+                source,
+                reads_before: self.reads_before,
+                trouble: ReadTrouble::Fails,
+                faults: 0,
+                reads: 0,
+            })),
+            None => Ok(None),
+        }
+    }
+}
+
+/// The bytes of the file at a path: `x.wav` is no song.
+fn bytes_of(path: &str) -> &'static [u8] {
+    match path {
+        "x.wav" => b"RIFF\0",
+        _ => &WAVE_A,
+    }
+}
+
+/// A folder of files with these paths, which a space parts.
+fn folder_of(alloc: Global, paths: &str) -> Result<MemFolder<'static>, Fail> {
+    let mut folder = MemFolder::new(alloc);
+    for path in paths.split_whitespace() {
+        folder.add(alloc, path, bytes_of(path))?;
+    }
+    Ok(folder)
+}
+
+/// The known URIs.
+fn known(alloc: Global) -> Result<Vec<Uri>, Fail> {
+    let mut uris = Vec::new(alloc);
+    for text in ["d/A.wav", "d/B.wav", "x.wav"] {
+        uris.push(uri(alloc, text)?)?;
+    }
+    Ok(uris)
+}
+
+/// The next changes. (This has no contract: the prover then reads the long one of a scan here alone, and in no test.)
+fn next(
+    scan: &mut Scan,
+    alloc: Global,
+    folder: &mut BrokenFolder,
+) -> Result<Option<Vec<RowChange>>, SongDbError> {
+    scan.next(alloc, folder)
+}
+
+/// A scan of a place.
+fn scan_of(alloc: Global, place: &str) -> Result<Scan, Fail> {
+    let order = ScanOrder::new(1, Uri::read(alloc, place)?, known(alloc)?).ok_or("not rising")?;
+    Ok(Scan::begin(alloc, order)?)
+}
+
+/// These are the changes: `+` before the URI of a row that comes, `-` before that of one that goes.
+fn compare(rt: &impl Abort, changes: &[RowChange], want: &str) {
+    equal(
+        rt,
+        (want, changes.len()),
+        (want, want.split_whitespace().count()),
+    );
+    for (change, word) in changes.iter().zip(want.split_whitespace()) {
+        let wanted = match change {
+            RowChange::Put(_) => word.strip_prefix('+'),
+            RowChange::Drop(_) => word.strip_prefix('-'),
+        };
+        equal(rt, Some(change.uri()), wanted);
+    }
+}
+
+/// A scan tells these changes next.
+fn tells(
+    rt: &impl Abort,
+    alloc: Global,
+    scan: &mut Scan,
+    folder: &mut BrokenFolder,
+    want: &str,
+) -> Result<(), SongDbError> {
+    let changes = next(scan, alloc, folder)?;
+    compare(rt, changes.as_deref().unwrap_or(&[]), want);
+    Ok(())
+}
+
+/// A scan tells these changes, and no more.
+fn tells_only(
+    rt: &impl Abort,
+    alloc: Global,
+    scan: &mut Scan,
+    folder: &mut BrokenFolder,
+    want: &str,
+) -> Result<(), SongDbError> {
+    tells(rt, alloc, scan, folder, want)?;
+    tells(rt, alloc, scan, folder, "")
+}
+
+/// No call, or no read, is so late.
+const NEVER: u64 = 100;
+
+/// The call of a folder of `d/A.wav` and `x.wav` that fails, the read of each file that does, the place, and what a scan of it tells:
+/// nothing is dropped that couldn't be read, and all else is told.
+const FAULTS: [(u64, u64, &str, &str); 9] = [
+    (0, NEVER, "", ""),
+    (1, NEVER, "", "-x.wav"),
+    (2, NEVER, "", "-d/B.wav -x.wav"),
+    (3, NEVER, "", "+d/A.wav -d/B.wav"),
+    (NEVER, NEVER, "", "+d/A.wav -d/B.wav -x.wav"),
+    (NEVER, 0, "", "-d/B.wav -x.wav"),
+    (NEVER, 3, "", "-d/B.wav -x.wav"),
+    (NEVER, 0, "d/A.wav", "-d/B.wav -x.wav"),
+    (NEVER, 3, "d/A.wav", "-d/B.wav -x.wav"),
+];
+
+/// A scan of such a folder tells these changes, and no more.
+fn is_told(
+    rt: &impl Abort,
+    alloc: Global,
+    folder: MemFolder<'static>,
+    row: (u64, u64, &str, &str),
+) -> Result<(), Fail> {
+    let (calls_before, reads_before, place, want) = row;
+    let folder = FaultyFolder {
+        folder,
+        calls_before,
+        calls: 0,
+    };
+    let mut folder = BrokenFolder {
+        folder,
+        reads_before,
+    };
+    let mut scan = scan_of(alloc, place)?;
+    Ok(tells_only(rt, alloc, &mut scan, &mut folder, want)?)
+}
+
+#[test]
+fn folders_that_fail(rt: HostRuntime) -> Result<(), Fail> {
+    for row in &FAULTS {
+        is_told(
+            &rt,
+            rt.alloc(),
+            folder_of(rt.alloc(), "d/A.wav x.wav")?,
+            *row,
+        )?;
+    }
+    Ok(())
+}
+
+/// The songs come by the bytes of their names, folders and files mixed and a folder before a file of its name, and then the drops.
+#[test]
+fn order_of_a_scan(rt: HostRuntime) -> Result<(), Fail> {
+    let folder = folder_of(
+        rt.alloc(),
+        "ä/ö.wav b.wav a.wav a/c.wav a.wav/b.wav a.b/c.wav B.wav",
+    )?;
+    let want =
+        "+B.wav +a/c.wav +a.b/c.wav +a.wav/b.wav +a.wav +b.wav +ä/ö.wav -d/A.wav -d/B.wav -x.wav";
+    is_told(&rt, rt.alloc(), folder, (NEVER, NEVER, "", want))
+}
