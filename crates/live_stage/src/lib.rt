@@ -1,6 +1,7 @@
 //! The daemon's state and its journal together: one event, one record.
 #![tactic(auto)]
 
+mod checkpointing;
 mod decoding;
 mod live;
 mod recording;

@@ -19,6 +19,8 @@ use Rattle.daemon_core.specs.Replay.{Entry, stepped}
 use Rattle.live_stage.specs.declared.refusal.LiveError.{LiveError}
 use Rattle.live_stage.specs.declared.refusal.LiveError.TheVariants.{Broken, NoMemory, NumbersSpent}
 use Rattle.live_stage.specs.LiveState.{LiveState}
+use Rattle.live_stage.specs.Turns.{IsStill}
+use Rattle.live_stage.proofs.TurnLaws.{still_state, still_usable as stays_usable}
 use Rattle.live_stage.specs.Found.{AllFindNow, AllFindSince}
 use Rattle.live_stage.specs.Transcript.{replayed}
 use Rattle.mpd_program.specs.Console.{bytes_to, asked, asked_by, asked_in, ComesInTurn}
@@ -329,20 +331,20 @@ pub one_refused : {D : Type 0} (Honest : Type 0) (c : ℕ) (event : Event) (old 
     (t u : ℕ) (before : Option (List ℕ))
     → (Honest → (k : Option ℕ) × AllFindSince (λ f. (f ≡ Some old.state.machine.saved)
     ⊎ (let now = step old.state event k in f ≡ Some now.after.machine.saved)) a t b u)
-    → ComesInTurn old.state.machine.job event → (e ≢ Broken → new ≡ old)
+    → ComesInTurn old.state.machine.job event → (e ≢ Broken → IsStill old new)
     → Stops Honest c (asked event) old.state new.state a b before before (ending_of e)
 one_refused Honest c event old new Broken a b t u before found turn stays =
     one_failed Honest c event old.state a b t u before before found turn (keeps_itself before)
 one_refused Honest c event old new NoMemory a b t u before found turn stays =
-    none_served c (asked event) old.state new.state before before (ap (λ v. v.state) (stays (λ is. cc))) (keeps_itself before)
+    none_served c (asked event) old.state new.state before before (still_state old new (stays (λ is. cc))) (keeps_itself before)
 one_refused Honest c event old new NumbersSpent a b t u before found turn stays =
-    none_served c (asked event) old.state new.state before before (ap (λ v. v.state) (stays (λ is. cc))) (keeps_itself before)
+    none_served c (asked event) old.state new.state before before (still_state old new (stays (λ is. cc))) (keeps_itself before)
 
-pub still_usable : {D : Type 0} (old new : LiveState D) (e : LiveError) → old.is_broken ≡ false → (e ≢ Broken → new ≡ old)
+pub still_usable : {D : Type 0} (old new : LiveState D) (e : LiveError) → old.is_broken ≡ false → (e ≢ Broken → IsStill old new)
     → ending_of e ≢ Faulted → new.is_broken ≡ false
 still_usable old new Broken usable stays other = absurd (other refl)
-still_usable old new NoMemory usable stays other = ap (λ v. v.is_broken) (stays (λ is. cc)) ∙ usable
-still_usable old new NumbersSpent usable stays other = ap (λ v. v.is_broken) (stays (λ is. cc)) ∙ usable
+still_usable old new NoMemory usable stays other = stays_usable old new usable (stays (λ is. cc))
+still_usable old new NumbersSpent usable stays other = stays_usable old new usable (stays (λ is. cc))
 
 pub only_broken : (e : LiveError) → ending_of e ≡ Faulted → e ≡ Broken
 only_broken Broken is = refl

@@ -256,6 +256,13 @@ impl<D: Disk> Journal<D> {
         self.base
     }
 
+    /// The generation of the file in use. A checkpoint makes the next one, unless it is 2^64 - 1.
+    pub fn generation(&self) -> u64
+        ensures { result ≡ self.now.generation }
+    {
+        self.generation
+    }
+
     /// How many records stand behind the snapshot.
     pub fn records_since_checkpoint(&self) -> u64
         ensures value { result ≡ self.now.count }
