@@ -3,6 +3,7 @@
 
 mod checkpointing;
 mod decoding;
+pub mod laws;
 mod live;
 mod recording;
 mod refusal;

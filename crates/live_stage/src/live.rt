@@ -6,7 +6,6 @@ ghost use Rattle.state_codec.specs.SavedState.{IsSavedState, fresh};
 ghost use Rattle.state_codec.specs.Spelling.{saved_bytes};
 ghost use Rattle.play_journal.specs.Content.{Content};
 ghost use Rattle.play_journal.specs.Pair.{found};
-ghost use Rattle.daemon_core.specs.Orders.{play_order, scan_order};
 ghost use Rattle.daemon_core.specs.State.{start};
 ghost use Rattle.daemon_core.specs.Step.{step};
 ghost use Rattle.live_stage.specs.Answer.{IsTurn, IsHandled, IsBeforeOrAfter, HasNoOps};
@@ -14,7 +13,7 @@ ghost use Rattle.live_stage.specs.Errors.{IsRefusalOfCreate, IsRefusalOfOpen, Is
 ghost use Rattle.live_stage.specs.Numbers.{first_numbers, first_file, greatest, is_due, AreCountsSpent, AreSpent};
 ghost use Rattle.live_stage.specs.Turns.{IsBegun, IsOver, IsStored, IsCheckpointed, IsCheckpointing, HoldsSnapshot, RefusesCheckpoint};
 ghost use Rattle.live_stage.specs.Turns.{IsReady, IsWritten, StaysInFile, WritesOneFile, MakesNoCall, LeavesAsIs, RefusesInOrder};
-ghost use Rattle.live_stage.specs.Turns.{RefusesToTell, ready_content, recorded_content, writes_to_b};
+ghost use Rattle.live_stage.specs.Turns.{ready_content, recorded_content, writes_to_b};
 ghost use Rattle.live_stage.specs.Found.{found_state, AllFindNow, AllFindSince, KeepsFoundState};
 
 use crate::checkpointing::write_snapshot;
@@ -25,12 +24,12 @@ use crate::{LiveError, Refused, StartError};
 use daemon_core::{Core, Event};
 use disk_model::Disk;
 use play_journal::{Journal, JournalError};
-use player_core::Order;
-use song_db::ScanOrder;
 use state_codec::{Saved, put_saved};
 use std::alloc::Global;
 use std::marker::Model;
 use std::snapshot::Snapshot;
+
+mod looks;
 
 /// So many records stand behind a snapshot at most: a turn that finds them makes a checkpoint first.
 const MOST_RECORDS: u64 = 4_096;
@@ -317,30 +316,6 @@ impl<D: Disk> Live<D> {
         let number = record_ops(&mut self.journal, &mut self.room, &outcome.ops)?;
         self.event += 1;
         Ok(Turn::new(outcome, self.event, number, asked, before))
-    }
-
-    /// What the output is to do: to play a song from a frame on, or to wait. It refuses `Broken` where a disk failed, and else
-    /// want of memory alone.
-    pub fn order(&self, alloc: Global) -> Result<Order, LiveError>
-        ensures order { IfOk result (λ order. order ≡ play_order self.now.state.machine) }
-        ensures refuses { RefusesToTell self.now result }
-    {
-        if self.is_broken() {
-            return Err(LiveError::Broken);
-        }
-        self.core.order(alloc).map_err(|_| LiveError::NoMemory)
-    }
-
-    /// What a scan is to read for the job that runs, if one does. It refuses `Broken` where a disk failed, and else want of
-    /// memory alone.
-    pub fn scan_order(&self, alloc: Global) -> Result<Option<ScanOrder>, LiveError>
-        ensures order { IfOk result (λ order. order ≡ scan_order self.now.state.machine) }
-        ensures refuses { RefusesToTell self.now result }
-    {
-        if self.is_broken() {
-            return Err(LiveError::Broken);
-        }
-        self.core.scan_order(alloc).map_err(|_| LiveError::NoMemory)
     }
 
     /// How many events there were since the stage was made or opened.
