@@ -2,6 +2,8 @@
 use Rattle.std.specs.Prelude.{◌≡◌, ◌≢◌, ◌⊎◌, ◌↔◌, ◌≤◌, true, false, not, Bool, ℕ, List, [], ◌∷◌, length, Some, Result, Err, MatchBool}
 use Rattle.std.specs.Prelude.{OnOk, OnErr, IfErr, if◌then◌else◌}
 use Rattle.disk_model.specs.History.{Change}
+use Rattle.disk_model.specs.Later.{HasFailed}
+use Rattle.play_journal.specs.Calls.{SameFaults}
 use Rattle.play_journal.specs.Content.{Content, with_record, with_snapshot, IsOldOrNew}
 use Rattle.play_journal.specs.Pair.{AllPairsNow, AllPairsSince}
 use Rattle.state_codec.specs.declared.op.Op.{Op}
@@ -102,6 +104,12 @@ pub record WritesOneFile {D T : Type 0} (old new : LiveState D) (result : Result
   pub in_use : OnOk result (new.is_in_b ≡ writes_to_b old)
   pub same_file : is_due old.file ≡ false → new.is_in_b ≡ old.is_in_b
   pub other_file : MatchBool (writes_to_b old) (new.a ≡ old.a) (new.b ≡ old.b)
+
+-- `Broken` is told only where one of the two disks has failed, or the stage was broken, and any other answer only where neither has.
+pub record TellsFaults {D T : Type 0} (honest : D → Type 0) (faults : D → ℕ) (old new : LiveState D) (result : Result T LiveError)
+    : Type 0 where
+  pub failed : honest old.a → honest old.b → old.is_broken ≡ false → result ≡ Err Broken → HasFailed faults old.a old.b new.a new.b
+  pub met_none : result ≢ Err Broken → SameFaults faults old.a old.b new.a new.b
 
 -- no disk was called
 pub record MakesNoCall {D : Type 0} (old new : LiveState D) : Type 0 where

@@ -1,7 +1,7 @@
 // The state as a new snapshot.
 ghost use Rattle.std.specs.Prelude.{◌≡◌, ◌≢◌, ◌+◌, ◌-◌, ◌^◌, false, true, length, Err, OnOk, MatchBool};
 ghost use Rattle.disk_model.specs.Later.{AreLater, HasFailed};
-ghost use Rattle.play_journal.specs.Calls.{Holds, IsNextGeneration};
+ghost use Rattle.play_journal.specs.Calls.{Holds, IsNextGeneration, SameFaults};
 ghost use Rattle.play_journal.specs.Content.{with_snapshot, IsOldOrNew};
 ghost use Rattle.play_journal.specs.Pair.{AllPairsSince};
 ghost use Rattle.state_codec.specs.SavedState.{IsSavedState};
@@ -29,6 +29,7 @@ pub(crate) fn write_snapshot<D: Disk>(
         → OnOk result (Holds D.history journal.new (with_snapshot journal.old.content (saved_bytes saved.now))) }
     ensures in_range { IsSavedState saved.now }
     ensures next { OnOk result (IsNextGeneration journal.old journal.new) }
+    ensures met_none { OnOk result (SameFaults D.faults journal.old.a journal.old.b journal.new.a journal.new.b) }
     ensures never { result ≢ Err LiveError.NumbersSpent }
     ensures no_memory { result ≡ Err LiveError.NoMemory → journal.new ≡ journal.old }
     ensures spends { result ≡ Err LiveError.Broken → journal.new.is_spent ≡ true }

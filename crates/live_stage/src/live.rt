@@ -4,6 +4,7 @@ ghost use Rattle.std.specs.Prelude.{IsSome, IsTrue, IsOk, IfOk, IfErr, OnOk, OnE
 ghost use Rattle.disk_model.specs.Later.{AreLater, HasFailed};
 ghost use Rattle.state_codec.specs.SavedState.{IsSavedState, fresh};
 ghost use Rattle.state_codec.specs.Spelling.{saved_bytes};
+ghost use Rattle.play_journal.specs.Calls.{SameFaults};
 ghost use Rattle.play_journal.specs.Content.{Content};
 ghost use Rattle.play_journal.specs.Pair.{found};
 ghost use Rattle.daemon_core.specs.State.{start};
@@ -12,7 +13,7 @@ ghost use Rattle.live_stage.specs.Answer.{IsTurn, IsHandled, IsBeforeOrAfter, Ha
 ghost use Rattle.live_stage.specs.Errors.{IsRefusalOfCreate, IsRefusalOfOpen, IsCause, start_error};
 ghost use Rattle.live_stage.specs.Numbers.{first_numbers, first_file, greatest, is_due, AreCountsSpent, AreSpent};
 ghost use Rattle.live_stage.specs.Turns.{IsBegun, IsOver, IsStored, IsCheckpointed, IsCheckpointing, HoldsSnapshot, RefusesCheckpoint};
-ghost use Rattle.live_stage.specs.Turns.{IsReady, IsWritten, StaysInFile, WritesOneFile, MakesNoCall, LeavesAsIs, RefusesInOrder};
+ghost use Rattle.live_stage.specs.Turns.{IsReady, IsWritten, StaysInFile, WritesOneFile, MakesNoCall, LeavesAsIs, TellsFaults, RefusesInOrder};
 ghost use Rattle.live_stage.specs.Turns.{ready_content, recorded_content, writes_to_b};
 ghost use Rattle.live_stage.specs.Found.{found_state, AllFindNow, AllFindSince, KeepsFoundState};
 
@@ -85,8 +86,8 @@ impl<D: Disk> Live<D> {
 
         ensures not_empty { D.honest a → D.honest b
             → (IsErrAnd result (λ e. e.error ≡ StartError.NotEmpty) ↔ ((D.content a ≢ []) ⊎ (D.content b ≢ []))) }
-        ensures fault { D.honest a → D.honest b
-            → IfErr result (λ e. e.error ≡ StartError.Broken → HasFailed D.faults a b e.a e.b) }
+        ensures fault { MatchResult result (λ live. SameFaults D.faults a b live.a live.b)
+            (λ e. D.honest a → D.honest b → e.error ≡ StartError.Broken → HasFailed D.faults a b e.a e.b) }
         ensures nothing_else { IfErr result (λ e. IsRefusalOfCreate e.error) }
 
         // Another refusal than a disk fault hands the disks back as they were.
@@ -137,8 +138,8 @@ impl<D: Disk> Live<D> {
         // Where each pair that a crash may have left gives a state, it opens, unless memory is wanting or a disk fails.
         ensures opens { D.honest a → D.honest b → AllFindNow (λ f. IsSome f) (D.history a) (D.history b)
             → IfErr result (λ e. (e.error ≡ StartError.NoMemory) ⊎ (e.error ≡ StartError.Broken)) }
-        ensures fault { D.honest a → D.honest b
-            → IfErr result (λ e. e.error ≡ StartError.Broken → HasFailed D.faults a b e.a e.b) }
+        ensures fault { MatchResult result (λ live. SameFaults D.faults a b live.a live.b)
+            (λ e. D.honest a → D.honest b → e.error ≡ StartError.Broken → HasFailed D.faults a b e.a e.b) }
         ensures nothing_else { IfErr result (λ e. IsRefusalOfOpen e.error) }
 
         ensures numbers { D.honest a → D.honest b → IfOk result (λ live. (content : Content)
@@ -202,8 +203,7 @@ impl<D: Disk> Live<D> {
         ensures file { WritesOneFile self.old self.new result }
 
         ensures refuses { RefusesInOrder self.old self.new result }
-        ensures fault { D.honest self.old.a → D.honest self.old.b → self.old.is_broken ≡ false → result ≡ Err LiveError.Broken
-            → HasFailed D.faults self.old.a self.old.b self.new.a self.new.b }
+        ensures fault { TellsFaults D.honest D.faults self.old self.new result }
         ensures later { AreLater D.honest D.history D.faults self.old.a self.old.b self.new.a self.new.b }
     {
         if self.is_broken() {
@@ -236,8 +236,7 @@ impl<D: Disk> Live<D> {
         ensures next { OnOk result (IsCheckpointed self.old self.new) }
 
         ensures refuses { RefusesCheckpoint self.old self.new result }
-        ensures fault { D.honest self.old.a → D.honest self.old.b → self.old.is_broken ≡ false → result ≡ Err LiveError.Broken
-            → HasFailed D.faults self.old.a self.old.b self.new.a self.new.b }
+        ensures fault { TellsFaults D.honest D.faults self.old self.new result }
 
         // The file that was in use isn't touched.
         ensures old_file { MatchBool self.old.is_in_b (self.new.b ≡ self.old.b) (self.new.a ≡ self.old.a) }
@@ -272,8 +271,7 @@ impl<D: Disk> Live<D> {
         ensures undue { is_due self.old.file ≡ false → IsOk result }
         ensures other_file { MatchBool (writes_to_b self.old) (self.new.a ≡ self.old.a) (self.new.b ≡ self.old.b) }
         ensures refuses { LeavesAsIs self.old self.new result }
-        ensures fault { D.honest self.old.a → D.honest self.old.b → result ≡ Err LiveError.Broken
-            → HasFailed D.faults self.old.a self.old.b self.new.a self.new.b }
+        ensures fault { TellsFaults D.honest D.faults self.old self.new result }
         ensures later { AreLater D.honest D.history D.faults self.old.a self.old.b self.new.a self.new.b }
     {
         // As long as it isn't broken, the files give its state.
@@ -301,8 +299,7 @@ impl<D: Disk> Live<D> {
         ensures no_call { IfOk result (λ t. HasNoOps self.old event t → MakesNoCall self.old self.new) }
         ensures file { StaysInFile self.old self.new }
         ensures refuses { LeavesAsIs self.old self.new result }
-        ensures fault { D.honest self.old.a → D.honest self.old.b → result ≡ Err LiveError.Broken
-            → HasFailed D.faults self.old.a self.old.b self.new.a self.new.b }
+        ensures fault { TellsFaults D.honest D.faults self.old self.new result }
         ensures later { AreLater D.honest D.history D.faults self.old.a self.old.b self.new.a self.new.b }
     {
         // As long as it isn't spent, the files give its content.

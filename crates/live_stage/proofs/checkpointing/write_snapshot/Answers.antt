@@ -12,7 +12,7 @@ returns-in-Err-clause-any_moment g c = λ ha hb. pairs_still _ _ c.args.journal.
 pub returns-clause-spends : goal.returns-clause-spends
 returns-clause-spends g c = λ is.
     let refused = c.in-Err-checkpoint.ensures in
-    refused.spends (ap Err (checkpoint_fault c.args.journal.now c.checkpoint.new.self c.in-Err-checkpoint.error c.deref.result.now
+    refused.refuses.spends (ap Err (checkpoint_fault c.args.journal.now c.checkpoint.new.self c.in-Err-checkpoint.error c.deref.result.now
     c.args.saved.now (c.deref.ensures.value ∙ c.in-Ok.ensures.spelled) c.key-key.ensures.kept c.requires.usable c.requires.generation
     refused.nothing_else refused.refuses (sym c.refused_checkpoint.ensures ∙ error_is _ _ is)))
 

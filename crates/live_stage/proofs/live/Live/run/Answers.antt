@@ -73,7 +73,7 @@ loop-event-preserved g c =
       later_b = omega (arith, at.invariant.later_b, turn.later.b.counted);
       fault = λ ha hb usable. fails_on g.D.Disk.honest g.D.Disk.history g.D.Disk.faults c.args.self.now at.self c.turn-answer.new.self
           c.in-Some.event c.turn-answer.result made at.invariant.later_a at.invariant.later_b
-          (at.invariant.fault ha hb usable) (turn.fault (so_far.honest_a.0 ha) (so_far.honest_b.0 hb));
+          (at.invariant.fault ha hb usable) (turn.fault.failed (so_far.honest_a.0 ha) (so_far.honest_b.0 hb));
     }
 
 run_done : (g : Over) (c : goal.After-drop-event-iterator g)
