@@ -4,7 +4,7 @@ use Rattle.std.specs.Prelude.{MatchBool, OnErr}
 use Rattle.disk_model.specs.History.{Change}
 use Rattle.play_journal.specs.declared.refusal.JournalError.{JournalError}
 use Rattle.play_journal.specs.declared.refusal.JournalError.TheVariants.{DiskFault, TooLong, NumbersSpent}
-use Rattle.play_journal.specs.Content.{Content}
+use Rattle.play_journal.specs.Content.{Content, present_layout}
 use Rattle.play_journal.specs.JournalState.{JournalState}
 use Rattle.play_journal.specs.Pair.{AllPairsNow}
 use Rattle.play_journal.specs.Stored.{StoredParts}
@@ -13,6 +13,14 @@ use Rattle.play_journal.specs.Stored.{StoredParts}
 pub record Holds {D : Type 0} (history : D → List Change) (journal : JournalState D) (content : Content) : Type 0 where
   pub says : journal.content ≡ content
   pub kept : AllPairsNow (λ f. f ≡ Some journal.content) (history journal.a) (history journal.b)
+
+-- the numbers of a journal are those of its content
+pub record AreItsNumbers {D : Type 0} (journal : JournalState D) : Type 0 where
+  pub layout : journal.content.layout ≡ present_layout
+  pub generation : journal.content.generation ≡ journal.generation
+  pub base : journal.content.base ≡ journal.base
+  pub count : length journal.content.records ≡ journal.count
+  pub last : journal.base + journal.count < 2 ^ 64
 
 -- neither of two disks has failed in a call
 pub record SameFaults {D : Type 0} (faults : D → ℕ) (old_a old_b new_a new_b : D) : Type 0 where

@@ -3,7 +3,8 @@ ghost use Rattle.std.specs.Prelude.{◌≡◌, ◌≢◌, ◌⊎◌, ◌↔◌, 
 ghost use Rattle.std.specs.Prelude.{Err, Some, None, IsTrue, IsSome, IfOk, IfErr, OnOk, OnErr, IsOk, IsErrAnd, MatchResult, MatchBool, Ok};
 ghost use Rattle.disk_model.specs.Later.{AreLater, HasFailed};
 ghost use Rattle.play_journal.specs.Calls.{Holds, IsNew, IsOpened, IsNextRecord, StaysInFile, IsNextGeneration, RefusesInOrder, SameFaults};
-ghost use Rattle.play_journal.specs.Content.{fresh, with_record, with_snapshot, IsBeforeOrAfter, IsOldOrNew};
+ghost use Rattle.play_journal.specs.Calls.{AreItsNumbers};
+ghost use Rattle.play_journal.specs.Content.{present_layout, fresh, with_record, with_snapshot, IsBeforeOrAfter, IsOldOrNew};
 ghost use Rattle.play_journal.specs.Errors.{IsRefusalOfCreate, IsRefusalOfOpen, IsRefusalOfAppend, IsRefusalOfCheckpoint};
 ghost use Rattle.play_journal.specs.FileRead.{content_read};
 ghost use Rattle.play_journal.specs.JournalState.{at_place, content_in, IsKept};
@@ -15,7 +16,7 @@ use crate::appending::{append_at, put_record};
 use crate::creating::{LONGEST_SNAPSHOT, fresh_journal};
 use crate::laying::{head_bytes, lay_down};
 use crate::opening::{Opened, open_files};
-use crate::reading::{FileRead, HEAD_LEN, LONGEST_BODY};
+use crate::reading::{FileRead, HEAD_LEN, LAYOUT, LONGEST_BODY};
 use crate::{JournalError, Refused, Stored};
 use disk_model::Disk;
 use std::alloc::Global;
@@ -260,9 +261,17 @@ impl<D: Disk> Journal<D> {
         self.base
     }
 
+    /// The layout of the file in use: there is one that is read and written, 1.
+    pub fn layout(&self) -> u32
+        ensures { result ≡ present_layout }
+    {
+        LAYOUT
+    }
+
     /// The generation of the file in use. A checkpoint makes the next one, unless it is 2^64 - 1.
     pub fn generation(&self) -> u64
-        ensures { result ≡ self.now.generation }
+        ensures value { result ≡ self.now.generation }
+        ensures content { D.honest self.now.a → D.honest self.now.b → self.now.is_spent ≡ false → self.now.content.generation ≡ result }
     {
         self.generation
     }
@@ -275,11 +284,12 @@ impl<D: Disk> Journal<D> {
         self.count
     }
 
-    /// Whether a disk failed. Every later `append` then answers `DiskFault`: open the files again.
+    /// Whether a disk failed. Every later `append` and `checkpoint` then answers `DiskFault`: open the files again.
     pub fn is_spent(&self) -> bool
         ensures value { result ≡ self.now.is_spent }
         ensures kept { D.honest self.now.a → D.honest self.now.b → self.now.is_spent ≡ false
             → AllPairsNow (λ f. f ≡ Some self.now.content) (D.history self.now.a) (D.history self.now.b) }
+        ensures numbers { D.honest self.now.a → D.honest self.now.b → self.now.is_spent ≡ false → AreItsNumbers self.now }
     {
         self.spent
     }
