@@ -1,4 +1,6 @@
-ghost use Rattle.std.specs.Prelude.{◌≡◌, IfOk};
+ghost use Rattle.std.specs.Prelude.{◌≡◌, ◌↔◌, false, IfOk, IsTrue, option_map};
+ghost use Rattle.player_core.specs.declared.playing.PlayState.{PlayState};
+ghost use Rattle.player_core.specs.declared.order.Order.{Order as PlayOrder};
 ghost use Rattle.daemon_core.specs.State.{start};
 
 use crate::parts::CoreParts;
@@ -6,7 +8,7 @@ use crate::room::Room;
 use idle_masks::Watch;
 use machine_core::Machine;
 use no_memory::NoMemory;
-use player_core::Order;
+use player_core::{Order, PlayState};
 use song_db::ScanOrder;
 use state_codec::Saved;
 use std::alloc::Global;
@@ -82,5 +84,23 @@ impl Core {
             Ok(order) => Ok(Some(order)),
             Err(_) => Err(NoMemory),
         }
+    }
+    /// Whether a song plays: where none does, `order` is to wait. It takes no memory.
+    pub fn is_playing(&self) -> bool
+        ensures value { IsTrue result ↔ (self.now.machine.player.state ≡ PlayState.Play) }
+        ensures waits { result ≡ false → play_order self.now.machine ≡ PlayOrder.Wait }
+    {
+        match self.parts.machine.player().state() {
+            PlayState::Play => true,
+            PlayState::Stop | PlayState::Pause => false,
+        }
+    }
+
+    /// The number of the job that runs, if one does: that of `scan_order`. It takes no memory.
+    pub fn running_job(&self) -> Option<u32>
+        ensures { result ≡ option_map (λ order. order.job) (scan_order self.now.machine) }
+    {
+        let job = self.parts.machine.job();
+        if job.runs { Some(job.number) } else { None }
     }
 }

@@ -8,16 +8,18 @@ use Rattle.disk_model.specs.History.{Change}
 use Rattle.disk_model.specs.Images.{window, IsImage}
 use Rattle.disk_model.specs.Moments.{LeftSince}
 use Rattle.disk_model.proofs.MomentLaws.{now_only}
-use Rattle.play_journal.specs.Content.{Content, with_record, IsBeforeOrAfter}
+use Rattle.play_journal.specs.Content.{Content, with_record, with_snapshot, IsBeforeOrAfter, IsOldOrNew}
 use Rattle.play_journal.specs.Pair.{AllPairsNow, AllPairsSince}
 use Rattle.state_codec.specs.declared.op.Op.{Op}
-use Rattle.state_codec.specs.SavedState.{SavedState}
+use Rattle.state_codec.specs.SavedState.{SavedState, IsSavedState}
 use Rattle.state_codec.specs.Ops.{IsOp}
 use Rattle.state_codec.specs.Applied.{all_applied}
-use Rattle.state_codec.specs.Spelling.{ops_bytes}
+use Rattle.state_codec.specs.Spelling.{ops_bytes, saved_bytes}
 use Rattle.state_codec.specs.Reading.{ops_reading, saved_reading}
 use Rattle.state_codec.specs.Steps.{◌>>=◌}
 use Rattle.state_codec.proofs.BodyLaws.{body_again}
+use Rattle.state_codec.proofs.SavedLaws.{snapshot_again}
+use Rattle.live_stage.specs.Turns.{recorded_content}
 use Rattle.live_stage.specs.Found.{after_record, records_reading, stored_reading, content_reading, state_of, AllFindNow, AllFindSince}
 
 result_is_ok : {A : Type 0} (r : Result A ℕ) (x : A) → result_ok r ≡ Some x → r ≡ Ok x
@@ -124,3 +126,24 @@ find_after old_a old_b new_a new_b content after_content [] s after pairs stands
 find_after old_a old_b new_a new_b content after_content (op ∷ ops) s after pairs stands valid applies none added kept x y at_x at_y =
     ap state_of (kept (λ e. cc) x y at_x at_y) ∙ ap (λ c. state_of (Some c)) (added (λ e. cc))
     ∙ record_added content op ops s after stands valid applies
+
+-- what the files say behind an event
+pub content_recorded : (content after : Content) (ops : List Op) → (ops ≡ [] → after ≡ content)
+    → (ops ≢ [] → after ≡ with_record content (ops_bytes ops)) → after ≡ recorded_content content ops
+content_recorded content after [] none some = none refl
+content_recorded content after (op ∷ ops) none some = some (λ e. cc)
+
+-- ---- a snapshot in place of a snapshot and its records
+
+-- it stands for the state that it spells
+pub snapshot_stands : (before : Content) (s : SavedState) → IsSavedState s → state_of (Some (with_snapshot before (saved_bytes s))) ≡ Some s
+unfolding stored_reading
+snapshot_stands before s good = let read : saved_reading (saved_bytes s) ≡ Ok s = snapshot_again s good in rw read refl
+
+-- while it is written, the same state is found
+pub find_same : (a b : List Change) (t u : ℕ) (content : Content) (s : SavedState) → state_of (Some content) ≡ Some s → IsSavedState s
+    → AllPairsSince (IsOldOrNew content (saved_bytes s)) a t b u → AllFindSince (λ f. f ≡ Some s) a t b u
+find_same a b t u content s stands good pairs x y at_x at_y = elim (pairs x y at_x at_y) [
+  | inl old ↦ ap state_of old ∙ stands
+  | inr new ↦ ap state_of new ∙ snapshot_stands content s good
+]

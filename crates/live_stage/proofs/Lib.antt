@@ -4,4 +4,4 @@ pub mod FoundLaws
 pub mod StartLaws
 pub mod ValidLaws
 pub mod RunLaws
-mod TurnLaws
+pub mod TurnLaws

@@ -2,11 +2,10 @@
 use Rattle.std.proofs.Common.{◌≡◌, ◌≢◌, ◌⊎◌, inl, inr, ◌↔◌, ℕ, ◌+◌, ◌≤◌, Bool, true, false, List, [], ◌∷◌, ◌++◌, length, length-append}
 use Rattle.std.proofs.Common.{Option, Some, None, Result, Ok, Err, refl, sym, ap, subst, ◌∙◌, arith}
 use Rattle.std.specs.Prelude.{IfOk, OnOk, OnErr, MatchBool}
-use Rattle.std.proofs.lemmas.List.{nil_from_length}
 use Rattle.disk_model.specs.Faults.{HasGrown}
 use Rattle.disk_model.specs.History.{Change}
 use Rattle.disk_model.specs.Moments.{LeftSince, Continues}
-use Rattle.disk_model.proofs.MomentLaws.{now_only, counts_now, left_split, continues_join, continues_same}
+use Rattle.disk_model.proofs.MomentLaws.{now_only, counts_now, continues_join, continues_same}
 use Rattle.daemon_core.specs.declared.event.Event.{Event}
 use Rattle.state_codec.specs.SavedState.{SavedState}
 use Rattle.daemon_core.specs.State.{State, start}
@@ -16,12 +15,15 @@ use Rattle.daemon_core.proofs.HistoryLaws.{outputs_are_replies}
 use Rattle.live_stage.specs.declared.refusal.LiveError.{LiveError}
 use Rattle.live_stage.specs.declared.refusal.LiveError.TheVariants.{Broken, NoMemory, NumbersSpent}
 use Rattle.live_stage.specs.Answer.{Answer, IsTurn, IsNumbered}
-use Rattle.live_stage.specs.Numbers.{Numbers, next_numbers, AreSpent}
+use Rattle.live_stage.specs.Numbers.{Numbers, FileNumbers, next_numbers, is_due, most_records, recorded, AreSpent}
+use Rattle.live_stage.specs.Turns.{WritesOneFile, RefusesInOrder, IsReady, IsStill, writes_to_b}
 use Rattle.state_codec.specs.declared.op.Op.{Op}
 use Rattle.live_stage.specs.LiveState.{LiveState}
 use Rattle.live_stage.specs.Found.{found_state, AllFindNow, AllFindSince}
-use Rattle.live_stage.specs.Transcript.{entry_of, history_of, replayed, numbers_after, IsTranscript, broken_by, broken_after, SpendsNumbers}
+use Rattle.live_stage.specs.Transcript.{entry_of, history_of, replayed, numbers_after, IsTranscript, broken_by, broken_after}
+use Rattle.live_stage.specs.Transcript.{FileGoesOn, AreNumbersSpent, SpendsNumbers}
 use Rattle.live_stage.specs.Transcript.{AreReplies, StaysBroken, first_broken, IsWhole, FindsWhole, FindsPrefix}
+use Rattle.live_stage.proofs.TurnLaws.{IsOtherKept, other_same, other_join, one_file, join_pairs, undue, ready_same, recorded_one}
 
 abbrev Reply : Type 0
 Reply = Result Answer LiveError
@@ -61,18 +63,36 @@ stays_more : (was : Bool) (answers : List Reply) (answer : Reply) → StaysBroke
 stays_more was [] answer so_far one = (one, tt)
 stays_more was (a ∷ answers) answer so_far one = (so_far.0, stays_more (broken_by was a) answers answer so_far.1 one)
 
-spends_more : {D : Type 0} (first : LiveState D) (earlier : List Entry) (was : Bool) (events : List Event) (answers : List Reply)
-    (event : Event) (answer : Reply) → length answers ≡ length events
-    → SpendsNumbers first earlier was events answers
-    → SpendsNumbers first (history_of earlier events answers) (broken_after was answers) (event ∷ []) (answer ∷ [])
-    → SpendsNumbers first earlier was (events ++ event ∷ []) (answers ++ answer ∷ [])
-spends_more first earlier was [] [] event answer same so_far one = one
-spends_more first earlier was [] (a ∷ answers) event answer same so_far one = absurd (omega arith)
-spends_more first earlier was (e ∷ events) [] event answer same so_far one = absurd (omega arith)
-spends_more first earlier was (e ∷ events) (Ok t ∷ answers) event answer same so_far one =
-    (so_far.0, spends_more first (entry_of e t ∷ earlier) was events answers event answer (omega arith) so_far.1 one)
-spends_more first earlier was (e ∷ events) (Err x ∷ answers) event answer same so_far one =
-    (so_far.0, spends_more first earlier (broken_by was (Err x)) events answers event answer (omega arith) so_far.1 one)
+-- an answer more, behind which the file has other numbers
+spends_more : {D : Type 0} (first : LiveState D) (earlier : List Entry) (was : Bool) (file between last : FileNumbers) (events : List Event)
+    (answers : List Reply) (event : Event) (answer : Reply) → length answers ≡ length events
+    → SpendsNumbers first earlier was file between events answers
+    → (broken_after was answers ≡ false
+    → ((answer ≡ Err NumbersSpent) ↔ AreNumbersSpent first (history_of earlier events answers) between))
+    → FileGoesOn between answer last
+    → SpendsNumbers first earlier was file last (events ++ event ∷ []) (answers ++ answer ∷ [])
+spends_more first earlier was file between last [] [] event answer same so_far one goes = (
+  λ fine. subst (λ (f : FileNumbers). (answer ≡ Err NumbersSpent) ↔ AreNumbersSpent first earlier f) so_far (one fine),
+  (last, subst (λ (f : FileNumbers). FileGoesOn f answer last) so_far goes, refl),
+)
+spends_more first earlier was file between last [] (a ∷ answers) event answer same so_far one goes = absurd (omega arith)
+spends_more first earlier was file between last (e ∷ events) [] event answer same so_far one goes = absurd (omega arith)
+spends_more first earlier was file between last (e ∷ events) (Ok t ∷ answers) event answer same so_far one goes = (
+  so_far.0,
+  (
+    so_far.1.0,
+    so_far.1.1,
+    spends_more first (entry_of e t ∷ earlier) was so_far.1.0 between last events answers event answer (omega arith) so_far.1.2 one goes,
+  ),
+)
+spends_more first earlier was file between last (e ∷ events) (Err x ∷ answers) event answer same so_far one goes = (
+  so_far.0,
+  (
+    so_far.1.0,
+    so_far.1.1,
+    spends_more first earlier (broken_by was (Err x)) so_far.1.0 between last events answers event answer (omega arith) so_far.1.2 one goes,
+  ),
+)
 
 first_kept : (events : List Event) (answers : List Reply) (event : Event) (answer : Reply) (found : Event)
     → first_broken events answers ≡ Some found → first_broken (events ++ event ∷ []) (answers ++ answer ∷ []) ≡ Some found
@@ -106,41 +126,46 @@ pub record IsTurnMade {D : Type 0} (honest : D → Type 0) (history : D → List
   pub kept : honest old.a → honest old.b → new.is_broken ≡ false
       → AllFindNow (λ f. f ≡ Some new.state.machine.saved) (history new.a) (history new.b)
   pub usable : OnOk answer (new.is_broken ≡ false)
-  pub other_file : MatchBool old.is_in_b (new.a ≡ old.a) (new.b ≡ old.b)
-  pub same_file : new.is_in_b ≡ old.is_in_b
+  pub one_file : WritesOneFile old new answer
+  pub file : FileGoesOn old.file answer new.file
   pub broken : old.is_broken ≡ true → (answer ≡ Err Broken) × (new ≡ old)
   pub breaks : answer ≡ Err Broken → new.is_broken ≡ true
-  pub stays : OnErr answer (answer ≢ Err Broken → new ≡ old)
+  pub nothing_done : answer ≡ Err NumbersSpent → new ≡ old
+  pub stays : OnErr answer (answer ≢ Err Broken → IsStill old new)
   pub not_counted : OnErr answer (new.numbers.event ≡ old.numbers.event)
-  pub numbers_spent : old.is_broken ≡ false → ((answer ≡ Err NumbersSpent) ↔ AreSpent old.numbers)
+  pub numbers_spent : old.is_broken ≡ false → ((answer ≡ Err NumbersSpent) ↔ AreSpent old.numbers old.file)
   pub continues_a : honest old.a → Continues (history old.a) (history new.a)
   pub continues_b : honest old.b → Continues (history old.b) (history new.b)
   pub honest_a : honest old.a ↔ honest new.a
   pub honest_b : honest old.b ↔ honest new.b
 
--- one of the two files wasn't touched
-abbrev pub OneFile : List Change → List Change → List Change → List Change → Type 0
-OneFile old_a old_b new_a new_b = (new_a ≡ old_a) ⊎ (new_b ≡ old_b)
+-- a turn before which no checkpoint is due writes to the file that is in use
+turn_in_file : {D : Type 0} (honest : D → Type 0) (history : D → List Change) (old new : LiveState D) (event : Event) (answer : Reply)
+    → IsTurnMade honest history old new event answer → is_due old.file ≡ false → IsOtherKept old.is_in_b old new
+turn_in_file honest history old new event answer m is =
+    subst (λ in_b. IsOtherKept in_b old new) (let same : writes_to_b old ≡ old.is_in_b = (rw is refl) in same) m.one_file.other_file
 
--- the file to which no record goes is as it was
-abbrev pub IsOtherKept : {D : Type 0} → Bool → LiveState D → LiveState D → Type 0
-IsOtherKept in_b old new = MatchBool in_b (new.a ≡ old.a) (new.b ≡ old.b)
-
-other_same : {D : Type 0} (in_b : Bool) (old : LiveState D) → IsOtherKept in_b old old
-other_same true old = refl
-other_same false old = refl
-
-other_join : {D : Type 0} (in_b : Bool) (first old new : LiveState D) → IsOtherKept in_b first old → IsOtherKept in_b old new
-    → IsOtherKept in_b first new
-other_join true first old new before now = now ∙ before
-other_join false first old new before now = now ∙ before
-
-pub one_file : {D : Type 0} (history : D → List Change) (in_b : Bool) (first now : LiveState D) → IsOtherKept in_b first now
-    → OneFile (history first.a) (history first.b) (history now.a) (history now.b)
-one_file history true first now kept = inl (ap history kept)
-one_file history false first now kept = inr (ap history kept)
+-- how the numbers of the file go on by a turn
+pub file_goes_on : {D : Type 0} (old new : LiveState D) (event : Event) (answer : Reply) → IfOk answer (λ t. IsTurn old event t new)
+    → RefusesInOrder old new answer → FileGoesOn old.file answer new.file
+file_goes_on old new event (Ok t) made refuses = made.file
+file_goes_on old new event (Err Broken) made refuses = tt
+file_goes_on old new event (Err NoMemory) made refuses = elim (refuses.stays (λ is. cc)) [
+  | inl same ↦ inl (ap (λ v. v.file) same)
+  | inr ready ↦ inr ready.file
+]
+file_goes_on old new event (Err NumbersSpent) made refuses = ap (λ v. v.file) (refuses.nothing_done refl)
 
 -- ---- a run so far
+
+-- A run in which no checkpoint can be due writes to one file, in which a record stands for each event at most.
+pub record IsInFile {D : Type 0} (first now : LiveState D) (events : List Event) : Type 0 where
+  pub other_file : MatchBool first.is_in_b (now.a ≡ first.a) (now.b ≡ first.b)
+  pub same_file : now.is_in_b ≡ first.is_in_b
+  pub few : now.is_broken ≡ false → now.file.records ≤ first.file.records + length events
+
+abbrev pub HasRoomFor : {D : Type 0} → LiveState D → List Event → Type 0
+HasRoomFor first events = first.file.records + length events ≤ most_records
 
 pub record IsRunSoFar {D : Type 0} (honest : D → Type 0) (history : D → List Change) (first now : LiveState D) (events : List Event)
     (answers : List Reply) : Type 0 where
@@ -150,17 +175,15 @@ pub record IsRunSoFar {D : Type 0} (honest : D → Type 0) (history : D → List
   pub broken : now.is_broken ≡ broken_after first.is_broken answers
   pub unbroken : now.is_broken ≡ false → (first_broken events answers ≡ None) × (first.is_broken ≡ false)
   pub state : now.is_broken ≡ false → now.state ≡ replayed first.state (history_of [] events answers)
-  pub spends : SpendsNumbers first [] first.is_broken events answers
+  pub spends : SpendsNumbers first [] first.is_broken first.file now.file events answers
   pub event : now.numbers.event ≡ first.numbers.event + length (history_of [] events answers)
   pub numbers : now.is_broken ≡ false → now.numbers ≡ numbers_after first.state first.numbers (history_of [] events answers)
-  pub other_file : MatchBool first.is_in_b (now.a ≡ first.a) (now.b ≡ first.b)
-  pub same_file : now.is_in_b ≡ first.is_in_b
+  pub in_file : HasRoomFor first events → IsInFile first now events
   pub kept : honest first.a → honest first.b → now.is_broken ≡ false
       → AllFindNow (λ f. f ≡ Some now.state.machine.saved) (history now.a) (history now.b)
   pub given_out : honest first.a → honest first.b → first.is_broken ≡ false → now.is_broken ≡ true
       → AllFindNow (FindsWhole first.state events answers) (history now.a) (history now.b)
-  pub any_moment : honest first.a → honest first.b → first.is_broken ≡ false
-      → OneFile (history first.a) (history first.b) (history now.a) (history now.b)
+  pub any_moment : honest first.a → honest first.b → first.is_broken ≡ false → HasRoomFor first events
       → AllFindSince (FindsPrefix first.state events answers) (history now.a) (length (history first.a)) (history now.b)
       (length (history first.b))
   pub continues_a : honest first.a → Continues (history first.a) (history now.a)
@@ -188,14 +211,13 @@ begins honest history first kept = record {
   broken = refl;
   unbroken = λ is. (refl, is);
   state = λ is. refl;
-  spends = tt;
+  spends = refl;
   event = omega arith;
   numbers = λ is. refl;
-  other_file = other_same first.is_in_b first;
-  same_file = refl;
+  in_file = λ room. record { other_file = other_same first.is_in_b first; same_file = refl; few = λ is. omega arith };
   kept = kept;
   given_out = λ ha hb usable broken. absurd cc;
-  any_moment = λ ha hb usable one x y at_x at_y.
+  any_moment = λ ha hb usable room x y at_x at_y.
       record {
         whole = [];
         is_whole = inl refl;
@@ -267,44 +289,6 @@ prefix_before : (s : State) (events : List Event) (answers : List Reply) (f : Op
 prefix_before s events answers f is =
     record { whole = whole_of events answers; is_whole = inl refl; later = []; prefix = whole_of events answers; parts = refl; finds = is }
 
--- ---- pairs of images, over one run after another
-
-between : (a b c : List Change) → Continues a b → Continues b c → c ≡ a → b ≡ a
-between a b c first second same =
-    let none : length first.0 ≡ 0 = omega (
-      arith,
-      ap length first.1,
-      ap length second.1,
-      ap length same,
-      length-append first.0 a,
-      length-append second.0 b,
-    ) in
-    first.1 ∙ ap (λ (l : List Change). l ++ a) (nil_from_length first.0 none)
-
-left_of : (old new : List Change) (t : ℕ) (x : List ℕ) → Continues old new → LeftSince new t x
-    → LeftSince new (length old) x ⊎ LeftSince old t x
-left_of old new t x run left = elim (left_split run.0 old t x (subst (λ h. LeftSince h t x) run.1 left)) [
-  | inl during ↦ inl (subst (λ h. LeftSince h (length old) x) (sym run.1) during)
-  | inr before ↦ inr before
-]
-
-pub join_pairs : (P : Option SavedState → Type 0) (a0 a1 a2 b0 b1 b2 : List Change)
-    → Continues a0 a1 → Continues a1 a2 → Continues b0 b1 → Continues b1 b2 → OneFile a0 b0 a2 b2
-    → (OneFile a0 b0 a1 b1 → AllFindSince P a1 (length a0) b1 (length b0)) → AllFindSince P a2 (length a1) b2 (length b1)
-    → AllFindSince P a2 (length a0) b2 (length b0)
-join_pairs P a0 a1 a2 b0 b1 b2 run_a more_a run_b more_b (inr still) earlier turn x y at_x at_y =
-    let same : b1 ≡ b0 = between b0 b1 b2 run_b more_b still in
-    elim (left_of a1 a2 (length a0) x more_a at_x) [
-      | inl during ↦ turn x y during (subst (λ (h : List Change). LeftSince b2 (length h) y) (sym same) at_y)
-      | inr before ↦ earlier (inr same) x y before (subst (λ (h : List Change). LeftSince h (length b0) y) (still ∙ sym same) at_y)
-    ]
-join_pairs P a0 a1 a2 b0 b1 b2 run_a more_a run_b more_b (inl still) earlier turn x y at_x at_y =
-    let same : a1 ≡ a0 = between a0 a1 a2 run_a more_a still in
-    elim (left_of b1 b2 (length b0) y more_b at_y) [
-      | inl during ↦ turn x y (subst (λ (h : List Change). LeftSince a2 (length h) x) (sym same) at_x) during
-      | inr before ↦ earlier (inl same) x y (subst (λ (h : List Change). LeftSince h (length a0) x) (still ∙ sym same) at_x) before
-    ]
-
 -- ---- one turn more
 
 by_refused : (was : Bool) (e : LiveError) → (e ≡ Broken → was ≡ true) → broken_by was (Err e) ≡ was
@@ -321,11 +305,20 @@ counts_on : (events : List Event) (answers : List Reply) (event : Event) (answer
     → length (answers ++ answer ∷ []) ≡ length (events ++ event ∷ [])
 counts_on events answers event answer same = omega (arith, same, length-append answers (answer ∷ []), length-append events (event ∷ []))
 
+less_room : {D : Type 0} (first : LiveState D) (events : List Event) (event : Event) → HasRoomFor first (events ++ event ∷ [])
+    → HasRoomFor first events
+less_room first events event room = omega (arith, room, length-append events (event ∷ []))
+
+-- where a run has room for one event more, no checkpoint is due
+room_undue : {D : Type 0} (first old : LiveState D) (events : List Event) (event : Event) → HasRoomFor first (events ++ event ∷ [])
+    → (old.file.records ≤ first.file.records + length events) → is_due old.file ≡ false
+room_undue first old events event room few = undue old.file (omega (arith, room, few, length-append events (event ∷ [])))
+
 -- an event that changed nothing was refused
 refused_still : {D : Type 0} (honest : D → Type 0) (history : D → List Change) (first old : LiveState D) (events : List Event)
     (answers : List Reply) (event : Event) (e : LiveError)
     → IsRunSoFar honest history first old events answers → (old.is_broken ≡ true → e ≡ Broken) → (e ≡ Broken → old.is_broken ≡ true)
-    → SpendsNumbers first [] first.is_broken (events ++ event ∷ []) (answers ++ Err e ∷ [])
+    → SpendsNumbers first [] first.is_broken first.file old.file (events ++ event ∷ []) (answers ++ Err e ∷ [])
     → IsRunSoFar honest history first old (events ++ event ∷ []) (answers ++ Err e ∷ [])
 refused_still honest history first old events answers event e r so_broken was_broken spends =
     let longer = sym (history_more [] events answers event (Err e) r.counted) in
@@ -344,13 +337,18 @@ refused_still honest history first old events answers event e r so_broken was_br
       spends = spends;
       event = r.event ∙ ap (λ (h : List Entry). first.numbers.event + length h) longer;
       numbers = λ is. r.numbers is ∙ ap (numbers_after first.state first.numbers) longer;
-      other_file = r.other_file;
-      same_file = r.same_file;
+      in_file = λ room.
+          let was = r.in_file (less_room first events event room) in
+          record {
+            other_file = was.other_file;
+            same_file = was.same_file;
+            few = λ is. (let few = was.few is in omega (arith, few, length-append events (event ∷ [])));
+          };
       kept = r.kept;
       given_out = λ ha hb usable b x y at_x at_y. whole_kept_refused first.state events answers event e _ r.counted
           (r.given_out ha hb usable b x y at_x at_y);
-      any_moment = λ ha hb usable one x y at_x at_y. prefix_refused first.state events answers event e _ r.counted
-          (r.any_moment ha hb usable one x y at_x at_y);
+      any_moment = λ ha hb usable room x y at_x at_y. prefix_refused first.state events answers event e _ r.counted
+          (r.any_moment ha hb usable (less_room first events event room) x y at_x at_y);
       continues_a = r.continues_a;
       continues_b = r.continues_b;
       honest_a = r.honest_a;
@@ -361,24 +359,25 @@ refused : {D : Type 0} (honest : D → Type 0) (history : D → List Change) (fi
     (answers : List Reply) (event : Event) (e : LiveError)
     → new ≡ old → IsRunSoFar honest history first old events answers → (old.is_broken ≡ true → e ≡ Broken)
     → (e ≡ Broken → old.is_broken ≡ true)
-    → SpendsNumbers first [] first.is_broken (events ++ event ∷ []) (answers ++ Err e ∷ [])
+    → SpendsNumbers first [] first.is_broken first.file new.file (events ++ event ∷ []) (answers ++ Err e ∷ [])
     → IsRunSoFar honest history first new (events ++ event ∷ []) (answers ++ Err e ∷ [])
-refused honest history first old new events answers event e same r so_broken was_broken spends =
+refused {D} honest history first old new events answers event e same r so_broken was_broken spends =
     subst (λ v. IsRunSoFar honest history first v (events ++ event ∷ []) (answers ++ Err e ∷ [])) (sym same)
-    (refused_still honest history first old events answers event e r so_broken was_broken spends)
+    (refused_still honest history first old events answers event e r so_broken was_broken
+    (subst (λ (v : LiveState D). SpendsNumbers first [] first.is_broken first.file v.file (events ++ event ∷ []) (answers ++ Err e ∷ [])) same
+    spends))
 
 -- the numbers of the last event and the last record are those of the history, as long as no disk failed
 spends_now : {D : Type 0} (honest : D → Type 0) (history : D → List Change) (first old new : LiveState D) (events : List Event)
     (answers : List Reply) (event : Event) (answer : Reply)
     → IsRunSoFar honest history first old events answers → IsTurnMade honest history old new event answer
-    → SpendsNumbers first [] first.is_broken (events ++ event ∷ []) (answers ++ answer ∷ [])
+    → SpendsNumbers first [] first.is_broken first.file new.file (events ++ event ∷ []) (answers ++ answer ∷ [])
 spends_now honest history first old new events answers event answer r m =
-    spends_more first [] first.is_broken events answers event answer r.counted r.spends (
-      λ fine.
-          let usable = r.broken ∙ fine in
-          subst (λ (n : Numbers). (answer ≡ Err NumbersSpent) ↔ AreSpent n) (r.numbers usable) (m.numbers_spent usable),
-      tt,
-    )
+    spends_more first [] first.is_broken first.file old.file new.file events answers event answer r.counted r.spends
+    (λ fine.
+    let usable = r.broken ∙ fine in
+    subst (λ (n : Numbers). (answer ≡ Err NumbersSpent) ↔ AreSpent n old.file) (r.numbers usable) (m.numbers_spent usable))
+    m.file
 
 -- the state before an event, as the history has it, is that from before or after it
 found_before : {D : Type 0} (first old : LiveState D) (whole : List Entry) (f : Option SavedState) → old.state ≡ replayed first.state whole
@@ -390,6 +389,82 @@ found_after : {D : Type 0} (first old : LiveState D) (whole : List Entry) (event
     → (let now = stepped (replayed first.state whole) (record { event = event; refused = k }) in f ≡ Some now.after.machine.saved)
 found_after first old whole event k f is found =
     found ∙ ap (λ (s : State). let now : Stepped = step s event k in Some now.after.machine.saved) is
+
+-- a turn more in a run that has room for it
+in_file_on : {D : Type 0} (honest : D → Type 0) (history : D → List Change) (first old new : LiveState D) (events : List Event)
+    (answers : List Reply) (event : Event) (answer : Reply)
+    → old.is_broken ≡ false → IsRunSoFar honest history first old events answers → IsTurnMade honest history old new event answer
+    → HasRoomFor first (events ++ event ∷ [])
+    → (new.is_broken ≡ false → is_due old.file ≡ false → new.file.records ≤ old.file.records + 1)
+    → IsInFile first new (events ++ event ∷ [])
+in_file_on honest history first old new events answers event answer usable r m room one =
+    let was = r.in_file (less_room first events event room) in
+    let few = was.few usable in
+    let is : is_due old.file ≡ false = room_undue first old events event room few in
+    record {
+      other_file = other_join first.is_in_b first old new was.other_file
+          (subst (λ in_b. IsOtherKept in_b old new) was.same_file (turn_in_file honest history old new event answer m is));
+      same_file = m.one_file.same_file is ∙ was.same_file;
+      few = λ fine. (let grown = one fine is in omega (arith, few, grown, length-append events (event ∷ [])));
+    }
+
+-- an event that was answered adds one record at most, where no checkpoint was due
+answered_few : {D : Type 0} (honest : D → Type 0) (history : D → List Change) (first old new : LiveState D) (events : List Event)
+    (answers : List Reply) (event : Event) (t : Answer)
+    → IsRunSoFar honest history first old events answers → IsTurnMade honest history old new event (Ok t)
+    → new.is_broken ≡ false → is_due old.file ≡ false → new.file.records ≤ old.file.records + 1
+answered_few honest history first old new events answers event t r m fine is =
+    let after : new.file ≡ recorded old.file t.receipt.number = m.file ∙ ap (λ (f : FileNumbers). recorded f t.receipt.number) (ready_same old.file is) in
+    let one = recorded_one old.file t.receipt.number in
+    omega (arith, one, ap (λ (f : FileNumbers). f.records) after)
+
+-- memory was refused behind a checkpoint, or for it
+refused_ready : {D : Type 0} (honest : D → Type 0) (history : D → List Change) (first old new : LiveState D) (events : List Event)
+    (answers : List Reply) (event : Event)
+    → old.is_broken ≡ false → IsReady old new → IsRunSoFar honest history first old events answers
+    → IsTurnMade honest history old new event (Err NoMemory)
+    → IsRunSoFar honest history first new (events ++ event ∷ []) (answers ++ Err NoMemory ∷ [])
+refused_ready {D} honest history first old new events answers event usable ready r m =
+    let longer = sym (history_more [] events answers event (Err NoMemory) r.counted) in
+    let same : HasRoomFor first (events ++ event ∷ []) → new ≡ old = λ room.
+    let was = r.in_file (less_room first events event room) in
+    ready.nothing_due (room_undue first old events event room (was.few usable)) in
+    record {
+      counted = counts_on events answers event (Err NoMemory) r.counted;
+      transcript = transcript_more first [] events answers event (Err NoMemory) r.transcript tt;
+      orderly = stays_more first.is_broken answers (Err NoMemory) r.orderly (λ b. let was = r.broken in absurd cc);
+      broken = ready.usable ∙ sym usable ∙ r.broken ∙ sym (broken_after_more first.is_broken answers (Err NoMemory));
+      unbroken = λ is. (first_more events answers event (Err NoMemory) r.counted (r.unbroken usable).0, (r.unbroken usable).1);
+      state = λ is. ready.state ∙ r.state usable ∙ ap (replayed first.state) longer;
+      spends = spends_now honest history first old new events answers event (Err NoMemory) r m;
+      event = (
+          let before = r.event in
+          let counted = ap (λ (n : Numbers). n.event) ready.numbers in
+          omega (arith, counted, before, ap length longer)
+          );
+      numbers = λ is. ready.numbers ∙ r.numbers usable ∙ ap (numbers_after first.state first.numbers) longer;
+      in_file = λ room.
+          let was = r.in_file (less_room first events event room) in
+          let few = was.few usable in
+          subst (λ v. IsInFile first v (events ++ event ∷ [])) (sym (same room)) (record {
+            other_file = was.other_file;
+            same_file = was.same_file;
+            few = λ is. omega (arith, few, length-append events (event ∷ []));
+          });
+      kept = λ ha hb is. m.kept (r.honest_a.0 ha) (r.honest_b.0 hb) is;
+      given_out = λ ha hb first_usable b. (let not = ready.usable in absurd cc);
+      any_moment = λ ha hb first_usable room x y at_x at_y.
+          let was = r.any_moment ha hb first_usable (less_room first events event room) x y in
+          prefix_refused first.state events answers event NoMemory (found_state x y) r.counted
+          (was (subst (λ (v : LiveState D). LeftSince (history v.a) (length (history first.a)) x) (same room) at_x)
+          (subst (λ (v : LiveState D). LeftSince (history v.b) (length (history first.b)) y) (same room) at_y));
+      continues_a = λ ha. continues_join (history first.a) (history old.a) (history new.a) (r.continues_a ha)
+          (m.continues_a (r.honest_a.0 ha));
+      continues_b = λ hb. continues_join (history first.b) (history old.b) (history new.b) (r.continues_b hb)
+          (m.continues_b (r.honest_b.0 hb));
+      honest_a = (λ h. m.honest_a.0 (r.honest_a.0 h), λ h. r.honest_a.1 (m.honest_a.1 h));
+      honest_b = (λ h. m.honest_b.0 (r.honest_b.0 h), λ h. r.honest_b.1 (m.honest_b.1 h));
+    }
 
 -- a disk fault came in an event
 broke : {D : Type 0} (honest : D → Type 0) (history : D → List Change) (first old new : LiveState D) (events : List Event)
@@ -428,20 +503,21 @@ broke {D} honest history first old new events answers event usable r m =
       spends = spends_now honest history first old new events answers event (Err Broken) r m;
       event = m.not_counted ∙ r.event ∙ ap (λ (h : List Entry). first.numbers.event + length h) longer;
       numbers = λ is. absurd cc;
-      other_file = other_join first.is_in_b first old new r.other_file (subst (λ in_b. IsOtherKept in_b old new) r.same_file m.other_file);
-      same_file = m.same_file ∙ r.same_file;
+      in_file = λ room. in_file_on honest history first old new events answers event (Err Broken) usable r m room (λ is. absurd cc);
       kept = λ ha hb is. absurd cc;
       given_out = λ ha hb first_usable b x y at_x at_y.
           let turn = m.any_moment (r.honest_a.0 ha) (r.honest_b.0 hb) usable in
           finds turn.0 (found_state x y) (turn.2 x y (counts_now (history new.a) (length (history old.a)) x at_x)
           (counts_now (history new.b) (length (history old.b)) y at_y));
-      any_moment = λ ha hb first_usable one.
+      any_moment = λ ha hb first_usable room.
           let turn = m.any_moment (r.honest_a.0 ha) (r.honest_b.0 hb) usable in
+          let one = one_file history first.is_in_b first new (in_file_on honest history first old new events answers event (Err Broken) usable r m room
+          (λ is. absurd cc)).other_file in
           join_pairs (FindsPrefix first.state (events ++ event ∷ []) (answers ++ Err Broken ∷ [])) (history first.a) (history old.a)
           (history new.a) (history first.b) (history old.b) (history new.b)
           (r.continues_a ha) (m.continues_a (r.honest_a.0 ha)) (r.continues_b hb) (m.continues_b (r.honest_b.0 hb)) one
           (λ still x y at_x at_y. prefix_refused first.state events answers event Broken (found_state x y) r.counted
-          (r.any_moment ha hb first_usable still x y at_x at_y))
+          (r.any_moment ha hb first_usable (less_room first events event room) x y at_x at_y))
           (λ x y at_x at_y. finds_prefix_of_whole first.state (events ++ event ∷ []) (answers ++ Err Broken ∷ []) (found_state x y)
           (finds turn.0 (found_state x y) (turn.2 x y at_x at_y)));
       continues_a = λ ha. continues_join (history first.a) (history old.a) (history new.a) (r.continues_a ha)
@@ -518,17 +594,19 @@ answered {D} honest history first old new events answers event t usable r m =
           ∙ ap (λ (n : Numbers). let now : Stepped = step old.state event t.refused_at in next_numbers n now.ops) (r.numbers usable)
           ∙ ap (λ (st : Stepped). next_numbers (numbers_after first.state first.numbers whole) st.ops) same
           ∙ ap (numbers_after first.state first.numbers) longer;
-      other_file = other_join first.is_in_b first old new r.other_file (subst (λ in_b. IsOtherKept in_b old new) r.same_file m.other_file);
-      same_file = m.same_file ∙ r.same_file;
+      in_file = λ room. in_file_on honest history first old new events answers event (Ok t) usable r m room
+          (answered_few honest history first old new events answers event t r m);
       kept = λ ha hb is. m.kept (r.honest_a.0 ha) (r.honest_b.0 hb) is;
       given_out = λ ha hb first_usable b. (let not = m.usable in absurd cc);
-      any_moment = λ ha hb first_usable one.
+      any_moment = λ ha hb first_usable room.
           let turn = m.any_moment (r.honest_a.0 ha) (r.honest_b.0 hb) usable in
+          let one = one_file history first.is_in_b first new (in_file_on honest history first old new events answers event (Ok t) usable r m room
+          (answered_few honest history first old new events answers event t r m)).other_file in
           join_pairs (FindsPrefix first.state (events ++ event ∷ []) (answers ++ Ok t ∷ [])) (history first.a) (history old.a)
           (history new.a) (history first.b) (history old.b) (history new.b)
           (r.continues_a ha) (m.continues_a (r.honest_a.0 ha)) (r.continues_b hb) (m.continues_b (r.honest_b.0 hb)) one
           (λ still x y at_x at_y. prefix_answered first.state events answers event t (found_state x y) r.counted (r.unbroken usable).0
-          (r.any_moment ha hb first_usable still x y at_x at_y))
+          (r.any_moment ha hb first_usable (less_room first events event room) x y at_x at_y))
           (λ x y at_x at_y. finds turn.0 (found_state x y) turn.1 (turn.2 x y at_x at_y));
       continues_a = λ ha. continues_join (history first.a) (history old.a) (history new.a) (r.continues_a ha)
           (m.continues_a (r.honest_a.0 ha));
@@ -549,6 +627,9 @@ broken_or_not false = inr refl
 ok_is_no_err : (t : Answer) (r : Reply) → r ≡ Ok t → r ≡ Err Broken → ⊥
 ok_is_no_err t r is is_not = cc
 
+memory_is_no_fault : (let r : Reply = Err NoMemory in r ≡ Err Broken) → ⊥
+memory_is_no_fault is = cc
+
 -- a run goes on by one turn
 pub goes_on : {D : Type 0} (honest : D → Type 0) (history : D → List Change) (first old new : LiveState D) (events : List Event)
     (answers : List Reply) (event : Event) (answer : Reply)
@@ -564,11 +645,16 @@ goes_on honest history first old new events answers event (Err Broken) r m =
       | inr usable ↦ broke honest history first old new events answers event usable r m
     ]
 goes_on honest history first old new events answers event (Err NoMemory) r m =
-    refused honest history first old new events answers event NoMemory (m.stays (λ is. cc)) r (λ b. let no = (m.broken b).0 in cc)
-    (λ is. absurd cc) (spends_now honest history first old new events answers event (Err NoMemory) r m)
+    elim (m.stays (λ is. cc)) [
+      | inl same ↦ refused honest history first old new events answers event NoMemory same r (λ b. let no = (m.broken b).0 in cc)
+          (λ is. absurd cc) (spends_now honest history first old new events answers event (Err NoMemory) r m)
+      | inr ready ↦ refused_ready honest history first old new events answers event
+          (not_broken old.is_broken (λ b. memory_is_no_fault (m.broken b).0)) ready r m
+    ]
 goes_on honest history first old new events answers event (Err NumbersSpent) r m =
-    refused honest history first old new events answers event NumbersSpent (m.stays (λ is. cc)) r (λ b. let no = (m.broken b).0 in cc)
-    (λ is. absurd cc) (spends_now honest history first old new events answers event (Err NumbersSpent) r m)
+    refused honest history first old new events answers event NumbersSpent (m.nothing_done refl) r
+    (λ b. let no = (m.broken b).0 in cc) (λ is. absurd cc)
+    (spends_now honest history first old new events answers event (Err NumbersSpent) r m)
 
 -- ---- faults
 
@@ -593,10 +679,12 @@ fails_on honest history faults first old new event (Err Broken) m later_a later_
   | inr usable ↦ failed_since faults first old new later_a later_b (now usable refl)
 ]
 fails_on honest history faults first old new event (Err NoMemory) m later_a later_b before now broken =
-    let same : new ≡ old = m.stays (λ is. cc) in
-    subst (λ v. HasFailed faults first v) (sym same) (before (ap (λ v. v.is_broken) (sym same) ∙ broken))
+    elim (m.stays (λ is. cc)) [
+      | inl same ↦ subst (λ v. HasFailed faults first v) (sym same) (before (ap (λ v. v.is_broken) (sym same) ∙ broken))
+      | inr ready ↦ (let not = ready.usable in absurd cc)
+    ]
 fails_on honest history faults first old new event (Err NumbersSpent) m later_a later_b before now broken =
-    let same : new ≡ old = m.stays (λ is. cc) in
+    let same : new ≡ old = m.nothing_done refl in
     subst (λ v. HasFailed faults first v) (sym same) (before (ap (λ v. v.is_broken) (sym same) ∙ broken))
 
 -- ---- the whole run

@@ -1,13 +1,15 @@
 -- Two files as a stage is made or opened over them.
 use Rattle.std.proofs.Common.{◌≡◌, ◌⊎◌, inl, inr, ℕ, ◌+◌, ◌-◌, ◌^◌, ◌<◌, ◌≤◌, min, List, [], ◌∷◌, length, length-append, Some, None, Result}
-use Rattle.std.proofs.Common.{Ok, Err, refl, sym, ap, ◌∙◌, arith}
+use Rattle.std.proofs.Common.{Ok, Err, false, refl, sym, ap, ◌∙◌, arith}
 use Rattle.std.specs.Prelude.{IsSome, flat_map}
 use Rattle.std.specs.Option.{ok_or}
 use Rattle.std.specs.Result.{result_ok}
 use Rattle.play_journal.specs.declared.refusal.JournalError.{JournalError}
 use Rattle.play_journal.specs.declared.refusal.JournalError.TheVariants as journal
 use Rattle.play_journal.specs.Content.{Content, fresh}
-use Rattle.play_journal.specs.Errors.{IsRefusalOfCreate}
+use Rattle.play_journal.specs.Calls.{RefusesInOrder}
+use Rattle.play_journal.specs.Errors.{IsRefusalOfCreate, IsRefusalOfCheckpoint}
+use Rattle.play_journal.specs.JournalState.{JournalState}
 use Rattle.play_journal.specs.File.{IsFile, gated, spelling}
 use Rattle.disk_model.specs.History.{Change}
 use Rattle.disk_model.proofs.MomentLaws.{now_only}
@@ -24,8 +26,9 @@ use Rattle.state_codec.proofs.SavedLaws.{snapshot_again}
 use Rattle.live_stage.specs.declared.refusal.StartError.{StartError}
 use Rattle.live_stage.specs.declared.refusal.StartError.TheVariants.{NotEmpty, NoJournal, Damaged, NoMemory, Broken}
 use Rattle.live_stage.specs.Decoding.{GivesState}
-use Rattle.live_stage.specs.Numbers.{Numbers, numbers_found}
-use Rattle.live_stage.specs.Errors.{IsCause, start_error}
+use Rattle.live_stage.specs.Numbers.{Numbers, FileNumbers, numbers_found, file_found}
+use Rattle.live_stage.specs.declared.refusal.LiveError.TheVariants as turns
+use Rattle.live_stage.specs.Errors.{IsCause, start_error, checkpoint_error}
 use Rattle.live_stage.specs.Found.{after_record, records_reading, stored_reading, content_reading, state_of, found_state, KeepsFoundState}
 
 -- a pair that reads so is found so
@@ -184,10 +187,38 @@ opening_done old_a old_b new_a new_b kept = record {
 }
 
 -- the numbers of a stage over a journal that was opened
-pub numbers_are : (content : Content) (base count generation : ℕ) → content.base ≡ base → length content.records ≡ count
-    → content.generation ≡ generation → base + count < 2 ^ 64
-    → record { event = 0; last_record = min (base + count) (2 ^ 64 - 1); generation = generation } ≡ numbers_found content
-numbers_are content base count generation is_base is_count is_generation small =
-    let numbers : ℕ → ℕ → Numbers = λ last of_file. record { event = 0; last_record = last; generation = of_file } in
+pub numbers_are : (content : Content) (base count : ℕ) → content.base ≡ base → length content.records ≡ count → base + count < 2 ^ 64
+    → record { event = 0; last_record = min (base + count) (2 ^ 64 - 1) } ≡ numbers_found content
+numbers_are content base count is_base is_count small =
+    let numbers : ℕ → Numbers = λ last. record { event = 0; last_record = last } in
     let last : min (base + count) (2 ^ 64 - 1) ≡ content.base + length content.records = omega (arith, is_base, is_count, small) in
-    ap (λ (n : ℕ). numbers n generation) last ∙ ap (λ (n : ℕ). numbers (content.base + length content.records) n) (sym is_generation)
+    ap (λ (n : ℕ). numbers n) last
+
+pub file_is : (content : Content) (count generation : ℕ) → length content.records ≡ count → content.generation ≡ generation
+    → record { generation = generation; records = count } ≡ file_found content
+file_is content count generation is_count is_generation =
+    let numbers : ℕ → ℕ → FileNumbers = λ of_file so_many. record { generation = of_file; records = so_many } in
+    ap (λ (n : ℕ). numbers n count) (sym is_generation) ∙ ap (λ (n : ℕ). numbers content.generation n) (sym is_count)
+
+-- ---- a checkpoint
+
+only_fault : (e : JournalError) → IsRefusalOfCheckpoint e → (e ≡ journal.TooLong → ⊥) → (e ≡ journal.NumbersSpent → ⊥)
+    → checkpoint_error e ≡ turns.Broken → e ≡ journal.DiskFault
+only_fault journal.NotEmpty one short next is = elim one [ ]
+only_fault journal.NoJournal one short next is = elim one [ ]
+only_fault (journal.Damaged offset) one short next is = elim one [ ]
+only_fault journal.DiskFault one short next is = refl
+only_fault journal.NoMemory one short next is = cc
+only_fault journal.TooLong one short next is = absurd (short refl)
+only_fault journal.NumbersSpent one short next is = absurd (next refl)
+
+-- a checkpoint that was not made for want of a disk
+pub checkpoint_fault : {D : Type 0} (old new : JournalState D) (e : JournalError) (snapshot : List ℕ) (s : SavedState)
+    → snapshot ≡ saved_bytes s → IsSavedState s → old.is_spent ≡ false → (old.generation ≡ 2 ^ 64 - 1 → ⊥) → IsRefusalOfCheckpoint e
+    → RefusesInOrder {T = Unit {0}} old new 4294967295 (length snapshot) old.generation (Err e)
+    → checkpoint_error e ≡ turns.Broken → e ≡ journal.DiskFault
+checkpoint_fault old new e snapshot s spelled good usable next one refuses is =
+    let short : length (saved_bytes s) ≤ 691357253 = snapshot_len s good in
+    let fits : length snapshot ≤ 4294967295 = omega (arith, short, ap length spelled) in
+    only_fault e one (λ t. let too = (refuses.too_long usable).0 (ap Err t) in omega (arith, too, fits))
+    (λ t. next ((refuses.numbers_spent usable fits).0 (ap Err t))) is

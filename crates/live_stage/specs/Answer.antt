@@ -8,7 +8,7 @@ use Rattle.daemon_core.specs.State.{State}
 use Rattle.daemon_core.specs.Step.{Stepped, step}
 use Rattle.live_stage.specs.declared.turn.Receipt.{Receipt}
 use Rattle.live_stage.specs.LiveState.{LiveState}
-use Rattle.live_stage.specs.Numbers.{Numbers, next_numbers, record_number}
+use Rattle.live_stage.specs.Numbers.{Numbers, FileNumbers, next_numbers, record_number, ready_file, recorded}
 
 -- What is given out for an event, its number, its receipt, and, for contracts alone, the event and the state before it.
 pub record Answer : Type 0 where
@@ -31,19 +31,25 @@ pub record IsNumbered (before : Numbers) (ops : List Op) (t : Answer) : Type 0 w
   pub receipt_event : t.receipt.event ≡ before.event + 1
   pub receipt_number : t.receipt.number ≡ record_number before.last_record ops
 
--- the state after a turn and its answer are those of a step
-pub record IsTurnOf {D : Type 0} (st : Stepped) (before : LiveState D) (t : Answer) (after : LiveState D) : Type 0 where
+-- the state after a turn and its answer are those of a step, and its record, if it made one, stands in the file of these numbers
+pub record IsTurnOf {D : Type 0} (st : Stepped) (before : Numbers) (of_file : FileNumbers) (t : Answer) (after : LiveState D) : Type 0 where
   pub state : after.state ≡ st.after
   pub outputs : t.outputs ≡ st.outputs
   pub closes : t.closes ≡ st.closes
   pub ended : t.ended ≡ st.ended
   pub refused_at : t.refused_at ≡ st.refused_at
-  pub numbered : IsNumbered before.numbers st.ops t
-  pub numbers : after.numbers ≡ next_numbers before.numbers st.ops
+  pub numbered : IsNumbered before st.ops t
+  pub numbers : after.numbers ≡ next_numbers before st.ops
+  pub file : after.file ≡ recorded of_file t.receipt.number
 
--- a turn is the step of its event, where memory was refused at the place that its answer names
+-- An event was handled by its step, where memory was refused at the place that its answer names. Its record went to the file that was
+-- in use.
+abbrev pub IsHandled : {D : Type 0} → LiveState D → Event → Answer → LiveState D → Type 0
+IsHandled before event t after = IsTurnOf (step before.state event t.refused_at) before.numbers before.file t after
+
+-- a turn is the step of its event, and its record goes to the file that is ready for it
 abbrev pub IsTurn : {D : Type 0} → LiveState D → Event → Answer → LiveState D → Type 0
-IsTurn before event t after = IsTurnOf (step before.state event t.refused_at) before t after
+IsTurn before event t after = IsTurnOf (step before.state event t.refused_at) before.numbers (ready_file before.file) t after
 
 -- a restart finds the saved state from before an event, or from after it, where memory was refused at this place
 abbrev pub IsBeforeOrAfter : State → Event → Option ℕ → Option SavedState → Type 0

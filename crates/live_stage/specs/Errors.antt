@@ -61,3 +61,13 @@ start_error journal.DiskFault = Broken
 start_error journal.NoMemory = NoMemory
 start_error journal.TooLong = Broken
 start_error journal.NumbersSpent = Broken
+
+-- why a checkpoint is refused that the journal refused; but for these two, none comes
+abbrev pub checkpoint_error : JournalError → LiveError
+checkpoint_error journal.NotEmpty = turns.Broken
+checkpoint_error journal.NoJournal = turns.Broken
+checkpoint_error (journal.Damaged offset) = turns.Broken
+checkpoint_error journal.DiskFault = turns.Broken
+checkpoint_error journal.NoMemory = turns.NoMemory
+checkpoint_error journal.TooLong = turns.Broken
+checkpoint_error journal.NumbersSpent = turns.Broken

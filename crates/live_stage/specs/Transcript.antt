@@ -10,7 +10,7 @@ use Rattle.live_stage.specs.declared.refusal.LiveError.{LiveError}
 use Rattle.live_stage.specs.declared.refusal.LiveError.TheVariants.{Broken, NoMemory, NumbersSpent}
 use Rattle.live_stage.specs.Answer.{Answer, IsNumbered}
 use Rattle.live_stage.specs.LiveState.{LiveState}
-use Rattle.live_stage.specs.Numbers.{Numbers, next_numbers, AreSpent}
+use Rattle.live_stage.specs.Numbers.{Numbers, FileNumbers, next_numbers, ready_file, recorded, AreSpent}
 
 -- an event in the history, with the refused place that its answer names
 abbrev pub entry_of : Event → Answer → Entry
@@ -74,17 +74,28 @@ abbrev pub broken_after : Bool → List (Result Answer LiveError) → Bool
 broken_after was [] = was
 broken_after was (answer ∷ answers) = broken_after (broken_by was answer) answers
 
--- the numbers are spent, where the run began so and this history of it went before
-abbrev pub AreNumbersSpent : {D : Type 0} → LiveState D → List Entry → Type 0
-AreNumbersSpent first earlier = AreSpent (numbers_after first.state first.numbers earlier)
+-- How the numbers of the file go on by an answer. Where memory was refused, the checkpoint that was due may stand or not; after a disk
+-- fault nothing is said.
+abbrev pub FileGoesOn : FileNumbers → Result Answer LiveError → FileNumbers → Type 0
+FileGoesOn file (Ok t) next = next ≡ recorded (ready_file file) t.receipt.number
+FileGoesOn file (Err Broken) next = Unit {0}
+FileGoesOn file (Err NoMemory) next = (next ≡ file) ⊎ (next ≡ ready_file file)
+FileGoesOn file (Err NumbersSpent) next = next ≡ file
 
--- a stage that isn't broken refuses an event for want of numbers exactly where these are spent
-abbrev pub SpendsNumbers : {D : Type 0} → LiveState D → List Entry → Bool → List Event → List (Result Answer LiveError) → Type 0
-SpendsNumbers first earlier was [] answers = Unit {0}
-SpendsNumbers first earlier was (event ∷ events) [] = Unit {0}
-SpendsNumbers first earlier was (event ∷ events) (answer ∷ answers) =
-    (was ≡ false → ((answer ≡ Err NumbersSpent) ↔ AreNumbersSpent first earlier))
-    × SpendsNumbers first (history_of earlier (event ∷ []) (answer ∷ [])) (broken_by was answer) events answers
+-- the numbers are spent, where the run began so, this history of it went before, and the file has these
+abbrev pub AreNumbersSpent : {D : Type 0} → LiveState D → List Entry → FileNumbers → Type 0
+AreNumbersSpent first earlier file = AreSpent (numbers_after first.state first.numbers earlier) file
+
+-- A stage that isn't broken refuses an event for want of numbers exactly where these are spent. The file has these numbers at first,
+-- and those at the end.
+abbrev pub SpendsNumbers : {D : Type 0} → LiveState D → List Entry → Bool → FileNumbers → FileNumbers → List Event
+    → List (Result Answer LiveError) → Type 0
+SpendsNumbers first earlier was file last [] answers = last ≡ file
+SpendsNumbers first earlier was file last (event ∷ events) [] = last ≡ file
+SpendsNumbers first earlier was file last (event ∷ events) (answer ∷ answers) =
+    (was ≡ false → ((answer ≡ Err NumbersSpent) ↔ AreNumbersSpent first earlier file))
+    × ((next : FileNumbers) × FileGoesOn file answer next
+    × SpendsNumbers first (history_of earlier (event ∷ []) (answer ∷ [])) (broken_by was answer) next last events answers)
 
 -- from the first disk fault on, or from the start where the stage was broken, each answer is `Broken`
 abbrev pub StaysBroken : Bool → List (Result Answer LiveError) → Type 0
@@ -143,7 +154,7 @@ pub record RunRefuses {D : Type 0} (first last : LiveState D) (events : List Eve
     : Type 0 where
   pub broken : StaysBroken first.is_broken answers
   pub is_broken : last.is_broken ≡ broken_after first.is_broken answers
-  pub numbers_spent : SpendsNumbers first [] first.is_broken events answers
+  pub numbers_spent : SpendsNumbers first [] first.is_broken first.file last.file events answers
 
 -- in a life that began with what was kept, each answer is the reply of its one history, and the state its replay
 pub record IsOfOneLife {D : Type 0} (first last : LiveState D) (events : List Event) (answers : List (Result Answer LiveError))

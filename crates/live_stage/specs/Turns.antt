@@ -1,11 +1,19 @@
 -- How a stage goes on from one call to the next.
-use Rattle.std.specs.Prelude.{◌≡◌, ◌≢◌, ◌⊎◌, ◌↔◌, true, false, Result, Err, MatchBool, OnOk, OnErr, IfErr}
+use Rattle.std.specs.Prelude.{◌≡◌, ◌≢◌, ◌⊎◌, ◌↔◌, ◌≤◌, true, false, not, Bool, ℕ, List, [], ◌∷◌, length, Some, Result, Err, MatchBool}
+use Rattle.std.specs.Prelude.{OnOk, OnErr, IfErr, if◌then◌else◌}
+use Rattle.disk_model.specs.History.{Change}
+use Rattle.disk_model.specs.Later.{HasFailed}
+use Rattle.play_journal.specs.Calls.{SameFaults}
+use Rattle.play_journal.specs.Content.{Content, with_record, with_snapshot, IsOldOrNew}
+use Rattle.play_journal.specs.Pair.{AllPairsNow, AllPairsSince}
+use Rattle.state_codec.specs.declared.op.Op.{Op}
 use Rattle.state_codec.specs.SavedState.{SavedState}
+use Rattle.state_codec.specs.Spelling.{ops_bytes, saved_bytes}
 use Rattle.daemon_core.specs.State.{start}
 use Rattle.live_stage.specs.declared.refusal.LiveError.{LiveError}
 use Rattle.live_stage.specs.declared.refusal.LiveError.TheVariants.{Broken, NoMemory, NumbersSpent}
 use Rattle.live_stage.specs.LiveState.{LiveState}
-use Rattle.live_stage.specs.Numbers.{AreSpent}
+use Rattle.live_stage.specs.Numbers.{AreSpent, greatest, is_due, most_records, next_file, ready_file, file_found, numbers_found}
 
 -- a stage that begins with what was kept, and had no event yet
 pub record IsBegun {D : Type 0} (kept : SavedState) (live : LiveState D) : Type 0 where
@@ -13,33 +21,125 @@ pub record IsBegun {D : Type 0} (kept : SavedState) (live : LiveState D) : Type 
   pub event : live.numbers.event ≡ 0
   pub usable : live.is_broken ≡ false
 
--- What a stage does before it handles an event: nothing. The event meets it as it was.
-abbrev pub IsReady : {D : Type 0} → LiveState D → LiveState D → Type 0
-IsReady old ready = ready ≡ old
+-- a stage whose file says this, with its numbers
+pub record IsOver {D : Type 0} (content : Content) (live : LiveState D) : Type 0 where
+  pub numbers : live.numbers ≡ numbers_found content
+  pub file : live.file ≡ file_found content
+  pub says : live.content ≡ content
 
--- once it is ready, records go to the same file as before, and the other file isn't touched
+-- whatever a crash now leaves of the files gives the content of the stage, and its records are those that are counted
+pub record IsStored {D : Type 0} (history : D → List Change) (live : LiveState D) : Type 0 where
+  pub kept : AllPairsNow (λ f. f ≡ Some live.content) (history live.a) (history live.b)
+  pub counted : length live.content.records ≡ live.file.records
+
+-- the saved state as a snapshot
+abbrev pub snapshot_of : {D : Type 0} → LiveState D → List ℕ
+snapshot_of live = saved_bytes live.state.machine.saved
+
+-- ---- checkpoints
+
+-- After a checkpoint the state and its numbers are as they were, and records go to the other file, which has none yet.
+pub record IsCheckpointed {D : Type 0} (old new : LiveState D) : Type 0 where
+  pub state : new.state ≡ old.state
+  pub numbers : new.numbers ≡ old.numbers
+  pub file : new.file ≡ next_file old.file
+  pub other_file : new.is_in_b ≡ not old.is_in_b
+  pub usable : new.is_broken ≡ false
+
+-- While a checkpoint is made the files give what they gave before, or the state as a snapshot without records.
+pub record IsCheckpointing {D : Type 0} (history : D → List Change) (old new : LiveState D) : Type 0 where
+  pub before : AllPairsNow (λ f. f ≡ Some old.content) (history old.a) (history old.b)
+  pub during : AllPairsSince (IsOldOrNew old.content (snapshot_of old))
+      (history new.a) (length (history old.a)) (history new.b) (length (history old.b))
+
+-- From its `Ok` on they give the latter alone.
+pub record HoldsSnapshot {D : Type 0} (history : D → List Change) (old new : LiveState D) : Type 0 where
+  pub says : new.content ≡ with_snapshot old.content (snapshot_of old)
+  pub kept : AllPairsNow (λ f. f ≡ Some new.content) (history new.a) (history new.b)
+
+-- A stage that was broken refuses a checkpoint; then a generation that is spent is refused. A disk fault breaks the stage, any other
+-- refusal leaves it as it was.
+pub record RefusesCheckpoint {D T : Type 0} (old new : LiveState D) (result : Result T LiveError) : Type 0 where
+  pub broken : old.is_broken ≡ true → (result ≡ Err Broken) × (new ≡ old)
+  pub numbers_spent : old.is_broken ≡ false → ((result ≡ Err NumbersSpent) ↔ (old.file.generation ≡ greatest))
+  pub breaks : result ≡ Err Broken → new.is_broken ≡ true
+  pub stays : OnErr result (result ≢ Err Broken → new ≡ old)
+  pub not_counted : new.numbers.event ≡ old.numbers.event
+
+-- ---- turns
+
+-- whether a turn writes to file b: it is in use, or the other one is and a checkpoint is due
+abbrev pub writes_to_b : {D : Type 0} → LiveState D → Bool
+writes_to_b live = if is_due live.file then not live.is_in_b else live.is_in_b
+
+-- what the files say when a turn's record is written
+abbrev pub ready_content : {D : Type 0} → LiveState D → Content
+ready_content live = if is_due live.file then with_snapshot live.content (snapshot_of live) else live.content
+
+-- the same with the record of these ops, if there are any
+abbrev pub recorded_content : Content → List Op → Content
+recorded_content content [] = content
+recorded_content content (op ∷ ops) = with_record content (ops_bytes (op ∷ ops))
+
+-- What a turn does before it handles its event: it makes the checkpoint that is due, if one is.
+pub record IsReady {D : Type 0} (old ready : LiveState D) : Type 0 where
+  pub state : ready.state ≡ old.state
+  pub numbers : ready.numbers ≡ old.numbers
+  pub file : ready.file ≡ ready_file old.file
+  pub in_b : ready.is_in_b ≡ writes_to_b old
+  pub usable : ready.is_broken ≡ false
+  pub nothing_due : is_due old.file ≡ false → ready ≡ old
+
+-- nothing was done, or the checkpoint that was due
+abbrev pub IsStill : {D : Type 0} → LiveState D → LiveState D → Type 0
+IsStill old new = (new ≡ old) ⊎ IsReady old new
+
+-- records go to the same file as before, and the other file isn't touched
 pub record StaysInFile {D : Type 0} (old new : LiveState D) : Type 0 where
-  pub ready : LiveState D
-  pub readied : IsReady old ready
-  pub same_file : new.is_in_b ≡ ready.is_in_b
-  pub other_file : MatchBool ready.is_in_b (new.a ≡ ready.a) (new.b ≡ ready.b)
+  pub same_file : new.is_in_b ≡ old.is_in_b
+  pub other_file : MatchBool old.is_in_b (new.a ≡ old.a) (new.b ≡ old.b)
 
--- once it is ready, no disk is called
+-- A turn writes to one file alone, to which records go once it has answered.
+pub record WritesOneFile {D T : Type 0} (old new : LiveState D) (result : Result T LiveError) : Type 0 where
+  pub in_use : OnOk result (new.is_in_b ≡ writes_to_b old)
+  pub same_file : is_due old.file ≡ false → new.is_in_b ≡ old.is_in_b
+  pub other_file : MatchBool (writes_to_b old) (new.a ≡ old.a) (new.b ≡ old.b)
+
+-- `Broken` is told only where one of the two disks has failed, or the stage was broken, and any other answer only where neither has.
+pub record TellsFaults {D T : Type 0} (honest : D → Type 0) (faults : D → ℕ) (old new : LiveState D) (result : Result T LiveError)
+    : Type 0 where
+  pub failed : honest old.a → honest old.b → old.is_broken ≡ false → result ≡ Err Broken → HasFailed faults old.a old.b new.a new.b
+  pub met_none : result ≢ Err Broken → SameFaults faults old.a old.b new.a new.b
+
+-- no disk was called
 pub record MakesNoCall {D : Type 0} (old new : LiveState D) : Type 0 where
-  pub ready : LiveState D
-  pub readied : IsReady old ready
-  pub same_a : new.a ≡ ready.a
-  pub same_b : new.b ≡ ready.b
+  pub same_a : new.a ≡ old.a
+  pub same_b : new.b ≡ old.b
+
+-- From its `Ok` on whatever a crash leaves says the record of its ops, behind the snapshot that was due, if one was; and there are at
+-- most so many records.
+pub record IsWritten {D : Type 0} (history : D → List Change) (old new : LiveState D) (ops : List Op) : Type 0 where
+  pub says : new.content ≡ recorded_content (ready_content old) ops
+  pub stored : IsStored history new
+  pub few : length new.content.records ≤ most_records
+
+-- A disk fault breaks a stage, any other refusal leaves it as it was, and no refused event is counted.
+pub record LeavesAsIs {D T : Type 0} (old new : LiveState D) (result : Result T LiveError) : Type 0 where
+  pub never : result ≢ Err NumbersSpent
+  pub usable : OnOk result (new.is_broken ≡ false)
+  pub breaks : result ≡ Err Broken → new.is_broken ≡ true
+  pub stays : OnErr result (result ≢ Err Broken → new ≡ old)
+  pub not_counted : OnErr result (new.numbers.event ≡ old.numbers.event)
 
 -- A stage that was broken refuses; then numbers that are spent are refused, before anything is done. A disk fault breaks the stage,
--- any other refusal leaves it as it was, but ready, and no refused event is counted.
+-- any other refusal leaves it as it was, but for the checkpoint that was due, and no refused event is counted.
 pub record RefusesInOrder {D T : Type 0} (old new : LiveState D) (result : Result T LiveError) : Type 0 where
   pub broken : old.is_broken ≡ true → (result ≡ Err Broken) × (new ≡ old)
-  pub numbers_spent : old.is_broken ≡ false → ((result ≡ Err NumbersSpent) ↔ AreSpent old.numbers)
+  pub numbers_spent : old.is_broken ≡ false → ((result ≡ Err NumbersSpent) ↔ AreSpent old.numbers old.file)
   pub nothing_done : result ≡ Err NumbersSpent → new ≡ old
   pub usable : OnOk result (new.is_broken ≡ false)
   pub breaks : result ≡ Err Broken → new.is_broken ≡ true
-  pub stays : OnErr result (result ≢ Err Broken → IsReady old new)
+  pub stays : OnErr result (result ≢ Err Broken → IsStill old new)
   pub not_counted : OnErr result (new.numbers.event ≡ old.numbers.event)
 
 -- What is only told is refused where the stage is broken, and else for want of memory alone.

@@ -1,7 +1,9 @@
 //! The daemon's state and its journal together: one event, one record.
 #![tactic(auto)]
 
+mod checkpointing;
 mod decoding;
+pub mod laws;
 mod live;
 mod recording;
 mod refusal;

@@ -1,19 +1,23 @@
 // The stage.
 ghost use Rattle.std.specs.Prelude.{◌≡◌, ◌≢◌, ◌⊎◌, ◌↔◌, ◌+◌, ◌-◌, ◌^◌, ◌<◌, ◌≤◌, ℕ, true, false, [], length, Ok, Err, Some, None, Option};
-ghost use Rattle.std.specs.Prelude.{IsSome, IsTrue, IfOk, IfErr, OnOk, OnErr, IsErrAnd, MatchResult, MatchBool, vec_capacity};
+ghost use Rattle.std.specs.Prelude.{IsSome, IsTrue, IsOk, IfOk, IfErr, OnOk, OnErr, IsErrAnd, MatchResult, MatchBool, vec_capacity};
 ghost use Rattle.disk_model.specs.Later.{AreLater, HasFailed};
 ghost use Rattle.state_codec.specs.SavedState.{IsSavedState, fresh};
 ghost use Rattle.state_codec.specs.Spelling.{saved_bytes};
+ghost use Rattle.play_journal.specs.Calls.{SameFaults};
 ghost use Rattle.play_journal.specs.Content.{Content};
 ghost use Rattle.play_journal.specs.Pair.{found};
-ghost use Rattle.daemon_core.specs.Orders.{play_order, scan_order};
 ghost use Rattle.daemon_core.specs.State.{start};
-ghost use Rattle.live_stage.specs.Answer.{IsTurn, IsBeforeOrAfter, HasNoOps};
+ghost use Rattle.daemon_core.specs.Step.{step};
+ghost use Rattle.live_stage.specs.Answer.{IsTurn, IsHandled, IsBeforeOrAfter, HasNoOps};
 ghost use Rattle.live_stage.specs.Errors.{IsRefusalOfCreate, IsRefusalOfOpen, IsCause, start_error};
-ghost use Rattle.live_stage.specs.Numbers.{first_numbers, numbers_found, AreSpent};
-ghost use Rattle.live_stage.specs.Turns.{IsBegun, StaysInFile, MakesNoCall, RefusesInOrder, RefusesToTell};
+ghost use Rattle.live_stage.specs.Numbers.{first_numbers, first_file, greatest, is_due, AreCountsSpent, AreSpent};
+ghost use Rattle.live_stage.specs.Turns.{IsBegun, IsOver, IsStored, IsCheckpointed, IsCheckpointing, HoldsSnapshot, RefusesCheckpoint};
+ghost use Rattle.live_stage.specs.Turns.{IsReady, IsWritten, StaysInFile, WritesOneFile, MakesNoCall, LeavesAsIs, TellsFaults, RefusesInOrder};
+ghost use Rattle.live_stage.specs.Turns.{ready_content, recorded_content, writes_to_b};
 ghost use Rattle.live_stage.specs.Found.{found_state, AllFindNow, AllFindSince, KeepsFoundState};
 
+use crate::checkpointing::write_snapshot;
 use crate::decoding::take_state;
 use crate::recording::{LONGEST_BODY, record_ops};
 use crate::turn::Turn;
@@ -21,12 +25,15 @@ use crate::{LiveError, Refused, StartError};
 use daemon_core::{Core, Event};
 use disk_model::Disk;
 use play_journal::{Journal, JournalError};
-use player_core::Order;
-use song_db::ScanOrder;
 use state_codec::{Saved, put_saved};
 use std::alloc::Global;
 use std::marker::Model;
 use std::snapshot::Snapshot;
+
+mod looks;
+
+/// So many records stand behind a snapshot at most: a turn that finds them makes a checkpoint first.
+const MOST_RECORDS: u64 = 4_096;
 
 /// The daemon's state, and the journal that keeps it: what an event changes is on the disk when its answer is given out.
 ///
@@ -53,8 +60,9 @@ impl<D: Disk> Model for Live<D> {
       numbers = record {
         event = v.event;
         last_record = min (v.journal.base + v.journal.count) (2 ^ 64 - 1);
-        generation = v.journal.generation;
       };
+      file = record { generation = v.journal.generation; records = v.journal.count };
+      content = v.journal.content;
       is_in_b = v.journal.is_in_b;
       is_broken = v.journal.is_spent;
     } };
@@ -74,12 +82,12 @@ impl<D: Disk> Live<D> {
         ensures kept { D.honest a → D.honest b
             → IfOk result (λ live. AllFindNow (λ f. f ≡ Some (fresh key)) (D.history live.a) (D.history live.b)) }
         ensures begun { IfOk result (λ live. IsBegun (fresh key) live) }
-        ensures numbers { IfOk result (λ live. live.numbers ≡ first_numbers) }
+        ensures numbers { IfOk result (λ live. (live.numbers ≡ first_numbers) × (live.file ≡ first_file)) }
 
         ensures not_empty { D.honest a → D.honest b
             → (IsErrAnd result (λ e. e.error ≡ StartError.NotEmpty) ↔ ((D.content a ≢ []) ⊎ (D.content b ≢ []))) }
-        ensures fault { D.honest a → D.honest b
-            → IfErr result (λ e. e.error ≡ StartError.Broken → HasFailed D.faults a b e.a e.b) }
+        ensures fault { MatchResult result (λ live. SameFaults D.faults a b live.a live.b)
+            (λ e. D.honest a → D.honest b → e.error ≡ StartError.Broken → HasFailed D.faults a b e.a e.b) }
         ensures nothing_else { IfErr result (λ e. IsRefusalOfCreate e.error) }
 
         // Another refusal than a disk fault hands the disks back as they were.
@@ -130,12 +138,12 @@ impl<D: Disk> Live<D> {
         // Where each pair that a crash may have left gives a state, it opens, unless memory is wanting or a disk fails.
         ensures opens { D.honest a → D.honest b → AllFindNow (λ f. IsSome f) (D.history a) (D.history b)
             → IfErr result (λ e. (e.error ≡ StartError.NoMemory) ⊎ (e.error ≡ StartError.Broken)) }
-        ensures fault { D.honest a → D.honest b
-            → IfErr result (λ e. e.error ≡ StartError.Broken → HasFailed D.faults a b e.a e.b) }
+        ensures fault { MatchResult result (λ live. SameFaults D.faults a b live.a live.b)
+            (λ e. D.honest a → D.honest b → e.error ≡ StartError.Broken → HasFailed D.faults a b e.a e.b) }
         ensures nothing_else { IfErr result (λ e. IsRefusalOfOpen e.error) }
 
         ensures numbers { D.honest a → D.honest b → IfOk result (λ live. (content : Content)
-            → found (D.content a) (D.content b) ≡ Some content → live.numbers ≡ numbers_found content) }
+            → found (D.content a) (D.content b) ≡ Some content → IsOver content live) }
         ensures later { MatchResult result (λ live. AreLater D.honest D.history D.faults a b live.a live.b)
             (λ e. AreLater D.honest D.history D.faults a b e.a e.b) }
     {
@@ -168,10 +176,11 @@ impl<D: Disk> Live<D> {
     }
 
     /// Handles one event. If it changes what is saved, that is one record, and it is on the disk when the answer is given
-    /// out; any other event makes no call of a disk.
+    /// out; any other event makes no call of a disk. Where 4,096 or more records stand behind the snapshot, a checkpoint is made
+    /// first, whatever the event.
     ///
     /// It refuses in the order `Broken` (from before), `NumbersSpent`, `NoMemory`, `Broken` (by a disk fault now). After the
-    /// last the event may be kept or not: open the files again.
+    /// last the event may be kept or not: open the files again. A checkpoint that was made stands after `NoMemory`.
     pub fn turn(&mut self, alloc: Global, event: Event) -> Result<Turn<D>, LiveError>
         // The answer and the state are those of the step.
         ensures step { IfOk result (λ t. IsTurn self.old event t self.new) }
@@ -186,20 +195,115 @@ impl<D: Disk> Live<D> {
         // From then on it finds the state after, and after a refusal without a fault the state from before, which stays.
         ensures kept { D.honest self.old.a → D.honest self.old.b → self.new.is_broken ≡ false
             → AllFindNow (λ f. f ≡ Some self.new.state.machine.saved) (D.history self.new.a) (D.history self.new.b) }
-        ensures no_call { IfOk result (λ t. HasNoOps self.old event t → MakesNoCall self.old self.new) }
-        ensures file { StaysInFile self.old self.new }
+
+        // The files then say the record of the event's ops, and at most 4,096 records.
+        ensures stored { D.honest self.old.a → D.honest self.old.b → IfOk result (λ t.
+            let now = step self.old.state event t.refused_at in IsWritten D.history self.old self.new now.ops) }
+        ensures no_call { is_due self.old.file ≡ false → IfOk result (λ t. HasNoOps self.old event t → MakesNoCall self.old self.new) }
+        ensures file { WritesOneFile self.old self.new result }
 
         ensures refuses { RefusesInOrder self.old self.new result }
-        ensures fault { D.honest self.old.a → D.honest self.old.b → self.old.is_broken ≡ false → result ≡ Err LiveError.Broken
-            → HasFailed D.faults self.old.a self.old.b self.new.a self.new.b }
+        ensures fault { TellsFaults D.honest D.faults self.old self.new result }
         ensures later { AreLater D.honest D.history D.faults self.old.a self.old.b self.new.a self.new.b }
     {
-        if self.journal.is_spent() {
+        if self.is_broken() {
             return Err(LiveError::Broken);
         }
         if self.are_numbers_spent() {
             return Err(LiveError::NumbersSpent);
         }
+        self.make_ready(alloc)?;
+        let turn = self.handle(alloc, event)?;
+        // As long as it isn't broken, the files say what is stored.
+        let _broken = self.is_broken();
+        Ok(turn)
+    }
+
+    /// Makes a new snapshot: the state, in the file that isn't in use, to which records go from then on. The file from before
+    /// isn't touched.
+    ///
+    /// It refuses in the order `Broken` (from before), `NumbersSpent` (the last generation is 2^64 - 1), `NoMemory`, `Broken` (by a
+    /// disk fault now). After the last the snapshot may be there or not: open the files again.
+    pub fn checkpoint(&mut self, alloc: Global) -> Result<(), LiveError>
+        // Stopped at any moment, the files give what they gave before, or the new snapshot without records, which they give from
+        // `Ok` on. A restart finds the same state throughout.
+        ensures any_moment { D.honest self.old.a → D.honest self.old.b → self.old.is_broken ≡ false
+            → IsCheckpointing D.history self.old self.new }
+        ensures same_state { D.honest self.old.a → D.honest self.old.b → self.old.is_broken ≡ false
+            → AllFindSince (λ f. f ≡ Some self.old.state.machine.saved)
+            (D.history self.new.a) (length (D.history self.old.a)) (D.history self.new.b) (length (D.history self.old.b)) }
+        ensures kept { D.honest self.old.a → D.honest self.old.b → OnOk result (HoldsSnapshot D.history self.old self.new) }
+        ensures next { OnOk result (IsCheckpointed self.old self.new) }
+
+        ensures refuses { RefusesCheckpoint self.old self.new result }
+        ensures fault { TellsFaults D.honest D.faults self.old self.new result }
+
+        // The file that was in use isn't touched.
+        ensures old_file { MatchBool self.old.is_in_b (self.new.b ≡ self.old.b) (self.new.a ≡ self.old.a) }
+        ensures later { AreLater D.honest D.history D.faults self.old.a self.old.b self.new.a self.new.b }
+    {
+        if self.journal.is_spent() {
+            return Err(LiveError::Broken);
+        }
+        if self.journal.generation() == u64::MAX {
+            return Err(LiveError::NumbersSpent);
+        }
+        write_snapshot(alloc, &mut self.journal, self.core.as_saved())?;
+        Ok(())
+    }
+
+    // Whether a checkpoint is due.
+    fn is_checkpoint_due(&self) -> bool
+        ensures { result ≡ is_due self.now.file }
+    {
+        self.journal.records_since_checkpoint() >= MOST_RECORDS
+    }
+
+    // Makes the checkpoint that is due, if one is.
+    fn make_ready(&mut self, alloc: Global) -> Result<(), LiveError>
+        requires usable { self.old.is_broken ≡ false }
+        requires generation { is_due self.old.file ≡ true → self.old.file.generation ≢ greatest }
+        ensures ready { OnOk result (IsReady self.old self.new) }
+        ensures content { D.honest self.old.a → D.honest self.old.b → OnOk result (self.new.content ≡ ready_content self.old) }
+        ensures same_state { D.honest self.old.a → D.honest self.old.b
+            → AllFindSince (λ f. f ≡ Some self.old.state.machine.saved)
+            (D.history self.new.a) (length (D.history self.old.a)) (D.history self.new.b) (length (D.history self.old.b)) }
+        ensures undue { is_due self.old.file ≡ false → IsOk result }
+        ensures other_file { MatchBool (writes_to_b self.old) (self.new.a ≡ self.old.a) (self.new.b ≡ self.old.b) }
+        ensures refuses { LeavesAsIs self.old self.new result }
+        ensures fault { TellsFaults D.honest D.faults self.old self.new result }
+        ensures later { AreLater D.honest D.history D.faults self.old.a self.old.b self.new.a self.new.b }
+    {
+        // As long as it isn't broken, the files give its state.
+        let _broken = self.is_broken();
+        if !self.is_checkpoint_due() {
+            return Ok(());
+        }
+        self.checkpoint(alloc)?;
+        Ok(())
+    }
+
+    // Handles one event, by a record in the file that is in use.
+    fn handle(&mut self, alloc: Global, event: Event) -> Result<Turn<D>, LiveError>
+        requires usable { self.old.is_broken ≡ false }
+        requires numbers { AreCountsSpent self.old.numbers → ⊥ }
+        ensures step { IfOk result (λ t. IsHandled self.old event t self.new) }
+        ensures carries { IfOk result (λ t. (t.asked ≡ event) × (t.before ≡ self.old.state)) }
+        ensures any_moment { D.honest self.old.a → D.honest self.old.b → self.old.is_broken ≡ false
+            → (k : Option ℕ) × IfOk result (λ t. t.refused_at ≡ k) × AllFindSince (IsBeforeOrAfter self.old.state event k)
+            (D.history self.new.a) (length (D.history self.old.a)) (D.history self.new.b) (length (D.history self.old.b)) }
+        ensures kept { D.honest self.old.a → D.honest self.old.b → self.new.is_broken ≡ false
+            → AllFindNow (λ f. f ≡ Some self.new.state.machine.saved) (D.history self.new.a) (D.history self.new.b) }
+        ensures content { D.honest self.old.a → D.honest self.old.b → IfOk result (λ t.
+            let now = step self.old.state event t.refused_at in self.new.content ≡ recorded_content self.old.content now.ops) }
+        ensures no_call { IfOk result (λ t. HasNoOps self.old event t → MakesNoCall self.old self.new) }
+        ensures file { StaysInFile self.old self.new }
+        ensures refuses { LeavesAsIs self.old self.new result }
+        ensures fault { TellsFaults D.honest D.faults self.old self.new result }
+        ensures later { AreLater D.honest D.history D.faults self.old.a self.old.b self.new.a self.new.b }
+    {
+        // As long as it isn't spent, the files give its content.
+        let _spent = self.journal.is_spent();
         let asked = Snapshot::of(&event);
         let before = Snapshot::of(&self.core);
         let outcome = match self.core.step(alloc, event) {
@@ -209,30 +313,6 @@ impl<D: Disk> Live<D> {
         let number = record_ops(&mut self.journal, &mut self.room, &outcome.ops)?;
         self.event += 1;
         Ok(Turn::new(outcome, self.event, number, asked, before))
-    }
-
-    /// What the output is to do: to play a song from a frame on, or to wait. It refuses `Broken` where a disk failed, and else
-    /// want of memory alone.
-    pub fn order(&self, alloc: Global) -> Result<Order, LiveError>
-        ensures order { IfOk result (λ order. order ≡ play_order self.now.state.machine) }
-        ensures refuses { RefusesToTell self.now result }
-    {
-        if self.is_broken() {
-            return Err(LiveError::Broken);
-        }
-        self.core.order(alloc).map_err(|_| LiveError::NoMemory)
-    }
-
-    /// What a scan is to read for the job that runs, if one does. It refuses `Broken` where a disk failed, and else want of
-    /// memory alone.
-    pub fn scan_order(&self, alloc: Global) -> Result<Option<ScanOrder>, LiveError>
-        ensures order { IfOk result (λ order. order ≡ scan_order self.now.state.machine) }
-        ensures refuses { RefusesToTell self.now result }
-    {
-        if self.is_broken() {
-            return Err(LiveError::Broken);
-        }
-        self.core.scan_order(alloc).map_err(|_| LiveError::NoMemory)
     }
 
     /// How many events there were since the stage was made or opened.
@@ -251,12 +331,14 @@ impl<D: Disk> Live<D> {
             .saturating_add(self.journal.records_since_checkpoint())
     }
 
-    /// Whether the last event or the last record has the number 2^64 - 1. Every later `turn` then answers `NumbersSpent`,
-    /// unless the stage is broken.
+    /// Whether the last event or the last record has the number 2^64 - 1, or the file the generation 2^64 - 1 and a checkpoint
+    /// is due. Every later `turn` then answers `NumbersSpent`, unless the stage is broken.
     pub fn are_numbers_spent(&self) -> bool
-        ensures { IsTrue result ↔ AreSpent self.now.numbers }
+        ensures { IsTrue result ↔ AreSpent self.now.numbers self.now.file }
     {
-        self.event == u64::MAX || self.last_record() == u64::MAX
+        self.event == u64::MAX
+            || self.last_record() == u64::MAX
+            || (self.is_checkpoint_due() && self.journal.generation() == u64::MAX)
     }
 
     /// Whether a disk failed. Every later `turn` then answers `Broken`: open the files again.
@@ -264,7 +346,9 @@ impl<D: Disk> Live<D> {
         ensures value { result ≡ self.now.is_broken }
         ensures kept { D.honest self.now.a → D.honest self.now.b → self.now.is_broken ≡ false
             → AllFindNow (λ f. f ≡ Some self.now.state.machine.saved) (D.history self.now.a) (D.history self.now.b) }
+        ensures stored { D.honest self.now.a → D.honest self.now.b → self.now.is_broken ≡ false → IsStored D.history self.now }
     {
+        let _records = self.journal.records_since_checkpoint();
         self.journal.is_spent()
     }
 

@@ -2,7 +2,7 @@
 ghost use Rattle.std.specs.Prelude.{◌≡◌, ◌≢◌, ◌⊎◌, ◌↔◌, ◌≤◌, ◌<◌, ◌+◌, ◌-◌, ◌^◌, [], false, true, length, Ok, Err, Some, None, IfOk};
 ghost use Rattle.std.specs.Prelude.{IfErr, OnOk, OnErr, MatchBool, vec_capacity};
 ghost use Rattle.disk_model.specs.Later.{AreLater, HasFailed};
-ghost use Rattle.play_journal.specs.Calls.{Holds, StaysInFile};
+ghost use Rattle.play_journal.specs.Calls.{Holds, StaysInFile, SameFaults};
 ghost use Rattle.play_journal.specs.Content.{with_record, IsBeforeOrAfter};
 ghost use Rattle.play_journal.specs.Pair.{AllPairsSince};
 ghost use Rattle.std.specs.List.{AllByRecursion};
@@ -59,6 +59,7 @@ pub(crate) fn record_ops<D: Disk>(
     ensures spends { OnErr result (journal.new.is_spent ≡ true) }
     ensures fault { D.honest journal.old.a → D.honest journal.old.b
         → OnErr result (HasFailed D.faults journal.old.a journal.old.b journal.new.a journal.new.b) }
+    ensures met_none { OnOk result (SameFaults D.faults journal.old.a journal.old.b journal.new.a journal.new.b) }
     ensures later { AreLater D.honest D.history D.faults journal.old.a journal.old.b journal.new.a journal.new.b }
     ensures capacity { vec_capacity room.new ≡ vec_capacity room.old }
 {

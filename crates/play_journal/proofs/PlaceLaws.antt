@@ -5,7 +5,7 @@ use Rattle.std.specs.Prelude.{not}
 use Rattle.disk_model.specs.Later.{IsLater, AreLater}
 use Rattle.disk_model.proofs.LaterLaws.{later_begin}
 use Rattle.disk_model.proofs.MomentLaws.{now_only}
-use Rattle.play_journal.specs.Content.{Content, IsBeforeOrAfter, IsOldOrNew}
+use Rattle.play_journal.specs.Content.{Content, present_layout, IsBeforeOrAfter, IsOldOrNew}
 use Rattle.play_journal.specs.JournalState.{at_place, content_in, IsKept}
 use Rattle.play_journal.specs.Pair.{AllPairsNow, AllPairsSince}
 use Rattle.play_journal.proofs.InUseLaws.{all_first, all_second, content-file}
@@ -35,6 +35,16 @@ pub kept_count : (here there : List ℕ) (h o : List Change) (end generation bas
     → IsKept here there h o end generation base count → length (content_in here).records ≡ count
 kept_count here there h o end generation base count kept = ap (λ (c : Content). length c.records)
     (content-file here kept.in_use.file kept.in_use.is_file) ∙ kept.in_use.counted
+
+pub kept_generation : (here there : List ℕ) (h o : List Change) (end generation base count : ℕ)
+    → IsKept here there h o end generation base count → (content_in here).generation ≡ generation
+kept_generation here there h o end generation base count kept = ap (λ (c : Content). c.generation)
+    (content-file here kept.in_use.file kept.in_use.is_file) ∙ kept.in_use.numbered
+
+pub kept_layout : (here there : List ℕ) (h o : List Change) (end generation base count : ℕ)
+    → IsKept here there h o end generation base count → (content_in here).layout ≡ present_layout
+kept_layout here there h o end generation base count kept = ap (λ (c : Content). c.layout)
+    (content-file here kept.in_use.file kept.in_use.is_file) ∙ kept.in_use.is_file.fits.layout
 
 -- what stands at the place of the file in use stands where it was
 pub placed_back : {D : Type 0} (swapped : Bool) (a b : D) → at_place swapped (at_place swapped a b) (at_place swapped b a) ≡ a

@@ -4,7 +4,7 @@ use Rattle.std.specs.Prelude.{MatchBool, OnErr}
 use Rattle.disk_model.specs.History.{Change}
 use Rattle.play_journal.specs.declared.refusal.JournalError.{JournalError}
 use Rattle.play_journal.specs.declared.refusal.JournalError.TheVariants.{DiskFault, TooLong, NumbersSpent}
-use Rattle.play_journal.specs.Content.{Content}
+use Rattle.play_journal.specs.Content.{Content, present_layout}
 use Rattle.play_journal.specs.JournalState.{JournalState}
 use Rattle.play_journal.specs.Pair.{AllPairsNow}
 use Rattle.play_journal.specs.Stored.{StoredParts}
@@ -14,6 +14,19 @@ pub record Holds {D : Type 0} (history : D → List Change) (journal : JournalSt
   pub says : journal.content ≡ content
   pub kept : AllPairsNow (λ f. f ≡ Some journal.content) (history journal.a) (history journal.b)
 
+-- the numbers of a journal are those of its content
+pub record AreItsNumbers {D : Type 0} (journal : JournalState D) : Type 0 where
+  pub layout : journal.content.layout ≡ present_layout
+  pub generation : journal.content.generation ≡ journal.generation
+  pub base : journal.content.base ≡ journal.base
+  pub count : length journal.content.records ≡ journal.count
+  pub last : journal.base + journal.count < 2 ^ 64
+
+-- neither of two disks has failed in a call
+pub record SameFaults {D : Type 0} (faults : D → ℕ) (old_a old_b new_a new_b : D) : Type 0 where
+  pub a : faults new_a ≡ faults old_a
+  pub b : faults new_b ≡ faults old_b
+
 -- a journal that was just made: its first file is in use
 pub record IsNew {D : Type 0} (journal : JournalState D) : Type 0 where
   pub generation : journal.generation ≡ 1
@@ -22,14 +35,18 @@ pub record IsNew {D : Type 0} (journal : JournalState D) : Type 0 where
   pub in_a : journal.is_in_b ≡ false
   pub usable : journal.is_spent ≡ false
 
--- a journal that was opened, with the snapshot and the records that were found
-pub record IsOpened {D : Type 0} (Honest : Type 0) (journal : JournalState D) (stored : StoredParts) : Type 0 where
+-- A journal that was opened over two disks, with the snapshot and the records that were found. The file that isn't in use keeps its
+-- bytes, and neither disk has failed.
+pub record IsOpened {D : Type 0} (Honest : Type 0) (content : D → List ℕ) (faults : D → ℕ) (a b : D) (journal : JournalState D)
+    (stored : StoredParts) : Type 0 where
   pub same_snapshot : Honest → stored.snapshot ≡ journal.content.snapshot
   pub same_records : Honest → stored.records ≡ journal.content.records
   pub generation : Honest → journal.content.generation ≡ journal.generation
   pub base : Honest → journal.content.base ≡ journal.base
   pub count : length stored.records ≡ journal.count
   pub usable : journal.is_spent ≡ false
+  pub other_file : Honest → MatchBool journal.is_in_b (content journal.a ≡ content a) (content journal.b ≡ content b)
+  pub met_none : SameFaults faults a b journal.a journal.b
 
 -- a record has this number, which is the next one
 pub record IsNextRecord {D : Type 0} (old new : JournalState D) (number : ℕ) : Type 0 where
@@ -54,9 +71,10 @@ pub record IsNextGeneration {D : Type 0} (old new : JournalState D) : Type 0 whe
 
 -- Bytes of this size are refused in this order: the journal is spent, they are longer than the longest, or the last number is
 -- spent.
--- A refusal that is no disk fault changes nothing.
+-- A disk fault spends the journal, and a refusal that is none changes nothing.
 pub record RefusesInOrder {D T : Type 0} (old new : JournalState D) (longest size last : ℕ) (result : Result T JournalError) : Type 0 where
   pub spent : old.is_spent ≡ true → (result ≡ Err DiskFault) × (new ≡ old)
   pub too_long : old.is_spent ≡ false → ((result ≡ Err TooLong) ↔ (longest < size))
   pub numbers_spent : old.is_spent ≡ false → size ≤ longest → ((result ≡ Err NumbersSpent) ↔ (last ≡ 2 ^ 64 - 1))
+  pub spends : result ≡ Err DiskFault → new.is_spent ≡ true
   pub stays : OnErr result (result ≢ Err DiskFault → new ≡ old)

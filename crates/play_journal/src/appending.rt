@@ -44,6 +44,7 @@ pub(crate) fn append_at<D: Disk>(disk: &mut D, gate: u64, added: &[u8]) -> Resul
     ensures error { OnErr result (result ≡ Err JournalError.DiskFault) }
     ensures fault { D.honest disk.old → length (D.content disk.old) ≡ gate + 1
         → OnErr result (HasGrown (D.faults disk.old) (D.faults disk.new)) }
+    ensures met_none { OnOk result (D.faults disk.new ≡ D.faults disk.old) }
 {
     let behind = gate.saturating_add(1);
     write_synced(disk, behind, added)?;

@@ -4,6 +4,7 @@ ghost use Rattle.std.specs.Prelude.{OnErr, OnOk};
 ghost use Rattle.disk_model.specs.Faults.{HasGrown};
 ghost use Rattle.disk_model.specs.Images.{window, settled};
 ghost use Rattle.disk_model.specs.Later.{AreLater, HasFailed};
+ghost use Rattle.play_journal.specs.Calls.{SameFaults};
 ghost use Rattle.play_journal.specs.Errors.{IsRefusalOfCreate};
 ghost use Rattle.play_journal.specs.File.{open_gate, head};
 ghost use Rattle.play_journal.specs.Room.{room};
@@ -39,6 +40,7 @@ pub(crate) fn fresh_journal<D: Disk>(
     ensures not_empty { IfErr result (λ e. e ≢ JournalError.NotEmpty) }
     ensures stays_a { IfErr result (λ e. e ≢ JournalError.DiskFault → a.new ≡ a.old) }
     ensures stays_b { IfErr result (λ e. e ≢ JournalError.DiskFault → b.new ≡ b.old) }
+    ensures met_none { OnOk result (SameFaults D.faults a.old b.old a.new b.new) }
 {
     if snapshot.len() > LONGEST_SNAPSHOT {
         return Err(JournalError::TooLong);

@@ -2,8 +2,9 @@
 ghost use Rattle.std.specs.Prelude.{◌≡◌, ◌≢◌, ◌⊎◌, ◌↔◌, ◌+◌, ◌-◌, ◌^◌, ◌<◌, ◌≤◌, Bool, true, false, List, [], ◌∷◌, length, vec_capacity};
 ghost use Rattle.std.specs.Prelude.{Err, Some, None, IsTrue, IsSome, IfOk, IfErr, OnOk, OnErr, IsOk, IsErrAnd, MatchResult, MatchBool, Ok};
 ghost use Rattle.disk_model.specs.Later.{AreLater, HasFailed};
-ghost use Rattle.play_journal.specs.Calls.{Holds, IsNew, IsOpened, IsNextRecord, StaysInFile, IsNextGeneration, RefusesInOrder};
-ghost use Rattle.play_journal.specs.Content.{fresh, with_record, with_snapshot, IsBeforeOrAfter, IsOldOrNew};
+ghost use Rattle.play_journal.specs.Calls.{Holds, IsNew, IsOpened, IsNextRecord, StaysInFile, IsNextGeneration, RefusesInOrder, SameFaults};
+ghost use Rattle.play_journal.specs.Calls.{AreItsNumbers};
+ghost use Rattle.play_journal.specs.Content.{present_layout, fresh, with_record, with_snapshot, IsBeforeOrAfter, IsOldOrNew};
 ghost use Rattle.play_journal.specs.Errors.{IsRefusalOfCreate, IsRefusalOfOpen, IsRefusalOfAppend, IsRefusalOfCheckpoint};
 ghost use Rattle.play_journal.specs.FileRead.{content_read};
 ghost use Rattle.play_journal.specs.JournalState.{at_place, content_in, IsKept};
@@ -15,7 +16,7 @@ use crate::appending::{append_at, put_record};
 use crate::creating::{LONGEST_SNAPSHOT, fresh_journal};
 use crate::laying::{head_bytes, lay_down};
 use crate::opening::{Opened, open_files};
-use crate::reading::{FileRead, HEAD_LEN, LONGEST_BODY};
+use crate::reading::{FileRead, HEAD_LEN, LAYOUT, LONGEST_BODY};
 use crate::{JournalError, Refused, Stored};
 use disk_model::Disk;
 use std::alloc::Global;
@@ -70,6 +71,7 @@ impl<D: Disk> Journal<D> {
         // From `Ok` on the files give the snapshot without records: file a is in use, and file b is empty.
         ensures kept { D.honest a → D.honest b → IfOk result (λ j. Holds D.history j (fresh snapshot.now)) }
         ensures new { IfOk result (λ j. IsNew j) }
+        ensures met_none { IfOk result (λ j. SameFaults D.faults a b j.a j.b) }
         ensures empty { D.honest a → D.honest b → IfOk result (λ j. D.content j.b ≡ []) }
 
         ensures not_empty { D.honest a → D.honest b
@@ -115,7 +117,7 @@ impl<D: Disk> Journal<D> {
     pub fn open(alloc: Global, a: D, b: D) -> Result<(Journal<D>, Stored), Refused<D>>
         // It answers what the files give, and names what is wrong with them.
         ensures read { D.honest a → D.honest b → IfOk result (λ r. reading (D.content a) (D.content b) ≡ Ok r.0.content) }
-        ensures opened { IfOk result (λ r. IsOpened (D.honest a × D.honest b) r.0 r.1) }
+        ensures opened { IfOk result (λ r. IsOpened (D.honest a × D.honest b) D.content D.faults a b r.0 r.1) }
         ensures cause { D.honest a → D.honest b → IfErr result (λ e. IsCause (reading (D.content a) (D.content b)) e.error) }
 
         // Stopped at any moment, the files give what they might have given before, and from `Ok` on what is answered.
@@ -159,7 +161,7 @@ impl<D: Disk> Journal<D> {
 
         ensures refuses { RefusesInOrder self.old self.new 2097152 (length body.now) (self.old.base + self.old.count) result }
         ensures nothing_else { IfErr result IsRefusalOfAppend }
-        ensures spends { result ≡ Err JournalError.DiskFault → self.new.is_spent ≡ true }
+        ensures met_none { OnOk result (SameFaults D.faults self.old.a self.old.b self.new.a self.new.b) }
         ensures fault { D.honest self.old.a → D.honest self.old.b → self.old.is_spent ≡ false → result ≡ Err JournalError.DiskFault
             → HasFailed D.faults self.old.a self.old.b self.new.a self.new.b }
 
@@ -212,11 +214,14 @@ impl<D: Disk> Journal<D> {
 
         ensures refuses { RefusesInOrder self.old self.new 4294967295 (length snapshot.now) self.old.generation result }
         ensures nothing_else { IfErr result IsRefusalOfCheckpoint }
-        ensures spends { result ≡ Err JournalError.DiskFault → self.new.is_spent ≡ true }
+        ensures met_none { OnOk result (SameFaults D.faults self.old.a self.old.b self.new.a self.new.b) }
         ensures fault { D.honest self.old.a → D.honest self.old.b → self.old.is_spent ≡ false → result ≡ Err JournalError.DiskFault
             → HasFailed D.faults self.old.a self.old.b self.new.a self.new.b }
 
-        // The file that was in use isn't touched.
+        // The file that was in use isn't touched, and the other by nine calls of its disk at most.
+        ensures calls { D.honest self.old.a → D.honest self.old.b → OnOk result (length (D.history self.new.a) + length
+            (D.history self.new.b)
+            ≤ length (D.history self.old.a) + length (D.history self.old.b) + 9) }
         ensures old_file { MatchBool self.old.is_in_b (self.new.b ≡ self.old.b) (self.new.a ≡ self.old.a) }
         ensures later { AreLater D.honest D.history D.faults self.old.a self.old.b self.new.a self.new.b }
     {
@@ -256,6 +261,21 @@ impl<D: Disk> Journal<D> {
         self.base
     }
 
+    /// The layout of the file in use: there is one that is read and written, 1.
+    pub fn layout(&self) -> u32
+        ensures { result ≡ present_layout }
+    {
+        LAYOUT
+    }
+
+    /// The generation of the file in use. A checkpoint makes the next one, unless it is 2^64 - 1.
+    pub fn generation(&self) -> u64
+        ensures value { result ≡ self.now.generation }
+        ensures content { D.honest self.now.a → D.honest self.now.b → self.now.is_spent ≡ false → self.now.content.generation ≡ result }
+    {
+        self.generation
+    }
+
     /// How many records stand behind the snapshot.
     pub fn records_since_checkpoint(&self) -> u64
         ensures value { result ≡ self.now.count }
@@ -264,11 +284,12 @@ impl<D: Disk> Journal<D> {
         self.count
     }
 
-    /// Whether a disk failed. Every later `append` then answers `DiskFault`: open the files again.
+    /// Whether a disk failed. Every later `append` and `checkpoint` then answers `DiskFault`: open the files again.
     pub fn is_spent(&self) -> bool
         ensures value { result ≡ self.now.is_spent }
         ensures kept { D.honest self.now.a → D.honest self.now.b → self.now.is_spent ≡ false
             → AllPairsNow (λ f. f ≡ Some self.now.content) (D.history self.now.a) (D.history self.now.b) }
+        ensures numbers { D.honest self.now.a → D.honest self.now.b → self.now.is_spent ≡ false → AreItsNumbers self.now }
     {
         self.spent
     }
@@ -317,6 +338,7 @@ fn opened_journal<D: Disk>(opened: Opened, swapped: bool, a: D, b: D) -> (Journa
     ensures count { result.0.count ≡ length opened.file.stored.records }
     ensures content { result.0.content ≡ content_in (D.content (at_place swapped a b)) }
     ensures usable { result.0.is_spent ≡ false }
+    ensures in_b { result.0.is_in_b ≡ swapped }
     ensures stored { result.1 ≡ opened.file.stored }
 {
     let Opened { file, buffer } = opened;

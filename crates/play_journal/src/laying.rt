@@ -46,6 +46,7 @@ pub(crate) fn write_synced<D: Disk>(disk: &mut D, at: u64, bytes: &[u8]) -> Resu
     ensures error { OnErr result (result ≡ Err JournalError.DiskFault) }
     ensures fault { D.honest disk.old → at ≤ length (D.content disk.old)
         → OnErr result (HasGrown (D.faults disk.old) (D.faults disk.new)) }
+    ensures met_none { OnOk result (D.faults disk.new ≡ D.faults disk.old) }
 {
     disk.write_at(at, bytes)?;
     disk.sync()?;
@@ -62,6 +63,7 @@ fn needs_closing<D: Disk>(disk: &mut D) -> Result<bool, JournalError>
         (IsClosed (D.content disk.old))) }
     ensures error { OnErr result (result ≡ Err JournalError.DiskFault) }
     ensures fault { D.honest disk.old → OnErr result (HasGrown (D.faults disk.old) (D.faults disk.new)) }
+    ensures met_none { OnOk result (D.faults disk.new ≡ D.faults disk.old) }
 {
     if disk.is_empty() {
         return Ok(true);
@@ -78,8 +80,10 @@ fn close_gate<D: Disk>(disk: &mut D) -> Result<(), JournalError>
         → AllSince (IsSameOrShut (D.content disk.old)) (D.history disk.new) (length (D.history disk.old)) }
     ensures settled { D.honest disk.old → OnOk result (window (D.history disk.new) ≡ settled (D.content disk.new)) }
     ensures closed { D.honest disk.old → OnOk result (IsClosed (D.content disk.new)) }
+    ensures calls { D.honest disk.old → OnOk result (length (D.history disk.new) ≤ length (D.history disk.old) + 2) }
     ensures error { OnErr result (result ≡ Err JournalError.DiskFault) }
     ensures fault { D.honest disk.old → OnErr result (HasGrown (D.faults disk.old) (D.faults disk.new)) }
+    ensures met_none { OnOk result (D.faults disk.new ≡ D.faults disk.old) }
 {
     if needs_closing(disk)? {
         write_synced(disk, 0, &[CLOSED])
@@ -99,9 +103,11 @@ fn write_behind<D: Disk>(disk: &mut D, head: &[u8], snapshot: &[u8]) -> Result<(
     ensures settled { D.honest disk.old → OnOk result (window (D.history disk.new) ≡ settled (D.content disk.new)) }
     ensures written { D.honest disk.old → IsClosed (D.content disk.old)
         → OnOk result (D.content disk.new ≡ take 1 (D.content disk.old) ++ (head.now ++ snapshot.now ++ 0 ∷ [])) }
+    ensures calls { D.honest disk.old → OnOk result (length (D.history disk.new) ≡ length (D.history disk.old) + 5) }
     ensures error { OnErr result (result ≡ Err JournalError.DiskFault) }
     ensures fault { D.honest disk.old → IsClosed (D.content disk.old)
         → OnErr result (HasGrown (D.faults disk.old) (D.faults disk.new)) }
+    ensures met_none { OnOk result (D.faults disk.new ≡ D.faults disk.old) }
 {
     let end = (HEAD_LEN + snapshot.len()) as u64;
     disk.write_at(1, head)?;
@@ -126,8 +132,10 @@ pub(crate) fn lay_down<D: Disk>(
         ++ 0 ∷ [])) (D.history disk.new) (length (D.history disk.old)) }
     ensures settled { D.honest disk.old → OnOk result (window (D.history disk.new) ≡ settled (D.content disk.new)) }
     ensures written { D.honest disk.old → OnOk result (D.content disk.new ≡ open_gate ∷ head.now ++ snapshot.now ++ 0 ∷ []) }
+    ensures calls { D.honest disk.old → OnOk result (length (D.history disk.new) ≤ length (D.history disk.old) + 9) }
     ensures error { OnErr result (result ≡ Err JournalError.DiskFault) }
     ensures fault { D.honest disk.old → OnErr result (HasGrown (D.faults disk.old) (D.faults disk.new)) }
+    ensures met_none { OnOk result (D.faults disk.new ≡ D.faults disk.old) }
 {
     close_gate(disk)?;
     write_behind(disk, head, snapshot)?;

@@ -7,6 +7,7 @@ ghost use Rattle.disk_model.specs.History.{Synced};
 ghost use Rattle.disk_model.specs.Images.{window, settled};
 ghost use Rattle.disk_model.specs.Later.{IsLater, AreLater, HasFailed};
 ghost use Rattle.disk_model.specs.Moments.{AllSince};
+ghost use Rattle.play_journal.specs.Calls.{SameFaults};
 ghost use Rattle.play_journal.specs.Errors.{IsRefusalOfOpen};
 ghost use Rattle.play_journal.specs.File.{gated};
 ghost use Rattle.play_journal.specs.FileRead.{content_read};
@@ -39,6 +40,7 @@ fn generation_on<D: Disk>(disk: &mut D) -> Result<Option<u64>, JournalError>
     ensures told { D.honest disk.old → (result ≡ Err JournalError.DiskFault) ⊎ (result ≡ told_front (front (D.content disk.old))) }
     ensures refusal { IfErr result IsRefusalOfOpen }
     ensures fault { D.honest disk.old → result ≡ Err JournalError.DiskFault → HasGrown (D.faults disk.old) (D.faults disk.new) }
+    ensures met_none { OnOk result (D.faults disk.new ≡ D.faults disk.old) }
 {
     if disk.len() < HEAD_LEN as u64 {
         return Ok(None);
@@ -56,6 +58,7 @@ fn bytes_of<D: Disk>(alloc: Global, disk: &mut D) -> Result<Vec<u8>, JournalErro
     ensures bytes { D.honest disk.old → IfOk result (λ v. v.items ≡ D.content disk.old) }
     ensures error { IfErr result (λ e. (e ≡ JournalError.NoMemory) ⊎ (e ≡ JournalError.DiskFault)) }
     ensures fault { D.honest disk.old → result ≡ Err JournalError.DiskFault → HasGrown (D.faults disk.old) (D.faults disk.new) }
+    ensures met_none { OnOk result (D.faults disk.new ≡ D.faults disk.old) }
 {
     let len = disk.len() as usize;
     let mut bytes = vec![in alloc; 0; len]?;
@@ -73,6 +76,7 @@ fn cut_to<D: Disk>(disk: &mut D, len: u64) -> Result<(), JournalError>
     ensures error { OnErr result (result ≡ Err JournalError.DiskFault) }
     ensures fault { D.honest disk.old → len ≤ length (D.content disk.old)
         → OnErr result (HasGrown (D.faults disk.old) (D.faults disk.new)) }
+    ensures met_none { OnOk result (D.faults disk.new ≡ D.faults disk.old) }
 {
     disk.cut(len)?;
     disk.sync()?;
@@ -103,6 +107,7 @@ fn open_file<D: Disk>(alloc: Global, disk: &mut D) -> Result<Opened, JournalErro
     ensures uncut { D.honest disk.old → IfErr result (λ e. e ≢ JournalError.DiskFault → D.content disk.new ≡ D.content disk.old) }
     ensures fault { D.honest disk.old → (generation : _) → front (D.content disk.old) ≡ Open generation
         → result ≡ Err JournalError.DiskFault → HasGrown (D.faults disk.old) (D.faults disk.new) }
+    ensures met_none { OnOk result (D.faults disk.new ≡ D.faults disk.old) }
 {
     let bytes = bytes_of(alloc, disk)?;
     let file = file_of(alloc, bytes)?;
@@ -130,6 +135,7 @@ fn file_in_use<D: Disk>(a: &mut D, b: &mut D) -> Result<bool, JournalError>
     ensures refusal { IfErr result IsRefusalOfOpen }
     ensures fault { D.honest a.old → D.honest b.old → result ≡ Err JournalError.DiskFault
         → HasFailed D.faults a.old b.old a.new b.new }
+    ensures met_none { OnOk result (SameFaults D.faults a.old b.old a.new b.new) }
 {
     a.sync()?;
     b.sync()?;
@@ -163,6 +169,9 @@ pub(crate) fn open_files<D: Disk>(
     ensures uncut_b { D.honest b.old → IfErr result (λ e. e ≢ JournalError.DiskFault → D.content b.new ≡ D.content b.old) }
     ensures fault { D.honest a.old → D.honest b.old → result ≡ Err JournalError.DiskFault
         → HasFailed D.faults a.old b.old a.new b.new }
+    ensures met_none { OnOk result (SameFaults D.faults a.old b.old a.new b.new) }
+    ensures other { D.honest a.old → D.honest b.old
+        → IfOk result (λ r. D.content (at_place r.0 b.new a.new) ≡ D.content (at_place r.0 b.old a.old)) }
 {
     if file_in_use(a, b)? {
         Ok((true, open_file(alloc, b)?))

@@ -37,6 +37,10 @@ fn ran(
     stage.run(alloc, events)
 }
 
+fn checkpointed(stage: &mut Stage, alloc: Global) -> Result<(), LiveError> {
+    stage.checkpoint(alloc)
+}
+
 /// Whether the output is to wait.
 fn waits(stage: &Stage, alloc: Global) -> Result<bool, LiveError> {
     Ok(matches!(stage.order(alloc)?, Order::Wait))
@@ -138,6 +142,14 @@ fn run(stage: &mut Stage, desk: &mut Desk) {
     }
 }
 
+/// Makes a checkpoint.
+fn checkpoint(stage: &mut Stage, printer: &mut Printer) {
+    match checkpointed(stage, printer.alloc) {
+        Ok(()) => printer.line("done"),
+        Err(error) => tell_refused(printer, error),
+    }
+}
+
 fn tell(stage: &Stage, printer: &mut Printer) {
     printer.count("event", stage.last_event());
     printer.count("record", stage.last_record());
@@ -172,6 +184,7 @@ pub fn take_stage_line(stage: &mut Stage, desk: &mut Desk, line: &str) -> Result
     match word {
         "later" => keep(&mut desk.later, event_of(alloc, rest)?)?,
         "run" => run(stage, desk),
+        "checkpoint" => checkpoint(stage, &mut desk.printer),
         "stage" => tell(stage, &mut desk.printer),
         "order" => tell_order(&mut desk.printer, waits(stage, alloc)),
         "scan_order" => tell_scan_order(&mut desk.printer, scans(stage, alloc)),

@@ -1,8 +1,8 @@
-use Rattle.std.proofs.Common.{◌≡◌, length, Some, sym, ap, ◌∙◌, arith}
+use Rattle.std.proofs.Common.{◌≡◌, length, Some, refl, sym, ap, ◌∙◌, arith}
 use Rattle.daemon_core.specs.State.{State}
 use Rattle.play_journal.proofs.RecordLaws.{bytes_fit}
 use Rattle.play_journal.specs.Pair.{found}
-use Rattle.live_stage.proofs.StartLaws.{nothing_done, numbers_are, found_as_read, stands, found_so, found_small, refused_content}
+use Rattle.live_stage.proofs.StartLaws.{nothing_done, numbers_are, file_is, found_as_read, stands, found_so, found_small, refused_content}
 use Rattle.live_stage.proofs.StartLaws.{refused_good}
 use Rattle.live_stage.proofs.live.Live.open.Goals as goal
 
@@ -29,8 +29,12 @@ returns-in-Ok-take_state-clause-numbers g c = λ ha hb content is.
     let opened = c.in-Ok-open.ensures.opened in
     let counted = ap length (opened.same_records (ha, hb)) in
     let count : length own.records ≡ c.in-Ok-open.opened.0.count = omega (arith, counted, opened.count) in
-    rw (← same) (numbers_are own c.in-Ok-open.opened.0.base c.in-Ok-open.opened.0.count c.in-Ok-open.opened.0.generation
-    (opened.base (ha, hb)) count (opened.generation (ha, hb)) (omega (arith, small.numbers, count, opened.base (ha, hb))))
+    rw (← same) (record {
+      numbers = numbers_are own c.in-Ok-open.opened.0.base c.in-Ok-open.opened.0.count (opened.base (ha, hb)) count
+          (omega (arith, small.numbers, count, opened.base (ha, hb)));
+      file = file_is own c.in-Ok-open.opened.0.count c.in-Ok-open.opened.0.generation count (opened.generation (ha, hb));
+      says = refl;
+    })
 
 pub returns-in-Err-take_state-clause-cause : goal.returns-in-Err-take_state-clause-cause
 returns-in-Err-take_state-clause-cause g c = λ ha hb.

@@ -1,10 +1,9 @@
 use Rattle.std.proofs.Common.{◌≡◌, true, List, [], ◌∷◌, length, refl, sym, ap, subst, ◌∙◌, append_assoc, arith}
 use Rattle.std.proofs.lemmas.List.{append-nil, nil_from_length}
-use Rattle.std.specs.Prelude.{MatchBool}
 use Rattle.std.specs.Vec.Iter.{into_iter_items}
 use Rattle.daemon_core.specs.declared.event.Event.{Event}
 use Rattle.live_stage.specs.Transcript.{history_of}
-use Rattle.live_stage.proofs.RunLaws.{IsRunSoFar, IsTurnMade, begins, fails_on, goes_on, one_file, run_finds, run_replies}
+use Rattle.live_stage.proofs.RunLaws.{IsRunSoFar, IsTurnMade, begins, fails_on, goes_on, run_finds, run_replies, file_goes_on}
 use Rattle.live_stage.proofs.RunLaws.{replayed_from_start}
 use Rattle.live_stage.proofs.TurnLaws.{still_in_file}
 use Rattle.live_stage.proofs.live.Live.run.Given.{Over}
@@ -47,11 +46,11 @@ loop-event-preserved g c =
       any_moment = turn.any_moment;
       kept = turn.kept;
       usable = turn.refuses.usable;
-      other_file = subst (λ (r : _). MatchBool r.is_in_b (c.turn-answer.new.self.a ≡ r.a) (c.turn-answer.new.self.b ≡ r.b))
-          turn.file.readied turn.file.other_file;
-      same_file = turn.file.same_file ∙ ap (λ r. r.is_in_b) turn.file.readied;
+      one_file = turn.file;
+      file = file_goes_on at.self c.turn-answer.new.self c.in-Some.event c.turn-answer.result turn.step turn.refuses;
       broken = turn.refuses.broken;
       breaks = turn.refuses.breaks;
+      nothing_done = turn.refuses.nothing_done;
       stays = turn.refuses.stays;
       not_counted = turn.refuses.not_counted;
       numbers_spent = turn.refuses.numbers_spent;
@@ -74,7 +73,7 @@ loop-event-preserved g c =
       later_b = omega (arith, at.invariant.later_b, turn.later.b.counted);
       fault = λ ha hb usable. fails_on g.D.Disk.honest g.D.Disk.history g.D.Disk.faults c.args.self.now at.self c.turn-answer.new.self
           c.in-Some.event c.turn-answer.result made at.invariant.later_a at.invariant.later_b
-          (at.invariant.fault ha hb usable) (turn.fault (so_far.honest_a.0 ha) (so_far.honest_b.0 hb));
+          (at.invariant.fault ha hb usable) (turn.fault.failed (so_far.honest_a.0 ha) (so_far.honest_b.0 hb));
     }
 
 run_done : (g : Over) (c : goal.After-drop-event-iterator g)
@@ -106,14 +105,15 @@ returns-clause-one_life g c = λ kept begun.
     }
 
 pub returns-clause-any_moment : goal.returns-clause-any_moment
-returns-clause-any_moment g c = λ ha hb usable.
+returns-clause-any_moment g c = λ ha hb usable room.
     let r = run_done g c in
-    r.any_moment ha hb usable (one_file g.D.Disk.history c.args.self.now.is_in_b c.args.self.now c.loop-event.self r.other_file)
+    r.any_moment ha hb usable room
 
 pub returns-clause-file : goal.returns-clause-file
-returns-clause-file g c =
+returns-clause-file g c = λ room.
     let r = run_done g c in
-    record { ready = c.args.self.now; readied = refl; same_file = r.same_file; other_file = r.other_file }
+    let in_file = r.in_file room in
+    record { same_file = in_file.same_file; other_file = in_file.other_file }
 
 pub returns-clause-given_out : goal.returns-clause-given_out
 returns-clause-given_out g c = λ ha hb usable. run_finds g.D.Disk.honest g.D.Disk.history c.args.self.now c.loop-event.self
@@ -128,4 +128,4 @@ returns-clause-later g c =
     }
 
 pub returns-in-Err-clause-file : goal.returns-in-Err-clause-file
-returns-in-Err-clause-file g c = still_in_file c.args.self.now
+returns-in-Err-clause-file g c = λ room. still_in_file c.args.self.now

@@ -1,135 +1,57 @@
-use Rattle.std.proofs.Common.{rules, ◌≡◌, false, Some, None, sym, ap, ◌∙◌, arith}
-use Rattle.std.specs.List.{AllByRecursion}
-use Rattle.state_codec.specs.Ops.{IsOp}
-use Rattle.state_codec.specs.Applied.{all_applied}
-use Rattle.daemon_core.specs.State.{State}
-use Rattle.daemon_core.specs.Step.{Stepped, step}
-use Rattle.live_stage.proofs.FoundLaws.{find_now, find_still, find_either, find_after, content_after}
-use Rattle.live_stage.proofs.TurnLaws.{still_in_file, no_call_made}
+use Rattle.std.proofs.Common.{rules, None, subst}
+use Rattle.disk_model.proofs.LaterLaws.{pair_on}
+use Rattle.live_stage.specs.Turns.{writes_to_b}
+use Rattle.live_stage.proofs.TurnLaws.{IsOtherKept, found_still, found_ready, found_in_both}
 use Rattle.live_stage.proofs.live.Live.turn.Goals as goal
 
-pub returns-then-is_spent-clause-any_moment : goal.returns-then-is_spent-clause-any_moment
-returns-then-is_spent-clause-any_moment g c = rw (← c.self.view_is) (λ ha hb usable. (
-  None,
-  tt,
-  find_still _ _ c.self.inside.journal.content c.self.inside.core.machine.saved _ (c.is_spent.ensures.kept ha hb usable)
-      (c.self.invariant.1 usable ha hb),
-))
-
 pub returns-then-are_numbers_spent-clause-any_moment : goal.returns-then-are_numbers_spent-clause-any_moment
-returns-then-are_numbers_spent-clause-any_moment g c = rw (← c.self.view_is) (λ ha hb usable. (
+returns-then-are_numbers_spent-clause-any_moment g c = λ ha hb usable. (
   None,
   tt,
-  find_still _ _ c.self.inside.journal.content c.self.inside.core.machine.saved _ (c.is_spent.ensures.kept ha hb usable)
-      (c.self.invariant.1 usable ha hb),
-))
+  found_still _ _ c.args.self.now.state c.args.event None (c.is_broken.ensures.kept ha hb usable),
+)
 
-pub returns-in-Err-clause-any_moment : goal.returns-in-Err-clause-any_moment
-returns-in-Err-clause-any_moment g c = rw (← c.self.view_is) (λ ha hb usable. (
+pub returns-in_err-make_ready-clause-any_moment : goal.returns-in_err-make_ready-clause-any_moment
+returns-in_err-make_ready-clause-any_moment g c = λ ha hb usable. (
   None,
-  tt,
-  find_still _ _ c.self.inside.journal.content c.self.inside.core.machine.saved _ (c.is_spent.ensures.kept ha hb usable)
-      (c.self.invariant.1 usable ha hb),
-))
+  search rules,
+  found_ready _ _ _ _ c.args.self.now.state c.args.event None (c.make_ready.ensures.same_state ha hb),
+)
 
-pub returns-in_err-number-clause-any_moment : goal.returns-in_err-number-clause-any_moment
-returns-in_err-number-clause-any_moment g c =
-    let asked : Stepped = step c.self.inside.core c.args.event c.in-Ok.outcome.refused_at in
-    let valid : AllByRecursion IsOp c.deref.result.now = c.record_ops.ensures.valid in
-    let applies : all_applied c.deref.result.now c.self.inside.core.machine.saved ≡ Some asked.after.machine.saved =
-    rw c.deref.ensures.value (c.in-Ok.ensures.rebuilt ∙ ap (λ (s : State). Some s.machine.saved) c.in-Ok.ensures.ok.after) in
-    rw (← c.self.view_is) (λ ha hb usable. (
-      c.in-Ok.outcome.refused_at,
+pub returns-in_err-turn-clause-any_moment : goal.returns-in_err-turn-clause-any_moment
+returns-in_err-turn-clause-any_moment g c = λ ha hb usable.
+    let got = c.make_ready.ensures in
+    let ready = c.in_ok-make_ready.ensures.ready in
+    let handled = c.handle.ensures in
+    let ha' = got.later.a.honesty.0 ha in
+    let hb' = got.later.b.honesty.0 hb in
+    let found = handled.any_moment ha' hb' ready.usable in (
+      found.0,
       search rules,
-      find_either _ _ _ _ c.self.inside.journal.content c.deref.result.now c.self.inside.core.machine.saved asked.after.machine.saved
-          (c.is_spent.ensures.kept ha hb usable) (c.self.invariant.1 usable ha hb) valid applies
-          (λ e. (
-            ap (λ j. g.D.Disk.history j.a) (c.record_ops.ensures.none e).1,
-            ap (λ j. g.D.Disk.history j.b) (c.record_ops.ensures.none e).1,
-          ))
-          (λ some. c.record_ops.ensures.any_moment some ha hb),
-    ))
-
-pub invariant_of-self-2 : goal.invariant_of-self-2
-invariant_of-self-2 g c =
-    let usable : c.self.inside.journal.is_spent ≡ false = sym c.is_spent.ensures.value ∙ c.if-is_spent.false in
-    let valid : AllByRecursion IsOp c.deref.result.now = c.record_ops.ensures.valid in
-    let applies : all_applied c.deref.result.now c.self.inside.core.machine.saved ≡ Some c.step.new.self.machine.saved =
-    rw c.deref.ensures.value c.in-Ok.ensures.rebuilt in
-    let room = c.self.invariant.0 in (
-      omega (arith, c.record_ops.ensures.capacity, room),
-      λ spent ha' hb'.
-          let ha = c.record_ops.ensures.later.a.honesty.1 ha' in
-          let hb = c.record_ops.ensures.later.b.honesty.1 hb' in
-          content_after c.self.inside.journal.content c.record_ops.new.journal.content c.deref.result.now c.self.inside.core.machine.saved
-          c.step.new.self.machine.saved
-          (c.self.invariant.1 usable ha hb) valid applies
-          (λ e. ap (λ j. j.content) (c.record_ops.ensures.none e).1)
-          (λ some. let held = c.in_ok-number.ensures.kept some ha hb in held.says),
+      found_in_both g.D.Disk.history (writes_to_b c.args.self.now) c.args.self.now c.make_ready.new.self c.handle.new.self c.args.event found.0
+          ready.state got.other_file
+          (subst (λ in_b. IsOtherKept in_b c.make_ready.new.self c.handle.new.self) ready.in_b handled.file.other_file)
+          (got.later.a.done ha) (handled.later.a.done ha') (got.later.b.done hb) (handled.later.b.done hb') (got.same_state ha hb) found.2,
     )
 
 pub returns-clause-any_moment : goal.returns-clause-any_moment
-returns-clause-any_moment g c =
-    let asked : Stepped = step c.self.inside.core c.args.event c.in-Ok.outcome.refused_at in
-    let valid : AllByRecursion IsOp c.deref.result.now = c.record_ops.ensures.valid in
-    let applies : all_applied c.deref.result.now c.self.inside.core.machine.saved ≡ Some asked.after.machine.saved =
-    rw c.deref.ensures.value (c.in-Ok.ensures.rebuilt ∙ ap (λ (s : State). Some s.machine.saved) c.in-Ok.ensures.ok.after) in
-    rw (← c.self.view_is) (λ ha hb usable. (
-      c.in-Ok.outcome.refused_at,
-      ap (λ t. t.refused_at) c.new.ensures,
-      find_either _ _ _ _ c.self.inside.journal.content c.deref.result.now c.self.inside.core.machine.saved asked.after.machine.saved
-          (c.is_spent.ensures.kept ha hb usable) (c.self.invariant.1 usable ha hb) valid applies
-          (λ e. (
-            ap (λ j. g.D.Disk.history j.a) (c.record_ops.ensures.none e).1,
-            ap (λ j. g.D.Disk.history j.b) (c.record_ops.ensures.none e).1,
-          ))
-          (λ some. c.record_ops.ensures.any_moment some ha hb),
-    ))
+returns-clause-any_moment g c = λ ha hb usable.
+    let got = c.make_ready.ensures in
+    let ready = c.in_ok-make_ready.ensures.ready in
+    let handled = c.handle.ensures in
+    let ha' = got.later.a.honesty.0 ha in
+    let hb' = got.later.b.honesty.0 hb in
+    let found = c.in_ok-turn.ensures.any_moment ha' hb' ready.usable in (
+      found.0,
+      found.1,
+      found_in_both g.D.Disk.history (writes_to_b c.args.self.now) c.args.self.now c.make_ready.new.self c.handle.new.self c.args.event found.0
+          ready.state got.other_file
+          (subst (λ in_b. IsOtherKept in_b c.make_ready.new.self c.handle.new.self) ready.in_b handled.file.other_file)
+          (got.later.a.done ha) (handled.later.a.done ha') (got.later.b.done hb) (handled.later.b.done hb') (got.same_state ha hb) found.2,
+    )
 
-pub returns-clause-kept : goal.returns-clause-kept
-returns-clause-kept g c =
-    let usable : c.self.inside.journal.is_spent ≡ false = sym c.is_spent.ensures.value ∙ c.if-is_spent.false in
-    let valid : AllByRecursion IsOp c.deref.result.now = c.record_ops.ensures.valid in
-    let applies : all_applied c.deref.result.now c.self.inside.core.machine.saved ≡ Some c.step.new.self.machine.saved =
-    rw c.deref.ensures.value c.in-Ok.ensures.rebuilt in
-    rw (← c.self.view_is) (λ ha hb unbroken.
-    find_after _ _ _ _ c.self.inside.journal.content c.record_ops.new.journal.content c.deref.result.now c.self.inside.core.machine.saved
-    c.step.new.self.machine.saved
-    (c.is_spent.ensures.kept ha hb usable) (c.self.invariant.1 usable ha hb) valid applies
-    (λ e. (ap (λ j. g.D.Disk.history j.a) (c.record_ops.ensures.none e).1, ap (λ j. g.D.Disk.history j.b) (c.record_ops.ensures.none e).1))
-    (λ some. let held = c.in_ok-number.ensures.kept some ha hb in held.says)
-    (λ some. let held = c.in_ok-number.ensures.kept some ha hb in held.kept))
+pub returns-in_err-turn-clause-later : goal.returns-in_err-turn-clause-later
+returns-in_err-turn-clause-later g c = pair_on c.in_ok-make_ready.ensures.later c.in_err-turn.ensures.later
 
-pub returns-then-is_spent-clause-kept : goal.returns-then-is_spent-clause-kept
-returns-then-is_spent-clause-kept g c = rw (← c.self.view_is) (λ ha hb usable.
-    find_now (g.D.Disk.history c.self.inside.journal.a) (g.D.Disk.history c.self.inside.journal.b) c.self.inside.journal.content
-    c.self.inside.core.machine.saved (c.is_spent.ensures.kept ha hb usable) (c.self.invariant.1 usable ha hb))
-
-pub returns-then-are_numbers_spent-clause-kept : goal.returns-then-are_numbers_spent-clause-kept
-returns-then-are_numbers_spent-clause-kept g c = rw (← c.self.view_is) (λ ha hb usable.
-    find_now (g.D.Disk.history c.self.inside.journal.a) (g.D.Disk.history c.self.inside.journal.b) c.self.inside.journal.content
-    c.self.inside.core.machine.saved (c.is_spent.ensures.kept ha hb usable) (c.self.invariant.1 usable ha hb))
-
-pub returns-in-Err-clause-kept : goal.returns-in-Err-clause-kept
-returns-in-Err-clause-kept g c =
-    let same = c.in-Err.ensures.err in
-    rw (← c.self.view_is, same) (λ ha hb usable.
-    find_now (g.D.Disk.history c.self.inside.journal.a) (g.D.Disk.history c.self.inside.journal.b) c.self.inside.journal.content
-    c.self.inside.core.machine.saved (c.is_spent.ensures.kept ha hb usable) (c.self.invariant.1 usable ha hb))
-
-pub returns-then-is_spent-clause-file : goal.returns-then-is_spent-clause-file
-returns-then-is_spent-clause-file g c = still_in_file c.args.self.now
-
-pub returns-then-are_numbers_spent-clause-file : goal.returns-then-are_numbers_spent-clause-file
-returns-then-are_numbers_spent-clause-file g c = still_in_file c.args.self.now
-
-pub returns-in-Err-clause-file : goal.returns-in-Err-clause-file
-returns-in-Err-clause-file g c = rw (← c.self.view_is, c.in-Err.ensures.err) (still_in_file _)
-
-pub returns-clause-no_call : goal.returns-clause-no_call
-returns-clause-no_call g c =
-    let place : c.new.result.refused_at ≡ c.in-Ok.outcome.refused_at = ap (λ t. t.refused_at) c.new.ensures in
-    rw (← c.self.view_is) (λ none.
-    let empty = c.deref.ensures.value ∙ c.in-Ok.ensures.ok.ops ∙ (rw place at none) in
-    let same = (c.record_ops.ensures.none empty).1 in
-    no_call_made _ _ (ap (λ j. j.a) same) (ap (λ j. j.b) same))
+pub returns-clause-later : goal.returns-clause-later
+returns-clause-later g c = pair_on c.in_ok-make_ready.ensures.later c.in_ok-turn.ensures.later

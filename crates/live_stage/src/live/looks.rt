@@ -1,0 +1,56 @@
+// What the player's and the scan's thread look for.
+ghost use Rattle.std.specs.Prelude.{◌≡◌, ◌↔◌, false, IfOk, IsTrue, option_map};
+ghost use Rattle.player_core.specs.declared.playing.PlayState.{PlayState};
+ghost use Rattle.player_core.specs.declared.order.Order.{Order as PlayOrder};
+ghost use Rattle.daemon_core.specs.Orders.{play_order, scan_order};
+ghost use Rattle.live_stage.specs.Turns.{RefusesToTell};
+
+use super::Live;
+use crate::LiveError;
+use disk_model::Disk;
+use player_core::Order;
+use song_db::ScanOrder;
+use std::alloc::Global;
+
+impl<D: Disk> Live<D> {
+    /// What the output is to do: to play a song from a frame on, or to wait. It refuses `Broken` where a disk failed, and else
+    /// want of memory alone.
+    pub fn order(&self, alloc: Global) -> Result<Order, LiveError>
+        ensures order { IfOk result (λ order. order ≡ play_order self.now.state.machine) }
+        ensures refuses { RefusesToTell self.now result }
+    {
+        if self.is_broken() {
+            return Err(LiveError::Broken);
+        }
+        self.core.order(alloc).map_err(|_| LiveError::NoMemory)
+    }
+
+    /// What a scan is to read for the job that runs, if one does. It refuses `Broken` where a disk failed, and else want of
+    /// memory alone.
+    pub fn scan_order(&self, alloc: Global) -> Result<Option<ScanOrder>, LiveError>
+        ensures order { IfOk result (λ order. order ≡ scan_order self.now.state.machine) }
+        ensures refuses { RefusesToTell self.now result }
+    {
+        if self.is_broken() {
+            return Err(LiveError::Broken);
+        }
+        self.core.scan_order(alloc).map_err(|_| LiveError::NoMemory)
+    }
+
+    /// Whether a song plays: where none does, `order` is to wait. It takes no memory and refuses nothing; of a broken stage it
+    /// tells what was before the fault.
+    pub fn is_playing(&self) -> bool
+        ensures value { IsTrue result ↔ (self.now.state.machine.player.state ≡ PlayState.Play) }
+        ensures waits { result ≡ false → play_order self.now.state.machine ≡ PlayOrder.Wait }
+    {
+        self.core.is_playing()
+    }
+
+    /// The number of the job that runs, if one does: that of `scan_order`. It takes no memory and refuses nothing; of a broken
+    /// stage it tells what was before the fault.
+    pub fn running_job(&self) -> Option<u32>
+        ensures { result ≡ option_map (λ order. order.job) (scan_order self.now.state.machine) }
+    {
+        self.core.running_job()
+    }
+}
