@@ -133,15 +133,19 @@ def create(program, folder, music):
     return config
 
 
-def appended(path):
-    """How many bytes each record of a journal file took, its gate and its length counted."""
-    with open(path, "rb") as file:
-        content = file.read()
+def records_of(content):
+    """How many bytes each record of a journal file's content takes, its gate and its length counted, and where its closing gate is."""
     place, lengths = 32 + int.from_bytes(content[28:32], "little"), []
     while content[place] == 0xA5:
         lengths.append(5 + int.from_bytes(content[place + 1 : place + 5], "little"))
         place += lengths[-1]
-    return lengths
+    return lengths, place
+
+
+def appended(path):
+    """How many bytes each record of a journal file took."""
+    with open(path, "rb") as file:
+        return records_of(file.read())[0]
 
 
 class Journal:
@@ -165,3 +169,14 @@ class Journal:
     def records(self):
         """How many records stand since the last checkpoint."""
         return len(appended(self.in_use()))
+
+    def fill(self, left, volume):
+        """Puts records behind those that stand, as a program would, until so many are left before a checkpoint: the volume goes up and down, and
+        at last to this one. Nothing may have the files open."""
+        with open(self.in_use(), "r+b") as file:
+            lengths, place = records_of(file.read())
+            missing = RECORDS - left - len(lengths)
+            volumes = [volume if (missing - it) % 2 else (volume + 1) % 101 for it in range(missing)]
+            file.seek(place)
+            file.write(b"".join(b"\xa5\x02\x00\x00\x00\x02" + bytes([it]) for it in volumes) + b"\x00")
+            file.truncate()
