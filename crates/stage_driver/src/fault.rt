@@ -1,4 +1,6 @@
 //! Why a line of the input can't be done.
+use no_memory::NoMemory;
+use state_codec::{ApplyError, CodecError};
 use std::alloc::AllocError;
 
 #[derive(Clone, Copy)]
@@ -28,5 +30,31 @@ impl Fault {
 impl From<AllocError> for Fault {
     fn from(_: AllocError) -> Self {
         Fault::NoMemory
+    }
+}
+
+impl From<NoMemory> for Fault {
+    fn from(_: NoMemory) -> Self {
+        Fault::NoMemory
+    }
+}
+
+// Bytes can't be read.
+impl From<CodecError> for Fault {
+    fn from(error: CodecError) -> Self {
+        match error {
+            CodecError::NoMemory => Fault::NoMemory,
+            _ => Fault::NoBytes,
+        }
+    }
+}
+
+// An op isn't applied.
+impl From<ApplyError> for Fault {
+    fn from(error: ApplyError) -> Self {
+        match error {
+            ApplyError::NoMemory => Fault::NoMemory,
+            ApplyError::Refused(_) => Fault::Refused,
+        }
     }
 }

@@ -23,9 +23,7 @@ fn apply(state: &mut Saved, alloc: Global, op: Op) -> Result<(), ApplyError> {
 
 fn apply_all(state: &mut Saved, alloc: Global, bytes: &[u8]) -> Result<(), Fault> {
     for op in read(alloc, bytes)? {
-        if apply(state, alloc, op).is_err() {
-            return Err(Fault::Refused);
-        }
+        apply(state, alloc, op)?;
     }
     Ok(())
 }

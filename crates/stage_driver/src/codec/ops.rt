@@ -21,10 +21,7 @@ fn copy_of(alloc: Global, op: &Op) -> Result<Op, AllocError> {
 
 /// The ops that bytes spell, where they spell some.
 pub fn read(alloc: Global, bytes: &[u8]) -> Result<Vec<Op>, Fault> {
-    match taken(alloc, bytes) {
-        Ok(ops) => Ok(ops),
-        Err(_) => Err(Fault::NoBytes),
-    }
+    Ok(taken(alloc, bytes)?)
 }
 
 /// What is wrong with ops, if anything is.

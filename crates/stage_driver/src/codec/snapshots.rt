@@ -17,18 +17,12 @@ fn put(alloc: Global, saved: &Saved) -> Result<Vec<u8>, NoMemory> {
 }
 
 fn spelled(alloc: Global, saved: &Saved) -> Result<Vec<u8>, Fault> {
-    match put(alloc, saved) {
-        Ok(bytes) => Ok(bytes),
-        Err(_) => Err(Fault::NoMemory),
-    }
+    Ok(put(alloc, saved)?)
 }
 
 /// What is read of the bytes, spelled again.
 fn again(alloc: Global, bytes: &[u8]) -> Result<Vec<u8>, Fault> {
-    match read(alloc, bytes) {
-        Ok(saved) => spelled(alloc, &saved),
-        Err(_) => Err(Fault::NoBytes),
-    }
+    spelled(alloc, &read(alloc, bytes)?)
 }
 
 /// What is wrong with the first bytes, so many, as ops or as a snapshot.
