@@ -14,7 +14,7 @@ use Rattle.client_session.specs.Requests.{Unread, nothing, brought, left_by, fau
 use Rattle.client_session.specs.Session.{SessionState}
 use Rattle.client_session.proofs.StreamLaws.{brought-append, left_by-append, requests_of-nil, left_of-nil}
 use Rattle.mpd_program.specs.Console.{asked_by, events_of, RunsNone}
-use Rattle.mpd_program.specs.Serving.{ServesAll, ServesFront, Stops, IsAllRead, ServesInput, StopsReading, ServesClient}
+use Rattle.mpd_program.specs.Serving.{ServesAll, ServesFront, Stops, IsAllRead, ServesInput, StopsReading, ServesClient, IsUnfailed}
 use Rattle.mpd_program.specs.declared.console.Ending.{Ending}
 use Rattle.mpd_program.specs.declared.console.Ending.TheVariants.{Whole, Cut, Faulted}
 use Rattle.mpd_program.proofs.ByteLaws.{consumes_nothing, consumes_twice, keeps_itself}
@@ -57,7 +57,7 @@ pub reads_on : {D : Type 0} {n : ℕ} (honest : D → Type 0) (history : D → L
     (first old new : LiveState D) (session next : SessionState) (start input later before now after : Option (List ℕ))
     → Consumes input later piece → 1 ≤ length piece → ReadsSoFar honest history faults c first old session start input before now n
     → next ≡ record session { left = left_by session.left piece }
-    → ServesAll c (asked_by c (brought session.left piece)) old.state new.state now after → new.is_broken ≡ false
+    → ServesAll c (asked_by c (brought session.left piece)) old.state new.state now after → IsUnfailed faults old new
     → KeepsDisks honest history faults old new
     → ReadsSoFar honest history faults c first new next start later before after (n + 1)
 reads_on honest history faults c piece first old new session next start input later before now after taken some far is served usable disks =

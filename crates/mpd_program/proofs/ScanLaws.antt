@@ -7,7 +7,7 @@ use Rattle.daemon_core.specs.State.{State}
 use Rattle.live_stage.specs.LiveState.{LiveState}
 use Rattle.live_stage.specs.declared.refusal.LiveError.{LiveError}
 use Rattle.live_stage.specs.declared.refusal.LiveError.TheVariants.{Broken, NoMemory, NumbersSpent}
-use Rattle.mpd_program.specs.Serving.{ServesAll, Stops, ending_of}
+use Rattle.mpd_program.specs.Serving.{ServesAll, Stops, ending_of, IsUnfailed}
 use Rattle.mpd_program.specs.declared.console.Ending.{Ending}
 use Rattle.mpd_program.proofs.ByteLaws.{keeps_itself}
 use Rattle.mpd_program.proofs.ServingLaws.{KeepsDisks, IsServedSoFar, none_served, more_so_far, stops_so_far}
@@ -15,7 +15,7 @@ use Rattle.mpd_program.proofs.ServingLaws.{KeepsDisks, IsServedSoFar, none_serve
 -- one event more of the job was served
 pub job_on : {D : Type 0} (honest : D → Type 0) (history : D → List Change) (faults : D → ℕ) (c : ℕ) (first old new : LiveState D)
     (before now after : Option (List ℕ)) → IsServedSoFar honest history faults c [] first old before now
-    → ServesAll c [] old.state new.state now after → new.is_broken ≡ false → KeepsDisks honest history faults old new
+    → ServesAll c [] old.state new.state now after → IsUnfailed faults old new → KeepsDisks honest history faults old new
     → IsServedSoFar honest history faults c [] first new before after
 job_on honest history faults c first old new before now after far served usable disks =
     more_so_far honest history faults c [] [] [] first old new before now after refl far

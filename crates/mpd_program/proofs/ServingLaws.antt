@@ -24,7 +24,7 @@ use Rattle.live_stage.proofs.TurnLaws.{still_state, still_usable as stays_usable
 use Rattle.live_stage.specs.Found.{AllFindNow, AllFindSince}
 use Rattle.live_stage.specs.Transcript.{replayed}
 use Rattle.mpd_program.specs.Console.{bytes_to, asked, asked_by, asked_in, ComesInTurn}
-use Rattle.mpd_program.specs.Serving.{given_from, KeepsOpen, KeepsTurns, KeepsOpenBefore, ClosesLast, WritesFront, ServesAll, ServesToClose}
+use Rattle.mpd_program.specs.Serving.{given_from, KeepsOpen, KeepsTurns, KeepsOpenBefore, ClosesLast, WritesFront, ServesAll, ServesToClose, IsUnfailed}
 use Rattle.mpd_program.specs.Serving.{ServesFront, ServesToFault, ending_of, Stops}
 use Rattle.mpd_program.specs.declared.console.Ending.{Ending}
 use Rattle.mpd_program.specs.declared.console.Ending.TheVariants.{Whole, Cut, Faulted}
@@ -374,17 +374,30 @@ pub failed_still : (first_a first_b old_a old_b new_a new_b : ℕ) → HasGrown 
 failed_still first_a first_b old_a old_b new_a new_b (inl grown) later_a later_b = inl (grown_still first_a old_a new_a grown later_a)
 failed_still first_a first_b old_a old_b new_a new_b (inr grown) later_a later_b = inr (grown_still first_b old_b new_b grown later_b)
 
+-- no disk has failed where nothing was done, nor where none did one time after the other
+pub unfailed_yet : {D : Type 0} (faults : D → ℕ) (live : LiveState D) → live.is_broken ≡ false → IsUnfailed faults live live
+unfailed_yet faults live usable = record { usable = usable; met_none = record { a = refl; b = refl } }
+
+pub unfailed_on : {D : Type 0} (faults : D → ℕ) (first old new : LiveState D) → IsUnfailed faults first old → IsUnfailed faults old new
+    → IsUnfailed faults first new
+unfailed_on faults first old new p q =
+    record { usable = q.usable; met_none = record { a = q.met_none.a ∙ p.met_none.a; b = q.met_none.b ∙ p.met_none.b } }
+
 -- a client was served so far, and its stage may go on
 pub record IsServedSoFar {D : Type 0} (honest : D → Type 0) (history : D → List Change) (faults : D → ℕ) (c : ℕ) (events : List Event)
     (first now : LiveState D) (before after : Option (List ℕ)) : Type 0 where
   pub served : ServesAll c events first.state now.state before after
-  pub usable : now.is_broken ≡ false
+  pub usable : IsUnfailed faults first now
   pub disks : KeepsDisks honest history faults first now
 
 pub none_so_far : {D : Type 0} (honest : D → Type 0) (history : D → List Change) (faults : D → ℕ) (c : ℕ) (first : LiveState D)
     (before : Option (List ℕ)) → first.is_broken ≡ false → IsServedSoFar honest history faults c [] first first before before
 none_so_far honest history faults c first before usable =
-    record { served = serves_none c first.state before; usable = usable; disks = pair_begin honest history faults first.a first.b }
+    record {
+      served = serves_none c first.state before;
+      usable = unfailed_yet faults first usable;
+      disks = pair_begin honest history faults first.a first.b;
+    }
 
 pub more_so_far : {D : Type 0} (honest : D → Type 0) (history : D → List Change) (faults : D → ℕ) (c : ℕ) (events more all : List Event)
     (first old new : LiveState D) (before now after : Option (List ℕ))
@@ -393,7 +406,7 @@ pub more_so_far : {D : Type 0} (honest : D → Type 0) (history : D → List Cha
 more_so_far honest history faults c events more all first old new before now after joined p q = record {
   served = subst (λ (v : List Event). ServesAll c v first.state new.state before after) joined
       (serves_on c events more first.state old.state new.state before now after p.served q.served);
-  usable = q.usable;
+  usable = unfailed_on faults first old new p.usable q.usable;
   disks = pair_on p.disks q.disks;
 }
 
@@ -433,7 +446,7 @@ asked_by-append c xs ys = map-append (λ r. events.Request c r) xs ys
 pub requests_on : {D : Type 0} (honest : D → Type 0) (history : D → List Change) (faults : D → ℕ) (c : ℕ) (all left behind : List Request)
     (request : Request) (first old new : LiveState D) (before now after : Option (List ℕ))
     → left ≡ request ∷ behind → ServesRequests honest history faults c all left first old before now
-    → ServesAll c (events.Request c request ∷ []) old.state new.state now after → new.is_broken ≡ false
+    → ServesAll c (events.Request c request ∷ []) old.state new.state now after → IsUnfailed faults old new
     → KeepsDisks honest history faults old new
     → ServesRequests honest history faults c all behind first new before after
 requests_on honest history faults c all left behind request first old new before now after is far served usable disks = record {

@@ -1,5 +1,5 @@
 -- Events of one client served one after the other, from any state on.
-use Rattle.std.specs.Prelude.{◌≡◌, ◌≢◌, ◌⊎◌, ℕ, ◌-◌, ◌^◌, ◌≤◌, length, List, [], ◌∷◌, ◌++◌, Option, Some, None, Result, MatchResult}
+use Rattle.std.specs.Prelude.{◌≡◌, ◌≢◌, ◌⊎◌, ℕ, ◌-◌, ◌^◌, ◌≤◌, length, List, [], ◌∷◌, ◌++◌, Option, Some, None, Result, MatchResult, false}
 use Rattle.std.specs.Io.KnownBytes.{Appends, Consumes, IsAtEnd}
 use Rattle.disk_model.specs.History.{Change}
 use Rattle.daemon_core.specs.declared.event.Event.{Event}
@@ -7,6 +7,8 @@ use Rattle.daemon_core.specs.State.{State}
 use Rattle.daemon_core.specs.Replay.{Entry, stepped}
 use Rattle.live_stage.specs.declared.refusal.LiveError.{LiveError}
 use Rattle.live_stage.specs.declared.refusal.LiveError.TheVariants.{Broken, NoMemory, NumbersSpent}
+use Rattle.play_journal.specs.Calls.{SameFaults}
+use Rattle.live_stage.specs.LiveState.{LiveState}
 use Rattle.live_stage.specs.Found.{AllFindNow}
 use Rattle.live_stage.specs.Transcript.{replayed}
 use Rattle.client_session.specs.Requests.{fault_of, left_of, requests_of}
@@ -136,3 +138,8 @@ pub record ServesClient (Honest : Type 0) (c : ℕ) (first last : Option (List �
   pub consumed : Consumes first last read
   pub stops : StopsReading Honest c (events_of c (requests_of read)) (IsAllRead read last × RunsNone t.machine.job)
       s t a b before after ending
+
+-- no disk has failed in between, and the stage can be used
+pub record IsUnfailed {D : Type 0} (faults : D → ℕ) (old new : LiveState D) : Type 0 where
+  pub usable : new.is_broken ≡ false
+  pub met_none : SameFaults faults old.a old.b new.a new.b

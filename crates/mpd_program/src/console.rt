@@ -1,6 +1,7 @@
 //! One client on a reader and a writer, over the journal on two disks.
 ghost use Rattle.std.specs.Prelude.{◌≡◌, ◌≢◌, ◌⊎◌, ◌↔◌, ◌≤◌, ℕ, Ok, IsTrue, IsSome};
 ghost use Rattle.disk_model.specs.Later.{AreLater, HasFailed};
+ghost use Rattle.play_journal.specs.Calls.{SameFaults};
 ghost use Rattle.live_stage.specs.Found.{AllFindNow};
 ghost use Rattle.mpd_program.specs.Lives.{moment_of, IsLife, IsConsole, refusal_of, status_of, ending_of};
 ghost use Rattle.mpd_program.specs.Status.{code_of};
@@ -117,6 +118,7 @@ fn serve_life<D: Disk, F: Folder, R: Read, W: Write>(
     ensures life { IsLife (D.honest a × D.honest b) client result.came_to
         (moment_of D.content D.history D.faults a b (R.remaining reader.old) (W.contents writer.old))
         (moment_of D.content D.history D.faults result.a result.b (R.remaining reader.new) (W.contents writer.new)) }
+    ensures unfailed { (ending : Ending) → result.came_to ≡ Ok ending → ending ≢ Ending.Faulted → SameFaults D.faults a b result.a result.b }
     ensures later { AreLater D.honest D.history D.faults a b result.a result.b }
 {
     let mut live = match Live::open(alloc, a, b) {
@@ -187,11 +189,12 @@ pub fn run_console<D: Disk, F: Folder, R: Read, W: Write>(
         (moment_of D.content D.history D.faults a b (R.remaining reader.old) (W.contents writer.old))
         (moment_of D.content D.history D.faults result.a result.b (R.remaining reader.new) (W.contents writer.new)) }
 
-    // Only a disk fault or a refused journal is answered as such.
+    // Only a disk fault or a refused journal is answered as such, and each disk fault is.
     ensures served { result.ending ≢ Ending.Faulted → result.status ≡ Status.Done }
     ensures faulted { D.honest a → D.honest b → result.ending ≡ Ending.Faulted
         → HasFailed D.faults a b result.a result.b
         ⊎ ((number : ℕ) × (result.status ≡ Status.JournalRefused number)) }
+    ensures unfailed { result.ending ≢ Ending.Faulted → SameFaults D.faults a b result.a result.b }
     ensures refused { (number : ℕ) → result.status ≡ Status.JournalRefused number → (number ≡ 4) ⊎ (number ≡ 5) ⊎ (number ≡ 7) }
 
     // Where each pair of images that a crash may have left gives a state, the journal is refused for want of memory alone.

@@ -2,7 +2,7 @@
 ghost use Rattle.std.specs.Prelude.{◌≡◌, ◌≢◌, ◌⊎◌, ◌↔◌, ◌≤◌, [], false, Err, OnOk, IfErr};
 ghost use Rattle.disk_model.specs.Later.{AreLater, HasFailed};
 ghost use Rattle.mpd_program.specs.Console.{IsRunning, RunsNone};
-ghost use Rattle.mpd_program.specs.Serving.{ServesAll, Stops};
+ghost use Rattle.mpd_program.specs.Serving.{ServesAll, Stops, IsUnfailed};
 
 use super::Ending;
 use super::serving::{ending_of, serve_event};
@@ -33,7 +33,7 @@ pub(super) fn serve_job<D: Disk, F: Folder, W: Write>(
         (W.contents writer.old) (W.contents writer.new)) }
     ensures stopped { IfErr result (λ e. Stops (D.honest live.old.a × D.honest live.old.b) client []
         live.old.state live.new.state (D.history live.new.a) (D.history live.new.b) (W.contents writer.old) (W.contents writer.new) e) }
-    ensures usable { result ≢ Err Ending.Faulted → live.new.is_broken ≡ false }
+    ensures usable { result ≢ Err Ending.Faulted → IsUnfailed D.faults live.old live.new }
     ensures failed { D.honest live.old.a → D.honest live.old.b → result ≡ Err Ending.Faulted
         → HasFailed D.faults live.old.a live.old.b live.new.a live.new.b }
     ensures later { AreLater D.honest D.history D.faults live.old.a live.old.b live.new.a live.new.b }
@@ -70,7 +70,7 @@ fn serve_changes<D: Disk, F: Folder, W: Write>(
         (W.contents writer.old) (W.contents writer.new)) }
     ensures stopped { IfErr result (λ e. Stops (D.honest live.old.a × D.honest live.old.b) client []
         live.old.state live.new.state (D.history live.new.a) (D.history live.new.b) (W.contents writer.old) (W.contents writer.new) e) }
-    ensures usable { result ≢ Err Ending.Faulted → live.new.is_broken ≡ false }
+    ensures usable { result ≢ Err Ending.Faulted → IsUnfailed D.faults live.old live.new }
     ensures failed { D.honest live.old.a → D.honest live.old.b → result ≡ Err Ending.Faulted
         → HasFailed D.faults live.old.a live.old.b live.new.a live.new.b }
     ensures later { AreLater D.honest D.history D.faults live.old.a live.old.b live.new.a live.new.b }

@@ -4,7 +4,7 @@ ghost use Rattle.std.specs.Io.KnownBytes.{Appends};
 ghost use Rattle.disk_model.specs.Later.{AreLater, HasFailed};
 ghost use Rattle.client_session.specs.Requests.{brought, fault_at, left_by, nothing};
 ghost use Rattle.mpd_program.specs.Console.{asked, asked_by, ComesInTurn, RunsNone};
-ghost use Rattle.mpd_program.specs.Serving.{ending_of, ServesAll, Stops, ServesInput, ServesClient, StepsTo};
+ghost use Rattle.mpd_program.specs.Serving.{ending_of, ServesAll, Stops, ServesInput, ServesClient, StepsTo, IsUnfailed};
 
 use super::Ending;
 use super::scanning::serve_job;
@@ -49,7 +49,7 @@ pub(super) fn serve_event<D: Disk, W: Write>(
         (W.contents writer.old) (W.contents writer.new)) }
     ensures stopped { IfErr result (λ e. Stops (D.honest live.old.a × D.honest live.old.b) client (asked event)
         live.old.state live.new.state (D.history live.new.a) (D.history live.new.b) (W.contents writer.old) (W.contents writer.new) e) }
-    ensures usable { result ≢ Err Ending.Faulted → live.new.is_broken ≡ false }
+    ensures usable { result ≢ Err Ending.Faulted → IsUnfailed D.faults live.old live.new }
     ensures failed { D.honest live.old.a → D.honest live.old.b → result ≡ Err Ending.Faulted
         → HasFailed D.faults live.old.a live.old.b live.new.a live.new.b }
     ensures later { AreLater D.honest D.history D.faults live.old.a live.old.b live.new.a live.new.b }
@@ -87,7 +87,7 @@ fn serve_request<D: Disk, F: Folder, W: Write>(
     ensures stopped { IfErr result (λ e. Stops (D.honest live.old.a × D.honest live.old.b) client
         (asked (Event.Request client request)) live.old.state live.new.state (D.history live.new.a) (D.history live.new.b)
         (W.contents writer.old) (W.contents writer.new) e) }
-    ensures usable { result ≢ Err Ending.Faulted → live.new.is_broken ≡ false }
+    ensures usable { result ≢ Err Ending.Faulted → IsUnfailed D.faults live.old live.new }
     ensures failed { D.honest live.old.a → D.honest live.old.b → result ≡ Err Ending.Faulted
         → HasFailed D.faults live.old.a live.old.b live.new.a live.new.b }
     ensures later { AreLater D.honest D.history D.faults live.old.a live.old.b live.new.a live.new.b }
@@ -116,7 +116,7 @@ fn serve_requests<D: Disk, F: Folder, W: Write>(
         (W.contents writer.old) (W.contents writer.new)) }
     ensures stopped { IfErr result (λ e. Stops (D.honest live.old.a × D.honest live.old.b) client (asked_by client requests)
         live.old.state live.new.state (D.history live.new.a) (D.history live.new.b) (W.contents writer.old) (W.contents writer.new) e) }
-    ensures usable { result ≢ Err Ending.Faulted → live.new.is_broken ≡ false }
+    ensures usable { result ≢ Err Ending.Faulted → IsUnfailed D.faults live.old live.new }
     ensures failed { D.honest live.old.a → D.honest live.old.b → result ≡ Err Ending.Faulted
         → HasFailed D.faults live.old.a live.old.b live.new.a live.new.b }
     ensures later { AreLater D.honest D.history D.faults live.old.a live.old.b live.new.a live.new.b }
@@ -148,7 +148,7 @@ fn serve_piece<D: Disk, F: Folder, W: Write>(
     ensures stopped { IfErr result (λ e. Stops (D.honest live.old.a × D.honest live.old.b) client
         (asked_by client (brought session.old.left piece.now)) live.old.state live.new.state
         (D.history live.new.a) (D.history live.new.b) (W.contents writer.old) (W.contents writer.new) e) }
-    ensures usable { result ≢ Err Ending.Faulted → live.new.is_broken ≡ false }
+    ensures usable { result ≢ Err Ending.Faulted → IsUnfailed D.faults live.old live.new }
     ensures failed { D.honest live.old.a → D.honest live.old.b → result ≡ Err Ending.Faulted
         → HasFailed D.faults live.old.a live.old.b live.new.a live.new.b }
     ensures later { AreLater D.honest D.history D.faults live.old.a live.old.b live.new.a live.new.b }
@@ -176,7 +176,7 @@ fn serve_input<D: Disk, F: Folder, R: Read, W: Write>(
     requires idle { RunsNone live.old.state.machine.job }
     ensures served { ServesInput (D.honest live.old.a × D.honest live.old.b) client (R.remaining reader.old) (R.remaining reader.new)
         live.old.state live.new.state (D.history live.new.a) (D.history live.new.b) (W.contents writer.old) (W.contents writer.new) result }
-    ensures usable { result ≢ Err Ending.Faulted → live.new.is_broken ≡ false }
+    ensures usable { result ≢ Err Ending.Faulted → IsUnfailed D.faults live.old live.new }
     ensures failed { D.honest live.old.a → D.honest live.old.b → result ≡ Err Ending.Faulted
         → HasFailed D.faults live.old.a live.old.b live.new.a live.new.b }
     ensures later { AreLater D.honest D.history D.faults live.old.a live.old.b live.new.a live.new.b }
@@ -219,7 +219,7 @@ pub(super) fn serve_client<D: Disk, F: Folder, R: Read, W: Write>(
     requires idle { RunsNone live.old.state.machine.job }
     ensures served { ServesClient (D.honest live.old.a × D.honest live.old.b) client (R.remaining reader.old) (R.remaining reader.new)
         live.old.state live.new.state (D.history live.new.a) (D.history live.new.b) (W.contents writer.old) (W.contents writer.new) result }
-    ensures usable { result ≢ Ending.Faulted → live.new.is_broken ≡ false }
+    ensures usable { result ≢ Ending.Faulted → IsUnfailed D.faults live.old live.new }
     ensures failed { D.honest live.old.a → D.honest live.old.b → result ≡ Ending.Faulted
         → HasFailed D.faults live.old.a live.old.b live.new.a live.new.b }
     ensures later { AreLater D.honest D.history D.faults live.old.a live.old.b live.new.a live.new.b }

@@ -34,7 +34,7 @@ returns-clause-life g c =
     (client_under _ _ c.args.client _ _ _ _ _ _ _ _ c.serve_client-ending.result
     (λ h. (was.later.a.honesty.0 h.0, was.later.b.honesty.0 h.1)) served.served)
     (λ other h. c.is_broken-broken.ensures.kept (served.later.a.honesty.0 (was.later.a.honesty.0 h.0))
-    (served.later.b.honesty.0 (was.later.b.honesty.0 h.1)) (served.usable other))
+    (served.later.b.honesty.0 (was.later.b.honesty.0 h.1)) (served.usable other).usable)
     (λ is h. failed_since _ _ _ _ _ _ was.later.a.counted was.later.b.counted
     (served.failed (was.later.a.honesty.0 h.0) (was.later.b.honesty.0 h.1) is)))
 

@@ -4,7 +4,7 @@ use Rattle.std.specs.Io.KnownBytes.{Consumes}
 use Rattle.std.proofs.lemmas.List.{length-take}
 use Rattle.std.proofs.lemmas.Result.{err_from_is_err_and}
 use Rattle.mpd_program.proofs.ByteLaws.{consumes_nothing, keeps_itself, refilled}
-use Rattle.mpd_program.proofs.ServingLaws.{failed_since}
+use Rattle.mpd_program.proofs.ServingLaws.{failed_since, unfailed_on}
 use Rattle.mpd_program.proofs.InputLaws.{reads_begin, reads_on, reads_stop, reads_cut, reads_all, both}
 use Rattle.mpd_program.proofs.console.serving.serve_input.Goals as goal
 
@@ -97,7 +97,18 @@ returns-in_err-serve_piece-clause-served g c =
 pub returns-in_err-serve_piece-clause-usable : goal.returns-in_err-serve_piece-clause-usable
 returns-in_err-serve_piece-clause-usable g c =
     let p = err_from_is_err_and c.from_residual.result c.from_residual.ensures.1 in
-    rw (p.1, p.2) c.in_err-serve_piece.ensures.usable
+    rw (p.1, p.2) (λ other. unfailed_on g.D.Disk.faults c.args.live.now c.loop-reads.live c.serve_piece-in-loop-reads.new.live
+    c.loop-reads.invariant.reads.so_far.usable (c.in_err-serve_piece.ensures.usable other))
+
+pub returns-in-Ok-eq0-clause-usable : goal.returns-in-Ok-eq0-clause-usable
+returns-in-Ok-eq0-clause-usable g c = λ other.
+    unfailed_on g.D.Disk.faults c.args.live.now c.loop-reads.live c.serve_piece.new.live c.loop-reads.invariant.reads.so_far.usable
+    (c.serve_piece.ensures.usable other)
+
+pub returns-clause-usable : goal.returns-clause-usable
+returns-clause-usable g c = λ other.
+    unfailed_on g.D.Disk.faults c.args.live.now c.loop-reads.live c.serve_piece-2.new.live c.loop-reads.invariant.reads.so_far.usable
+    (c.serve_piece-2.ensures.usable other)
 
 pub returns-in_err-serve_piece-clause-failed : goal.returns-in_err-serve_piece-clause-failed
 returns-in_err-serve_piece-clause-failed g c =
