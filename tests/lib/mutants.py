@@ -1,6 +1,6 @@
 """Mutants that the prover must refuse, many tried in one check.
 
-A mutant is an edit of a crate's code, in the form of the toolchain's must-fail edits, in the crate's folder `further-edits/`.
+A mutant is an edit of a crate's code, in the form of the toolchain's must-fail edits, in the crate's folder `mutants/`.
 Proofs are modular: what its callers know of a function is its contract. So edits of different functions stand in one check,
 each judged at its own function: it is refused where the prover names a goal of that function which it did not prove. Of several
 edits of one function the first stands in its place, each other in a copy of the function; the functions that no edit changes are
@@ -20,7 +20,7 @@ import toolchain
 from batches import Batch, Edit
 from functions import Code
 
-FOLDER = "further-edits"
+FOLDER = "mutants"
 NAME = re.compile(r"[A-Za-z0-9_-][A-Za-z0-9_.-]*\.edit")
 LINE = re.compile(r"(?m)^fn (\S+): (proved|.*)$")
 # A goal of the function's own, in the line of a function that has no answer for it.
