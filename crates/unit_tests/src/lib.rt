@@ -6,6 +6,8 @@ mod assertions;
 #[cfg(test)]
 mod files;
 #[cfg(test)]
+mod outputs;
+#[cfg(test)]
 mod player;
 #[cfg(test)]
 mod queue;

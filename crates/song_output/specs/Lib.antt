@@ -1,0 +1,3 @@
+pub mod OpenSong
+pub mod Piece
+pub mod Sound

@@ -1,0 +1,28 @@
+-- Where a song stays open, all that was ordered was written.
+use Rattle.std.proofs.Common.{◌≡◌, ℕ, List, sym, ◌∙◌, ap, subst}
+use Rattle.std.specs.Prelude.{Bool, Option, None, Some}
+use Rattle.std.specs.Io.KnownBytes.{Appends}
+use Rattle.wave_pcm.specs.Folder.{File}
+use Rattle.player_core.specs.declared.order.PlayOrder.{PlayOrder}
+use Rattle.song_output.specs.declared.piece.Piece.{Piece}
+use Rattle.song_output.specs.declared.piece.Piece.TheVariants.{Written, Failed}
+use Rattle.song_output.specs.declared.open_song.OpenSong.{OpenSong}
+use Rattle.song_output.specs.Piece.{IsAnswer, IsWritten, IsLeft}
+use Rattle.song_output.specs.Sound.{sound_by, sound_from, sound_in, ordered_sound}
+use Rattle.stage_workers.specs.Played.{IsWholeIfOpen}
+
+-- what was written of a file is what was ordered of the files
+sound_is : (files : List File) (order : PlayOrder) (before after : Option (List ℕ)) (count : ℕ) (is_last : Bool)
+    → (w : IsWritten files order before after count is_last)
+    → ordered_sound files order ≡ sound_from w.file w.info order.first_frame order.volume
+sound_is files order before after count is_last w =
+    ap (λ bytes. sound_in bytes order) w.found ∙ ap (λ reading. sound_by reading w.file order) w.head
+
+pub whole_if_open : {S : Type 0} (files : List File) (order : PlayOrder) (before after : Option (List ℕ)) (piece : Piece)
+    (song : Option (OpenSong S)) → IsAnswer files order before after piece → IsLeft order song piece
+    → IsWholeIfOpen files order song before after
+whole_if_open files order before after (Written count is_last) None answer left = tt
+whole_if_open files order before after (Written count is_last) (Some song) answer left =
+    subst (Appends before after) (sym (sound_is files order before after count is_last answer)) answer.whole.sound
+whole_if_open files order before after (Failed cause) song answer left =
+    subst (λ s. IsWholeIfOpen files order s before after) (sym left) tt

@@ -1,0 +1,9 @@
+pub mod PassState
+pub mod Holding
+pub mod Books
+pub mod Refusals
+pub mod LockState
+pub mod Entry
+pub mod Settling
+pub mod Working
+pub mod Played

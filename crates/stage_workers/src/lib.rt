@@ -1,0 +1,29 @@
+//! One stage that threads share: a lock round it, and passes that say who made which of its events.
+#![tactic(auto)]
+
+mod account;
+mod books;
+mod kind;
+pub mod laws;
+mod locked;
+mod outbox;
+mod pass;
+mod player;
+mod refusal;
+mod scan;
+mod served;
+mod settling;
+mod shared;
+mod worker;
+
+pub use books::Blanks;
+pub use kind::Kind;
+pub use locked::Locked;
+pub use outbox::{Outbox, Outputs};
+pub use pass::Pass;
+pub use player::player_worker;
+pub use refusal::{PassesSpent, SettleError, StageError};
+pub use scan::scan_worker;
+pub use served::{Served, Way};
+pub use shared::SharedStage;
+pub use worker::{NoWake, Wake, Worker};

@@ -1,0 +1,168 @@
+// The player's thread: it plays what the stage orders, and reports what became of it.
+ghost use Rattle.std.specs.Prelude.{◌≡◌, ◌≢◌, ◌+◌, ◌≤◌, IfErr, MatchResult};
+ghost use Rattle.song_output.specs.declared.open_song.OrderKind.{OrderKind};
+ghost use Rattle.song_output.specs.OpenSong.{kind_of, IsOpen};
+ghost use Rattle.song_output.specs.Piece.{AppendsFront};
+ghost use Rattle.song_output.specs.Sound.{ordered_sound};
+ghost use Rattle.stage_workers.specs.Played.{IsWholeIfOpen};
+ghost use Rattle.stage_workers.specs.Working.{GoesOn, HasWorked, IsUndone};
+
+use crate::worker::{Report, Wake, Worker};
+use crate::{Pass, SharedStage, StageError};
+use disk_model::Disk;
+use live_stage::LiveError;
+use player_core::{Order, PlayOrder};
+use song_output::{Gate, OpenSong, Piece, play_piece};
+use std::alloc::Global;
+use std::io::Write;
+use std::sync::Wait;
+use std::sync::ledger::Ledger;
+use std::time::Clock;
+use wave_pcm::Folder;
+
+impl<D: Disk, C: Ledger, P: Ledger, S: Ledger> SharedStage<D, C, P, S> {
+    // Waits for a song to be played, or for the end: none once the stage is closed. It looks and waits under one holding of the lock, so
+    // that no order is missed.
+    fn next_order<R: Wait>(&self, rt: &R, alloc: Global) -> Result<Option<PlayOrder>, LiveError>
+        ensures { IfErr result (λ e. e ≢ LiveError.NumbersSpent) }
+    {
+        let mut guard = self.locked.lock(rt);
+        for _ in rt.forever() {
+            if guard.is_closed {
+                return Ok(None);
+            }
+            if let Order::Play(order) = guard.live.order(alloc)? {
+                return Ok(Some(order));
+            }
+            guard = self.changed.wait(rt, guard);
+        }
+        unreachable!()
+    }
+}
+
+/// Carries out one order: the piece is read, scaled and written without the lock, and then reported. The frames that were written are
+/// `Fed`; where the file's last was among them, the song has `Ended`; what can't be read or written is `Broken`, with its cause.
+///
+/// `song` is what stays open between orders, as for `song_output::play_piece`. A report that finds no memory is made again until it does.
+/// It refuses `NoMemory` where opening or reading finds none, and then nothing was written or reported; any other refusal is that of a
+/// report, and what was written is not reported then.
+///
+/// A file that ends before its song's row does has `Ended` at its last frame. Of one that goes on behind its row at most the piece in
+/// which the row ends, and one piece more, is played.
+#[tactic(auto, using(crate::proofs::Sounding::whole_if_open))]
+pub fn play_once<
+    D: Disk,
+    C: Ledger,
+    P: Ledger,
+    S: Ledger,
+    F: Folder,
+    G: Gate,
+    W: Write,
+    R: Wait + Clock,
+    K: Wake,
+>(
+    worker: &Worker<'_, D, C, P, S, R, K>,
+    pass: Pass<C, P, S>,
+    gate: &G,
+    folder: &mut F,
+    output: &mut W,
+    song: &mut Option<OpenSong<F::File>>,
+    order: &PlayOrder,
+) -> Result<Pass<C, P, S>, (StageError, Pass<C, P, S>)>
+    // One event or two; before a refusal none or one.
+    ensures worked { MatchResult result (HasWorked pass) (λ e. GoesOn pass e.1) }
+    ensures few { MatchResult result (λ p. p.share ≤ pass.share + 2) (λ e. e.1.share ≤ pass.share + 1) }
+    ensures memory { IfErr result (λ e. e.0 ≡ StageError.NoMemory →
+        IsUndone pass e.1 song.new (W.contents output.old) (W.contents output.new)) }
+
+    // What is written is a front of the ordered frames of the song's file, as bytes at the order's volume.
+    ensures front { F.honest folder.old → IsOpen F.File.bytes F.File.honest (F.files folder.old) song.old →
+        AppendsFront (W.contents output.old) (W.contents output.new) (ordered_sound (F.files folder.old) order.now) }
+
+    // All of them, where the song stays open and was not at its end before.
+    ensures whole { F.honest folder.old → IsOpen F.File.bytes F.File.honest (F.files folder.old) song.old →
+        kind_of song.old order.now ≢ OrderKind.Ended →
+        IsWholeIfOpen (F.files folder.old) order.now song.new (W.contents output.old) (W.contents output.new) }
+    ensures is_open { F.honest folder.old → IsOpen F.File.bytes F.File.honest (F.files folder.old) song.old →
+        IsOpen F.File.bytes F.File.honest (F.files folder.new) song.new }
+    ensures honest { F.honest folder.old → F.honest folder.new × (F.files folder.new ≡ F.files folder.old) }
+{
+    let ticket = order.ticket;
+    match play_piece(worker.alloc, song, folder, gate, output, order) {
+        Ok(Piece::Written { frames, is_last }) => {
+            report_written(worker, pass, ticket, frames, is_last)
+        }
+        Ok(Piece::Failed(cause)) => worker.report(pass, &Report::Broken { ticket, cause }),
+        Err(_) => Err((StageError::NoMemory, pass)),
+    }
+}
+
+// Reports the frames that were written, and the end where it was reached. An end without a frame is reported alone.
+fn report_written<D: Disk, C: Ledger, P: Ledger, S: Ledger, R: Wait + Clock, K: Wake>(
+    worker: &Worker<'_, D, C, P, S, R, K>,
+    pass: Pass<C, P, S>,
+    ticket: u64,
+    frames: u64,
+    is_last: bool,
+) -> Result<Pass<C, P, S>, (StageError, Pass<C, P, S>)>
+    ensures worked { MatchResult result (HasWorked pass) (λ e. GoesOn pass e.1) }
+    ensures few { MatchResult result (λ p. p.share ≤ pass.share + 2) (λ e. e.1.share ≤ pass.share + 1) }
+    ensures again { IfErr result (λ e. e.0 ≢ StageError.NoMemory) }
+{
+    if !is_last {
+        return worker.report(pass, &Report::Fed { ticket, frames });
+    }
+    let pass = if frames == 0 {
+        pass
+    } else {
+        worker.report(pass, &Report::Fed { ticket, frames })?
+    };
+    worker.report(pass, &Report::Ended { ticket })
+}
+
+/// Plays what is ordered until the stage is closed or refuses, and hands the pass back.
+///
+/// Nothing is written while the lock is held, and nothing is kept behind the output: what a listener hears of an older order is at most
+/// the piece that was begun, and what the output itself holds. Where memory is wanting, for a look or in opening or reading, it looks anew.
+pub fn player_worker<
+    D: Disk,
+    C: Ledger,
+    P: Ledger,
+    S: Ledger,
+    F: Folder,
+    G: Gate,
+    W: Write,
+    R: Wait + Clock,
+    K: Wake,
+>(
+    worker: &Worker<'_, D, C, P, S, R, K>,
+    pass: Pass<C, P, S>,
+    gate: &G,
+    folder: &mut F,
+    output: &mut W,
+) -> Pass<C, P, S>
+    ensures { GoesOn pass result }
+{
+    let mut pass = pass;
+    let mut song = None;
+    for _ in worker.rt.forever() {
+        let done = match worker.stage.next_order(worker.rt, worker.alloc) {
+            Ok(None) => break,
+            Ok(Some(order)) => play_once(worker, pass, gate, folder, output, &mut song, &order),
+            Err(LiveError::NoMemory) => Err((StageError::NoMemory, pass)),
+            Err(_) => break,
+        };
+        match done {
+            Ok(back) => pass = back,
+            Err((StageError::NoMemory, back)) => {
+                pass = back;
+                worker.pause();
+            }
+            Err((_, back)) => {
+                pass = back;
+                break;
+            }
+        }
+    }
+    pass
+}

@@ -1,0 +1,83 @@
+// The scan's thread: it reads the folder of a job, and reports what it finds.
+ghost use Rattle.std.specs.Prelude.{◌≡◌, MatchResult};
+ghost use Rattle.stage_workers.specs.Working.{GoesOn, HasWorked};
+
+use crate::worker::{Report, Wake, Worker};
+use crate::{Pass, StageError};
+use crossbeam_channel::Receiver;
+use disk_model::Disk;
+use song_db::{Scan, ScanOrder};
+use state_codec::Changes;
+use std::alloc::Global;
+use std::sync::Wait;
+use std::sync::ledger::Ledger;
+use std::time::Clock;
+use wave_pcm::Folder;
+
+/// Carries out one scan: its batches are read without the lock, and each is reported; at last comes its end, `ScanDone`.
+///
+/// A report that finds no memory is made again until it does. Where the reading finds none, the scan is left off: its end is reported, and
+/// what was not read keeps its row. It ends early where the stage is closed once a batch was reported, and by a report that is refused.
+pub fn scan_once<D: Disk, C: Ledger, P: Ledger, S: Ledger, F: Folder, R: Wait + Clock, K: Wake>(
+    worker: &Worker<'_, D, C, P, S, R, K>,
+    pass: Pass<C, P, S>,
+    folder: &mut F,
+    order: ScanOrder,
+) -> Result<Pass<C, P, S>, (StageError, Pass<C, P, S>)>
+    ensures worked { MatchResult result (HasWorked pass) (λ e. GoesOn pass e.1) }
+    ensures honest { F.honest folder.old → F.honest folder.new × (F.files folder.new ≡ F.files folder.old) }
+{
+    let job = order.job();
+    let mut pass = pass;
+    if let Ok(mut scan) = Scan::begin(worker.alloc, order) {
+        for _ in worker.rt.forever() {
+            let Some(changes) = next_changes(worker.alloc, &mut scan, folder) else {
+                break;
+            };
+            pass = worker.report(pass, &Report::Batch { job, changes })?;
+            if worker.stage.is_closed(worker.rt) {
+                return Ok(pass);
+            }
+        }
+    }
+    worker.report(pass, &Report::ScanDone { job })
+}
+
+// What the scan finds next; nothing at its end, or where memory runs out.
+fn next_changes<F: Folder>(alloc: Global, scan: &mut Scan, folder: &mut F) -> Option<Changes>
+    ensures honest { F.honest folder.old → F.honest folder.new × (F.files folder.new ≡ F.files folder.old) }
+{
+    match scan.next(alloc, folder) {
+        Ok(Some(changes)) => Changes::new(changes),
+        Ok(None) | Err(_) => None,
+    }
+}
+
+/// Reads what is ordered until the orders end or the stage is closed or refuses, and hands the pass back. While it waits for an order, it
+/// ends once the sender of orders is gone.
+pub fn scan_worker<D: Disk, C: Ledger, P: Ledger, S: Ledger, F: Folder, R: Wait + Clock, K: Wake>(
+    worker: &Worker<'_, D, C, P, S, R, K>,
+    pass: Pass<C, P, S>,
+    folder: &mut F,
+    orders: &Receiver<ScanOrder>,
+) -> Pass<C, P, S>
+    ensures { GoesOn pass result }
+{
+    let mut pass = pass;
+    for _ in worker.rt.forever() {
+        let Ok(order) = orders.recv(worker.rt) else {
+            break;
+        };
+        match scan_once(worker, pass, folder, order) {
+            Ok(back) => pass = back,
+            Err((_, back)) => {
+                pass = back;
+                break;
+            }
+        }
+        if worker.stage.is_closed(worker.rt) {
+            break;
+        }
+    }
+    pass
+}

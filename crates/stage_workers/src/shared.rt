@@ -1,0 +1,168 @@
+// The stage that threads share.
+ghost use Rattle.std.specs.Prelude.{◌≡◌, ◌≢◌, ◌+◌, ◌<◌, IfOk, IfErr};
+ghost use Rattle.stage_workers.specs.PassState.{new_pass};
+ghost use Rattle.stage_workers.specs.Entry.{TellsRewound};
+ghost use Rattle.stage_workers.specs.Settling.{AllAgree, IsReceiptsReason, shares_in};
+
+use crate::{
+    Blanks, Kind, Locked, Outbox, Pass, PassesSpent, Served, SettleError, StageError, Way, laws,
+};
+use daemon_core::Event;
+use disk_model::Disk;
+use live_stage::{Live, LiveError, Receipt};
+use player_core::Order;
+use song_db::ScanOrder;
+use std::alloc::Global;
+use std::sync::ledger::Ledger;
+use std::sync::{Condvar, Mutex, Wait};
+
+/// A stage that threads share: each event is one holding of its lock.
+///
+/// Each of its calls but `new` and `settle` may wait for the lock. What a call does while it holds the lock is what the function of `laws`
+/// that it runs promises.
+#[derive(Drop)]
+pub struct SharedStage<D: Disk, C: Ledger, P: Ledger, S: Ledger> {
+    pub(crate) locked: Mutex<Locked<D, C, P, S>>,
+    pub(crate) changed: Condvar,
+}
+
+impl<D: Disk, C: Ledger, P: Ledger, S: Ledger> SharedStage<D, C, P, S> {
+    /// Shares a stage that has had no event. What lies under the lock then is `laws::locked`.
+    pub fn new(alloc: Global, live: Live<D>, blanks: Blanks) -> Self
+        requires first { live.numbers.event ≡ 0 }
+        requires clients { (blanks.clients.name ≡ C.name) × (blanks.clients.parts ≡ C.parts) × (blanks.clients.parts ≡ 65537) }
+        requires player { (blanks.player.name ≡ P.name) × (blanks.player.parts ≡ P.parts) × (blanks.player.parts ≡ 65537) }
+        requires scan { (blanks.scan.name ≡ S.name) × (blanks.scan.parts ≡ S.parts) × (blanks.scan.parts ≡ 65537) }
+    {
+        SharedStage {
+            locked: Mutex::new(laws::locked(alloc, live, blanks)),
+            changed: Condvar::new(),
+        }
+    }
+
+    /// A pass of this kind, by `laws::passed`. It refuses `PassesSpent` after 65,536 of the kind.
+    pub fn pass(&self, rt: &impl Wait, kind: Kind) -> Result<Pass<C, P, S>, PassesSpent>
+        ensures { IfOk result (λ p. p ≡ new_pass kind) }
+    {
+        laws::passed(&mut *self.locked.lock(rt), kind)
+    }
+
+    /// Handles one event, and hands over its answer with all that was left in the outbox: `laws::enter` by `Way::Serve`.
+    ///
+    /// It refuses in the order `Broken` (from before), `Rewound`, `NumbersSpent`, `NoMemory`, `Broken` (by a disk fault now), and then
+    /// hands the pass back as it was.
+    pub fn serve(
+        &self,
+        rt: &impl Wait,
+        alloc: Global,
+        pass: Pass<C, P, S>,
+        event: Event,
+    ) -> Result<(Served<D>, Pass<C, P, S>), (StageError, Pass<C, P, S>)>
+        ensures asked { IfOk result (λ r. r.0.turn.asked ≡ event) }
+        ensures passed { IfOk result (λ r. r.1 ≡ record { kind = pass.kind; seen = r.0.turn.event; share = pass.share + 1 }) }
+        ensures later { IfOk result (λ r. pass.seen < r.0.turn.event) }
+        ensures refused { IfErr result (λ e. e.1 ≡ pass) }
+        ensures rewound { IfErr result (λ e. TellsRewound pass e.0) }
+    {
+        let mut pass = pass;
+        let mut guard = self.locked.lock(rt);
+        let entered = laws::enter(&mut *guard, alloc, &mut pass, event, Way::Serve);
+        let is_playing = guard.live.is_playing();
+        drop(guard);
+        self.wake_player(is_playing);
+        match entered {
+            Ok(Some(served)) => Ok((served, pass)),
+            Ok(None) => unreachable!(),
+            Err(error) => Err((error, pass)),
+        }
+    }
+
+    /// Handles one event, and leaves its outputs in the outbox: `laws::enter` by `Way::Report`.
+    ///
+    /// It refuses as `serve` does.
+    pub fn report(
+        &self,
+        rt: &impl Wait,
+        alloc: Global,
+        pass: Pass<C, P, S>,
+        event: Event,
+    ) -> Result<Pass<C, P, S>, (StageError, Pass<C, P, S>)>
+        ensures kind { IfOk result (λ r. r.kind ≡ pass.kind) }
+        ensures share { IfOk result (λ r. r.share ≡ pass.share + 1) }
+        ensures later { IfOk result (λ r. pass.seen < r.seen) }
+        ensures refused { IfErr result (λ e. e.1 ≡ pass) }
+        ensures rewound { IfErr result (λ e. TellsRewound pass e.0) }
+    {
+        let mut pass = pass;
+        let mut guard = self.locked.lock(rt);
+        let entered = laws::enter(&mut *guard, alloc, &mut pass, event, Way::Report);
+        let is_playing = guard.live.is_playing();
+        drop(guard);
+        self.wake_player(is_playing);
+        match entered {
+            Ok(_) => Ok(pass),
+            Err(error) => Err((error, pass)),
+        }
+    }
+
+    // A player that waits has something to do only where a song plays.
+    fn wake_player(&self, is_playing: bool) {
+        if is_playing {
+            self.changed.notify_all();
+        }
+    }
+
+    /// All that was left in the outbox, in order, by `laws::taken`. It is no event.
+    pub fn collect(&self, rt: &impl Wait, alloc: Global) -> Outbox {
+        laws::taken(&mut *self.locked.lock(rt), alloc)
+    }
+
+    /// What the output is to do, by `laws::ordered`. It is no event. It refuses `Broken` and `NoMemory` alone.
+    pub fn order(&self, rt: &impl Wait, alloc: Global) -> Result<Order, LiveError>
+        ensures { IfErr result (λ e. e ≢ LiveError.NumbersSpent) }
+    {
+        laws::ordered(&*self.locked.lock(rt), alloc)
+    }
+
+    /// What a scan is to read for the job that runs, if one does, by `laws::scan_ordered`. It is no event. It refuses `Broken` and
+    /// `NoMemory` alone.
+    pub fn scan_order(&self, rt: &impl Wait, alloc: Global) -> Result<Option<ScanOrder>, LiveError>
+        ensures { IfErr result (λ e. e ≢ LiveError.NumbersSpent) }
+    {
+        laws::scan_ordered(&*self.locked.lock(rt), alloc)
+    }
+
+    /// The number of the job that runs, if one does, by `laws::running_job`: that of `scan_order`, of which it copies nothing. It is no
+    /// event. It refuses `Broken` alone.
+    pub fn running_job(&self, rt: &impl Wait) -> Result<Option<u32>, LiveError>
+        ensures { IfErr result (λ e. e ≡ LiveError.Broken) }
+    {
+        laws::running_job(&*self.locked.lock(rt))
+    }
+
+    /// Tells the workers to end, by `laws::closed`, and wakes the player. It is no event.
+    pub fn close(&self, rt: &impl Wait) {
+        laws::closed(&mut *self.locked.lock(rt));
+        self.changed.notify_all();
+    }
+
+    /// Whether the workers are to end. It is no event.
+    pub fn is_closed(&self, rt: &impl Wait) -> bool {
+        self.locked.lock(rt).is_closed
+    }
+
+    /// Ends the sharing, by `laws::settled`: all passes come back, and receipts that were given out are compared with the stage, which is
+    /// handed back either way. It takes no memory, and waits for nothing.
+    pub fn settle(
+        self,
+        passes: Vec<Pass<C, P, S>>,
+        receipts: &[Receipt],
+    ) -> Result<Live<D>, (SettleError, Live<D>)>
+        ensures shares { IfOk result (λ live. shares_in passes.items ≡ live.numbers.event) }
+        ensures receipts { IfOk result (λ live. AllAgree live receipts.now) }
+        ensures foreign { IfErr result (λ e. IsReceiptsReason e.1 receipts.now e.0) }
+    {
+        let SharedStage { locked, changed: _ } = self;
+        laws::settled(locked.into_inner(), passes, receipts)
+    }
+}
