@@ -1,0 +1,55 @@
+-- Clients that connect, in several steps.
+use Rattle.std.proofs.Common.{◌≡◌, ◌⊎◌, ℕ, ◌+◌, zero, suc, Result, Ok, Err, IfErr, inl, inr, ◌∷◌, ◌++◌, sym, subst, ◌∙◌, ap, append_assoc, arith}
+use Rattle.std.proofs.lemmas.List.{append-nil}
+use Rattle.mio_clients.specs.declared.event.ClientEvent.TheVariants as events
+use Rattle.mio_clients.specs.Events.{connects}
+use Rattle.mio_clients.specs.Connections.{ConnectionsState, IsFull}
+use Rattle.mio_clients.specs.declared.refusal.ClientsError.{ClientsError}
+use Rattle.mio_clients.specs.declared.refusal.ClientsError.TheVariants.{NoMemory, TooManyClients}
+use Rattle.mio_clients.specs.Later.{Accepts}
+
+-- the refusals of which one at most was met
+pub refused_is : (result : Result (Unit {0}) ClientsError) (P : Type 0) → (result ≡ Ok tt) ⊎ ((result ≡ Err TooManyClients) × P)
+    → IfErr result (λ e. (e ≡ NoMemory) ⊎ (e ≡ TooManyClients))
+refused_is (Ok u) P h = tt
+refused_is (Err e) P (inl ok) = absurd (cc (ok))
+refused_is (Err e) P (inr full) = inr (cc (full.0))
+
+connects_from : (last n m : ℕ) → connects last (n + m) ≡ connects last n ++ connects (last + n) m
+connects_from last zero m =
+    let none : 0 + m ≡ m = omega arith in
+    let same : last ≡ last + 0 = omega arith in
+    ap (connects last) none ∙ ap (λ (t : ℕ). connects t m) same
+connects_from last (suc n) m =
+    let one : suc n + m ≡ suc (n + m) = omega arith in
+    let same : last + 1 + n ≡ last + suc n = omega arith in
+    ap (connects last) one ∙ ap (λ t. events.Connect (last + 1) ∷ t) (connects_from (last + 1) n m
+    ∙ ap (λ (t : ℕ). connects (last + 1) n ++ connects t m) same)
+
+module _ {S : Type 0} where
+  pub accepts_twice : (a b c : ConnectionsState S) → Accepts a b → Accepts b c → Accepts a c
+  accepts_twice a b c p q = record {
+    count = p.count + q.count;
+    last_id = omega (arith, p.last_id, q.last_id);
+    gathered = q.gathered ∙ (ap (λ (t : ℕ). b.events ++ connects t q.count) p.last_id
+        ∙ (ap (λ t. t ++ connects (a.last_id + p.count) q.count) p.gathered
+        ∙ (append_assoc a.events (connects a.last_id p.count) (connects (a.last_id + p.count) q.count)
+        ∙ ap (λ t. a.events ++ t) (sym (connects_from a.last_id p.count q.count)))));
+    stay = λ key client there. q.stay key client (p.stay key client there);
+  }
+
+  -- nobody connects while room is made
+  pub accepts_room : (a b : ConnectionsState S) → b ≡ record a { room = b.room } → Accepts a b
+  accepts_room a b same =
+      subst (λ (s : ConnectionsState S). Accepts a s) (sym same) (record {
+        count = 0;
+        last_id = omega arith;
+        gathered = sym (append-nil a.events);
+        stay = λ key client there. there;
+      })
+
+  pub accepts_roomy : (a b m c : ConnectionsState S) → m ≡ record b { room = m.room } → Accepts a b → Accepts m c → Accepts a c
+  accepts_roomy a b m c same p q = accepts_twice a m c (accepts_twice a b m p (accepts_room b m same)) q
+
+  pub full_room : (a b : ConnectionsState S) → b ≡ record a { room = b.room } → IsFull a → IsFull b
+  full_room a b same full = subst (λ (s : ConnectionsState S). IsFull s) (sym same) full

@@ -1,0 +1,96 @@
+use Rattle.std.proofs.Common.{◌≡◌, subst, sym, inl, inr, refl, ◌∙◌}
+use Rattle.mio_clients.specs.Connections.{ConnectionsState, IsFull}
+use Rattle.mio_clients.specs.Later.{IsLater, Accepts, no_bytes, no_requests}
+use Rattle.mio_clients.proofs.LaterLaws.{later_itself, later_room, later_more, later_roomy, accepts_none}
+use Rattle.mio_clients.proofs.AcceptLaws.{accepts_twice, accepts_room, accepts_roomy, full_room, refused_is}
+use Rattle.mio_clients.proofs.clients.Clients.accept_all.Goals as goal
+use Rattle.mio_clients.proofs.clients.Clients.accept_all.Goals.{in-Ok+then-not-admit, in-Ok+else-not-admit, in-Err+in-Interrupted}
+
+pub loop-call-init : goal.loop-call-init
+loop-call-init g c = record {
+  later = later_itself g.S.Stream.remaining g.S.Stream.contents c.self.inside.connections;
+  accepted = accepts_none g.S.Stream.remaining g.S.Stream.contents c.self.inside.connections;
+  full = inl refl;
+}
+
+pub returns-then-is_err-clause-later : goal.returns-then-is_err-clause-later
+returns-then-is_err-clause-later g c =
+    let rem = g.S.Stream.remaining in
+    let con = g.S.Stream.contents in
+    let made : c.reserve.new.self ≡ record c.loop-call.self { room = c.reserve.new.self.room } =
+    subst (λ (s : ConnectionsState g.row.S.Denot). c.reserve.new.self ≡ record s { room = c.reserve.new.self.room }) c.self-in-loop-call.view_is c.reserve.ensures.same in
+    later_more rem con c.args.self.now c.loop-call.self c.reserve.new.self
+    (subst (λ (s : ConnectionsState g.row.S.Denot). IsLater rem con no_bytes no_requests s c.loop-call.self) c.self.view_is c.loop-call.invariant.later)
+    (later_room rem con c.loop-call.self c.reserve.new.self made)
+
+pub returns-then-is_err-clause-accepted : goal.returns-then-is_err-clause-accepted
+returns-then-is_err-clause-accepted g c =
+    let made : c.reserve.new.self ≡ record c.loop-call.self { room = c.reserve.new.self.room } =
+    subst (λ (s : ConnectionsState g.row.S.Denot). c.reserve.new.self ≡ record s { room = c.reserve.new.self.room }) c.self-in-loop-call.view_is c.reserve.ensures.same in
+    accepts_twice c.args.self.now c.loop-call.self c.reserve.new.self
+    (subst (λ (s : ConnectionsState g.row.S.Denot). Accepts s c.loop-call.self) c.self.view_is c.loop-call.invariant.accepted)
+    (accepts_room c.loop-call.self c.reserve.new.self made)
+
+pub returns-in_default : goal.returns-in_default
+returns-in_default g c =
+    let rem = g.S.Stream.remaining in
+    let con = g.S.Stream.contents in
+    let made : c.reserve.new.self ≡ record c.loop-call.self { room = c.reserve.new.self.room } =
+    subst (λ (s : ConnectionsState g.row.S.Denot). c.reserve.new.self ≡ record s { room = c.reserve.new.self.room }) c.self-in-loop-call.view_is c.reserve.ensures.same in
+    record {
+      later = later_more rem con c.args.self.now c.loop-call.self c.reserve.new.self
+          (subst (λ (s : ConnectionsState g.row.S.Denot). IsLater rem con no_bytes no_requests s c.loop-call.self) c.self.view_is c.loop-call.invariant.later)
+          (later_room rem con c.loop-call.self c.reserve.new.self made);
+      accepted = accepts_twice c.args.self.now c.loop-call.self c.reserve.new.self
+          (subst (λ (s : ConnectionsState g.row.S.Denot). Accepts s c.loop-call.self) c.self.view_is c.loop-call.invariant.accepted)
+          (accepts_room c.loop-call.self c.reserve.new.self made);
+      too_many = λ e. elim c.loop-call.invariant.full [
+        | inl ok ↦ absurd (cc (e, ok))
+        | inr full ↦ full_room c.loop-call.self c.reserve.new.self made full.1
+      ];
+      neither = refused_is c.loop-call.result (IsFull c.loop-call.self) c.loop-call.invariant.full;
+    }
+
+pub loop-call-preserved : goal.loop-call-preserved
+loop-call-preserved g c =
+    let rem = g.S.Stream.remaining in
+    let con = g.S.Stream.contents in
+    let a : ConnectionsState g.row.S.Denot = c.self.inside.connections in
+    let b : ConnectionsState g.row.S.Denot = c.loop-call.self in
+    let m : ConnectionsState g.row.S.Denot = c.reserve.new.self in
+    let made : m ≡ record b { room = m.room } =
+    subst (λ (s : ConnectionsState g.row.S.Denot). m ≡ record s { room = m.room }) c.self-in-loop-call.view_is c.reserve.ensures.same in
+    let i = c.loop-call.invariant in
+    elim c.match-accept.branch [
+      | in-Ok+then-not-admit w ↦ record {
+        later = subst (λ (s : ConnectionsState g.row.S.Denot). IsLater rem con no_bytes no_requests a s) (sym w.self-is)
+            (later_roomy rem con a b m w.admit.new.self made i.later w.admit.ensures.later);
+        accepted = subst (λ (s : ConnectionsState g.row.S.Denot). Accepts a s) (sym w.self-is)
+            (accepts_roomy a b m w.admit.new.self made i.accepted w.admit.ensures.accepted);
+        full = inr (w.result-is, subst (λ (s : ConnectionsState g.row.S.Denot). IsFull s) (sym w.self-is) (w.admit.ensures.full (inl w.if-not-admit.true)));
+      }
+      | in-Ok+else-not-admit w ↦ record {
+        later = subst (λ (s : ConnectionsState g.row.S.Denot). IsLater rem con no_bytes no_requests a s) (sym w.self-is)
+            (later_roomy rem con a b m w.admit.new.self made i.later w.admit.ensures.later);
+        accepted = subst (λ (s : ConnectionsState g.row.S.Denot). Accepts a s) (sym w.self-is)
+            (accepts_roomy a b m w.admit.new.self made i.accepted w.admit.ensures.accepted);
+        full = elim i.full [
+          | inl ok ↦ inl (w.result-is ∙ ok)
+          | inr full ↦ inr (
+            w.result-is ∙ full.0,
+            subst (λ (s : ConnectionsState g.row.S.Denot). IsFull s) (sym w.self-is)
+                (w.admit.ensures.full (inr (full_room b m made full.1))),
+          )
+        ];
+      }
+      | in-Err+in-Interrupted w ↦ record {
+        later = subst (λ (s : ConnectionsState g.row.S.Denot). IsLater rem con no_bytes no_requests a s) (sym w.self-is)
+            (later_more rem con a b m i.later (later_room rem con b m made));
+        accepted = subst (λ (s : ConnectionsState g.row.S.Denot). Accepts a s) (sym w.self-is)
+            (accepts_twice a b m i.accepted (accepts_room b m made));
+        full = elim i.full [
+          | inl ok ↦ inl (w.result-is ∙ ok)
+          | inr full ↦ inr (w.result-is ∙ full.0, subst (λ (s : ConnectionsState g.row.S.Denot). IsFull s) (sym w.self-is) (full_room b m made full.1))
+        ];
+      }
+    ]

@@ -1,0 +1,20 @@
+use Rattle.std.proofs.Common.{subst}
+use Rattle.mio_clients.specs.Connections.{ConnectionsState}
+use Rattle.mio_clients.specs.Later.{IsLater, no_bytes, no_requests}
+use Rattle.mio_clients.proofs.LaterLaws.{later_itself}
+use Rattle.mio_clients.proofs.clients.Clients.admit.Goals as goal
+
+pub returns-then-is_full-clause-later : goal.returns-then-is_full-clause-later
+returns-then-is_full-clause-later g c = later_itself g.S.Stream.remaining g.S.Stream.contents c.args.self.now
+
+pub returns-then-is_ok-clause-later : goal.returns-then-is_ok-clause-later
+returns-then-is_ok-clause-later g c =
+    let rem = g.S.Stream.remaining in
+    let con = g.S.Stream.contents in
+    subst (λ (s : ConnectionsState g.row.S.Denot). IsLater rem con no_bytes no_requests s c.admit.new.self) c.self.view_is c.admit.ensures.later
+
+pub returns-else-is_ok-clause-later : goal.returns-else-is_ok-clause-later
+returns-else-is_ok-clause-later g c =
+    let rem = g.S.Stream.remaining in
+    let con = g.S.Stream.contents in
+    subst (λ (s : ConnectionsState g.row.S.Denot). IsLater rem con no_bytes no_requests s c.self.inside.connections) c.self.view_is (later_itself rem con c.self.inside.connections)

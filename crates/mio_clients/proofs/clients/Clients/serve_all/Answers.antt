@@ -1,0 +1,51 @@
+use Rattle.std.proofs.Common.{true}
+use Rattle.mio_clients.proofs.TurnLaws.{serves_twice, serves_as, serves_collected, whole_later, whole_share, whole_refused}
+use Rattle.mio_clients.proofs.clients.Clients.serve_all.Goals as goal
+
+pub returns-then-goes_on-clause-later : goal.returns-then-goes_on-clause-later
+returns-then-goes_on-clause-later g c =
+    whole_later g.S.Stream.remaining g.S.Stream.contents true c.args.self.now c.give_outbox.new.self c.args.parts.now.items
+    c.push_reserved.new.self.items c.args.pass c.serve_each-goes_on.result.1 c.requires.empty
+    (serves_twice g.S.Stream.remaining g.S.Stream.contents true c.args.self.now c.serve_each-goes_on.new.self c.give_outbox.new.self
+    c.args.parts.now.items c.serve_each-goes_on.new.parts.items c.push_reserved.new.self.items c.args.pass c.serve_each-goes_on.result.1
+    c.serve_each-goes_on.result.1
+    (serves_as g.S.Stream.remaining g.S.Stream.contents c.serve_each-goes_on.result.0 true c.args.self.now c.serve_each-goes_on.new.self
+    c.args.parts.now.items c.serve_each-goes_on.new.parts.items c.args.pass c.serve_each-goes_on.result.1 c.if-goes_on.true
+    c.serve_each-goes_on.ensures.serves)
+    (serves_collected g.S.Stream.remaining g.S.Stream.contents c.serve_each-goes_on.new.self c.give_outbox.new.self c.collect-outbox.result
+    c.serve_each-goes_on.new.parts.items c.push_reserved.new.self.items c.serve_each-goes_on.result.1 c.give_outbox.ensures.later
+    c.push_reserved.ensures.items))
+
+pub returns-then-goes_on-clause-share : goal.returns-then-goes_on-clause-share
+returns-then-goes_on-clause-share g c =
+    whole_share g.S.Stream.remaining g.S.Stream.contents true c.args.self.now c.give_outbox.new.self c.args.parts.now.items
+    c.push_reserved.new.self.items c.args.pass c.serve_each-goes_on.result.1 c.requires.empty
+    (serves_twice g.S.Stream.remaining g.S.Stream.contents true c.args.self.now c.serve_each-goes_on.new.self c.give_outbox.new.self
+    c.args.parts.now.items c.serve_each-goes_on.new.parts.items c.push_reserved.new.self.items c.args.pass c.serve_each-goes_on.result.1
+    c.serve_each-goes_on.result.1
+    (serves_as g.S.Stream.remaining g.S.Stream.contents c.serve_each-goes_on.result.0 true c.args.self.now c.serve_each-goes_on.new.self
+    c.args.parts.now.items c.serve_each-goes_on.new.parts.items c.args.pass c.serve_each-goes_on.result.1 c.if-goes_on.true
+    c.serve_each-goes_on.ensures.serves)
+    (serves_collected g.S.Stream.remaining g.S.Stream.contents c.serve_each-goes_on.new.self c.give_outbox.new.self c.collect-outbox.result
+    c.serve_each-goes_on.new.parts.items c.push_reserved.new.self.items c.serve_each-goes_on.result.1 c.give_outbox.ensures.later
+    c.push_reserved.ensures.items))
+
+pub returns-then-goes_on-clause-refused : goal.returns-then-goes_on-clause-refused
+returns-then-goes_on-clause-refused g c =
+    whole_refused g.S.Stream.remaining g.S.Stream.contents true c.args.self.now c.give_outbox.new.self c.args.parts.now.items
+    c.push_reserved.new.self.items c.args.pass c.serve_each-goes_on.result.1 c.requires.empty
+    (serves_twice g.S.Stream.remaining g.S.Stream.contents true c.args.self.now c.serve_each-goes_on.new.self c.give_outbox.new.self
+    c.args.parts.now.items c.serve_each-goes_on.new.parts.items c.push_reserved.new.self.items c.args.pass c.serve_each-goes_on.result.1
+    c.serve_each-goes_on.result.1
+    (serves_as g.S.Stream.remaining g.S.Stream.contents c.serve_each-goes_on.result.0 true c.args.self.now c.serve_each-goes_on.new.self
+    c.args.parts.now.items c.serve_each-goes_on.new.parts.items c.args.pass c.serve_each-goes_on.result.1 c.if-goes_on.true
+    c.serve_each-goes_on.ensures.serves)
+    (serves_collected g.S.Stream.remaining g.S.Stream.contents c.serve_each-goes_on.new.self c.give_outbox.new.self c.collect-outbox.result
+    c.serve_each-goes_on.new.parts.items c.push_reserved.new.self.items c.serve_each-goes_on.result.1 c.give_outbox.ensures.later
+    c.push_reserved.ensures.items))
+
+pub returns-else-goes_on-clause-later : goal.returns-else-goes_on-clause-later
+returns-else-goes_on-clause-later g c =
+    whole_later g.S.Stream.remaining g.S.Stream.contents c.serve_each-goes_on.result.0 c.args.self.now c.serve_each-goes_on.new.self
+    c.args.parts.now.items c.serve_each-goes_on.new.parts.items c.args.pass c.serve_each-goes_on.result.1 c.requires.empty
+    c.serve_each-goes_on.ensures.serves

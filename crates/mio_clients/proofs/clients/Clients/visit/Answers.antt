@@ -1,0 +1,9 @@
+use Rattle.mio_clients.specs.Later.{no_bytes, no_requests}
+use Rattle.mio_clients.proofs.LaterLaws.{all_then_none}
+use Rattle.mio_clients.proofs.clients.Clients.visit.Goals as goal
+
+pub returns : goal.returns
+returns g c =
+    let rem = g.S.Stream.remaining in
+    let con = g.S.Stream.contents in
+    record { later = all_then_none rem con c.args.self.now c.write_ready-written.new.self c.read_ready-read.new.self no_bytes no_requests c.write_ready-written.ensures.later c.read_ready-read.ensures.later }

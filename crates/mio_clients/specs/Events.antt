@@ -1,0 +1,31 @@
+-- What clients did, gathered until it is served.
+use Rattle.std.specs.Prelude.{ℕ, zero, suc, ◌+◌, ◌==◌, List, [], ◌∷◌, ◌++◌, map, if◌then◌else◌}
+use Rattle.command_text.specs.declared.request.Request.{Request}
+use Rattle.mio_clients.specs.declared.event.ClientEvent.{ClientEvent}
+use Rattle.mio_clients.specs.declared.event.ClientEvent.TheVariants as events
+
+-- what the client of this number asks for by an event
+abbrev pub asked_by_event : ℕ → ClientEvent → List Request
+asked_by_event c (events.Connect client) = []
+asked_by_event c (events.Request client request) = if client == c then request ∷ [] else []
+asked_by_event c (events.Gone client) = []
+
+-- the requests of a client among events, in order
+abbrev pub asked_in : ℕ → List ClientEvent → List Request
+asked_in c [] = []
+asked_in c (event ∷ rest) = asked_by_event c event ++ asked_in c rest
+
+-- an event that is no request
+abbrev pub AsksNothing : ClientEvent → Type 0
+AsksNothing (events.Connect client) = Unit {0}
+AsksNothing (events.Request client request) = ⊥
+AsksNothing (events.Gone client) = Unit {0}
+
+-- these requests of a client, as events
+abbrev pub asked_by : ℕ → List Request → List ClientEvent
+asked_by c requests = map (λ r. events.Request c r) requests
+
+-- clients connect one after the other, by rising numbers from the one behind this
+abbrev pub connects : ℕ → ℕ → List ClientEvent
+connects last zero = []
+connects last (suc n) = events.Connect (last + 1) ∷ connects (last + 1) n

@@ -1,0 +1,126 @@
+-- What the parts of a turn of the loop carry.
+use Rattle.std.specs.Prelude.{◌≡◌, ◌≢◌, ◌⊎◌, ℕ, ◌+◌, ◌≤◌, ◌==◌, List, [], ◌∷◌, ◌++◌, Bool, true, false, Option, if◌then◌else◌}
+use Rattle.command_text.specs.declared.request.Request.{Request}
+use Rattle.daemon_core.specs.declared.event.Event.{Event}
+use Rattle.daemon_core.specs.declared.event.Event.TheVariants as stage_events
+use Rattle.daemon_core.specs.declared.outcome.Output.{Output}
+use Rattle.stage_workers.specs.declared.served.Served.{Served as ServedEvent}
+use Rattle.stage_workers.specs.PassState.{PassState}
+use Rattle.mio_clients.specs.declared.part.Part.{Part}
+use Rattle.mio_clients.specs.declared.part.Part.TheVariants.{Served, Collected, Refused}
+use Rattle.mio_clients.specs.declared.event.ClientEvent.{ClientEvent}
+use Rattle.mio_clients.specs.declared.turning.Kept.{Kept}
+use Rattle.mio_clients.specs.declared.turning.Kept.TheVariants as kept
+use Rattle.mio_clients.specs.Events.{asked_in, asked_by_event, AsksNothing}
+use Rattle.mio_clients.specs.Connections.{ConnectionsState, IsVacant}
+use Rattle.mio_clients.specs.Later.{AllGoOn, no_bytes, no_requests}
+
+-- the bytes of these outputs that are for this client
+abbrev pub bytes_to : ℕ → List Output → List ℕ
+bytes_to c [] = []
+bytes_to c (output ∷ outputs) = (if output.client == c then output.bytes else []) ++ bytes_to c outputs
+
+-- the bytes that are for this client of the outputs of events, in order
+abbrev pub bytes_to_all : ℕ → List (List Output) → List ℕ
+bytes_to_all c [] = []
+bytes_to_all c (outputs ∷ events) = bytes_to c outputs ++ bytes_to_all c events
+
+-- what each client is given by outputs
+abbrev pub sent_by : List Output → ℕ → List ℕ
+sent_by outputs c = bytes_to c outputs
+
+abbrev pub sent_by_all : List (List Output) → ℕ → List ℕ
+sent_by_all events c = bytes_to_all c events
+
+-- what each client is given where an event is served: what was left before it, and then what it gives
+abbrev pub sent_by_served : {D : Type 0} → ServedEvent D → ℕ → List ℕ
+sent_by_served served c = bytes_to_all c served.before ++ bytes_to c served.turn.outputs
+
+-- what a client is given in a part
+abbrev pub bytes_of : {D : Type 0} → ℕ → Part D → List ℕ
+bytes_of c (Served served) = sent_by_served served c
+bytes_of c (Collected outbox) = bytes_to_all c outbox
+bytes_of c (Refused number) = []
+
+-- what each client is given in parts, in order
+abbrev pub bytes_in : {D : Type 0} → List (Part D) → ℕ → List ℕ
+bytes_in [] c = []
+bytes_in (part ∷ parts) c = bytes_of c part ++ bytes_in parts c
+
+-- what a client asks by an event of a stage
+abbrev pub asked_of : ℕ → Event → List Request
+asked_of c (stage_events.Connect client) = []
+asked_of c (stage_events.Request client request) = if client == c then request ∷ [] else []
+asked_of c (stage_events.Gone client) = []
+asked_of c (stage_events.Fed ticket frames) = []
+asked_of c (stage_events.Ended ticket) = []
+asked_of c (stage_events.Broken ticket cause) = []
+asked_of c (stage_events.Batch job changes) = []
+asked_of c (stage_events.ScanDone job) = []
+
+-- the request of a client that a part carries, if it does
+abbrev pub request_of : {D : Type 0} → ℕ → Part D → List Request
+request_of c (Served served) = asked_of c served.turn.asked
+request_of c (Collected outbox) = []
+request_of c (Refused number) = []
+
+-- the requests of each client that parts carry, in order
+abbrev pub requests_in : {D : Type 0} → List (Part D) → ℕ → List Request
+requests_in [] c = []
+requests_in (part ∷ parts) c = request_of c part ++ requests_in parts c
+
+abbrev pub served_count : {D : Type 0} → List (Part D) → ℕ
+served_count [] = 0
+served_count (Served served ∷ parts) = 1 + served_count parts
+served_count (Collected outbox ∷ parts) = served_count parts
+served_count (Refused number ∷ parts) = served_count parts
+
+-- the number of a refusal that a part may tell
+abbrev pub IsRefusal : ℕ → Type 0
+IsRefusal number = (number ≡ 42) ⊎ (number ≡ 43) ⊎ (number ≡ 44) ⊎ (number ≡ 49)
+
+-- a part that refuses is the last
+abbrev pub RefusesLast : {D : Type 0} → List (Part D) → Type 0
+RefusesLast [] = Unit {0}
+RefusesLast (Served served ∷ parts) = RefusesLast parts
+RefusesLast (Collected outbox ∷ parts) = RefusesLast parts
+RefusesLast (Refused number ∷ parts) = IsRefusal number × (parts ≡ [])
+
+abbrev pub refuses : {D : Type 0} → List (Part D) → Bool
+refuses [] = false
+refuses (Served served ∷ parts) = refuses parts
+refuses (Collected outbox ∷ parts) = refuses parts
+refuses (Refused number ∷ parts) = true
+
+-- where no part refuses, no request is left among these events
+abbrev pub IsServedAll : {D : Type 0} → List (Part D) → List ClientEvent → Type 0
+IsServedAll parts events = refuses parts ≡ false → (c : ℕ) → asked_in c events ≡ []
+
+-- Parts were added: what they give was given, the requests that they carry were served, and the pass has their share. None
+-- refuses exactly where it goes on.
+pub record Serves {S D : Type 0} (remaining contents : S → Option (List ℕ)) (goes_on : Bool) (old new : ConnectionsState S)
+    (before after : List (Part D)) (pass passed : PassState) : Type 0 where
+  pub added : List (Part D)
+  pub parts : after ≡ before ++ added
+  pub later : AllGoOn remaining contents (bytes_in added) (requests_in added) old new
+  pub kind : passed.kind ≡ pass.kind
+  pub share : passed.share ≡ pass.share + served_count added
+  pub seen : pass.seen ≤ passed.seen
+  pub refused : RefusesLast added
+  pub unrefused : goes_on ≡ true → refuses added ≡ false
+  pub told : goes_on ≡ false → refuses added ≡ true
+
+-- what is kept of an event: itself, unless it is a request, of which its client's number is
+abbrev pub IsKeptOf : ClientEvent → Kept → Type 0
+IsKeptOf event (kept.Event same) = (same ≡ event) × AsksNothing same
+IsKeptOf event (kept.Client client) = (c : ℕ) → client ≢ c → asked_by_event c event ≡ []
+
+-- where an event is kept, it asks for nothing
+abbrev pub KeepsNoRequest : Kept → Type 0
+KeepsNoRequest (kept.Event event) = AsksNothing event
+KeepsNoRequest (kept.Client client) = Unit {0}
+
+-- an event is gathered anew, or a client was let go of
+abbrev pub IsKeptAs : {S : Type 0} → (S → Option (List ℕ)) → (S → Option (List ℕ)) → Kept → ConnectionsState S → ConnectionsState S → Type 0
+IsKeptAs remaining contents (kept.Event event) old new = new ≡ record old { events = event ∷ old.events; room = new.room }
+IsKeptAs remaining contents (kept.Client client) old new = AllGoOn remaining contents no_bytes no_requests old new × IsVacant new client

@@ -1,0 +1,311 @@
+// The clients of the daemon: who is accepted, read and written, and what of it is told.
+ghost use Rattle.std.specs.Prelude.{◌≡◌, ◌⊎◌, ◌+◌, ◌≤◌, ◌∷◌, [], false, length, OnSome, IfOk, IfErr, IsErrOf, IfSome, MatchOption};
+ghost use Rattle.slab.specs.Slab.{get, slab_len};
+ghost use Rattle.mio_clients.specs.Events.{AsksNothing};
+ghost use Rattle.mio_clients.specs.Waiting.{StaysQuiet};
+ghost use Rattle.mio_clients.specs.Connections.{IsFull, IsVacant};
+ghost use Rattle.mio_clients.specs.Later.{no_bytes, no_requests, bytes_for, AllGoOn, IsLater, Accepts, IsFault, Loses};
+
+use crate::client::{Reading, Writing};
+use crate::connections::Connections;
+use crate::event::ClientEvent;
+use crate::listener::Listener;
+use crate::ready::{Ready, Token};
+use crate::refusal::ClientsError;
+use crate::stream::Stream;
+use crate::{CALL_LIMIT, READ_SIZE};
+use std::alloc::{AllocError, Global};
+use std::io::ErrorKind;
+use std::marker::Model;
+use std::time::Duration;
+
+/// How long the loop waits where nothing happens, in milliseconds.
+const PATIENCE: u64 = 100;
+
+/// The clients of the daemon, on one thread: each is accepted, read and written without waiting for it.
+#[derive(Drop)]
+pub struct Clients<S, L, P> {
+    connections: Connections<S>,
+    listener: L,
+    ready: P,
+    buffer: Vec<u8>,
+    // There may be more clients to be accepted without a new readiness.
+    is_accepting: bool,
+}
+
+impl<S, L, P> Model for Clients<S, L, P> {
+    ghost use Rattle.mio_clients.specs.Connections.{ConnectionsState};
+
+    ghost Value = { ConnectionsState S };
+
+    ghost view = { λ c. c.connections };
+}
+
+impl<S: Stream, L: Listener<S>, P: Ready<S>> Clients<S, L, P> {
+    /// No clients, who may connect through this listener, of which `ready` tells already.
+    pub fn new(alloc: Global, listener: L, ready: P) -> Result<Self, AllocError>
+        ensures clients { IfOk result (λ c. c.clients.slots ≡ []) }
+        ensures events { IfOk result (λ c. c.events ≡ []) }
+        ensures last_id { IfOk result (λ c. c.last_id ≡ 0) }
+    {
+        Ok(Clients {
+            connections: Connections::new(alloc)?,
+            listener,
+            ready,
+            buffer: vec![in alloc; 0u8; READ_SIZE]?,
+            is_accepting: true,
+        })
+    }
+
+    /// Closes all clients, and lets go of what they did and was not served: for a new life of the daemon. The numbers of clients go on.
+    pub fn close_all(&mut self)
+        ensures clients { self.new.clients.slots ≡ [] }
+        ensures events { self.new.events ≡ [] }
+        ensures last_id { self.new.last_id ≡ self.old.last_id }
+    {
+        self.connections.clear();
+    }
+
+    /// Where clients connect.
+    pub fn listener_mut(&mut self) -> &mut L {
+        &mut self.listener
+    }
+
+    /// What tells which streams are ready.
+    pub fn ready_mut(&mut self) -> &mut P {
+        &mut self.ready
+    }
+
+    /// How many clients are connected.
+    pub fn len(&self) -> usize {
+        self.connections.len()
+    }
+
+    /// Whether no client is connected.
+    pub fn is_empty(&self) -> bool {
+        self.len() == 0
+    }
+
+    /// Accepts clients until none waits, or for 65,536 calls, and gathers their connects, by rising numbers. A failed `accept` is tried
+    /// again in the next turn of the loop.
+    ///
+    /// `TooManyClients` says that a client was closed without a byte. `NoMemory` leaves the others waiting.
+    pub fn accept_all(&mut self, alloc: Global) -> Result<(), ClientsError>
+        ensures later { IsLater S.remaining S.contents no_bytes no_requests self.old self.new }
+        ensures accepted { Accepts self.old self.new }
+        ensures too_many { IsErrOf result ClientsError.TooManyClients → IsFull self.new }
+        ensures neither { IfErr result (λ e. (e ≡ ClientsError.NoMemory) ⊎ (e ≡ ClientsError.TooManyClients)) }
+    {
+        self.is_accepting = true;
+        let mut result = Ok(());
+        for _call in 0..CALL_LIMIT {
+            if self.connections.reserve().is_err() {
+                return Err(ClientsError::NoMemory);
+            }
+            match self.listener.accept() {
+                Ok(stream) => {
+                    if !self.admit(alloc, stream) {
+                        result = Err(ClientsError::TooManyClients);
+                    }
+                }
+                Err(error) => match error.kind() {
+                    ErrorKind::Interrupted => {}
+                    kind => {
+                        self.is_accepting = kind != ErrorKind::WouldBlock;
+                        return result;
+                    }
+                },
+            }
+        }
+        result
+    }
+
+    // Takes a client in, unless there are too many. One of whose stream nobody would be told is closed.
+    fn admit(&mut self, alloc: Global, stream: S) -> bool
+        requires room { slab_len self.old.clients + 2 ≤ self.old.room }
+        ensures later { IsLater S.remaining S.contents no_bytes no_requests self.old self.new }
+        ensures accepted { Accepts self.old self.new }
+        ensures full { (result ≡ false) ⊎ IsFull self.old → IsFull self.new }
+    {
+        if self.connections.is_full() {
+            return false;
+        }
+        let mut stream = stream;
+        let key = self.connections.vacant_key();
+        if self.ready.register(&mut stream, key).is_ok() {
+            self.connections.admit(alloc, stream);
+        }
+        true
+    }
+
+    /// Reads what the client under a key sent, until there is nothing to be read or for 65,536 calls, and gathers its requests. Nothing is
+    /// read as long as something is queued for it.
+    ///
+    /// A client whose stream has failed, or for which memory was refused, is let go of, and its end is gathered; one whose line or list
+    /// is too long, or that sends nothing more, once it was sent all that it asked for before.
+    pub fn read_ready(&mut self, alloc: Global, key: usize) -> Result<(), ClientsError>
+        ensures later { AllGoOn S.remaining S.contents no_bytes no_requests self.old self.new }
+        ensures fault { IfErr result (λ e. IsFault S.remaining S.contents S.failed key e self.old self.new) }
+    {
+        match self.connections.read_at(alloc, key, &mut self.buffer) {
+            Some(Reading::Failed) => Err(self.let_go(key)),
+            _ => Ok(()),
+        }
+    }
+
+    /// Writes what is queued for the client under a key, until nothing is or the stream takes no more.
+    ///
+    /// A client whose stream has failed, or takes no byte, is let go of, and its end is gathered.
+    pub fn write_ready(&mut self, key: usize) -> Result<(), ClientsError>
+        ensures later { AllGoOn S.remaining S.contents no_bytes no_requests self.old self.new }
+        ensures quiet { StaysQuiet self.old.events self.new.events }
+        ensures fault { IfErr result (λ e. IsFault S.remaining S.contents S.failed key e self.old self.new) }
+    {
+        match self.connections.write_at(key) {
+            Some(Writing::Failed) => Err(self.let_go(key)),
+            Some(Writing::Ended) => {
+                self.connections.remove(key);
+                Ok(())
+            }
+            _ => Ok(()),
+        }
+    }
+
+    // Lets go of a client whose stream has failed.
+    fn let_go(&mut self, key: usize) -> ClientsError
+        ensures later { AllGoOn S.remaining S.contents no_bytes no_requests self.old self.new }
+        ensures quiet { StaysQuiet self.old.events self.new.events }
+        ensures loses { Loses key self.old self.new }
+        ensures number { IfSome (get self.old.clients key) (λ client. result ≡ ClientsError.NetFault client.id) }
+    {
+        let id = self.connections.id_at(key);
+        self.connections.remove(key);
+        ClientsError::NetFault(id)
+    }
+
+    // Waits until something is ready, and gathers what clients did.
+    pub(crate) fn gather(&mut self, alloc: Global)
+        ensures later { IsLater S.remaining S.contents no_bytes no_requests self.old self.new }
+    {
+        let limit = if self.connections.event_count() > 0 {
+            0
+        } else {
+            PATIENCE
+        };
+        let _waited = self.ready.wait(Duration::from_millis(limit));
+        for _token in 0..CALL_LIMIT {
+            let Some(token) = self.ready.next() else {
+                break;
+            };
+            self.take_token(alloc, token);
+        }
+        if self.is_accepting {
+            let _refused = self.accept_all(alloc);
+        }
+    }
+
+    // Takes up what is ready.
+    fn take_token(&mut self, alloc: Global, token: Token)
+        ensures later { AllGoOn S.remaining S.contents no_bytes no_requests self.old self.new }
+    {
+        match token {
+            Token::Client(key) => self.visit(alloc, key),
+            Token::Listener => self.is_accepting = true,
+            Token::Woken => {}
+        }
+    }
+
+    // Writes to a client that is ready, and reads of it.
+    fn visit(&mut self, alloc: Global, key: usize)
+        ensures later { AllGoOn S.remaining S.contents no_bytes no_requests self.old self.new }
+    {
+        let _written = self.write_ready(key);
+        let _read = self.read_ready(alloc, key);
+    }
+
+    // Sends what is queued for each client, and lets go of those that are to be closed and were sent all.
+    pub(crate) fn send_all(&mut self)
+        ensures later { AllGoOn S.remaining S.contents no_bytes no_requests self.old self.new }
+        ensures quiet { StaysQuiet self.old.events self.new.events }
+    {
+        for key in 0..self.connections.capacity() {
+            self.send(key);
+        }
+    }
+
+    // Sends what is queued for one client, unless its stream is known to take nothing.
+    fn send_queued(&mut self, key: usize)
+        ensures later { AllGoOn S.remaining S.contents no_bytes no_requests self.old self.new }
+        ensures quiet { StaysQuiet self.old.events self.new.events }
+    {
+        if self.connections.may_write(key) {
+            let _written = self.write_ready(key);
+        }
+    }
+
+    // The same of one client, which is let go of where it is to be closed and was sent all.
+    fn send(&mut self, key: usize)
+        ensures later { AllGoOn S.remaining S.contents no_bytes no_requests self.old self.new }
+        ensures quiet { StaysQuiet self.old.events self.new.events }
+    {
+        self.send_queued(key);
+        if self.connections.is_over(key) {
+            self.connections.remove(key);
+        } else if !self.connections.watch_at(key, &mut self.ready) {
+            self.connections.remove(key);
+        }
+    }
+
+    // How many events wait.
+    pub(crate) fn event_count(&self) -> usize
+        ensures { result ≡ length self.now.events }
+    {
+        self.connections.event_count()
+    }
+
+    // Takes the first event that waits.
+    pub(crate) fn pop(&mut self) -> Option<ClientEvent>
+        ensures same { self.new ≡ record self.old { events = self.new.events; room = self.new.room } }
+        ensures event { MatchOption result ((self.old.events ≡ []) × (self.new.events ≡ [])) (λ event. self.old.events ≡ event ∷ self.new.events) }
+        ensures room { OnSome result (slab_len self.new.clients + 1 ≤ self.new.room) }
+    {
+        self.connections.pop()
+    }
+
+    // Puts an event back at the front.
+    pub(crate) fn put_back(&mut self, event: ClientEvent)
+        requires room { slab_len self.old.clients + 1 ≤ self.old.room }
+        requires no_request { AsksNothing event }
+        ensures same { self.new ≡ record self.old { events = event ∷ self.old.events; room = self.new.room } }
+    {
+        self.connections.put_back(event);
+    }
+
+    // Queues bytes for the client of this number.
+    pub(crate) fn give(&mut self, client: u64, bytes: &[u8])
+        ensures later { AllGoOn S.remaining S.contents (bytes_for client bytes.now) no_requests self.old self.new }
+        ensures quiet { StaysQuiet self.old.events self.new.events }
+    {
+        self.connections.give(client, bytes);
+    }
+
+    // Has the client of this number closed, once what is queued for it is sent: the daemon knows of it no more.
+    pub(crate) fn release(&mut self, client: u64)
+        ensures later { AllGoOn S.remaining S.contents no_bytes no_requests self.old self.new }
+        ensures events { self.new.events ≡ self.old.events }
+    {
+        self.connections.release(client);
+    }
+
+    // Lets go of the client of this number, after what is queued for it was sent as far as its stream takes it.
+    pub(crate) fn drop_client(&mut self, client: u64)
+        ensures later { AllGoOn S.remaining S.contents no_bytes no_requests self.old self.new }
+        ensures gone { IsVacant self.new client }
+        ensures quiet { StaysQuiet self.old.events self.new.events }
+    {
+        if let Some(key) = self.connections.find(client) {
+            let _writing = self.connections.write_at(key);
+            self.connections.remove(key);
+        }
+    }
+}

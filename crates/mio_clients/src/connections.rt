@@ -1,0 +1,251 @@
+// Who is connected, under which key and number, and what they did and was not served yet.
+ghost use Rattle.std.specs.Prelude.{◌≡◌, ◌↔◌, ◌+◌, ◌≤◌, ◌∷◌, [], length, Some, IsTrue, MatchOption};
+ghost use Rattle.std.specs.Prelude.{IfOk, IfSome, OnOk, OnSome};
+ghost use Rattle.slab.specs.Slab.{get, slab_len};
+ghost use Rattle.mio_clients.specs.Connections.{IsVacant, IsAt, IsAlone, IsAdmitted, IsFull, IsFailedAt};
+ghost use Rattle.mio_clients.specs.Events.{AsksNothing};
+ghost use Rattle.mio_clients.specs.Waiting.{StaysQuiet};
+ghost use Rattle.mio_clients.specs.Later.{no_bytes, no_requests, bytes_for, AllGoOn, IsLater, Loses};
+
+use crate::CLIENT_LIMIT;
+use crate::client::{Client, Reading, Writing};
+use crate::event::ClientEvent;
+use crate::queue::EventQueue;
+use crate::ready::Ready;
+use crate::slots::{drop_slot, queue_slot, read_slot, release_slot, watch_slot, write_slot};
+use crate::stream::Stream;
+use slab::Slab;
+use std::alloc::{AllocError, Global};
+use std::marker::Model;
+
+/// The clients that are connected, and what they did and was not served yet.
+#[derive(Drop)]
+pub(crate) struct Connections<S> {
+    clients: Slab<Client<S>>,
+    queue: EventQueue,
+    last_id: u64,
+}
+
+impl<S> Model for Connections<S> {
+    ghost use Rattle.mio_clients.specs.Connections.{ConnectionsState, AreConnections};
+
+    ghost Value = { ConnectionsState S };
+
+    ghost view = { λ c. record { clients = c.clients; events = c.queue.events; last_id = c.last_id; room = c.queue.room } };
+
+    ghost invariant = { λ c. AreConnections c.clients c.queue c.last_id };
+}
+
+// Whether memory was refused.
+fn is_refused(reading: Option<Reading>) -> bool
+    ensures { IsTrue result ↔ (reading ≡ Some Reading.Refused) }
+{
+    matches!(reading, Some(Reading::Refused))
+}
+
+impl<S: Stream> Connections<S> {
+    /// No clients, with room for `CLIENT_LIMIT`.
+    pub(crate) fn new(alloc: Global) -> Result<Self, AllocError>
+        ensures clients { IfOk result (λ c. c.clients.slots ≡ []) }
+        ensures events { IfOk result (λ c. c.events ≡ []) }
+        ensures last_id { IfOk result (λ c. c.last_id ≡ 0) }
+    {
+        Ok(Connections {
+            clients: Slab::with_capacity(alloc, CLIENT_LIMIT)?,
+            queue: EventQueue::new(alloc),
+            last_id: 0,
+        })
+    }
+
+    /// Whether no further client may connect.
+    pub(crate) fn is_full(&self) -> bool
+        ensures { IsTrue result ↔ IsFull self.now }
+    {
+        self.clients.len() >= CLIENT_LIMIT || self.last_id == u64::MAX
+    }
+
+    /// One more than the greatest key.
+    pub(crate) fn capacity(&self) -> usize
+        ensures { result ≡ self.now.clients.capacity }
+    {
+        self.clients.capacity()
+    }
+
+    /// How many events wait.
+    pub(crate) fn event_count(&self) -> usize
+        ensures { result ≡ length self.now.events }
+    {
+        self.queue.len()
+    }
+
+    /// How many clients are connected.
+    pub(crate) fn len(&self) -> usize
+        ensures { result ≡ slab_len self.now.clients }
+    {
+        self.clients.len()
+    }
+
+    /// The number of the client at a key.
+    pub(crate) fn id_at(&self, key: usize) -> u64
+        ensures { IfSome (get self.now.clients key) (λ client. result ≡ client.id) }
+    {
+        match self.clients.get(key) {
+            Some(client) => client.id,
+            None => 0,
+        }
+    }
+
+    /// Whether something is queued for the client at a key, and no write was blocked since it was told to be ready.
+    pub(crate) fn may_write(&self, key: usize) -> bool {
+        match self.clients.get(key) {
+            Some(client) => !client.is_blocked && client.session.queued_len() > 0,
+            None => false,
+        }
+    }
+
+    /// Whether the client at a key is to be closed, and was sent all.
+    pub(crate) fn is_over(&self, key: usize) -> bool {
+        match self.clients.get(key) {
+            Some(client) => client.is_closing && client.session.queued_len() == 0,
+            None => false,
+        }
+    }
+
+    /// Has the client at a key told of as it needs; `false` where that can't be had.
+    pub(crate) fn watch_at<P: Ready<S>>(&mut self, key: usize, ready: &mut P) -> bool
+        ensures later { AllGoOn S.remaining S.contents no_bytes no_requests self.old self.new }
+        ensures events { self.new.events ≡ self.old.events }
+    {
+        watch_slot(&mut self.clients, key, ready)
+    }
+
+    /// Lets go of all clients and of what they did. The numbers of clients go on.
+    pub(crate) fn clear(&mut self)
+        ensures clients { self.new.clients.slots ≡ [] }
+        ensures events { self.new.events ≡ [] }
+        ensures last_id { self.new.last_id ≡ self.old.last_id }
+    {
+        self.clients.clear();
+        self.queue.clear();
+    }
+
+    /// Makes room for the first and the last event of a client that connects.
+    pub(crate) fn reserve(&mut self) -> Result<(), AllocError>
+        ensures same { self.new ≡ record self.old { room = self.new.room } }
+        ensures room { OnOk result (slab_len self.old.clients + 2 ≤ self.new.room) }
+    {
+        self.queue.reserve()
+    }
+
+    /// The key of the next client.
+    pub(crate) fn vacant_key(&self) -> usize
+        ensures { result ≡ self.now.clients.vacant_key }
+    {
+        self.clients.vacant_key()
+    }
+
+    /// Takes a client in, with the next number, and gathers its connect.
+    pub(crate) fn admit(&mut self, alloc: Global, stream: S)
+        requires room { slab_len self.old.clients + 2 ≤ self.old.room }
+        requires not_full { ¬ IsFull self.old }
+        ensures admitted { IsAdmitted stream self.old self.new }
+        ensures later { IsLater S.remaining S.contents no_bytes no_requests self.old self.new }
+    {
+        self.last_id += 1;
+        self.queue.connect(self.last_id);
+        let client = Client::new(alloc, self.last_id, stream);
+        let _key = self.clients.insert_reserved(client);
+    }
+
+    /// Where the client of this number is.
+    pub(crate) fn find(&self, id: u64) -> Option<usize>
+        ensures found { MatchOption result (IsVacant self.now id) (IsAt self.now id) }
+        ensures alone { IfSome result (IsAlone self.now id) }
+    {
+        for key in 0..self.clients.capacity() {
+            if let Some(client) = self.clients.get(key) {
+                if client.id == id {
+                    return Some(key);
+                }
+            }
+        }
+        None
+    }
+
+    /// Lets go of the client at a key. Its last event is gathered, unless the daemon has closed it itself.
+    pub(crate) fn remove(&mut self, key: usize)
+        ensures loses { Loses key self.old self.new }
+        ensures quiet { StaysQuiet self.old.events self.new.events }
+        ensures later { AllGoOn S.remaining S.contents no_bytes no_requests self.old self.new }
+    {
+        drop_slot(&mut self.clients, &mut self.queue, key);
+    }
+
+    /// Writes to the client at a key what is queued for it.
+    pub(crate) fn write_at(&mut self, key: usize) -> Option<Writing>
+        ensures later { AllGoOn S.remaining S.contents no_bytes no_requests self.old self.new }
+        ensures events { self.new.events ≡ self.old.events }
+        ensures failed { result ≡ Some Writing.Failed → IsFailedAt S.remaining S.contents S.failed key self.old self.new }
+    {
+        write_slot(&mut self.clients, key)
+    }
+
+    /// Reads of the client at a key what is there, unless something is queued for it or it is to be closed, and gathers its requests.
+    /// Where memory is refused, it is let go of.
+    pub(crate) fn read_at(
+        &mut self,
+        alloc: Global,
+        key: usize,
+        buffer: &mut [u8],
+    ) -> Option<Reading>
+        ensures later { AllGoOn S.remaining S.contents no_bytes no_requests self.old self.new }
+        ensures failed { result ≡ Some Reading.Failed → IsFailedAt S.remaining S.contents S.failed key self.old self.new }
+    {
+        let reading = read_slot(alloc, &mut self.clients, key, buffer, &mut self.queue);
+        if is_refused(reading) {
+            drop_slot(&mut self.clients, &mut self.queue, key);
+        }
+        reading
+    }
+
+    /// Queues bytes for the client of this number. It is let go of where they are too many, or where memory was refused.
+    pub(crate) fn give(&mut self, id: u64, bytes: &[u8])
+        ensures later { AllGoOn S.remaining S.contents (bytes_for id bytes.now) no_requests self.old self.new }
+        ensures quiet { StaysQuiet self.old.events self.new.events }
+    {
+        let Some(key) = self.find(id) else {
+            return;
+        };
+        if !queue_slot(&mut self.clients, key, bytes) {
+            drop_slot(&mut self.clients, &mut self.queue, key);
+        }
+    }
+
+    /// Has the client of this number closed, once what is queued for it is sent: the daemon knows of it no more.
+    pub(crate) fn release(&mut self, id: u64)
+        ensures later { AllGoOn S.remaining S.contents no_bytes no_requests self.old self.new }
+        ensures events { self.new.events ≡ self.old.events }
+    {
+        if let Some(key) = self.find(id) {
+            release_slot(&mut self.clients, key);
+        }
+    }
+
+    /// Takes the first event that waits.
+    pub(crate) fn pop(&mut self) -> Option<ClientEvent>
+        ensures same { self.new ≡ record self.old { events = self.new.events; room = self.new.room } }
+        ensures event { MatchOption result ((self.old.events ≡ []) × (self.new.events ≡ [])) (λ event. self.old.events ≡ event ∷ self.new.events) }
+        ensures room { OnSome result (slab_len self.new.clients + 1 ≤ self.new.room) }
+    {
+        self.queue.pop()
+    }
+
+    /// Puts an event back at the front.
+    pub(crate) fn put_back(&mut self, event: ClientEvent)
+        requires room { slab_len self.old.clients + 1 ≤ self.old.room }
+        requires no_request { AsksNothing event }
+        ensures same { self.new ≡ record self.old { events = event ∷ self.old.events; room = self.new.room } }
+    {
+        self.queue.put_back(event);
+    }
+}

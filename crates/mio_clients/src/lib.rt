@@ -1,0 +1,37 @@
+//! The clients of the daemon on one thread: what they ask is gathered and served, and what is given to them is sent.
+#![tactic(auto)]
+
+pub mod client;
+pub mod clients;
+mod connections;
+pub mod event;
+pub mod listener;
+pub mod memory;
+pub mod part;
+mod queue;
+pub mod ready;
+pub mod refusal;
+mod slots;
+pub mod sockets;
+pub mod stream;
+mod turning;
+
+pub use client::Client;
+pub use clients::Clients;
+pub use event::ClientEvent;
+pub use listener::Listener;
+pub use memory::{MemListener, MemReady, MemStream};
+pub use part::Part;
+pub use ready::{Interest, Ready, Token};
+pub use refusal::ClientsError;
+pub use sockets::{Socket, SocketListener, SocketReady};
+pub use stream::Stream;
+
+/// How many clients may be connected at once.
+pub const CLIENT_LIMIT: usize = 100;
+
+/// How many calls are made on a socket before the next turn of the loop.
+const CALL_LIMIT: u32 = 65_536;
+
+/// How many bytes are read at once, at most.
+const READ_SIZE: usize = 1_024;

@@ -1,0 +1,130 @@
+// Events that wait to be served.
+ghost use Rattle.std.specs.Prelude.{◌≡◌, ◌+◌, ◌-◌, ◌<◌, ◌≤◌, ◌∷◌, ◌++◌, [], length, IfSome, MatchOption, OnOk, OnErr};
+ghost use Rattle.mio_clients.specs.Events.{asked_by};
+
+use crate::event::ClientEvent;
+use client_session::Requests;
+use std::alloc::{AllocError, Global};
+use std::collections::VecDeque;
+use std::marker::Model;
+
+/// Events that wait, with room for the last one of each client that is connected.
+#[derive(Drop)]
+pub(crate) struct EventQueue {
+    events: VecDeque<ClientEvent>,
+    // How many clients are connected.
+    spare: usize,
+}
+
+impl Model for EventQueue {
+    ghost use Rattle.std.specs.Prelude.{◌+◌, ◌-◌, ◌≤◌};
+    ghost use Rattle.std.specs.VecDeque.{deque_len, deque_capacity};
+    ghost use Rattle.mio_clients.specs.Connections.{QueueState};
+
+    ghost Value = { QueueState };
+
+    ghost view = { λ q. record {
+      events = q.events.items;
+      spare = q.spare;
+      room = deque_capacity q.events - deque_len q.events;
+    } };
+
+    ghost invariant = { λ q. deque_len q.events + q.spare ≤ deque_capacity q.events };
+}
+
+impl EventQueue {
+    pub(crate) fn new(alloc: Global) -> Self
+        ensures events { result.events ≡ [] }
+        ensures spare { result.spare ≡ 0 }
+    {
+        EventQueue {
+            events: VecDeque::new(alloc),
+            spare: 0,
+        }
+    }
+
+    pub(crate) fn len(&self) -> usize
+        ensures { result ≡ length self.now.events }
+    {
+        self.events.len()
+    }
+
+    /// Lets go of all events, and counts no client any more.
+    pub(crate) fn clear(&mut self)
+        ensures events { self.new.events ≡ [] }
+        ensures spare { self.new.spare ≡ 0 }
+    {
+        self.events.clear();
+        self.spare = 0;
+    }
+
+    /// Makes room for one client more: its connect, and its last event.
+    pub(crate) fn reserve(&mut self) -> Result<(), AllocError>
+        ensures events { self.new.events ≡ self.old.events }
+        ensures spare { self.new.spare ≡ self.old.spare }
+        ensures room { OnOk result (self.old.spare + 2 ≤ self.new.room) }
+    {
+        self.events.reserve(self.spare + 2)
+    }
+
+    /// Adds the connect of a client.
+    pub(crate) fn connect(&mut self, client: u64)
+        requires { self.old.spare + 2 ≤ self.old.room }
+        ensures events { self.new.events ≡ self.old.events ++ ClientEvent.Connect client ∷ [] }
+        ensures spare { self.new.spare ≡ self.old.spare + 1 }
+    {
+        self.events.push_back_reserved(ClientEvent::Connect(client));
+        self.spare += 1;
+    }
+
+    /// Adds the last event of a client.
+    pub(crate) fn end(&mut self, client: u64)
+        requires { 0 < self.old.spare }
+        ensures events { self.new.events ≡ self.old.events ++ ClientEvent.Gone client ∷ [] }
+        ensures spare { self.new.spare + 1 ≡ self.old.spare }
+    {
+        self.spare -= 1;
+        self.events.push_back_reserved(ClientEvent::Gone(client));
+    }
+
+    /// Counts one client less.
+    pub(crate) fn release(&mut self)
+        requires { 0 < self.old.spare }
+        ensures events { self.new.events ≡ self.old.events }
+        ensures spare { self.new.spare + 1 ≡ self.old.spare }
+    {
+        self.spare -= 1;
+    }
+
+    /// Adds the requests of a client, all or none.
+    pub(crate) fn ask(&mut self, client: u64, requests: Requests) -> Result<(), AllocError>
+        ensures ok { OnOk result (self.new.events ≡ self.old.events ++ asked_by client requests) }
+        ensures err { OnErr result (self.new.events ≡ self.old.events) }
+        ensures spare { self.new.spare ≡ self.old.spare }
+    {
+        self.events.reserve(self.spare + requests.len())?;
+        for request in requests {
+            self.events
+                .push_back_reserved(ClientEvent::Request(client, request));
+        }
+        Ok(())
+    }
+
+    /// Takes the first event.
+    pub(crate) fn pop(&mut self) -> Option<ClientEvent>
+        ensures event { MatchOption result ((self.old.events ≡ []) × (self.new.events ≡ [])) (λ event. self.old.events ≡ event ∷ self.new.events) }
+        ensures spare { self.new.spare ≡ self.old.spare }
+        ensures room { IfSome result (λ _. self.new.spare + 1 ≤ self.new.room) }
+    {
+        self.events.pop_front()
+    }
+
+    /// Puts an event back at the front.
+    pub(crate) fn put_back(&mut self, event: ClientEvent)
+        requires { self.old.spare + 1 ≤ self.old.room }
+        ensures events { self.new.events ≡ event ∷ self.old.events }
+        ensures spare { self.new.spare ≡ self.old.spare }
+    {
+        self.events.push_front_reserved(event);
+    }
+}

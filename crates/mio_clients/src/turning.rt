@@ -1,0 +1,243 @@
+// One turn of the loop: what clients did is gathered and served, and what they are given is sent.
+ghost use Rattle.std.specs.Prelude.{◌≡◌, ◌+◌, ◌<◌, ◌≤◌, ℕ, [], zero, false, true, vec_len, vec_capacity, IfOk, IfErr};
+ghost use Rattle.slab.specs.Slab.{slab_len};
+ghost use Rattle.mio_clients.specs.Events.{asked_by_event};
+ghost use Rattle.mio_clients.specs.Waiting.{QuietBehind, StaysQuiet, TakesFirst};
+ghost use Rattle.mio_clients.specs.Later.{no_bytes, no_requests, AllGoOn, IsLater};
+ghost use Rattle.mio_clients.specs.Parts.{bytes_in, requests_in, served_count, refuses, RefusesLast, IsServedAll};
+ghost use Rattle.mio_clients.specs.Parts.{sent_by, sent_by_all, sent_by_served, asked_of, IsKeptOf, IsKeptAs, KeepsNoRequest, Serves};
+
+use crate::clients::Clients;
+use crate::event::ClientEvent;
+use crate::listener::Listener;
+use crate::part::Part;
+use crate::ready::Ready;
+use crate::refusal::ClientsError;
+use crate::stream::Stream;
+use daemon_core::{Event, Output};
+use disk_model::Disk;
+use stage_workers::{Outbox, Outputs, Pass, Served, SharedStage, StageError};
+use std::alloc::Global;
+use std::sync::Wait;
+use std::sync::ledger::Ledger;
+
+// What can be done about an event that was refused.
+#[derive(Drop)]
+enum Kept {
+    // It is gathered anew.
+    Event(ClientEvent),
+    // A request is lost, and its client with it.
+    Client(u64),
+}
+
+impl ClientEvent {
+    // The event as the stage takes it, and what is kept of it.
+    fn handed_over(self) -> (Event, Kept)
+        ensures asked { (c : ℕ) → asked_of c result.0 ≡ asked_by_event c self }
+        ensures kept { IsKeptOf self result.1 }
+    {
+        match self {
+            ClientEvent::Connect(client) => (
+                Event::Connect(client),
+                Kept::Event(ClientEvent::Connect(client)),
+            ),
+            ClientEvent::Request(client, request) => {
+                (Event::Request(client, request), Kept::Client(client))
+            }
+            ClientEvent::Gone(client) => {
+                (Event::Gone(client), Kept::Event(ClientEvent::Gone(client)))
+            }
+        }
+    }
+}
+
+impl<S: Stream, L: Listener<S>, P: Ready<S>> Clients<S, L, P> {
+    /// One turn of the loop. It waits for at most 100 ms until a client is ready, accepts and reads, serves what was gathered in order,
+    /// collects what the player and scans left, and sends to each client what it is given.
+    ///
+    /// A request that is refused by 43 or 49 closes its client. `Err` is 43: there was no memory for the first part, and nothing was done.
+    pub fn turn_of_loop<R: Wait, D: Disk, C: Ledger, Q: Ledger, T: Ledger>(
+        &mut self,
+        rt: &R,
+        alloc: Global,
+        stage: &SharedStage<D, C, Q, T>,
+        pass: Pass<C, Q, T>,
+    ) -> Result<(Vec<Part<D>>, Pass<C, Q, T>), (u8, Pass<C, Q, T>)>
+        // Of each client that is connected in the end: the bytes that it was given in the parts, and its requests that they carry.
+        ensures later { IfOk result (λ r. IsLater S.remaining S.contents (bytes_in r.0.items) (requests_in r.0.items) self.old self.new) }
+        ensures share { IfOk result (λ r. (r.1.kind ≡ pass.kind) × (r.1.share ≡ pass.share + served_count r.0.items)) }
+        ensures seen { IfOk result (λ r. pass.seen ≤ r.1.seen) }
+        ensures refused { IfOk result (λ r. RefusesLast r.0.items) }
+        // Where nothing is refused, no request stays gathered.
+        ensures all { IfOk result (λ r. IsServedAll r.0.items self.new.events) }
+        ensures err { IfErr result (λ e. (e.0 ≡ 43) × (e.1 ≡ pass) × (self.new ≡ self.old)) }
+    {
+        let mut parts = Vec::new(alloc);
+        if parts.reserve(1).is_err() {
+            return Err((ClientsError::NoMemory.number(), pass));
+        }
+        self.gather(alloc);
+        let pass = self.serve_all(rt, alloc, stage, pass, &mut parts);
+        self.send_all();
+        Ok((parts, pass))
+    }
+
+    // Serves what was gathered, and then collects.
+    fn serve_all<R: Wait, D: Disk, C: Ledger, Q: Ledger, T: Ledger>(
+        &mut self,
+        rt: &R,
+        alloc: Global,
+        stage: &SharedStage<D, C, Q, T>,
+        pass: Pass<C, Q, T>,
+        parts: &mut Vec<Part<D>>,
+    ) -> Pass<C, Q, T>
+        requires empty { parts.old.items ≡ [] }
+        requires room { vec_len parts.old < vec_capacity parts.old }
+        ensures later { AllGoOn S.remaining S.contents (bytes_in parts.new.items) (requests_in parts.new.items) self.old self.new }
+        ensures share { (result.kind ≡ pass.kind) × (result.share ≡ pass.share + served_count parts.new.items) }
+        ensures seen { pass.seen ≤ result.seen }
+        ensures refused { RefusesLast parts.new.items }
+        ensures quiet { refuses parts.new.items ≡ false → QuietBehind zero self.new.events }
+    {
+        let (goes_on, pass) = self.serve_each(rt, alloc, stage, pass, parts);
+        if goes_on {
+            let outbox = stage.collect(rt, alloc);
+            self.give_outbox(&outbox);
+            parts.push_reserved(Part::Collected(outbox));
+        }
+        pass
+    }
+
+    // Serves the events that were gathered, in order; `false` where the turn ends.
+    fn serve_each<R: Wait, D: Disk, C: Ledger, Q: Ledger, T: Ledger>(
+        &mut self,
+        rt: &R,
+        alloc: Global,
+        stage: &SharedStage<D, C, Q, T>,
+        pass: Pass<C, Q, T>,
+        parts: &mut Vec<Part<D>>,
+    ) -> (bool, Pass<C, Q, T>)
+        requires room { vec_len parts.old < vec_capacity parts.old }
+        ensures serves { Serves S.remaining S.contents result.0 self.old self.new parts.old.items parts.new.items pass result.1 }
+        ensures quiet { result.0 ≡ true → QuietBehind zero self.new.events }
+        ensures room { result.0 ≡ true → vec_len parts.new < vec_capacity parts.new }
+    {
+        let mut pass = pass;
+        let mut left = self.event_count();
+        while left > 0 {
+            let (goes_on, passed) = self.serve_next(rt, alloc, stage, pass, parts);
+            if !goes_on {
+                return (false, passed);
+            }
+            pass = passed;
+            left -= 1;
+        }
+        (true, pass)
+    }
+
+    // Serves the first event that was gathered; `false` where the turn ends.
+    fn serve_next<R: Wait, D: Disk, C: Ledger, Q: Ledger, T: Ledger>(
+        &mut self,
+        rt: &R,
+        alloc: Global,
+        stage: &SharedStage<D, C, Q, T>,
+        pass: Pass<C, Q, T>,
+        parts: &mut Vec<Part<D>>,
+    ) -> (bool, Pass<C, Q, T>)
+        requires room { vec_len parts.old < vec_capacity parts.old }
+        ensures serves { Serves S.remaining S.contents result.0 self.old self.new parts.old.items parts.new.items pass result.1 }
+        ensures quiet { result.0 ≡ true → TakesFirst self.old.events self.new.events }
+        ensures room { result.0 ≡ true → vec_len parts.new < vec_capacity parts.new }
+    {
+        if parts.reserve(2).is_err() {
+            parts.push_reserved(Part::Refused(ClientsError::NoMemory.number()));
+            return (false, pass);
+        }
+        let Some(event) = self.pop() else {
+            return (true, pass);
+        };
+        let (event, kept) = event.handed_over();
+        match stage.serve(rt, alloc, pass, event) {
+            Ok((served, pass)) => {
+                self.give_served(&served);
+                parts.push_reserved(Part::Served(served));
+                (true, pass)
+            }
+            Err((error, pass)) => {
+                if self.keep(error, kept) {
+                    return (true, pass);
+                }
+                parts.push_reserved(Part::Refused(error.number()));
+                (false, pass)
+            }
+        }
+    }
+
+    // Keeps what can be kept of an event that was refused; `true` where the turn goes on.
+    fn keep(&mut self, error: StageError, kept: Kept) -> bool
+        requires room { slab_len self.old.clients + 1 ≤ self.old.room }
+        requires no_request { KeepsNoRequest kept }
+        ensures kept { IsKeptAs S.remaining S.contents kept self.old self.new }
+        ensures quiet { result ≡ true → StaysQuiet self.old.events self.new.events }
+    {
+        match kept {
+            Kept::Event(event) => {
+                self.put_back(event);
+                false
+            }
+            Kept::Client(client) => {
+                self.drop_client(client);
+                matches!(error, StageError::NoMemory | StageError::NumbersSpent)
+            }
+        }
+    }
+
+    // Gives each output to its client.
+    fn give_outputs(&mut self, outputs: &[Output])
+        ensures later { AllGoOn S.remaining S.contents (sent_by outputs.now) no_requests self.old self.new }
+        ensures quiet { StaysQuiet self.old.events self.new.events }
+    {
+        let mut rest = outputs;
+        while let Some((output, after)) = rest.split_first() {
+            self.give(output.client, output.bytes.as_slice());
+            rest = after;
+        }
+    }
+
+    fn give_outbox(&mut self, outbox: &Outbox)
+        ensures later { AllGoOn S.remaining S.contents (sent_by_all outbox.now) no_requests self.old self.new }
+        ensures quiet { StaysQuiet self.old.events self.new.events }
+    {
+        self.give_each(outbox.as_slice());
+    }
+
+    fn give_each(&mut self, events: &[Outputs])
+        ensures later { AllGoOn S.remaining S.contents (sent_by_all events.now) no_requests self.old self.new }
+        ensures quiet { StaysQuiet self.old.events self.new.events }
+    {
+        let mut rest = events;
+        while let Some((outputs, after)) = rest.split_first() {
+            self.give_outputs(outputs.as_slice());
+            rest = after;
+        }
+    }
+
+    // Gives what an event came to, and closes the clients that it closed.
+    fn give_served<D: Disk>(&mut self, served: &Served<D>)
+        ensures later { AllGoOn S.remaining S.contents (sent_by_served served.now) no_requests self.old self.new }
+        ensures quiet { StaysQuiet self.old.events self.new.events }
+    {
+        self.give_outbox(&served.before);
+        self.give_outputs(served.turn.outputs());
+        self.release_each(served.turn.closes());
+    }
+
+    fn release_each(&mut self, clients: &[u64])
+        ensures later { AllGoOn S.remaining S.contents no_bytes no_requests self.old self.new }
+        ensures events { self.new.events ≡ self.old.events }
+    {
+        for client in clients {
+            self.release(*client);
+        }
+    }
+}
