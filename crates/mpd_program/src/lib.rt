@@ -5,6 +5,7 @@ pub mod arguments;
 pub mod config;
 pub mod console;
 pub mod exit;
+mod file_lock;
 mod music;
 pub mod tasks;
 

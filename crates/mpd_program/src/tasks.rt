@@ -6,11 +6,12 @@ use crate::arguments::Task;
 use crate::config::{Config, ConfigError};
 use crate::console::{ConsoleEnd, Status, run_console};
 use crate::exit::Exit;
+use crate::file_lock::FileLock;
 use crate::music::Music;
 use disk_model::{Disk, FileDisk, MemDisk};
 use live_stage::{Live, Refused, StartError};
 use std::fs::{self, File};
-use std::io;
+use std::io::{self, ErrorKind};
 use wave_pcm::{Folder, MemFolder};
 
 /// Does what the command line asks for, and says how the program ends.
@@ -48,11 +49,42 @@ fn read_config(rt: &HostRuntime, path: &str) -> Result<Config, Exit> {
     }
 }
 
-/// Opens a journal file, and makes it, empty, where it is missing.
-fn open_file(rt: &HostRuntime, path: &str) -> Result<FileDisk<File>, Exit> {
-    match FileDisk::open(rt, path) {
-        Ok(disk) => Ok(disk),
-        Err(error) => Err(Exit::Ended(Status::DiskFault).unless_memory(&error)),
+/// Both files of a journal, and the locks by which no other program has them open meanwhile.
+#[derive(Drop)]
+struct JournalFiles {
+    a: FileDisk<File>,
+    b: FileDisk<File>,
+    locks: (FileLock, FileLock),
+}
+
+/// Opens the files of a journal, each of which is made, empty, where it is missing.
+fn open_files(rt: &HostRuntime, a: &str, b: &str) -> Result<JournalFiles, Exit> {
+    let (a, a_lock) = open_file(rt, a)?;
+    let (b, b_lock) = open_file(rt, b)?;
+    Ok(JournalFiles {
+        a,
+        b,
+        locks: (a_lock, b_lock),
+    })
+}
+
+/// Opens and locks a journal file, and makes it, empty, where it is missing.
+fn open_file(rt: &HostRuntime, path: &str) -> Result<(FileDisk<File>, FileLock), Exit> {
+    let fault = Exit::Ended(Status::DiskFault);
+    let disk = match FileDisk::open(rt, path) {
+        Ok(disk) => disk,
+        Err(error) => return Err(fault.unless_memory(&error)),
+    };
+    match FileLock::take(rt, path) {
+        Ok(lock) => Ok((disk, lock)),
+        Err(error) => {
+            if error.kind() == ErrorKind::WouldBlock {
+                let _printed = eprintln!(rt;
+                    "{path}: in use already, by another program or as the journal's other file"
+                );
+            }
+            Err(fault.unless_memory(&error))
+        }
     }
 }
 
@@ -109,8 +141,11 @@ fn console(rt: &HostRuntime, config: Config) -> Result<(), Exit> {
         journal_b,
         ..
     } = config;
-    let a = open_file(rt, journal_a.as_str())?;
-    let b = open_file(rt, journal_b.as_str())?;
+    let JournalFiles {
+        a,
+        b,
+        locks: _locks,
+    } = open_files(rt, journal_a.as_str(), journal_b.as_str())?;
     let end = serve(rt, a, b, &mut Music::new(rt, music));
     tell_fault(rt, journal_a.as_str(), &end.a);
     tell_fault(rt, journal_b.as_str(), &end.b);
@@ -119,8 +154,11 @@ fn console(rt: &HostRuntime, config: Config) -> Result<(), Exit> {
 
 /// Makes the journal of the configuration, and says so.
 fn create(rt: &HostRuntime, config: &Config) -> Result<(), Exit> {
-    let a = open_file(rt, config.journal_a.as_str())?;
-    let b = open_file(rt, config.journal_b.as_str())?;
+    let JournalFiles {
+        a,
+        b,
+        locks: _locks,
+    } = open_files(rt, config.journal_a.as_str(), config.journal_b.as_str())?;
     match Live::create(rt.alloc(), a, b, config.key) {
         Ok(_) => {
             // The journal is made, whether or not somebody reads this.
