@@ -5,7 +5,7 @@ use mpd_program::run_command_line;
 use std::process::ExitCode;
 
 fn main(rt: HostRuntime) -> ExitCode {
-    let exit = run_command_line(&rt);
+    let exit = run_command_line(&rt, &rt);
     if !exit.is_silent() {
         let _printed = eprintln!(rt; "{exit}");
     }

@@ -1,5 +1,5 @@
 -- What a configuration says: a TOML table of texts.
-use Rattle.std.specs.Prelude.{ℕ, List, [], ◌∷◌, codes, Bool, true, false, ◌&&◌, ◌||◌, not, Option, Some, None, option_map, if◌then◌else◌}
+use Rattle.std.specs.Prelude.{ℕ, List, [], ◌∷◌, codes, Bool, true, false, ◌&&◌, ◌||◌, not, Option, Some, None, option_map, is_some, if◌then◌else◌}
 use Rattle.std.specs.Option.{option_and_then}
 use Rattle.std.specs.Result.{result_ok}
 use Rattle.std.specs.Str.{bytes_eq}
@@ -77,3 +77,31 @@ settings_of table = do
 -- what a text says, if it is a configuration
 abbrev pub configuration : List ℕ → Option Settings
 configuration text = option_and_then settings_of (parse_document text)
+
+-- what serve takes of a configuration
+pub record ServeSettings : Type 0 where
+  pub music : List ℕ
+  pub journal_a : List ℕ
+  pub journal_b : List ℕ
+  pub tcp : Option (List ℕ)
+  pub unix : Option (List ℕ)
+  pub output : List ℕ
+
+-- it says where to listen
+abbrev pub says_where_to_listen : Settings → Bool
+says_where_to_listen s = is_some s.tcp || is_some s.unix
+
+-- the sound would overwrite a file of the journal
+abbrev pub plays_into_journal : List ℕ → Settings → Bool
+plays_into_journal output s = bytes_eq output s.journal_a || bytes_eq output s.journal_b
+
+-- these settings with this output, if a daemon can serve by them
+abbrev pub settings_to_serve : Settings → List ℕ → Option ServeSettings
+settings_to_serve s output =
+    if says_where_to_listen s && not (plays_into_journal output s) then
+    Some (record { music = s.music; journal_a = s.journal_a; journal_b = s.journal_b; tcp = s.tcp; unix = s.unix; output = output })
+    else None
+
+-- what serve takes of the settings, if it can serve by them
+abbrev pub serve_settings : Settings → Option ServeSettings
+serve_settings s = option_and_then (settings_to_serve s) s.output

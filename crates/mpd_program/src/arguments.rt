@@ -14,6 +14,8 @@ pub enum Task {
     Console(String),
     /// `create CONFIG`: make the journal of the configuration.
     Create(String),
+    /// `serve CONFIG`: be the daemon of the configuration.
+    Serve(String),
 }
 
 impl Task {
@@ -25,6 +27,7 @@ impl Task {
             None if first == "console" => Some(Task::ConsoleInMemory),
             Some(path) if first == "console" => Some(Task::Console(path)),
             Some(path) if first == "create" => Some(Task::Create(path)),
+            Some(path) if first == "serve" => Some(Task::Serve(path)),
             _ => None,
         }
     }

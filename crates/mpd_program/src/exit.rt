@@ -3,6 +3,7 @@ ghost use Rattle.std.specs.Prelude.{◌≡◌, ◌↔◌, IsTrue};
 ghost use Rattle.mpd_program.specs.Exit.{exit_code, IsSilent};
 
 use crate::console::Status;
+use std::alloc::AllocError;
 use std::fmt;
 use std::io::{Error, ErrorKind};
 
@@ -13,6 +14,8 @@ pub enum Exit {
     BadArguments,
     /// The configuration can't be read, or is none.
     BadConfiguration,
+    /// A listening socket, the loop's readiness or a thread can't be had.
+    CannotListen,
     /// The task was begun, and ended so.
     Ended(Status),
 }
@@ -26,7 +29,7 @@ impl Exit {
         ensures { result ≡ exit_code self }
     {
         match self {
-            Exit::BadArguments | Exit::BadConfiguration => 1,
+            Exit::BadArguments | Exit::BadConfiguration | Exit::CannotListen => 1,
             Exit::Ended(status) => status.code(),
         }
     }
@@ -48,12 +51,25 @@ impl Exit {
     }
 }
 
+/// Memory was refused before the task was begun.
+impl From<AllocError> for Exit {
+    ghost use Rattle.std.specs.Prelude.{◌≡◌};
+    ghost use Rattle.mpd_program.specs.Exit.{no_memory};
+
+    ghost from_gives = { λ _ e. e ≡ no_memory };
+
+    fn from(_error: AllocError) -> Self {
+        Exit::NO_MEMORY
+    }
+}
+
 /// The line on standard error.
 impl fmt::Display for Exit {
     fn fmt<W: fmt::Write>(&self, f: &mut fmt::Formatter<W>) -> fmt::Result {
         match self {
             Exit::BadArguments => f.write_str("bad arguments"),
             Exit::BadConfiguration => f.write_str("bad configuration"),
+            Exit::CannotListen => f.write_str("cannot listen"),
             Exit::Ended(status) => status.fmt(f),
         }
     }

@@ -5,19 +5,29 @@ ghost use Rattle.mpd_program.specs.Lives.{refusal_of, status_of};
 use crate::arguments::Task;
 use crate::config::{Config, ConfigError};
 use crate::console::{ConsoleEnd, Status, run_console};
+use crate::daemon;
 use crate::exit::Exit;
 use crate::file_lock::FileLock;
 use crate::music::Music;
 use disk_model::{Disk, FileDisk, MemDisk};
 use live_stage::{Live, Refused, StartError};
+use log::Log;
 use std::fs::{self, File};
 use std::io::{self, ErrorKind};
+use std::sync::Wait;
+use std::thread::Threads;
+use std::time::Clock;
 use wave_pcm::{Folder, MemFolder};
 
 /// Does what the command line asks for, and says how the program ends.
-pub fn run_command_line(rt: &HostRuntime) -> Exit {
+///
+/// The daemon starts its threads by the second handle, the same runtime: what waits for others takes a handle of a type parameter.
+pub fn run_command_line<R: Threads + Wait + Clock + Log + Sync>(
+    rt: &HostRuntime,
+    threads: &R,
+) -> Exit {
     let done = match Task::from_args(rt) {
-        Ok(Some(task)) => run(rt, task),
+        Ok(Some(task)) => run(rt, threads, task),
         Ok(None) => Err(Exit::BadArguments),
         Err(error) => Err(Exit::BadArguments.unless_memory(&error)),
     };
@@ -28,11 +38,16 @@ pub fn run_command_line(rt: &HostRuntime) -> Exit {
 }
 
 /// Does what was asked.
-fn run(rt: &HostRuntime, task: Task) -> Result<(), Exit> {
+fn run<R: Threads + Wait + Clock + Log + Sync>(
+    rt: &HostRuntime,
+    threads: &R,
+    task: Task,
+) -> Result<(), Exit> {
     match task {
         Task::ConsoleInMemory => console_in_memory(rt),
         Task::Console(path) => console(rt, read_config(rt, path.as_str())?),
         Task::Create(path) => create(rt, &read_config(rt, path.as_str())?),
+        Task::Serve(path) => daemon::serve(rt, threads, read_config(rt, path.as_str())?),
     }
 }
 
@@ -51,14 +66,14 @@ fn read_config(rt: &HostRuntime, path: &str) -> Result<Config, Exit> {
 
 /// Both files of a journal, and the locks by which no other program has them open meanwhile.
 #[derive(Drop)]
-struct JournalFiles {
-    a: FileDisk<File>,
-    b: FileDisk<File>,
-    locks: (FileLock, FileLock),
+pub(crate) struct JournalFiles {
+    pub(crate) a: FileDisk<File>,
+    pub(crate) b: FileDisk<File>,
+    pub(crate) locks: (FileLock, FileLock),
 }
 
 /// Opens the files of a journal, each of which is made, empty, where it is missing.
-fn open_files(rt: &HostRuntime, a: &str, b: &str) -> Result<JournalFiles, Exit> {
+pub(crate) fn open_files(rt: &HostRuntime, a: &str, b: &str) -> Result<JournalFiles, Exit> {
     let (a, a_lock) = open_file(rt, a)?;
     let (b, b_lock) = open_file(rt, b)?;
     Ok(JournalFiles {
@@ -113,7 +128,7 @@ fn exit_of(status: Status) -> Result<(), Exit> {
 }
 
 /// Says on standard error which journal file the system failed, how, and what can be done.
-fn tell_fault(rt: &HostRuntime, path: &str, disk: &FileDisk<File>) {
+pub(crate) fn tell_fault(rt: &HostRuntime, path: &str, disk: &FileDisk<File>) {
     if let Some(error) = disk.error() {
         let _printed = eprintln!(rt;
             "{path}: {error}: what was answered is kept; free space or check the device, then start again"

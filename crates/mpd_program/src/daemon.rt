@@ -1,0 +1,234 @@
+//! The daemon over the files, the sockets and the output of its configuration.
+ghost use Rattle.std.specs.Prelude.{◌≡◌};
+ghost use Rattle.mpd_program.specs.Daemon.{exit_of_daemon};
+
+use crate::config::Config;
+use crate::console::Status;
+use crate::exit::Exit;
+use crate::listening::{listen_on_address, listen_on_path};
+use crate::music::Music;
+use crate::output::Output;
+use crate::serve_config::ServeConfig;
+use crate::stop_flag::StopFlag;
+use crate::stopping_folder::StoppingFolder;
+use crate::tasks::{JournalFiles, open_files, tell_fault};
+use crate::told_listener::ToldListener;
+use disk_model::FileDisk;
+use log::Log;
+use mio::Waker;
+use mio::net::{TcpListener, UnixListener};
+use mio_clients::{Clients, Socket, SocketListener, SocketReady};
+use mpd_server::{ServeEnd, ServeStatus, Stop, Workers, open_journal};
+use stage_workers::Wake;
+use std::alloc::AllocError;
+use std::fs::File;
+use std::io;
+use std::net::SocketAddr;
+use std::sync::Wait;
+use std::thread::Threads;
+use std::time::Clock;
+
+/// Ends a wait of the loop.
+#[derive(Drop)]
+struct LoopWaker {
+    waker: Waker,
+}
+
+impl Wake for LoopWaker {
+    fn wake(&self) {
+        // Unwoken, the loop looks within 100 milliseconds.
+        let _woken = self.waker.wake();
+    }
+}
+
+impl Stop for StopFlag {
+    fn stop(&self) {
+        self.set(true);
+    }
+
+    fn resume(&self) {
+        self.set(false);
+    }
+}
+
+/// The address to listen on; a text of another form makes the configuration a bad one.
+fn address_of(tcp: &Option<String>) -> Result<Option<SocketAddr>, Exit> {
+    match tcp {
+        None => Ok(None),
+        Some(text) => match text.as_str().parse::<SocketAddr>() {
+            Ok(address) => Ok(Some(address)),
+            Err(_) => Err(Exit::BadConfiguration),
+        },
+    }
+}
+
+/// Says on standard error what can't be listened on.
+fn cannot_listen(rt: &HostRuntime, at: &str, error: io::Error) -> Exit {
+    let _printed = eprintln!(rt; "{at}: {error}");
+    Exit::CannotListen.unless_memory(&error)
+}
+
+/// Listens on the address and at the path.
+fn sockets(
+    rt: &HostRuntime,
+    config: &ServeConfig,
+    address: Option<SocketAddr>,
+) -> Result<(Option<TcpListener>, Option<UnixListener>), Exit> {
+    let mut tcp = None;
+    if let (Some(address), Some(text)) = (address, &config.tcp) {
+        match listen_on_address(rt, address) {
+            Ok(listener) => tcp = Some(listener),
+            Err(error) => return Err(cannot_listen(rt, text.as_str(), error)),
+        }
+    }
+    let mut unix = None;
+    if let Some(path) = &config.unix {
+        match listen_on_path(rt, path.as_str()) {
+            Ok(listener) => unix = Some(listener),
+            Err(error) => return Err(cannot_listen(rt, path.as_str(), error)),
+        }
+    }
+    Ok((tcp, unix))
+}
+
+/// What tells of clients on these sockets, and what ends its waits.
+fn readiness(
+    rt: &HostRuntime,
+    sockets: &mut SocketListener,
+) -> io::Result<(SocketReady, LoopWaker)> {
+    let ready = SocketReady::new(rt, rt.alloc(), sockets)?;
+    let waker = ready.waker()?;
+    Ok((ready, LoopWaker { waker }))
+}
+
+/// Listens, with no client yet.
+fn listen<'a>(
+    rt: &'a HostRuntime,
+    config: &ServeConfig,
+    address: Option<SocketAddr>,
+) -> Result<(DaemonClients<'a>, LoopWaker), Exit> {
+    let (tcp, unix) = sockets(rt, config, address)?;
+    let mut listener = SocketListener::new(tcp, unix);
+    match readiness(rt, &mut listener) {
+        Ok((ready, wake)) => {
+            let clients = Clients::new(rt.alloc(), ToldListener::new(rt, listener), ready)?;
+            Ok((clients, wake))
+        }
+        Err(error) => Err(cannot_listen(rt, "epoll", error)),
+    }
+}
+
+/// Opens the output.
+fn open_output<'a>(rt: &'a HostRuntime, path: &str, stop: &StopFlag) -> Result<Output<'a>, Exit> {
+    match Output::open(rt, path, stop.again()?) {
+        Ok(output) => Ok(output),
+        Err(error) => {
+            let _printed = eprintln!(rt; "{path}: {error}");
+            Err(Exit::BadConfiguration.unless_memory(&error))
+        }
+    }
+}
+
+/// How the program ends after the daemon.
+fn exit_of(status: ServeStatus) -> Result<(), Exit>
+    ensures { result ≡ exit_of_daemon status }
+{
+    match status {
+        ServeStatus::Killed => Ok(()),
+        ServeStatus::NoThread => Err(Exit::CannotListen),
+        ServeStatus::JournalRefused(number) => Err(Exit::Ended(Status::JournalRefused(number))),
+        ServeStatus::DiskFault => Err(Exit::Ended(Status::DiskFault)),
+    }
+}
+
+/// What the daemon ended with; which journal file the system failed, how, and what can be done, goes to standard error.
+fn ended(
+    rt: &HostRuntime,
+    config: &ServeConfig,
+    end: ServeEnd<FileDisk<File>>,
+) -> Result<(), Exit> {
+    tell_fault(rt, config.journal_a.as_str(), &end.a);
+    tell_fault(rt, config.journal_b.as_str(), &end.b);
+    exit_of(end.status)
+}
+
+/// The songs at this path, until the flag is set.
+fn songs<'a>(
+    rt: &'a HostRuntime,
+    root: &str,
+    stop: &StopFlag,
+) -> Result<StoppingFolder<Music<'a>>, AllocError> {
+    let root = String::from_str(rt.alloc(), root)?;
+    Ok(StoppingFolder::new(Music::new(rt, root), stop.again()?))
+}
+
+/// What the daemon's threads work on.
+type DaemonWorkers<'a> = Workers<
+    StoppingFolder<Music<'a>>,
+    StoppingFolder<Music<'a>>,
+    Output<'a>,
+    StopFlag,
+    LoopWaker,
+>;
+
+/// The clients of a daemon that listens.
+type DaemonClients<'a> = Clients<Socket, ToldListener<'a>, SocketReady>;
+
+/// Listens, and only then empties the output.
+fn begin<'a>(
+    rt: &'a HostRuntime,
+    config: &ServeConfig,
+    address: Option<SocketAddr>,
+    output: Output<'a>,
+    stop: StopFlag,
+) -> Result<(DaemonClients<'a>, DaemonWorkers<'a>), Exit> {
+    let (clients, wake) = listen(rt, config, address)?;
+    let _cleared = output.clear();
+    let workers = Workers {
+        sources: songs(rt, config.music.as_str(), &stop)?,
+        folder: songs(rt, config.music.as_str(), &stop)?,
+        output,
+        stop,
+        wake,
+    };
+    Ok((clients, workers))
+}
+
+/// Serves clients over the journal's files, which are locked meanwhile.
+fn serve_over<R: Threads + Wait + Clock + Log + Sync>(
+    rt: &HostRuntime,
+    threads: &R,
+    config: &ServeConfig,
+    address: Option<SocketAddr>,
+    output: Output<'_>,
+    stop: StopFlag,
+) -> Result<(), Exit> {
+    let JournalFiles {
+        a,
+        b,
+        locks: _locks,
+    } = open_files(rt, config.journal_a.as_str(), config.journal_b.as_str())?;
+    let opened = match open_journal(rt.alloc(), a, b) {
+        Ok(opened) => opened,
+        Err(end) => return ended(rt, config, end),
+    };
+    let (mut clients, workers) = begin(rt, config, address, output, stop)?;
+    let end = mpd_server::serve(threads, rt.alloc(), opened, &mut clients, workers);
+    ended(rt, config, end)
+}
+
+/// Serves clients until one of them asks for the daemon's end, or a fault ends it. Faults are found in the order configuration, journal
+/// files, journal, listeners, threads.
+pub fn serve<R: Threads + Wait + Clock + Log + Sync>(
+    rt: &HostRuntime,
+    threads: &R,
+    config: Config,
+) -> Result<(), Exit> {
+    let Some(config) = ServeConfig::of(config) else {
+        return Err(Exit::BadConfiguration);
+    };
+    let address = address_of(&config.tcp)?;
+    let stop = StopFlag::new(rt.alloc())?;
+    let output = open_output(rt, config.output.as_str(), &stop)?;
+    serve_over(rt, threads, &config, address, output, stop)
+}

@@ -1,0 +1,136 @@
+// Where the sound goes.
+use crate::stop_flag::StopFlag;
+use mio::unix::SourceFd;
+use mio::{Events, Interest, Poll, Token};
+use std::fs::{File, OpenOptions};
+use std::io::{self, ErrorKind, Printer, Write};
+use std::os::fd::{AsRawFd, RawFd};
+use std::time::Duration;
+
+/// The descriptor of standard output.
+const STANDARD_OUTPUT: RawFd = 1;
+
+/// How many bytes go into one write: a pipe that is reported ready takes so many without blocking (pipe(7)).
+const MAX_WRITE: usize = 4_096;
+
+/// How many milliseconds a wait for a ready output lasts at most; the flag is looked at between two.
+const MAX_WAIT: u64 = 50;
+
+/// Where the sound goes: a file, a named pipe, a device or standard output.
+///
+/// A write waits until the output takes bytes, but at most 50 milliseconds after the flag was set, and fails then. A regular file
+/// takes any number of bytes at once.
+#[derive(Drop)]
+pub struct Output<'a> {
+    target: Target<'a>,
+    // None where the system has nothing to wait for, as for a regular file.
+    readiness: Option<Readiness>,
+    stop: StopFlag,
+}
+
+// What is written to.
+#[derive(Drop)]
+enum Target<'a> {
+    Standard(Printer<'a, HostRuntime>),
+    File(File),
+}
+
+// Whether a descriptor takes bytes.
+#[derive(Drop)]
+struct Readiness {
+    fd: RawFd,
+    poll: Poll,
+    events: Events,
+}
+
+impl<'a> Output<'a> {
+    /// Opens the output at this path, or standard output at `-`. A file is made where there is none, and keeps its bytes until
+    /// `clear`. A named pipe is opened for reading too, so that it needs no reader yet.
+    pub fn open(rt: &'a HostRuntime, path: &str, stop: StopFlag) -> io::Result<Output<'a>> {
+        let (target, fd) = if path == "-" {
+            (Target::Standard(io::writer(rt)), STANDARD_OUTPUT)
+        } else {
+            let file = OpenOptions::new()
+                .read(true)
+                .write(true)
+                .create(true)
+                .open(rt, path)?;
+            let fd = file.as_raw_fd();
+            (Target::File(file), fd)
+        };
+        Ok(Output {
+            target,
+            readiness: Readiness::of(rt, fd)?,
+            stop,
+        })
+    }
+
+    /// Drops what a regular file held. What is no such file is left as it is.
+    pub fn clear(&self) -> io::Result<()> {
+        match &self.target {
+            Target::File(file) if file.metadata()?.is_file() => file.set_len(0),
+            _ => Ok(()),
+        }
+    }
+
+    // Waits until the output takes bytes.
+    fn wait(&mut self) -> io::Result<()> {
+        for _ in 0..u64::MAX {
+            if self.stop.is_set() {
+                break;
+            }
+            let Some(readiness) = &mut self.readiness else {
+                return Ok(());
+            };
+            if readiness.wait()? {
+                return Ok(());
+            }
+        }
+        Err(ErrorKind::Other.into())
+    }
+}
+
+impl Readiness {
+    // The readiness of a descriptor; none where the system refuses to watch it, as it does a regular file.
+    fn of(rt: &HostRuntime, fd: RawFd) -> io::Result<Option<Readiness>> {
+        let poll = Poll::new(rt)?;
+        match poll
+            .registry()
+            .register(&mut SourceFd(&fd), Token(0), Interest::WRITABLE)
+        {
+            Ok(()) => {}
+            Err(error) if error.kind() == ErrorKind::PermissionDenied => return Ok(None),
+            Err(error) => return Err(error),
+        }
+        Ok(Some(Readiness {
+            fd,
+            poll,
+            events: Events::with_capacity(rt.alloc(), 1)?,
+        }))
+    }
+
+    // Waits until the descriptor takes bytes or can take none any more, and says whether it does; `false` where the time is up.
+    fn wait(&mut self) -> io::Result<bool> {
+        self.poll
+            .registry()
+            .reregister(&mut SourceFd(&self.fd), Token(0), Interest::WRITABLE)?;
+        self.poll
+            .poll(&mut self.events, Some(Duration::from_millis(MAX_WAIT)))?;
+        Ok(!self.events.is_empty())
+    }
+}
+
+impl Write for Output<'_> {
+    fn write(&mut self, bytes: &[u8]) -> io::Result<usize> {
+        self.wait()?;
+        let piece = &bytes[..bytes.len().min(MAX_WRITE)];
+        match &mut self.target {
+            Target::Standard(printer) => printer.write(piece),
+            Target::File(file) => file.write(piece),
+        }
+    }
+
+    fn flush(&mut self) -> io::Result<()> {
+        Ok(())
+    }
+}

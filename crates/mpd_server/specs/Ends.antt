@@ -1,0 +1,32 @@
+-- How a daemon's lives end.
+use Rattle.std.specs.Prelude.{◌≡◌, ◌⊎◌, Bool, true, false}
+use Rattle.live_stage.specs.declared.refusal.StartError.{StartError}
+use Rattle.live_stage.specs.declared.refusal.StartError.TheVariants.{NotEmpty, NoJournal, Damaged, NoMemory, Broken}
+use Rattle.live_stage.specs.Errors.{start_number_of}
+use Rattle.mpd_server.specs.declared.ending.ServeStatus.{ServeStatus}
+use Rattle.mpd_server.specs.declared.ending.ServeStatus.TheVariants.{JournalRefused, DiskFault}
+use Rattle.mpd_server.specs.declared.ending.LifeEnding.{LifeEnding}
+use Rattle.mpd_server.specs.declared.ending.LifeEnding.TheVariants.{Faulted, Ended}
+
+-- how a life ends in which the journal was refused
+abbrev pub refusal_of : StartError → LifeEnding
+refusal_of Broken = Faulted
+refusal_of NotEmpty = Ended (JournalRefused (start_number_of NotEmpty))
+refusal_of NoJournal = Ended (JournalRefused (start_number_of NoJournal))
+refusal_of (Damaged offset) = Ended (JournalRefused (start_number_of (Damaged offset)))
+refusal_of NoMemory = Ended (JournalRefused (start_number_of NoMemory))
+
+-- how a life ends whose stage came back, and that would else have ended so
+abbrev pub ending_of : Bool → ServeStatus → LifeEnding
+ending_of true status = Faulted
+ending_of false status = Ended status
+
+-- how a daemon ends whose last life ended so
+abbrev pub status_of : LifeEnding → ServeStatus
+status_of Faulted = DiskFault
+status_of (Ended status) = status
+
+-- what a journal that is not opened ends the daemon with
+abbrev pub IsRefusalOfStart : ServeStatus → Type 0
+IsRefusalOfStart status =
+    (status ≡ JournalRefused 4) ⊎ (status ≡ JournalRefused 5) ⊎ (status ≡ JournalRefused 7) ⊎ (status ≡ DiskFault)

@@ -1,0 +1,88 @@
+// How a daemon ends.
+ghost use Rattle.std.specs.Prelude.{◌≡◌};
+ghost use Rattle.mpd_server.specs.Ends.{ending_of, refusal_of, status_of};
+
+use disk_model::Disk;
+use live_stage::{Live, Refused, StartError};
+
+/// How a daemon ended.
+#[derive(Clone, Copy, Debug, PartialEq, Eq)]
+pub enum ServeStatus {
+    /// A client asked for its end.
+    Killed,
+    /// The journal was refused, with the number of the refusal: 4, 5 or 7.
+    JournalRefused(u8),
+    /// A thread could not be made.
+    NoThread,
+    /// A second disk fault, or a first one where no further life can be had.
+    DiskFault,
+}
+
+/// What a daemon came to, and both disks.
+#[derive(Debug, Drop)]
+pub struct ServeEnd<D> {
+    pub status: ServeStatus,
+    /// The disk of file a.
+    pub a: D,
+    /// The disk of file b.
+    pub b: D,
+}
+
+/// What came of the time from one opening of the journal on.
+#[derive(Clone, Copy, Debug, PartialEq, Eq)]
+pub(crate) enum LifeEnding {
+    /// A disk fault ended it.
+    Faulted,
+    /// It ended the daemon.
+    Ended(ServeStatus),
+}
+
+/// The end of a life, and both disks.
+#[derive(Drop)]
+pub(crate) struct Life<D> {
+    pub(crate) ending: LifeEnding,
+    pub(crate) a: D,
+    pub(crate) b: D,
+}
+
+impl<D: Disk> Life<D> {
+    /// A life in which the journal was not opened.
+    pub(crate) fn refused(refused: Refused<D>) -> Life<D>
+        ensures ending { result.ending ≡ refusal_of refused.error }
+        ensures a { result.a ≡ refused.a }
+        ensures b { result.b ≡ refused.b }
+    {
+        let Refused { error, a, b } = refused;
+        let ending = match error {
+            StartError::Broken => LifeEnding::Faulted,
+            other => LifeEnding::Ended(ServeStatus::JournalRefused(other.number())),
+        };
+        Life { ending, a, b }
+    }
+
+    /// The end of a stage: of the daemon with this status, unless a disk failed.
+    pub(crate) fn ended(live: Live<D>, status: ServeStatus) -> Life<D>
+        ensures ending { result.ending ≡ ending_of live.is_broken status }
+        ensures disks { (result.a ≡ live.a) × (result.b ≡ live.b) }
+    {
+        let ending = if live.is_broken() {
+            LifeEnding::Faulted
+        } else {
+            LifeEnding::Ended(status)
+        };
+        let (a, b) = live.into_disks();
+        Life { ending, a, b }
+    }
+
+    /// The daemon's end, where this was its last life.
+    pub(crate) fn last(self) -> ServeEnd<D>
+        ensures { result ≡ record { status = status_of self.ending; a = self.a; b = self.b } }
+    {
+        let Life { ending, a, b } = self;
+        let status = match ending {
+            LifeEnding::Faulted => ServeStatus::DiskFault,
+            LifeEnding::Ended(status) => status,
+        };
+        ServeEnd { status, a, b }
+    }
+}

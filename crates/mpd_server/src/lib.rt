@@ -1,0 +1,15 @@
+//! The daemon over disks, folders, an output and connections of any kind: its threads, its loop, and the life after a disk fault.
+#![tactic(auto)]
+
+mod ending;
+mod jobs;
+mod life;
+mod looping;
+mod opening;
+mod server;
+mod workers;
+
+pub use ending::{ServeEnd, ServeStatus};
+pub use opening::{Opened, open_journal};
+pub use server::serve;
+pub use workers::{NothingWaits, Stop, Workers};

@@ -1,0 +1,388 @@
+// A life of the daemon: the time from one opening of the journal to the end of its threads.
+ghost use Rattle.std.specs.Prelude.{◌≡◌, ◌≤◌, vec_len, vec_capacity};
+ghost use Rattle.std.specs.Thread.{IsSend, IsSync};
+
+use crate::ending::{Life, ServeStatus};
+use crate::jobs::Jobs;
+use crate::looping::{Turns, run_loop};
+use crate::workers::{Signals, Stop, Tools};
+use crossbeam_channel::Receiver;
+use disk_model::Disk;
+use live_stage::{Live, Receipt};
+use log::{Log, warn};
+use mio_clients::{Clients, Listener, Ready, Stream};
+use song_db::ScanOrder;
+use song_output::OpenGate;
+use stage_workers::{
+    Blanks, Kind, Pass, PassesSpent, SharedStage, Wake, Worker, player_worker, scan_worker,
+};
+use std::alloc::Global;
+use std::io::Write;
+use std::marker::Brand;
+use std::sync::Wait;
+use std::sync::ledger::{Blank, Ledger};
+use std::thread;
+use std::thread::{JoinHandle, Scope, Threads};
+use std::time::Clock;
+use wave_pcm::Folder;
+
+// A pass of each kind.
+#[derive(Drop)]
+struct Passes<C: Ledger, P: Ledger, S: Ledger> {
+    clients: Pass<C, P, S>,
+    player: Pass<C, P, S>,
+    scan: Pass<C, P, S>,
+}
+
+impl<C: Ledger, P: Ledger, S: Ledger> Passes<C, P, S> {
+    fn of<D: Disk, R: Wait>(
+        rt: &R,
+        stage: &SharedStage<D, C, P, S>,
+    ) -> Result<Passes<C, P, S>, PassesSpent> {
+        Ok(Passes {
+            clients: stage.pass(rt, Kind::Clients)?,
+            player: stage.pass(rt, Kind::Player)?,
+            scan: stage.pass(rt, Kind::Scan)?,
+        })
+    }
+}
+
+// What came of the threads: the turns of the loop, and the passes that came back, with what the threads had.
+#[derive(Drop)]
+struct Worked<C: Ledger, P: Ledger, S: Ledger, F, G, W> {
+    turns: Turns,
+    clients: Pass<C, P, S>,
+    player: Option<(Pass<C, P, S>, F, W)>,
+    scan: Option<(Pass<C, P, S>, G)>,
+}
+
+// What both threads handed back, and the receipt that was given out last.
+type Returned<F, G, W> = (Option<Tools<F, G, W>>, Option<Receipt>);
+
+impl<C: Ledger, P: Ledger, S: Ledger, F: Drop, G: Drop, W: Drop> Worked<C, P, S, F, G, W> {
+    // All passes that came back, into an empty list with room for three. There are no tools where one of the threads was not made.
+    fn into_passes(self, passes: &mut Vec<Pass<C, P, S>>) -> Returned<F, G, W>
+        requires empty { vec_len passes.old ≡ 0 }
+        requires room { 3 ≤ vec_capacity passes.old }
+    {
+        let Worked {
+            turns,
+            clients,
+            player,
+            scan,
+        } = self;
+        passes.push_reserved(clients);
+        let mut played = None;
+        if let Some((pass, sources, output)) = player {
+            passes.push_reserved(pass);
+            played = Some((sources, output));
+        }
+        let mut read = None;
+        if let Some((pass, folder)) = scan {
+            passes.push_reserved(pass);
+            read = Some(folder);
+        }
+        let tools = match (played, read) {
+            (Some((sources, output)), Some(folder)) => Some(Tools {
+                sources,
+                folder,
+                output,
+            }),
+            _ => None,
+        };
+        (tools, turns.receipt)
+    }
+}
+
+// The player's thread. It hands back what it was given.
+fn play<D: Disk, C: Ledger, P: Ledger, S: Ledger, F: Folder, W: Write, K: Wake, R: Wait + Clock>(
+    rt: &R,
+    alloc: Global,
+    stage: &SharedStage<D, C, P, S>,
+    wake: &K,
+    pass: Pass<C, P, S>,
+    mut sources: F,
+    mut output: W,
+) -> (Pass<C, P, S>, F, W) {
+    let worker = Worker {
+        rt,
+        alloc,
+        stage,
+        wake,
+    };
+    let pass = player_worker(&worker, pass, &OpenGate, &mut sources, &mut output);
+    (pass, sources, output)
+}
+
+// The scan's thread. It hands back what it was given.
+fn read<D: Disk, C: Ledger, P: Ledger, S: Ledger, F: Folder, K: Wake, R: Wait + Clock>(
+    rt: &R,
+    alloc: Global,
+    stage: &SharedStage<D, C, P, S>,
+    wake: &K,
+    pass: Pass<C, P, S>,
+    mut folder: F,
+    orders: Receiver<ScanOrder>,
+) -> (Pass<C, P, S>, F) {
+    let worker = Worker {
+        rt,
+        alloc,
+        stage,
+        wake,
+    };
+    let pass = scan_worker(&worker, pass, &mut folder, &orders);
+    (pass, folder)
+}
+
+// What the player's thread hands back.
+type Played<C, P, S, F, W> = (Pass<C, P, S>, F, W);
+
+// Starts the player's thread; none where it can't be made. (Its closure is of few types here, which the prover goes through.)
+fn start_player<
+    's,
+    E: 's,
+    D: Disk + Send + 's,
+    C: Ledger + Send + Sync + 's,
+    P: Ledger + Send + Sync + 's,
+    S: Ledger + Send + Sync + 's,
+    F: Folder + Send + Drop + 's,
+    W: Write + Send + Drop + 's,
+    K: Wake + Sync + 's,
+    R: Wait + Clock + Sync + 's,
+>(
+    scope: &Scope<'s, E>,
+    rt: &'s R,
+    alloc: Global,
+    stage: &'s SharedStage<D, C, P, S>,
+    wake: &'s K,
+    pass: Pass<C, P, S>,
+    sources: F,
+    output: W,
+) -> Option<JoinHandle<Played<C, P, S, F, W>>>
+where
+    F::File: Send,
+{
+    let thread = move || play(rt, alloc, stage, wake, pass, sources, output);
+    scope.spawn(thread).ok()
+}
+
+// Starts the scan's thread; none where it can't be made.
+fn start_scan<
+    's,
+    E: 's,
+    D: Disk + Send + 's,
+    C: Ledger + Send + Sync + 's,
+    P: Ledger + Send + Sync + 's,
+    S: Ledger + Send + Sync + 's,
+    F: Folder + Send + Drop + 's,
+    K: Wake + Sync + 's,
+    R: Wait + Clock + Sync + 's,
+>(
+    scope: &Scope<'s, E>,
+    rt: &'s R,
+    alloc: Global,
+    stage: &'s SharedStage<D, C, P, S>,
+    wake: &'s K,
+    pass: Pass<C, P, S>,
+    folder: F,
+    orders: Receiver<ScanOrder>,
+) -> Option<JoinHandle<(Pass<C, P, S>, F)>>
+where
+    F::File: Send,
+{
+    let thread = move || read(rt, alloc, stage, wake, pass, folder, orders);
+    scope.spawn(thread).ok()
+}
+
+// Runs the loop in this thread, and the player and the scan in threads of their own, until the loop ends.
+fn work<
+    'a,
+    D: Disk + Send,
+    C: Ledger + Send + Sync,
+    P: Ledger + Send + Sync,
+    S: Ledger + Send + Sync,
+    T: Stream,
+    L: Listener<T>,
+    Y: Ready<T>,
+    F: Folder + Send + Drop,
+    G: Folder + Send + Drop,
+    W: Write + Send + Drop,
+    H: Stop,
+    K: Wake + Sync,
+    R: Threads + Wait + Clock + Log + Sync,
+>(
+    rt: &'a R,
+    alloc: Global,
+    stage: &'a SharedStage<D, C, P, S>,
+    passes: Passes<C, P, S>,
+    clients: &'a mut Clients<T, L, Y>,
+    (tools, signals): (Tools<F, G, W>, &'a Signals<H, K>),
+    (jobs, orders): (Jobs, Receiver<ScanOrder>),
+) -> Worked<C, P, S, F, G, W>
+where
+    F::File: Send,
+    G::File: Send,
+{
+    let Tools {
+        sources,
+        folder,
+        output,
+    } = tools;
+    let wake = &signals.wake;
+    let stop = &signals.stop;
+    thread::scope(
+        thread::scope_env(),
+        rt,
+        move |scope|
+            requires disk { IsSend D.row }
+            requires clients { IsSend C.row × IsSync C.row }
+            requires player { IsSend P.row × IsSync P.row }
+            requires scan { IsSend S.row × IsSync S.row }
+            requires sources { IsSend F.row × IsSend F.File.row }
+            requires folder { IsSend G.row × IsSend G.File.row }
+            requires output { IsSend W.row }
+            requires rest { IsSync K.row × IsSync R.row }
+        {
+            let Passes {
+                clients: mine,
+                player,
+                scan,
+            } = passes;
+            let player = start_player(scope, rt, alloc, stage, wake, player, sources, output);
+            let scan = start_scan(scope, rt, alloc, stage, wake, scan, folder, orders);
+            let (turns, mine) = if player.is_some() && scan.is_some() {
+                run_loop(rt, alloc, stage, mine, clients, jobs)
+            } else {
+                (Turns::none(), mine)
+            };
+            stage.close(rt);
+            stop.stop();
+            Worked {
+                turns,
+                clients: mine,
+                player: player.map(|thread| thread.join(rt)),
+                scan: scan.map(|thread| thread.join(rt)),
+            }
+        },
+    )
+}
+
+// Shares the stage until the loop ends, and settles it. What the threads had comes back with it, where both were made.
+fn live_shared<
+    D: Disk + Send,
+    C: Ledger + Send + Sync,
+    P: Ledger + Send + Sync,
+    S: Ledger + Send + Sync,
+    T: Stream,
+    L: Listener<T>,
+    Y: Ready<T>,
+    F: Folder + Send + Drop,
+    G: Folder + Send + Drop,
+    W: Write + Send + Drop,
+    H: Stop,
+    K: Wake + Sync,
+    R: Threads + Wait + Clock + Log + Sync,
+>(
+    rt: &R,
+    alloc: Global,
+    live: Live<D>,
+    blanks: Blanks,
+    clients: &mut Clients<T, L, Y>,
+    tools: Tools<F, G, W>,
+    signals: &Signals<H, K>,
+) -> (Life<D>, Option<Tools<F, G, W>>)
+where
+    F::File: Send,
+    G::File: Send,
+    requires first { live.numbers.event ≡ 0 }
+    requires clients { (blanks.clients.name ≡ C.name) × (blanks.clients.parts ≡ C.parts) × (blanks.clients.parts ≡ 65537) }
+    requires player { (blanks.player.name ≡ P.name) × (blanks.player.parts ≡ P.parts) × (blanks.player.parts ≡ 65537) }
+    requires scan { (blanks.scan.name ≡ S.name) × (blanks.scan.parts ≡ S.parts) × (blanks.scan.parts ≡ 65537) }
+{
+    let mut returned = match Vec::with_capacity(alloc, 3) {
+        Ok(returned) => returned,
+        Err(_) => {
+            let life = Life::ended(live, ServeStatus::JournalRefused(7));
+            return (life, Some(tools));
+        }
+    };
+    let (sender, orders) = match crossbeam_channel::bounded(alloc, 1) {
+        Ok(ends) => ends,
+        Err(_) => {
+            let life = Life::ended(live, ServeStatus::JournalRefused(7));
+            return (life, Some(tools));
+        }
+    };
+    let stage = SharedStage::<D, C, P, S>::new(alloc, live, blanks);
+    let mut status = ServeStatus::NoThread;
+    let mut back = (None, None);
+    if let Ok(passes) = Passes::of(rt, &stage) {
+        let ends = (Jobs::new(sender), orders);
+        let worked = work(rt, alloc, &stage, passes, clients, (tools, signals), ends);
+        back = worked.into_passes(&mut returned);
+        if back.0.is_some() {
+            status = ServeStatus::Killed;
+        }
+    }
+    let (tools, receipt) = back;
+    let live = settled(rt, stage, returned, receipt);
+    (Life::ended(live, status), tools)
+}
+
+// Takes the stage back; what doesn't add up is told.
+fn settled<D: Disk, C: Ledger, P: Ledger, S: Ledger, R: Log>(
+    rt: &R,
+    stage: SharedStage<D, C, P, S>,
+    passes: Vec<Pass<C, P, S>>,
+    receipt: Option<Receipt>,
+) -> Live<D> {
+    let settled = match receipt {
+        Some(receipt) => stage.settle(passes, &[receipt]),
+        None => stage.settle(passes, &[]),
+    };
+    match settled {
+        Ok(live) => live,
+        Err((refusal, live)) => {
+            warn!(rt; "not settled: {}: {refusal}", refusal.number());
+            live
+        }
+    }
+}
+
+/// Lives on a stage that has had no event, until a client ends the daemon or a disk fails.
+///
+/// What the threads take with them comes back, unless one of them was not made.
+pub(crate) fn live_once<
+    D: Disk + Send,
+    T: Stream,
+    L: Listener<T>,
+    Y: Ready<T>,
+    F: Folder + Send + Drop,
+    G: Folder + Send + Drop,
+    W: Write + Send + Drop,
+    H: Stop,
+    K: Wake + Sync,
+    R: Threads + Wait + Clock + Log + Sync,
+>(
+    rt: &R,
+    alloc: Global,
+    live: Live<D>,
+    clients: &mut Clients<T, L, Y>,
+    tools: Tools<F, G, W>,
+    signals: &Signals<H, K>,
+) -> (Life<D>, Option<Tools<F, G, W>>)
+where
+    F::File: Send,
+    G::File: Send,
+    requires first { live.numbers.event ≡ 0 }
+{
+    let blanks = Blanks {
+        clients: Blank::new(65_537),
+        player: Blank::new(65_537),
+        scan: Blank::new(65_537),
+    };
+    signals.stop.resume();
+    live_shared::<D, Brand, Brand, Brand, T, L, Y, F, G, W, H, K, R>(
+        rt, alloc, live, blanks, clients, tools, signals,
+    )
+}

@@ -1,0 +1,96 @@
+// The loop, in the thread that began the daemon.
+ghost use Rattle.std.specs.Prelude.{◌≡◌};
+
+use crate::jobs::Jobs;
+use disk_model::Disk;
+use live_stage::Receipt;
+use log::{Log, warn};
+use mio_clients::{Clients, Listener, Part, Ready, Stream};
+use stage_workers::{Pass, SharedStage};
+use std::alloc::Global;
+use std::sync::Wait;
+use std::sync::ledger::Ledger;
+
+// Numbers of refusals.
+const BROKEN: u8 = 42;
+
+const NO_MEMORY: u8 = 43;
+
+/// What the turns of a loop came to so far.
+#[derive(Clone, Copy, Debug)]
+pub(crate) struct Turns {
+    /// The receipt that was given out last, if one was.
+    pub(crate) receipt: Option<Receipt>,
+    /// No further turn is made.
+    is_over: bool,
+}
+
+impl Turns {
+    pub(crate) fn none() -> Turns {
+        Turns {
+            receipt: None,
+            is_over: false,
+        }
+    }
+
+    // Looks at what one turn of the loop answered.
+    fn take<D, R: Log>(&mut self, rt: &R, parts: &[Part<D>]) {
+        for part in parts {
+            match part {
+                Part::Served(served) => {
+                    self.receipt = Some(served.turn.receipt());
+                    self.is_over |= served.turn.ended();
+                }
+                Part::Collected(_) => {}
+                Part::Refused(number) => self.refused(rt, *number),
+            }
+        }
+    }
+
+    // An event was refused: for want of memory (43) it is served by a later turn, else the loop ends. A disk fault (42) is told later.
+    fn refused<R: Log>(&mut self, rt: &R, number: u8) {
+        if number == NO_MEMORY {
+            return;
+        }
+        if number != BROKEN {
+            warn!(rt; "event refused: {number}");
+        }
+        self.is_over = true;
+    }
+}
+
+/// Serves clients until one of them ends the daemon, or an event is refused by anything but want of memory. It hands the pass back.
+pub(crate) fn run_loop<
+    D: Disk,
+    C: Ledger,
+    P: Ledger,
+    S: Ledger,
+    T: Stream,
+    L: Listener<T>,
+    Y: Ready<T>,
+    R: Wait + Log,
+>(
+    rt: &R,
+    alloc: Global,
+    stage: &SharedStage<D, C, P, S>,
+    pass: Pass<C, P, S>,
+    clients: &mut Clients<T, L, Y>,
+    mut jobs: Jobs,
+) -> (Turns, Pass<C, P, S>) {
+    let mut pass = pass;
+    let mut turns = Turns::none();
+    for _ in rt.forever() {
+        match clients.turn_of_loop(rt, alloc, stage, pass) {
+            Ok((parts, back)) => {
+                pass = back;
+                turns.take(rt, &parts);
+            }
+            // There was no memory for its answer, so that nothing was done.
+            Err((_, back)) => pass = back,
+        }
+        if turns.is_over || jobs.send_new(rt, alloc, stage).is_err() {
+            break;
+        }
+    }
+    (turns, pass)
+}

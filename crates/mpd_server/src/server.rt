@@ -1,0 +1,66 @@
+// The daemon: a life, and after its first disk fault another.
+ghost use Rattle.std.specs.Prelude.{◌≡◌};
+
+use crate::ending::{Life, LifeEnding, ServeEnd};
+use crate::life::live_once;
+use crate::opening::Opened;
+use crate::workers::{Stop, Workers};
+use disk_model::Disk;
+use live_stage::Live;
+use log::{Log, warn};
+use mio_clients::{Clients, Listener, Ready, Stream};
+use stage_workers::Wake;
+use std::alloc::Global;
+use std::io::Write;
+use std::sync::Wait;
+use std::thread::Threads;
+use std::time::Clock;
+use wave_pcm::Folder;
+
+/// Serves clients over an opened journal until one of them ends the daemon; songs are played and scanned meanwhile, in two threads.
+///
+/// After the first disk fault all clients are closed, the threads end, and the journal is opened again. A second one ends the daemon; so
+/// does the first where a disk failed at the opening already, or where a thread could not be made.
+pub fn serve<
+    D: Disk + Send,
+    T: Stream,
+    L: Listener<T>,
+    Y: Ready<T>,
+    F: Folder + Send + Drop,
+    G: Folder + Send + Drop,
+    W: Write + Send + Drop,
+    H: Stop + Drop,
+    K: Wake + Sync + Drop,
+    R: Threads + Wait + Clock + Log + Sync,
+>(
+    rt: &R,
+    alloc: Global,
+    opened: Opened<D>,
+    clients: &mut Clients<T, L, Y>,
+    workers: Workers<F, G, W, H, K>,
+) -> ServeEnd<D>
+where
+    F::File: Send,
+    G::File: Send,
+    requires { opened.live.numbers.event ≡ 0 }
+{
+    let Opened { live, is_second } = opened;
+    let (tools, signals) = workers.divided();
+    let (first, tools) = live_once(rt, alloc, live, clients, tools, &signals);
+    if is_second || first.ending != LifeEnding::Faulted {
+        return first.last();
+    }
+    let Some(tools) = tools else {
+        return first.last();
+    };
+    warn!(rt; "disk fault: all clients are closed, and the journal is opened again");
+    clients.close_all();
+    let Life { ending: _, a, b } = first;
+    match Live::open(alloc, a, b) {
+        Ok(live) => {
+            let (second, _) = live_once(rt, alloc, live, clients, tools, &signals);
+            second.last()
+        }
+        Err(refused) => Life::refused(refused).last(),
+    }
+}

@@ -1,0 +1,71 @@
+// What a daemon's threads work on besides its journal.
+
+/// Ends what the workers wait for.
+pub trait Stop {
+    /// From now on each call of the output and of the folders returns soon, by a fault where it would wait.
+    fn stop(&self);
+
+    /// From now on they work again: a further life begins.
+    fn resume(&self);
+}
+
+/// For an output and folders that never wait.
+#[derive(Clone, Copy, Debug)]
+pub struct NothingWaits;
+
+impl Stop for NothingWaits {
+    fn stop(&self) {}
+
+    fn resume(&self) {}
+}
+
+/// What the threads of the player and of the scan work on.
+#[derive(Drop)]
+pub struct Workers<F, G, W, H, K> {
+    /// The songs that the player reads.
+    pub sources: F,
+    /// The songs that the scan reads.
+    pub folder: G,
+    /// Where the sound goes.
+    pub output: W,
+    /// What ends the waits of these.
+    pub stop: H,
+    /// What ends a wait of the loop, behind each report.
+    pub wake: K,
+}
+
+// What the two threads take with them, and hand back at their end.
+#[derive(Drop)]
+pub(crate) struct Tools<F, G, W> {
+    pub(crate) sources: F,
+    pub(crate) folder: G,
+    pub(crate) output: W,
+}
+
+// What ends waits, of the threads and of the loop.
+#[derive(Drop)]
+pub(crate) struct Signals<H, K> {
+    pub(crate) stop: H,
+    pub(crate) wake: K,
+}
+
+impl<F, G, W, H, K> Workers<F, G, W, H, K> {
+    // What the threads take with them, and what stays in the thread of the loop.
+    pub(crate) fn divided(self) -> (Tools<F, G, W>, Signals<H, K>) {
+        let Workers {
+            sources,
+            folder,
+            output,
+            stop,
+            wake,
+        } = self;
+        (
+            Tools {
+                sources,
+                folder,
+                output,
+            },
+            Signals { stop, wake },
+        )
+    }
+}
