@@ -32,8 +32,6 @@ pub enum Directive<'a> {
     Request(ClientId, &'a str),
     /// A core from what was saved, in hexadecimal digits, and ops behind a space.
     Recover(&'a str),
-    /// So many allocations are made, and nothing else.
-    Allocate(u32),
     /// Something is to be printed.
     Look(Look),
 }
@@ -202,7 +200,6 @@ fn read_event<'a>(word: &str, rest: &'a str) -> Result<Directive<'a>> {
         "batch" => Ok(Directive::Batch(number(rest)?)),
         "scanned" => Ok(Directive::Scanned(number(rest)?)),
         "recover" => Ok(Directive::Recover(rest)),
-        "allocate" => Ok(Directive::Allocate(number(rest)?)),
         _ => bail!("{word:?} is no directive"),
     }
 }

@@ -14,7 +14,7 @@ use daemon_core::{Core, Event, NoMemory};
 use idle_masks::ClientId;
 use song_db::RowChange;
 use state_codec::Saved;
-use std::alloc::{AllocError, Global};
+use std::alloc::Global;
 use std::collections::BTreeMap;
 
 /// What lines said of those that follow them.
@@ -66,14 +66,6 @@ fn event_of(report: Report) -> Event {
     }
 }
 
-/// Makes so many allocations.
-fn allocate(alloc: Global, count: u32) -> Result<(), AllocError> {
-    for _turn in 0..count {
-        let _room: Vec<u8> = Vec::with_capacity(alloc, 1)?;
-    }
-    Ok(())
-}
-
 /// Does what a line asks for that goes to the core.
 fn happen(
     core: &mut Core,
@@ -90,7 +82,6 @@ fn happen(
         Directive::Request(client, line) => request(core, clients, printed, client, line)?,
         Directive::Recover(text) => recover(core, clients, printed, text)?,
         Directive::Look(asked) => look(core, clients, printed, asked)?,
-        Directive::Allocate(count) => allocate(printed.alloc, count)?,
         _ => {}
     }
     Ok(())

@@ -253,6 +253,8 @@ where
             let (turns, mine) = if player.is_some() && scan.is_some() {
                 run_loop(rt, alloc, stage, mine, clients, jobs)
             } else {
+                // A scan's thread ends where nobody is left who could send it an order.
+                drop(jobs);
                 (Turns::none(), mine)
             };
             stage.close(rt);

@@ -42,6 +42,19 @@ const HEADS: [(&[u8], Head<'static>); 6] = [
     (&EXTENSIBLE, Err(13)),
 ];
 
+/// What the first bytes of WAVE_A give, from one count of them up to, but not including, another.
+const FIRST_BYTES: [(usize, usize, Head<'static>); 9] = [
+    (0, 12, Err(11)),
+    (12, 48, Err(12)),
+    (48, 56, Err(14)),
+    (56, 58, Ok((8000, 1, 56, 0, None, None))),
+    (58, 60, Ok((8000, 1, 56, 1, None, None))),
+    (60, 81, Ok((8000, 1, 56, 2, None, None))),
+    (81, 82, Ok((8000, 1, 56, 2, Some("H"), None))),
+    (82, 93, Ok((8000, 1, 56, 2, Some("Hi"), None))),
+    (93, 95, Ok((8000, 1, 56, 2, Some("Hi"), Some("A")))),
+];
+
 /// Files, a frame, how many frames at most from there on, and their samples.
 const FRAMES: [(&[u8], u64, usize, &[i16]); 5] = [
     (&WAVE_A, 0, 4096, &[1, -2]),
@@ -97,6 +110,20 @@ fn sounds(
     let info = head(alloc, bytes)?;
     same_samples(rt, &frames(alloc, bytes, &info, from, most)?, want);
     Ok(())
+}
+
+/// Each count of first bytes of WAVE_A in a range gives this; past its end WAVE_B stands for them, which gives something else.
+fn have_head(rt: &impl Abort, alloc: Global, start: usize, end: usize, want: Head<'static>) {
+    for count in start..end {
+        has_head(rt, alloc, WAVE_A.get(..count).unwrap_or(&WAVE_B), want);
+    }
+}
+
+#[test]
+fn first_bytes_of_a_file(rt: HostRuntime) {
+    for (start, end, want) in &FIRST_BYTES {
+        have_head(&rt, rt.alloc(), *start, *end, *want);
+    }
 }
 
 #[test]

@@ -1,0 +1,261 @@
+//! A stage, the clients of its loop, and what is done with them.
+use crate::calls;
+use crate::calls::{TestClients, TestDisk, Turned};
+use crate::desk::Desk;
+use crate::fault::Fault;
+use crate::printer::Printer;
+use crate::words::{first_word, job, number, size};
+use daemon_core::Event;
+use live_stage::{Receipt, Turn};
+use mio_clients::{ClientsError, Part};
+use player_core::BrokenCause;
+use stage_workers::{Kind, Outbox, Pass, SharedStage, StageError};
+use std::alloc::Global;
+use std::sync::Wait;
+use std::sync::ledger::Ledger;
+
+/// A pass of each kind; none while a call has it.
+#[derive(Drop)]
+pub struct Passes<C: Ledger, P: Ledger, S: Ledger> {
+    clients: Option<Pass<C, P, S>>,
+    player: Option<Pass<C, P, S>>,
+    scan: Option<Pass<C, P, S>>,
+}
+
+impl<C: Ledger, P: Ledger, S: Ledger> Passes<C, P, S> {
+    pub fn of<R: Wait>(rt: &R, stage: &SharedStage<TestDisk, C, P, S>) -> Self {
+        Passes {
+            clients: stage.pass(rt, Kind::Clients).ok(),
+            player: stage.pass(rt, Kind::Player).ok(),
+            scan: stage.pass(rt, Kind::Scan).ok(),
+        }
+    }
+
+    // All that are there.
+    fn into_vec(self, alloc: Global) -> Vec<Pass<C, P, S>> {
+        let mut passes = Vec::new(alloc);
+        let Passes {
+            clients,
+            player,
+            scan,
+        } = self;
+        add(&mut passes, clients);
+        add(&mut passes, player);
+        add(&mut passes, scan);
+        passes
+    }
+}
+
+// A pass for which there is no room is lost: then the stage isn't settled.
+fn add<C: Ledger, P: Ledger, S: Ledger>(
+    passes: &mut Vec<Pass<C, P, S>>,
+    pass: Option<Pass<C, P, S>>,
+) {
+    if let Some(pass) = pass {
+        let _added = passes.push(pass);
+    }
+}
+
+/// A stage that is shared, and the clients of its loop.
+#[derive(Drop)]
+pub struct Looped<C: Ledger, P: Ledger, S: Ledger> {
+    pub stage: SharedStage<TestDisk, C, P, S>,
+    pub clients: TestClients,
+    pub passes: Passes<C, P, S>,
+    /// The receipt that was given out last.
+    pub receipt: Option<Receipt>,
+}
+
+// Prints of how many events there are outputs that were left, if there are some.
+fn tell_left(printer: &mut Printer, word: &str, outbox: &Outbox) {
+    let count = outbox.as_slice().len();
+    if count > 0 {
+        printer.count(word, count as u64);
+    }
+}
+
+fn tell_served(printer: &mut Printer, turn: &Turn<TestDisk>) {
+    printer.count("event", turn.event());
+    if let Some(place) = turn.refused_at() {
+        printer.count("no memory at", u64::from(place));
+    }
+    if turn.ended() {
+        printer.line("ended");
+    }
+}
+
+// Prints what a part of a turn is, and gives the receipt that it has.
+fn tell_part(printer: &mut Printer, part: &Part<TestDisk>) -> Option<Receipt> {
+    match part {
+        Part::Served(served) => {
+            tell_left(printer, "before", &served.before);
+            tell_served(printer, &served.turn);
+            return Some(served.turn.receipt());
+        }
+        Part::Collected(outbox) => tell_left(printer, "collected", outbox),
+        Part::Refused(number) => printer.count("refused", u64::from(*number)),
+    }
+    None
+}
+
+fn tell_parts(printer: &mut Printer, parts: &[Part<TestDisk>], receipt: &mut Option<Receipt>) {
+    for part in parts {
+        if let Some(given) = tell_part(printer, part) {
+            *receipt = Some(given);
+        }
+    }
+}
+
+fn tell_turned(printer: &mut Printer, turned: Turned, receipt: &mut Option<Receipt>) {
+    match turned {
+        Ok(parts) => tell_parts(printer, &parts, receipt),
+        Err(number) => printer.count("nothing done, refused", u64::from(number)),
+    }
+}
+
+fn tell_called(printer: &mut Printer, called: Result<(), ClientsError>) {
+    match called {
+        Ok(()) => printer.line("done"),
+        Err(error) => printer.refused(error.number(), error),
+    }
+}
+
+fn tell_reported(printer: &mut Printer, reported: Result<(), StageError>) {
+    if let Err(error) = reported {
+        printer.refused(error.number(), error);
+    }
+}
+
+// What the player's output reports, by its word.
+fn report_of(word: &str, rest: &str) -> Result<Event, Fault> {
+    let (ticket, rest) = first_word(rest);
+    let ticket = number(ticket)?;
+    match (word, rest) {
+        ("fed", frames) => Ok(Event::Fed {
+            ticket,
+            frames: number(frames)?,
+        }),
+        ("ended", "") => Ok(Event::Ended { ticket }),
+        ("broken", "source") => Ok(Event::Broken {
+            ticket,
+            cause: BrokenCause::Source,
+        }),
+        ("broken", "output") => Ok(Event::Broken {
+            ticket,
+            cause: BrokenCause::Output,
+        }),
+        _ => Err(Fault::NoDirective),
+    }
+}
+
+impl<C: Ledger, P: Ledger, S: Ledger> Looped<C, P, S> {
+    // Makes a turn of the loop.
+    fn turn<R: Wait>(&mut self, rt: &R, desk: &mut Desk) {
+        if let Some(pass) = self.passes.clients.take() {
+            desk.wires.begin_turn();
+            let alloc = desk.printer.alloc;
+            let (turned, pass) = calls::turn(rt, alloc, &mut self.clients, &self.stage, pass);
+            self.passes.clients = Some(pass);
+            tell_turned(&mut desk.printer, turned, &mut self.receipt);
+        }
+        desk.wires.tell(&mut desk.printer);
+    }
+
+    // The scan reports an event.
+    fn report_scan<R: Wait>(&mut self, rt: &R, printer: &mut Printer, event: Event) {
+        if let Some(pass) = self.passes.scan.take() {
+            let (reported, pass) = calls::report(rt, printer.alloc, &self.stage, pass, event);
+            self.passes.scan = Some(pass);
+            tell_reported(printer, reported);
+        }
+    }
+
+    // The player reports an event.
+    fn report_player<R: Wait>(&mut self, rt: &R, printer: &mut Printer, event: Event) {
+        if let Some(pass) = self.passes.player.take() {
+            let (reported, pass) = calls::report(rt, printer.alloc, &self.stage, pass, event);
+            self.passes.player = Some(pass);
+            tell_reported(printer, reported);
+        }
+    }
+
+    /// Ends the sharing, with all passes and the receipt that was given out last.
+    pub fn settle(self, printer: &mut Printer) {
+        let Looped {
+            stage,
+            clients: _,
+            passes,
+            receipt,
+        } = self;
+        let passes = passes.into_vec(printer.alloc);
+        let (settled, live) = match receipt {
+            Some(receipt) => calls::settle(stage, passes, &[receipt]),
+            None => calls::settle(stage, passes, &[]),
+        };
+        match settled {
+            Ok(()) => printer.count("settled", live.last_event()),
+            Err(error) => printer.refused(error.number(), error),
+        }
+    }
+}
+
+// A client waits to connect.
+fn connect(clients: &mut TestClients, desk: &mut Desk, client: u64) -> Result<(), Fault> {
+    let stream = desk.wires.add(client)?;
+    Ok(calls::connect(clients, stream)?)
+}
+
+fn tell_clients(clients: &TestClients, printer: &mut Printer) {
+    if clients.is_empty() {
+        printer.line("no clients");
+    } else {
+        printer.count("clients", clients.len() as u64);
+    }
+}
+
+// Does what a word asks of the clients by a call of their own.
+fn call(clients: &mut TestClients, desk: &mut Desk, word: &str, rest: &str) -> Result<(), Fault> {
+    let alloc = desk.printer.alloc;
+    match word {
+        "connect" => return connect(clients, desk, number(rest)?),
+        "accept" => tell_called(&mut desk.printer, calls::accept(clients, alloc)),
+        "read" => tell_called(&mut desk.printer, calls::read(clients, alloc, size(rest)?)),
+        "write" => tell_called(&mut desk.printer, calls::write(clients, size(rest)?)),
+        "close_all" => calls::close_all(clients),
+        "clients" => tell_clients(clients, &mut desk.printer),
+        _ => return desk.take(word, rest),
+    }
+    desk.wires.tell(&mut desk.printer);
+    Ok(())
+}
+
+/// Does what a line asks for.
+pub fn take_line<R: Wait, C: Ledger, P: Ledger, S: Ledger>(
+    rt: &R,
+    looped: &mut Looped<C, P, S>,
+    desk: &mut Desk,
+    line: &str,
+) -> Result<(), Fault> {
+    let (word, rest) = first_word(line);
+    match word {
+        "turn" => looped.turn(rt, desk),
+        "batch" => {
+            let changes = desk.take_batch()?;
+            let event = Event::Batch {
+                job: job(rest)?,
+                changes,
+            };
+            looped.report_scan(rt, &mut desk.printer, event);
+        }
+        "scanned" => {
+            let event = Event::ScanDone { job: job(rest)? };
+            looped.report_scan(rt, &mut desk.printer, event);
+        }
+        "fed" | "ended" | "broken" => {
+            let event = report_of(word, rest)?;
+            looped.report_player(rt, &mut desk.printer, event);
+        }
+        _ => call(&mut looped.clients, desk, word, rest)?,
+    }
+    Ok(())
+}

@@ -1,0 +1,312 @@
+"""The rows of tests/refused_memory: lines of event_driver and of stage_driver, and whole runs of the program; what each does where one of
+its allocations is refused, and what it may do."""
+
+import os
+import re
+import shutil
+import subprocess
+
+import preload
+import refusals
+import scripts
+
+SECONDS = 60
+# What a program says that ends for want of memory itself.
+ENDED = re.compile(r"out of memory|no memory|OutOfMemory|memory allocation failed")
+
+# ---- lines of event_driver
+
+SONGS = ["a.wav 16000 Title One Artist Anna", "b.wav 8000", "d/c.wav 12000 Title Three Artist Anna Album Blue", "d/e/f.wav 16000"]
+BEGINNING = [
+    *("connect 1", "1> update", *(f"put {it}" for it in SONGS), "batch 1", "scanned 1"),
+    *("1> addid a.wav", "1> addid b.wav", "1> addid d/c.wav", "1> save old", "1> save other", "1> sticker set song a.wav n v"),
+    *("1> prio 7 1", "spell"),
+]
+# Where no song is current, and where one plays and a job runs.
+SITUATIONS = {refusals.Situation(False, False): [], refusals.Situation(True, False): ["1> random 1", "1> play 1", "1> update"]}
+# Behind what a row begins with, client 2 comes and waits for every subsystem.
+WAITS = ["connect 2", "2> idle"]
+EVENTS = ["connect 3", "connect 2", "gone 2", "gone 1", "scanned 2", "fed 1 100", "fed 2 9000", "ended 2", "broken 2 source"]
+# What is collected for a batch is no event.
+BATCHES = [["put b.wav 9000", "drop a.wav", "put z.wav 8000 Title Last", "batch 2"], ["drop b.wav", "drop d/c.wav", "batch 2"]]
+QUIET = "1> setvol 40"
+# By these is seen what is there.
+LOOKS = ["saved", "connect 4", "4> status", "4> idle", "order", "scan_order"]
+
+# ---- lines of stage_driver
+
+# A file with a fresh state, whose key is of zeros, and records behind it that set the volume to 40.
+FRESH = f"a54d50444a524e4c 01000000 0100000000000000 0000000000000000 45000000 {'00' * 40} 01000000 01000000 64 {'00' * 20}"
+RECORDS = 3
+FEW, FULL = (f"a has {FRESH} a5 {'02000000 0228 a5' * (count - 1)} 02000000 0228 00" for count in (RECORDS, 4_096))
+BYTES = ["a bytes", "b bytes"]
+DISK_FAULTS = ["refused 6 disk fault"], ["refused 42 broken by a disk fault"]
+# What goes before it, the line, and whether a journal or a stage stands over the files even where it is refused.
+CALLS = [
+    (["a has -", "b has -"], "make_journal 010203", False),
+    ([FEW, "b has -"], "open_journal", False),
+    ([FEW, "b has -", "open_journal"], "append 0228", True),
+    ([FEW, "b has -", "open_journal"], "checkpoint 010203", True),
+    (["a has -", "b has -"], "make_stage", False),
+    ([FEW, "b has -"], "open_stage", False),
+    ([FULL, "b has -"], "open_stage", False),
+    ([FEW, "b has -", "open_stage"], "checkpoint", True),
+    ([FEW, "b has -", "open_stage", "connect 1"], "line 1 setvol 41", True),
+    ([FEW, "b has -", "open_stage", "connect 1"], "list 1 setvol 41 ; repeat 1 ; status", True),
+    ([FULL, "b has -", "open_stage"], "connect 1", True),
+]
+
+# ---- what the program is given, over a journal with one song in the queue and a folder with two more
+
+GIVEN = ['add ""', "setvol 40", "save old", "update", "listallinfo"]
+LOOKED = "status\nplaylistinfo\nlistallinfo\nlistplaylists\n"
+CONFIG = f'music = "music"\njournal_a = "a"\njournal_b = "b"\nkey = "{"5a" * 32}"\n'
+FILES = ["a", "b"]
+HELLO = "OK MPD 0.23.0\n"
+
+
+class Place:
+    """A folder of its own for runs in which allocations are counted and one is refused."""
+
+    def __init__(self, folder, library):
+        self.folder, self.library = folder, library
+        os.makedirs(folder)
+
+    def run(self, words, given, refused=0):
+        """Runs a program, in which this allocation is refused: how it ended, how many allocations it made, and whether one was refused."""
+        with open(f"{self.folder}/input", "w+b") as file:
+            file.write(given.encode())
+            file.seek(0)
+            settings = preload.settings(self.library, f"{self.folder}/counts", REFUSED=refused)
+            how = {"stdin": file, "capture_output": True, "env": settings, "cwd": self.folder, "check": False, "timeout": SECONDS}
+            done = subprocess.run(words, **how)
+        count, met = preload.counts(f"{self.folder}/counts")
+        return done, count, met > 0
+
+
+class Run:
+    """A run of a driver: what it printed behind each line, how many allocations it made, whether one was refused, and whether it ended for
+    that itself."""
+
+    def __init__(self, place, program, lines, refused=0):
+        done, self.count, self.was_refused = place.run([program], "".join(f"{it}\n" for it in lines), refused)
+        self.groups, printed = [], []
+        for line in done.stdout.decode().splitlines():
+            if line == ".":
+                self.groups.append(printed)
+                printed = []
+            else:
+                printed.append(line)
+        self.told = done.stderr.decode()
+        self.has_ended = done.returncode == 1 and bool(ENDED.search(self.told))
+        self.is_well = self.has_ended or done.returncode == 0 and not self.told and len(self.groups) == len(lines)
+
+
+class Line:
+    """A line of a driver: what goes before it, what it prints with memory enough, and what is there before and behind it then."""
+
+    wanted = states = None
+
+    def run(self, place, lines, refused=0):
+        run = Run(place, self.program, lines, refused)
+        if not refused and (run.has_ended or not run.is_well):
+            raise ValueError(f"{self.name}: with memory enough it ended otherwise: {run.told}")
+        return run
+
+    def begin(self, place):
+        """Runs it with memory enough; the numbers of its allocations."""
+        self.prepare(place)
+        before, behind = (self.run(place, it).count for it in (self.front, [*self.front, self.line]))
+        return range(before + 1, behind + 1)
+
+    def fault(self, place, number):
+        """What is wrong where this allocation is refused, or None; and whether the driver ended itself."""
+        run, looked = self.looked(place, number)
+        if not run.is_well or not run.was_refused:
+            return f"it ended otherwise: {run.told}", False
+        # A disk in memory that wants memory has failed; what is left of its file is the matter of other scripts.
+        if run.has_ended or (printed := run.groups[len(self.front)]) in DISK_FAULTS:
+            return None, run.has_ended
+        left = [state for lines, state in [(self.wanted, "after"), *self.refused()] if lines == printed]
+        if not left:
+            return f"it printed {printed}", False
+        return None if any(looked == self.states[it] for it in left) else f"it printed {printed}, and then there is {looked}", False
+
+
+class Event(Line):
+    """A line of event_driver."""
+
+    def __init__(self, program, front, line, command="", is_list=False):
+        self.program, self.front, self.line, self.command, self.is_list = program, [*front, *WAITS], line, command, is_list
+        self.name = f"{' '.join(front[len(BEGINNING) :])}: {line}"
+
+    def lines(self, line):
+        return [*self.front, *([line] if line else []), *LOOKS]
+
+    def prepare(self, place):
+        whole, quiet, still = (self.run(place, self.lines(it)) for it in (self.line, QUIET, None))
+        self.wanted = whole.groups[len(self.front)]
+        self.states = {name: run.groups[-len(LOOKS) :] for name, run in {"before": still, "quiet": quiet, "after": whole}.items()}
+
+    def looked(self, place, number):
+        run = self.run(place, self.lines(self.line), number)
+        return run, run.groups[-len(LOOKS) :]
+
+    def refused(self):
+        """What it may print where memory is refused, and what is there behind it then."""
+        yield ["no memory"], "before"
+        for name in {self.command, "setvol"} if self.is_list else {self.command}:
+            yield [f"1< ACK [52@0] {{{name}}} out of memory", "no memory at 0"], "before"
+        if self.is_list:
+            told = ["2< changed: mixer", "2< OK", "op 0228", "no memory at 1"]
+            yield ["1< list_OK", f"1< ACK [52@1] {{{self.command}}} out of memory", *told], "quiet"
+        # A session may refuse what its client sends, or what it is to be sent.
+        for client in "1", "2", "3":
+            lines = [f"{client} refused 7", f"{client} closed"]
+            yield lines, "before"
+            if own := [at for at, line in enumerate(self.wanted) if line.startswith(f"{client}< ")]:
+                yield [*self.wanted[: own[0]], *lines, *self.wanted[own[-1] + 1 :]], "after"
+
+
+class Call(Line):
+    """A line of stage_driver. What is there are the bytes of both files."""
+
+    def __init__(self, program, front, line, stands):
+        self.program, self.front, self.line, self.stands = program, front, line, stands
+        self.name = f"a of {len(front[0])} signs, {', '.join(front[1:])}: {line}"
+
+    def closed(self, line, stands=True):
+        return [*self.front, *([line] if line else []), *(["close"] if stands else []), *BYTES]
+
+    def prepare(self, place):
+        self.wanted = self.run(place, [*self.front, self.line]).groups[-1]
+        self.states = {"before": self.run(place, self.closed(None, self.stands)).groups[-2:]}
+        self.states["after"] = self.run(place, self.closed(self.line)).groups[-2:]
+        if self.line == "connect 1":
+            self.states["checkpoint"] = self.run(place, self.closed("checkpoint")).groups[-2:]
+        for count in range(1, len(self.commands())):
+            self.states[count] = self.run(place, self.closed(f"list 1 {' ; '.join(self.commands()[:count])}")).groups[-2:]
+
+    def commands(self):
+        """The commands of the client's request, if it is one."""
+        word, _, text = self.line.partition(" 1 ")
+        return text.split(" ; ") if word in ("line", "list") else []
+
+    def looked(self, place, number):
+        run = self.run(place, [*self.front, self.line], number)
+        if run.has_ended or not run.is_well:
+            return run, None
+        stands = self.stands or run.groups[-1] == self.wanted
+        return run, self.run(place, self.closed(self.line, stands), number).groups[-2:]
+
+    def refused(self):
+        for line in "refused 7 out of memory", "refused 43 out of memory":
+            for state in self.states.keys() & {"before", "checkpoint"}:
+                yield [line], state
+        # A request that is refused memory inside is answered, and has a record where a command went before that one.
+        for at, command in enumerate(self.commands()):
+            record = [f"record {RECORDS + 1}"] if at else []
+            refused = f"1< ACK [52@{at}] {{{command.split(' ')[0]}}} out of memory"
+            yield ["event 2", *record, f"no memory at {at}", "outputs 1", refused], at or "before"
+
+
+class Program:
+    """A whole run of the program, which makes a journal or serves a line. What is there is what the next run answers."""
+
+    def __init__(self, program, given):
+        self.program, self.given = program, given
+        self.name, self.words = ("program: create", ["create"]) if given is None else (f"program: {given}", ["console"])
+        self.files = self.wanted = self.states = None
+
+    def run(self, place, words, given, refused=0):
+        return place.run([self.program, *words, "c.toml"], given, refused)
+
+    def begin(self, place):
+        scripts.write(f"{place.folder}/c.toml", CONFIG.encode())
+        scripts.write(f"{place.folder}/music/a.wav", scripts.wave(100, ["INAM=One"]))
+        if self.given is not None:
+            self.run(place, ["create"], "")
+            self.run(place, ["console"], 'update\nadd ""\nsave other\n')
+        for name in "d/b", "d/c":
+            scripts.write(f"{place.folder}/music/{name}.wav", scripts.wave(200, ["IART=Anna"]))
+        self.files = {it: read(f"{place.folder}/{it}") for it in FILES}
+        before = self.looked(place)
+        done, count, _ = self.run(place, self.words, f"{self.given or ''}\n")
+        self.wanted = done.returncode, done.stdout.decode(), done.stderr.decode()
+        self.states = {"before": before, "after": self.looked(place)}
+        return range(1, count + 1)
+
+    def looked(self, place):
+        """What the next run answers."""
+        if self.given is None and not read(f"{place.folder}/a"):
+            return self.run(place, ["create"], "")[0].returncode
+        return self.run(place, ["console"], LOOKED)[0].stdout
+
+    def fault(self, place, number):
+        for name, content in self.files.items():
+            scripts.write(f"{place.folder}/{name}", content) if content is not None else remove(f"{place.folder}/{name}")
+        done, _, was_refused = self.run(place, self.words, f"{self.given or ''}\n", number)
+        found = done.returncode, done.stdout.decode(), done.stderr.decode()
+        if not was_refused:
+            return "it made fewer allocations", False
+        left = [state for answer, state in [(self.wanted, "after"), *self.refused()] if answer == found]
+        if not left:
+            return f"it ended with {found}", False
+        looked = self.looked(place)
+        return None if any(looked == self.states[it] for it in left) else f"it ended with {found}, and then there is {looked}", False
+
+    def refused(self):
+        yield (2, "", "journal refused: 7\n"), "before"
+        if self.given is not None:
+            yield (0, f"{HELLO}ACK [52@0] {{{self.given.split(' ')[0]}}} out of memory\n", ""), "before"
+            for state in "before", "after":
+                yield (0, HELLO, ""), state
+                yield (0, "", ""), state
+            if self.given == "update":
+                yield self.wanted, "before"
+
+
+def read(path):
+    """What a file has, or None."""
+    try:
+        with open(path, "rb") as file:
+            return file.read()
+    except FileNotFoundError:
+        return None
+
+
+def remove(path):
+    if os.path.exists(path):
+        os.remove(path)
+
+
+def rows(event_driver, stage_driver, program):
+    """Each row, by its name."""
+    found = {}
+    for situation, front in SITUATIONS.items():
+        begun = [*BEGINNING, *front]
+        for command in refusals.commands(situation):
+            lines = sorted((line for line, faults in command.lines() if not faults), key=len)
+            for line in {lines[0], lines[-1]} if lines else ():
+                name, both = line.split(" ")[0], f"command_list_ok_begin%nsetvol 40%n{line}%ncommand_list_end"
+                for row in Event(event_driver, begun, f"1> {line}", name), Event(event_driver, begun, f"1> {both}", name, True):
+                    found[row.name] = row
+        for *before, line in [*([it] for it in EVENTS), *BATCHES]:
+            row = Event(event_driver, [*begun, *before], line)
+            found[row.name] = row
+    for call in CALLS:
+        row = Call(stage_driver, *call)
+        found[row.name] = row
+    for given in [None, *GIVEN]:
+        row = Program(program, given)
+        found[row.name] = row
+    return found
+
+
+def sweep(folder, library, row):
+    """Refuses each allocation of a row in turn: what was wrong, how many were refused, and at how many of them a driver ended itself."""
+    place = Place(folder, library)
+    numbers = row.begin(place)
+    looked = [(number, *row.fault(place, number)) for number in numbers]
+    shutil.rmtree(folder)
+    return [f"{row.name}: allocation {it}: {text}" for it, text, _ in looked if text], len(looked), sum(it for _, _, it in looked)
