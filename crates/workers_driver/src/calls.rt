@@ -1,0 +1,200 @@
+//! The calls of a shared stage. The prover reads their contracts in these functions alone.
+use crate::songs::{Music, OpenMusic, Output, music};
+use crate::stand::Stand;
+use crossbeam_channel::Receiver;
+use daemon_core::Event;
+use disk_model::{FuseDisk, MemDisk};
+use live_stage::{Live, LiveError, Receipt};
+use player_core::{Order, PlayOrder};
+use song_db::ScanOrder;
+use stage_workers::{
+    Kind, Outbox, Pass, PassesSpent, Served, SettleError, SharedStage, StageError, Worker, laws,
+    player_worker, scan_worker,
+};
+use std::alloc::Global;
+use std::sync::Wait;
+use std::sync::ledger::Ledger;
+use std::time::Clock;
+
+/// The disk of each stage: it is in memory, and fails by a fuse.
+pub type TestDisk = FuseDisk<MemDisk>;
+
+pub type Stage<C, P, S> = SharedStage<TestDisk, C, P, S>;
+
+/// What came of an event, and the pass that made it or was refused.
+pub type Answer<A, C, P, S> = (Result<A, StageError>, Pass<C, P, S>);
+
+pub fn pass<C: Ledger, P: Ledger, S: Ledger, R: Wait>(
+    rt: &R,
+    stage: &Stage<C, P, S>,
+    kind: Kind,
+) -> Result<Pass<C, P, S>, PassesSpent> {
+    stage.pass(rt, kind)
+}
+
+pub fn served<C: Ledger, P: Ledger, S: Ledger, R: Wait>(
+    rt: &R,
+    alloc: Global,
+    stage: &Stage<C, P, S>,
+    pass: Pass<C, P, S>,
+    event: Event,
+) -> Answer<Served<TestDisk>, C, P, S> {
+    match stage.serve(rt, alloc, pass, event) {
+        Ok((served, pass)) => (Ok(served), pass),
+        Err((error, pass)) => (Err(error), pass),
+    }
+}
+
+pub fn reported<C: Ledger, P: Ledger, S: Ledger, R: Wait>(
+    rt: &R,
+    alloc: Global,
+    stage: &Stage<C, P, S>,
+    pass: Pass<C, P, S>,
+    event: Event,
+) -> Answer<(), C, P, S> {
+    match stage.report(rt, alloc, pass, event) {
+        Ok(pass) => (Ok(()), pass),
+        Err((error, pass)) => (Err(error), pass),
+    }
+}
+
+pub fn collected<C: Ledger, P: Ledger, S: Ledger, R: Wait>(
+    rt: &R,
+    alloc: Global,
+    stage: &Stage<C, P, S>,
+) -> Outbox {
+    stage.collect(rt, alloc)
+}
+
+pub fn ordered<C: Ledger, P: Ledger, S: Ledger, R: Wait>(
+    rt: &R,
+    alloc: Global,
+    stage: &Stage<C, P, S>,
+) -> Result<Order, LiveError> {
+    stage.order(rt, alloc)
+}
+
+pub fn scan_ordered<C: Ledger, P: Ledger, S: Ledger, R: Wait>(
+    rt: &R,
+    alloc: Global,
+    stage: &Stage<C, P, S>,
+) -> Result<Option<ScanOrder>, LiveError> {
+    stage.scan_order(rt, alloc)
+}
+
+pub fn running_job<C: Ledger, P: Ledger, S: Ledger, R: Wait>(
+    rt: &R,
+    stage: &Stage<C, P, S>,
+) -> Result<Option<u32>, LiveError> {
+    stage.running_job(rt)
+}
+
+pub fn close<C: Ledger, P: Ledger, S: Ledger, R: Wait>(rt: &R, stage: &Stage<C, P, S>) {
+    stage.close(rt);
+}
+
+pub fn is_closed<C: Ledger, P: Ledger, S: Ledger, R: Wait>(rt: &R, stage: &Stage<C, P, S>) -> bool {
+    stage.is_closed(rt)
+}
+
+pub fn rewound(seen: u64, found: u64) -> Result<(), StageError> {
+    laws::rewound(seen, found)
+}
+
+/// What settling refused, if it did, and the stage.
+pub fn settled<C: Ledger, P: Ledger, S: Ledger>(
+    stage: Stage<C, P, S>,
+    passes: Vec<Pass<C, P, S>>,
+    receipts: &[Receipt],
+) -> (Option<SettleError>, Live<TestDisk>) {
+    match stage.settle(passes, receipts) {
+        Ok(live) => (None, live),
+        Err((error, live)) => (Some(error), live),
+    }
+}
+
+/// An order of the player, by this thread.
+pub fn played_once<'m, C: Ledger, P: Ledger, S: Ledger, R: Wait + Clock>(
+    rt: &R,
+    alloc: Global,
+    stage: &Stage<C, P, S>,
+    stand: &Stand<'_, R>,
+    (folder, song): (&mut Music<'m, R>, &mut Option<OpenMusic<'m, R>>),
+    (pass, order): (Pass<C, P, S>, &PlayOrder),
+) -> Answer<(), C, P, S> {
+    let worker = Worker {
+        rt,
+        alloc,
+        stage,
+        wake: stand,
+    };
+    let mut output = Output { stand };
+    match laws::play_once(&worker, pass, stand, folder, &mut output, song, order) {
+        Ok(pass) => (Ok(()), pass),
+        Err((error, pass)) => (Err(error), pass),
+    }
+}
+
+/// A scan, by this thread.
+pub fn scanned_once<C: Ledger, P: Ledger, S: Ledger, R: Wait + Clock>(
+    rt: &R,
+    host: &HostRuntime,
+    stage: &Stage<C, P, S>,
+    stand: &Stand<'_, R>,
+    (pass, order): (Pass<C, P, S>, ScanOrder),
+) -> Answer<(), C, P, S> {
+    let alloc = host.alloc();
+    let worker = Worker {
+        rt,
+        alloc,
+        stage,
+        wake: stand,
+    };
+    match laws::scan_once(&worker, pass, &mut music(host, alloc, stand), order) {
+        Ok(pass) => (Ok(()), pass),
+        Err((error, pass)) => (Err(error), pass),
+    }
+}
+
+/// What the player's thread does.
+pub fn play<C: Ledger, P: Ledger, S: Ledger, R: Wait + Clock>(
+    rt: &R,
+    host: &HostRuntime,
+    stage: &Stage<C, P, S>,
+    stand: &Stand<'_, R>,
+    pass: Pass<C, P, S>,
+) -> Pass<C, P, S> {
+    let alloc = host.alloc();
+    let worker = Worker {
+        rt,
+        alloc,
+        stage,
+        wake: stand,
+    };
+    let mut output = Output { stand };
+    player_worker(
+        &worker,
+        pass,
+        stand,
+        &mut music(host, alloc, stand),
+        &mut output,
+    )
+}
+
+/// What the scan's thread does.
+pub fn scan<C: Ledger, P: Ledger, S: Ledger, R: Wait + Clock>(
+    rt: &R,
+    host: &HostRuntime,
+    stage: &Stage<C, P, S>,
+    stand: &Stand<'_, R>,
+    (pass, orders): (Pass<C, P, S>, Receiver<ScanOrder>),
+) -> Pass<C, P, S> {
+    let alloc = host.alloc();
+    let worker = Worker {
+        rt,
+        alloc,
+        stage,
+        wake: stand,
+    };
+    scan_worker(&worker, pass, &mut music(host, alloc, stand), &orders)
+}

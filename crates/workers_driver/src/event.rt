@@ -1,0 +1,73 @@
+//! The events of a stage, as lines of the input say them.
+use crate::fault::Fault;
+use crate::words::{first_number, first_word, number};
+use command_text::{Line, Request};
+use daemon_core::Event;
+use player_core::BrokenCause;
+use song_db::{RowChange, Uri};
+use state_codec::Changes;
+use std::alloc::Global;
+
+fn request_of(alloc: Global, text: &str) -> Result<Request, Fault> {
+    Ok(Request::Single(Line::from_bytes(alloc, text.as_bytes())?))
+}
+
+fn cause_of(word: &str) -> Result<BrokenCause, Fault> {
+    match word {
+        "source" => Ok(BrokenCause::Source),
+        "output" => Ok(BrokenCause::Output),
+        _ => Err(Fault::NoDirective),
+    }
+}
+
+pub fn uri_of(alloc: Global, text: &str) -> Result<Uri, Fault> {
+    match Uri::read(alloc, text)? {
+        Some(uri) => Ok(uri),
+        None => Err(Fault::NoDirective),
+    }
+}
+
+/// The changes by which the rows of these URIs go.
+fn drops_of(alloc: Global, text: &str) -> Result<Changes, Fault> {
+    let mut changes = Vec::new(alloc);
+    for word in text.split(' ') {
+        let uri = uri_of(alloc, word)?;
+        if changes.push(RowChange::Drop(uri)).is_err() {
+            return Err(Fault::NoMemory);
+        }
+    }
+    match Changes::new(changes) {
+        Some(changes) => Ok(changes),
+        None => Err(Fault::NoDirective),
+    }
+}
+
+fn job_of(number: u64) -> u32 {
+    u32::try_from(number).unwrap_or(u32::MAX)
+}
+
+/// The event that a text says.
+pub fn event_of(alloc: Global, text: &str) -> Result<Event, Fault> {
+    let (word, rest) = first_word(text);
+    let (first, rest) = first_number(rest)?;
+    match word {
+        "connect" => Ok(Event::Connect(first)),
+        "gone" => Ok(Event::Gone(first)),
+        "line" => Ok(Event::Request(first, request_of(alloc, rest)?)),
+        "fed" => Ok(Event::Fed {
+            ticket: first,
+            frames: number(rest)?,
+        }),
+        "ended" => Ok(Event::Ended { ticket: first }),
+        "broken" => Ok(Event::Broken {
+            ticket: first,
+            cause: cause_of(rest)?,
+        }),
+        "drop" => Ok(Event::Batch {
+            job: job_of(first),
+            changes: drops_of(alloc, rest)?,
+        }),
+        "done" => Ok(Event::ScanDone { job: job_of(first) }),
+        _ => Err(Fault::NoDirective),
+    }
+}

@@ -1,0 +1,117 @@
+//! What a script does with a worker: it holds its stand, and ends its thread.
+use crate::fault::Fault;
+use crate::passes::Passes;
+use crate::printer::Printer;
+use crate::stand::{Passage, Place, Stand};
+use crate::words::{first_word, number};
+use stage_workers::Pass;
+use std::sync::Wait;
+use std::sync::ledger::Ledger;
+use std::thread::{JoinHandle, Threads};
+
+/// A worker's thread.
+pub type Started<C, P, S> = Result<JoinHandle<Pass<C, P, S>>, Fault>;
+
+#[derive(Drop)]
+pub struct Hand<'s, C: Ledger, P: Ledger, S: Ledger, R> {
+    pub stand: &'s Stand<'s, R>,
+    /// The thread, and the place of the pass that it has.
+    thread: Option<(u64, JoinHandle<Pass<C, P, S>>)>,
+}
+
+impl<'s, C: Ledger, P: Ledger, S: Ledger, R: Wait> Hand<'s, C, P, S, R> {
+    pub fn new(stand: &'s Stand<'s, R>) -> Self {
+        Hand {
+            stand,
+            thread: None,
+        }
+    }
+
+    /// The thread was started with the pass of a place, if it could be.
+    pub fn keep(&mut self, place: u64, started: Started<C, P, S>) -> Result<(), Fault> {
+        match started {
+            Ok(thread) => {
+                self.thread = Some((place, thread));
+                Ok(())
+            }
+            Err(fault) => Err(fault),
+        }
+    }
+
+    /// Waits for the end of the thread, and puts its pass back.
+    pub fn end<H: Threads>(&mut self, rt: &H, passes: &mut Passes<C, P, S>) -> Result<(), Fault> {
+        let (place, thread) = self.thread.take().ok_or(Fault::NoThread)?;
+        passes.put(place, thread.join(rt));
+        Ok(())
+    }
+}
+
+/// A place and a number.
+fn place_and_number(words: &str) -> Result<(Place, u64), Fault> {
+    let (word, rest) = first_word(words);
+    Ok((Place::named(word)?, number(rest)?))
+}
+
+fn plan<R: Wait>(stand: &Stand<'_, R>, words: &str, passage: Passage) -> Result<(), Fault> {
+    let (place, number) = place_and_number(words)?;
+    stand.plan(place, number, passage);
+    Ok(())
+}
+
+fn wait_passed<R: Wait>(stand: &Stand<'_, R>, words: &str) -> Result<(), Fault> {
+    let (place, number) = place_and_number(words)?;
+    stand.wait_passed(place, number);
+    Ok(())
+}
+
+fn tell_count<R: Wait>(
+    stand: &Stand<'_, R>,
+    printer: &mut Printer,
+    word: &str,
+) -> Result<(), Fault> {
+    let place = Place::named(word)?;
+    printer.count("count", stand.count(place));
+    Ok(())
+}
+
+fn set_width<R: Wait>(stand: &Stand<'_, R>, word: &str) -> Result<(), Fault> {
+    stand.set_width(number(word)? as usize);
+    Ok(())
+}
+
+fn tell_written<R: Wait>(stand: &Stand<'_, R>, printer: &mut Printer) -> Result<(), Fault> {
+    let written = stand.take_written()?;
+    printer.hex("written", &written);
+    Ok(())
+}
+
+/// Lets a worker go on, or waits for it; whether the word says so.
+fn take_wait<R: Wait>(stand: &Stand<'_, R>, word: &str) -> bool {
+    match word {
+        "free" => stand.free(),
+        "held" => stand.wait_standing(),
+        "go" => stand.go(),
+        _ => return false,
+    }
+    true
+}
+
+/// Does what a line asks of a worker's stand.
+pub fn take_stand<R: Wait>(
+    stand: &Stand<'_, R>,
+    printer: &mut Printer,
+    word: &str,
+    rest: &str,
+) -> Result<(), Fault> {
+    match word {
+        "hold" => plan(stand, rest, Passage::Stands),
+        "fail" => plan(stand, rest, Passage::Fails),
+        "empty" => plan(stand, rest, Passage::Empty),
+        "passed" => wait_passed(stand, rest),
+        "count" => tell_count(stand, printer, rest),
+        "takes" => set_width(stand, rest),
+        "written" => tell_written(stand, printer),
+        _ if take_wait(stand, word) => Ok(()),
+        _ => Err(Fault::NoDirective),
+    }
+}
