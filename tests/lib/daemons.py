@@ -134,6 +134,9 @@ class Daemon:
         """Starts it, and waits until it listens; limits are pairs for setrlimit."""
 
         def limit():
+            # Signals end it, also where the test was begun by `nohup`.
+            for it in (signal.SIGHUP, signal.SIGINT, signal.SIGTERM):
+                signal.signal(it, signal.SIG_DFL)
             for what, count in limits:
                 resource.setrlimit(what, (count, resource.getrlimit(what)[1]))
 
