@@ -9,7 +9,8 @@ use Rattle.state_codec.specs.declared.refusal.BodyError.TheVariants.{NoMemory, B
 use Rattle.state_codec.specs.Applied.{applied, applied_from, all_applied}
 use Rattle.state_codec.specs.Body.{told, told_place, body_from, body_applied, GivesBody}
 use Rattle.state_codec.specs.Fields.{Field}
-use Rattle.state_codec.specs.Reading.{ops_reading, in_bytes}
+use Rattle.state_codec.specs.Layout.{layout_1}
+use Rattle.state_codec.specs.Reading.{ops_reading}
 use Rattle.state_codec.specs.ReadingOps.{op_at, ops_at}
 use Rattle.state_codec.specs.SavedState.{SavedState}
 use Rattle.state_codec.specs.Steps.{◌>>=◌}
@@ -25,9 +26,9 @@ record Gives (i : ℕ) (read : Result (List Op) ℕ) (s t : SavedState) : Type 0
 
 -- what follows an op, where it applies
 of_applied : (total n i : ℕ) (s t : SavedState) (op : Op) (back : List ℕ) (o : Option SavedState)
-    → ((next : SavedState) → body_from total n (suc i) back next ≡ Ok t → Gives (suc i) (ops_at n back) next t)
-    → applied op s ≡ o → (ok_or o (DoesNotApply i) >>= λ next. body_from total n (suc i) back next) ≡ Ok t
-    → Gives i (ops_at n back >>= λ others. Ok (op ∷ others)) s t
+    → ((next : SavedState) → body_from layout_1 total n (suc i) back next ≡ Ok t → Gives (suc i) (ops_at layout_1 n back) next t)
+    → applied op s ≡ o → (ok_or o (DoesNotApply i) >>= λ next. body_from layout_1 total n (suc i) back next) ≡ Ok t
+    → Gives i (ops_at layout_1 n back >>= λ others. Ok (op ∷ others)) s t
 of_applied total n i s t op back None more at is = absurd cc
 of_applied total n i s t op back (Some next) more at is =
     let behind = more next is in
@@ -35,27 +36,30 @@ of_applied total n i s t op back (Some next) more at is =
 
 -- an op that was read, and what follows
 of_read : (total n i : ℕ) (s t : SavedState) (read : Field Op)
-    → ((back : List ℕ) (next : SavedState) → body_from total n (suc i) back next ≡ Ok t → Gives (suc i) (ops_at n back) next t)
-    → (told total read >>= λ op. ok_or (applied op.0 s) (DoesNotApply i) >>= λ next. body_from total n (suc i) op.1 next) ≡ Ok t
-    → Gives i (read >>= λ first. ops_at n first.1 >>= λ others. Ok (first.0 ∷ others)) s t
+    → ((back : List ℕ) (next : SavedState) → body_from layout_1 total n (suc i) back next ≡ Ok t
+    → Gives (suc i) (ops_at layout_1 n back) next t)
+    → (told total read >>= λ op. ok_or (applied op.0 s) (DoesNotApply i) >>= λ next. body_from layout_1 total n (suc i) op.1 next) ≡ Ok t
+    → Gives i (read >>= λ first. ops_at layout_1 n first.1 >>= λ others. Ok (first.0 ∷ others)) s t
 of_read total n i s t (Err left) more is = absurd cc
 of_read total n i s t (Ok op) more is = of_applied total n i s t op.0 op.1 (applied op.0 s) (more op.1) refl is
 
 same_state : (s t : SavedState) → (let end : Result SavedState BodyError = Ok s in end ≡ Ok t) → s ≡ t
 same_state s t is = cc
 
-ops_give : (total n i : ℕ) (bytes : List ℕ) (s t : SavedState) → body_from total n i bytes s ≡ Ok t → Gives i (ops_at n bytes) s t
+ops_give : (total n i : ℕ) (bytes : List ℕ) (s t : SavedState) → body_from layout_1 total n i bytes s ≡ Ok t
+    → Gives i (ops_at layout_1 n bytes) s t
 unfolding body_from ops_at
 ops_give total n i [] s t is = record { ops = []; spells = refl; applies = ap Ok (same_state s t is) }
 ops_give total zero i (b ∷ rest) s t is = absurd cc
-ops_give total (suc n) i (b ∷ rest) s t is = of_read total n i s t (op_at (b ∷ rest)) (λ back next. ops_give total n (suc i) back next t) is
+ops_give total (suc n) i (b ∷ rest) s t is = of_read total n i s t (op_at layout_1 (b ∷ rest)) (λ back next. ops_give total n (suc i)
+    back next t) is
 
 -- a body that gives a state
 given_body : (b : Bool) (body : List ℕ) (s t : SavedState) → (length body == 0) ≡ b
     → body_applied body s ≡ Ok t → after_record body s ≡ Some t
 given_body true body s t empty is = absurd (let no : Err (BadOp 0) ≡ Ok t = (rw empty at is) in cc)
 given_body false body s t some is =
-    let from : body_from (length body) (length body) 0 body s ≡ Ok t = (rw some at is) in
+    let from : body_from layout_1 (length body) (length body) 0 body s ≡ Ok t = (rw some at is) in
     let whole = ops_give (length body) (length body) 0 body s t from in
     let read : ops_reading body ≡ Ok whole.ops = rw (some, whole.spells) refl in
     rw (read, whole.applies) refl

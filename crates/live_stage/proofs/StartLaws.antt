@@ -222,3 +222,25 @@ checkpoint_fault old new e snapshot s spelled good usable next one refuses is =
     let fits : length snapshot ≤ 4294967295 = omega (arith, short, ap length spelled) in
     only_fault e one (λ t. let too = (refuses.too_long usable).0 (ap Err t) in omega (arith, too, fits))
     (λ t. next ((refuses.numbers_spent usable fits).0 (ap Err t))) is
+
+-- A checkpoint is never refused for numbers, and for want of memory only where the journal met no fault.
+pub not_spent : (e : JournalError) → checkpoint_error e ≡ turns.NumbersSpent → ⊥
+not_spent journal.NotEmpty is = cc
+not_spent journal.NoJournal is = cc
+not_spent (journal.Damaged offset) is = cc
+not_spent journal.DiskFault is = cc
+not_spent journal.NoMemory is = cc
+not_spent journal.TooLong is = cc
+not_spent journal.NumbersSpent is = cc
+
+pub for_memory : (e : JournalError) → checkpoint_error e ≡ turns.NoMemory → e ≡ journal.DiskFault → ⊥
+for_memory journal.NotEmpty is fault = cc
+for_memory journal.NoJournal is fault = cc
+for_memory (journal.Damaged offset) is fault = cc
+for_memory journal.DiskFault is fault = cc
+for_memory journal.NoMemory is fault = cc
+for_memory journal.TooLong is fault = cc
+for_memory journal.NumbersSpent is fault = cc
+
+pub fault_is : {T : Type 0} (e f : JournalError) → (let r : Result T JournalError = Err e in r ≡ Err f) → e ≡ f
+fault_is e f is = cc

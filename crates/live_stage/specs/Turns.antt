@@ -1,10 +1,11 @@
 -- How a stage goes on from one call to the next.
-use Rattle.std.specs.Prelude.{◌≡◌, ◌≢◌, ◌⊎◌, ◌↔◌, ◌≤◌, true, false, not, Bool, ℕ, List, [], ◌∷◌, length, Some, Result, Err, MatchBool}
+use Rattle.std.specs.Prelude.{◌≡◌, ◌≢◌, ◌⊎◌, ◌↔◌, ◌≤◌, true, false, not, Bool, ℕ, ◌+◌, List, [], ◌∷◌, length, Some, Result, Err, MatchBool}
 use Rattle.std.specs.Prelude.{OnOk, OnErr, IfErr, if◌then◌else◌}
 use Rattle.disk_model.specs.History.{Change}
 use Rattle.disk_model.specs.Later.{HasFailed}
 use Rattle.play_journal.specs.Calls.{SameFaults}
-use Rattle.play_journal.specs.Content.{Content, with_record, with_snapshot, IsOldOrNew}
+use Rattle.play_journal.specs.Content.{Content, last_record, with_record, with_snapshot, IsOldOrNew}
+use Rattle.play_journal.specs.JournalState.{JournalState}
 use Rattle.play_journal.specs.Pair.{AllPairsNow, AllPairsSince}
 use Rattle.state_codec.specs.declared.op.Op.{Op}
 use Rattle.state_codec.specs.SavedState.{SavedState}
@@ -12,6 +13,7 @@ use Rattle.state_codec.specs.Spelling.{ops_bytes, saved_bytes}
 use Rattle.daemon_core.specs.State.{start}
 use Rattle.live_stage.specs.declared.refusal.LiveError.{LiveError}
 use Rattle.live_stage.specs.declared.refusal.LiveError.TheVariants.{Broken, NoMemory, NumbersSpent}
+use Rattle.live_stage.specs.Found.{state_of}
 use Rattle.live_stage.specs.LiveState.{LiveState}
 use Rattle.live_stage.specs.Numbers.{AreSpent, greatest, is_due, most_records, next_file, ready_file, file_found, numbers_found}
 
@@ -27,10 +29,13 @@ pub record IsOver {D : Type 0} (content : Content) (live : LiveState D) : Type 0
   pub file : live.file ≡ file_found content
   pub says : live.content ≡ content
 
--- whatever a crash now leaves of the files gives the content of the stage, and its records are those that are counted
+-- whatever a crash now leaves of the files gives the content of the stage, which stands for its state, and its numbers are those that
+-- the stage counts
 pub record IsStored {D : Type 0} (history : D → List Change) (live : LiveState D) : Type 0 where
   pub kept : AllPairsNow (λ f. f ≡ Some live.content) (history live.a) (history live.b)
-  pub counted : length live.content.records ≡ live.file.records
+  pub state : state_of (Some live.content) ≡ Some live.state.machine.saved
+  pub file : live.file ≡ file_found live.content
+  pub numbered : live.numbers.last_record ≡ last_record live.content
 
 -- the saved state as a snapshot
 abbrev pub snapshot_of : {D : Type 0} → LiveState D → List ℕ
@@ -52,10 +57,21 @@ pub record IsCheckpointing {D : Type 0} (history : D → List Change) (old new :
   pub during : AllPairsSince (IsOldOrNew old.content (snapshot_of old))
       (history new.a) (length (history old.a)) (history new.b) (length (history old.b))
 
+-- so many calls of the two disks were made at most
+abbrev pub CallsAtMost : ℕ → List Change → List Change → List Change → List Change → Type 0
+CallsAtMost most old_a old_b new_a new_b = length new_a + length new_b ≤ length old_a + length old_b + most
+
 -- From its `Ok` on they give the latter alone.
 pub record HoldsSnapshot {D : Type 0} (history : D → List Change) (old new : LiveState D) : Type 0 where
   pub says : new.content ≡ with_snapshot old.content (snapshot_of old)
   pub kept : AllPairsNow (λ f. f ≡ Some new.content) (history new.a) (history new.b)
+
+-- A journal that was asked for a checkpoint with a next generation refuses it for want of memory, and then nothing was done, or by a disk
+-- fault, and then it is spent.
+pub record RefusesSnapshot {D T : Type 0} (old new : JournalState D) (result : Result T LiveError) : Type 0 where
+  pub never : result ≢ Err NumbersSpent
+  pub no_memory : result ≡ Err NoMemory → new ≡ old
+  pub spends : result ≡ Err Broken → new.is_spent ≡ true
 
 -- A stage that was broken refuses a checkpoint; then a generation that is spent is refused. A disk fault breaks the stage, any other
 -- refusal leaves it as it was.

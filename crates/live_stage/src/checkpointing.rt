@@ -1,5 +1,5 @@
 // The state as a new snapshot.
-ghost use Rattle.std.specs.Prelude.{◌≡◌, ◌≢◌, ◌+◌, ◌-◌, ◌^◌, false, true, length, Err, OnOk, MatchBool};
+ghost use Rattle.std.specs.Prelude.{◌≡◌, ◌≢◌, ◌-◌, ◌^◌, false, length, Err, OnOk, MatchBool};
 ghost use Rattle.disk_model.specs.Later.{AreLater, HasFailed};
 ghost use Rattle.play_journal.specs.Calls.{Holds, IsNextGeneration, SameFaults};
 ghost use Rattle.play_journal.specs.Content.{with_snapshot, IsOldOrNew};
@@ -7,6 +7,7 @@ ghost use Rattle.play_journal.specs.Pair.{AllPairsSince};
 ghost use Rattle.state_codec.specs.SavedState.{IsSavedState};
 ghost use Rattle.state_codec.specs.Spelling.{saved_bytes};
 ghost use Rattle.live_stage.specs.Errors.{checkpoint_error};
+ghost use Rattle.live_stage.specs.Turns.{CallsAtMost, RefusesSnapshot};
 
 use crate::LiveError;
 use disk_model::Disk;
@@ -30,11 +31,11 @@ pub(crate) fn write_snapshot<D: Disk>(
     ensures in_range { IsSavedState saved.now }
     ensures next { OnOk result (IsNextGeneration journal.old journal.new) }
     ensures met_none { OnOk result (SameFaults D.faults journal.old.a journal.old.b journal.new.a journal.new.b) }
-    ensures never { result ≢ Err LiveError.NumbersSpent }
-    ensures no_memory { result ≡ Err LiveError.NoMemory → journal.new ≡ journal.old }
-    ensures spends { result ≡ Err LiveError.Broken → journal.new.is_spent ≡ true }
+    ensures refuses { RefusesSnapshot journal.old journal.new result }
     ensures fault { D.honest journal.old.a → D.honest journal.old.b → result ≡ Err LiveError.Broken
         → HasFailed D.faults journal.old.a journal.old.b journal.new.a journal.new.b }
+    ensures calls { D.honest journal.old.a → D.honest journal.old.b → OnOk result (CallsAtMost 9 (D.history journal.old.a)
+        (D.history journal.old.b) (D.history journal.new.a) (D.history journal.new.b)) }
     ensures old_file { MatchBool journal.old.is_in_b (journal.new.b ≡ journal.old.b) (journal.new.a ≡ journal.old.a) }
     ensures later { AreLater D.honest D.history D.faults journal.old.a journal.old.b journal.new.a journal.new.b }
 {

@@ -12,7 +12,7 @@ ghost use Rattle.daemon_core.specs.Step.{step};
 ghost use Rattle.live_stage.specs.Answer.{IsTurn, IsHandled, IsBeforeOrAfter, HasNoOps};
 ghost use Rattle.live_stage.specs.Errors.{IsRefusalOfCreate, IsRefusalOfOpen, IsCause, start_error};
 ghost use Rattle.live_stage.specs.Numbers.{first_numbers, first_file, greatest, is_due, AreCountsSpent, AreSpent};
-ghost use Rattle.live_stage.specs.Turns.{IsBegun, IsOver, IsStored, IsCheckpointed, IsCheckpointing, HoldsSnapshot, RefusesCheckpoint};
+ghost use Rattle.live_stage.specs.Turns.{IsBegun, IsOver, IsStored, IsCheckpointed, IsCheckpointing, HoldsSnapshot, RefusesCheckpoint, CallsAtMost};
 ghost use Rattle.live_stage.specs.Turns.{IsReady, IsWritten, StaysInFile, WritesOneFile, MakesNoCall, LeavesAsIs, TellsFaults, RefusesInOrder};
 ghost use Rattle.live_stage.specs.Turns.{ready_content, recorded_content, writes_to_b};
 ghost use Rattle.live_stage.specs.Found.{found_state, AllFindNow, AllFindSince, KeepsFoundState};
@@ -214,7 +214,7 @@ impl<D: Disk> Live<D> {
         }
         self.make_ready(alloc)?;
         let turn = self.handle(alloc, event)?;
-        // As long as it isn't broken, the files say what is stored.
+        // As long as it isn't broken, the files say what is stored, and the stage's numbers are theirs.
         let _broken = self.is_broken();
         Ok(turn)
     }
@@ -238,8 +238,10 @@ impl<D: Disk> Live<D> {
         ensures refuses { RefusesCheckpoint self.old self.new result }
         ensures fault { TellsFaults D.honest D.faults self.old self.new result }
 
-        // The file that was in use isn't touched.
+        // The file that was in use isn't touched, and the other by nine calls of its disk at most.
         ensures old_file { MatchBool self.old.is_in_b (self.new.b ≡ self.old.b) (self.new.a ≡ self.old.a) }
+        ensures calls { D.honest self.old.a → D.honest self.old.b → OnOk result (CallsAtMost 9 (D.history self.old.a)
+            (D.history self.old.b) (D.history self.new.a) (D.history self.new.b)) }
         ensures later { AreLater D.honest D.history D.faults self.old.a self.old.b self.new.a self.new.b }
     {
         if self.journal.is_spent() {
@@ -348,7 +350,6 @@ impl<D: Disk> Live<D> {
             → AllFindNow (λ f. f ≡ Some self.now.state.machine.saved) (D.history self.now.a) (D.history self.now.b) }
         ensures stored { D.honest self.now.a → D.honest self.now.b → self.now.is_broken ≡ false → IsStored D.history self.now }
     {
-        let _records = self.journal.records_since_checkpoint();
         self.journal.is_spent()
     }
 

@@ -10,10 +10,11 @@ pub enum LiveError {
     /// A disk failed, in this call or in an earlier one. Nothing more is served: open the files again.
     #[error("broken by a disk fault")]
     Broken,
-    /// There was no memory. Nothing was done.
+    /// There was no memory. Nothing was done, but for the checkpoint that may have been due before an event.
     #[error("out of memory")]
     NoMemory,
-    /// The last event or the last record has the number 2^64 - 1. Nothing was done.
+    /// The last event or the last record has the number 2^64 - 1, or the file to which records go has the last generation, which is
+    /// that too, and a checkpoint is wanted. Nothing was done.
     #[error("numbers are spent")]
     NumbersSpent,
 }

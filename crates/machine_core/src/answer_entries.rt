@@ -21,7 +21,7 @@ pub(crate) fn write_position(
     let Some(entry) = saved.queue().get(position) else {
         return Ok(());
     };
-    match saved.songs().get(entry.uri.as_str()) {
+    match saved.songs().row_of(&entry.uri) {
         Ok(row) => write_entry(out, row, position, entry),
         Err(_) => Ok(()),
     }

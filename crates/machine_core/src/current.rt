@@ -57,7 +57,7 @@ impl Machine {
         ensures { option_copied result ≡ option_and_then (entry_row self.now.saved.songs) (option_copied entry.entry) }
     {
         let entry = entry?;
-        match self.saved.songs().get(entry.uri.as_str()) {
+        match self.saved.songs().row_of(&entry.uri) {
             Ok(row) => Some(row),
             Err(_) => None,
         }

@@ -99,7 +99,7 @@ impl Machine {
         let Some(entry) = current_entry(entries, self.player.current()) else {
             return Ok(());
         };
-        match self.player.broken(alloc, ticket, cause, &entry.uri) {
+        match self.player.broken(alloc, ticket, cause, entry.uri.as_uri()) {
             Ok(()) => Ok(()),
             Err(_) => Err(NoMemory),
         }

@@ -4,7 +4,7 @@ ghost use Rattle.play_queue.specs.Entries.{deleted, added, new_entries};
 ghost use Rattle.play_queue.specs.Restamp.{exchanged};
 
 use crate::entry::Entry;
-use song_db::Uri;
+use song_db::RowUri;
 use std::alloc::{AllocError, Global};
 
 // Takes out a block. Entries in front of it aren't touched.
@@ -47,7 +47,7 @@ fn exchange_in(entries: &mut [Entry], low: usize, middle: usize, high: usize)
 }
 
 // Adds entries at the end, with ids that rise from `first` on.
-pub(crate) fn push_all(entries: &mut Vec<Entry>, first: u32, uris: Vec<Uri>)
+pub(crate) fn push_all(entries: &mut Vec<Entry>, first: u32, uris: Vec<RowUri>)
     requires room { vec_len entries.old + vec_len uris ≤ vec_capacity entries.old }
     requires ids { first + vec_len uris < 2 ^ 32 }
     ensures { entries.new.items ≡ entries.old.items ++ new_entries first uris.items }
@@ -65,7 +65,7 @@ pub(crate) fn push_all(entries: &mut Vec<Entry>, first: u32, uris: Vec<Uri>)
 }
 
 // Adds entries in front of position `at`.
-pub(crate) fn insert_all(entries: &mut Vec<Entry>, at: usize, first: u32, uris: Vec<Uri>)
+pub(crate) fn insert_all(entries: &mut Vec<Entry>, at: usize, first: u32, uris: Vec<RowUri>)
     requires in_range { at ≤ length entries.old.items }
     requires room { vec_len entries.old + vec_len uris ≤ vec_capacity entries.old }
     requires ids { first + vec_len uris < 2 ^ 32 }

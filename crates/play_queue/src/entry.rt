@@ -1,6 +1,6 @@
 ghost use Rattle.std.specs.Prelude.{◌≡◌, IfOk};
 
-use song_db::Uri;
+use song_db::RowUri;
 use std::alloc::{AllocError, Global};
 
 /// One entry of the queue.
@@ -8,8 +8,8 @@ use std::alloc::{AllocError, Global};
 pub struct Entry {
     /// From 1 to 2147483647; no later entry has it again.
     pub id: u32,
-    /// The song that is played.
-    pub uri: Uri,
+    /// The song that is played, with where its row was last known to stand.
+    pub uri: RowUri,
     /// From 0 to 255; in random mode a greater one goes first.
     pub priority: u8,
     /// The version of the queue that last changed what stands at the entry's position.

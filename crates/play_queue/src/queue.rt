@@ -18,7 +18,7 @@ use crate::rows::{before_first, has_any, keep_others, restamp_batch};
 use crate::shuffling::shuffle;
 use crate::stamping::{restamp, restamp_pair};
 use crate::uris::SortedUris;
-use song_db::Uri;
+use song_db::RowUri;
 use std::alloc::{AllocError, Global};
 use std::marker::Model;
 
@@ -194,7 +194,7 @@ impl Queue {
     ///
     /// Refused by `BadIndex` where `at` is past the end, by `QueueFull` where there would be more than 16,384 entries,
     /// then by `IdsSpent` where an id would pass 2147483647, and by `NoMemory`.
-    pub fn add_at(&mut self, at: usize, uris: Vec<Uri>) -> Result<u32, QueueError>
+    pub fn add_at(&mut self, at: usize, uris: Vec<RowUri>) -> Result<u32, QueueError>
         ensures first { IfOk result (λ id. id ≡ self.old.next_id) }
         ensures ok { OnOk result (self.new
             ≡ record (ruled self.old (added self.old.entries at (new_entries self.old.next_id uris.items)) []) {

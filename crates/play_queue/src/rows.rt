@@ -15,7 +15,7 @@ pub(crate) fn before_first(entries: &[Entry], uris: &SortedUris) -> usize
 {
     entries
         .iter()
-        .take_while(|entry| !uris.contains(&entry.uri))
+        .take_while(|entry| !uris.contains(entry.uri.as_uri()))
         .count()
 }
 
@@ -23,7 +23,9 @@ pub(crate) fn before_first(entries: &[Entry], uris: &SortedUris) -> usize
 pub(crate) fn has_any(entries: &[Entry], uris: &SortedUris) -> bool
     ensures { result ≡ list_any (λ entry. is_among uris.now entry.uri) entries.now }
 {
-    entries.iter().any(|entry| uris.contains(&entry.uri))
+    entries
+        .iter()
+        .any(|entry| uris.contains(entry.uri.as_uri()))
 }
 
 // Brings the entries of other URIs to the front, in their order, and says how many they are.
@@ -33,7 +35,7 @@ fn bring_others_forward(entries: &mut [Entry], uris: &SortedUris) -> usize
 {
     let mut count = 0;
     for at in 0..entries.len() {
-        if !uris.contains(&entries[at].uri) {
+        if !uris.contains(entries[at].uri.as_uri()) {
             entries.swap(count, at);
             count += 1;
         }
@@ -71,7 +73,7 @@ fn stamp_rows(entries: &mut [Entry], uris: &SortedUris, stamp: u32)
 fn stamp_row(entry: &mut Entry, uris: &SortedUris, stamp: u32)
     ensures { entry.new ≡ (if is_among uris.now entry.old.uri then with_stamp stamp entry.old else entry.old) }
 {
-    if uris.contains(&entry.uri) {
+    if uris.contains(entry.uri.as_uri()) {
         entry.stamp = stamp;
     }
 }

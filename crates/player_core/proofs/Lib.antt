@@ -3,3 +3,4 @@ pub mod Least
 pub mod Leaving
 pub mod LeftBlock
 pub mod DrawnOrder
+pub mod MadeWords

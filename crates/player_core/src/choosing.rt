@@ -7,9 +7,10 @@ ghost use Rattle.player_core.specs.Candidates.{better, is_counted, counted};
 
 use crate::block::Block;
 use crate::choice::Choice;
+use crate::round_words::RoundWords;
 use crate::settings::PlaySettings;
 use crate::staying::{first_staying, takes};
-use crate::words::{next_order, word};
+use crate::words::next_order;
 use indexmap::IndexSet;
 use play_queue::Entry;
 use song_db::Uri;
@@ -73,15 +74,12 @@ fn least(
 ) -> Option<u32>
     ensures { result ≡ least draw.key draw.order (counted is_new current played.now.keys (all_staying block dropped.now entries.now)) }
 {
+    let mut words = RoundWords::new(draw.key, draw.order);
     let mut best = None;
     for at in (0..entries.len()).rev() {
         let entry = &entries[at];
         if !takes(block, dropped, at, entry) && is_counted(is_new, current, played, entry) {
-            let drawn = (
-                entry.id,
-                entry.priority,
-                word(draw.key, draw.order, entry.id),
-            );
+            let drawn = (entry.id, entry.priority, words.word(entry.id));
             best = Some(better(drawn, best));
         }
     }

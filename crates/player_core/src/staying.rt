@@ -17,7 +17,7 @@ fn is_among(uris: &[Uri], uri: &Uri) -> bool
 pub(crate) fn takes(block: Block, dropped: &[Uri], at: usize, entry: &Entry) -> bool
     ensures { result ≡ takes block dropped.now at entry.now }
 {
-    (block.start <= at && at < block.end) || is_among(dropped, &entry.uri)
+    (block.start <= at && at < block.end) || is_among(dropped, entry.uri.as_uri())
 }
 
 // The id of the first entry from a position on that stays.

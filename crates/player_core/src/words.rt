@@ -1,6 +1,7 @@
 ghost use Rattle.std.specs.Prelude.{◌≡◌, map, IfOk};
 ghost use Rattle.player_core.specs.Words.{word, next_order};
 
+use crate::round_words::RoundWords;
 use play_queue::Entry;
 use rand_chacha::ChaCha8Rng;
 use rand_core::SeedableRng;
@@ -26,10 +27,12 @@ pub fn words_of(
 ) -> Result<Vec<u32>, AllocError>
     ensures { IfOk result (λ words. words.items ≡ map (λ entry. word key order entry.id) entries.now) }
 {
-    entries
-        .iter()
-        .map(|entry| word(key, order, entry.id))
-        .collect(alloc)
+    let mut round = RoundWords::new(key, order);
+    let mut words = Vec::with_capacity(alloc, entries.len())?;
+    for entry in entries {
+        words.push(round.word(entry.id))?;
+    }
+    Ok(words)
 }
 
 /// The order number after one; 0 follows 2^64-1.

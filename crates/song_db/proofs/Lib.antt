@@ -7,6 +7,7 @@ mod Counts
 pub mod Differences
 mod FolderRuns
 mod Folders
+mod Gathered
 mod HonestSteps
 mod Known
 mod KnownRows
@@ -21,6 +22,7 @@ mod ReadSteps
 pub mod Replaced
 pub mod Rising
 pub mod RowPlaces
+mod RowSplits
 pub mod SameRows
 mod Slashes
 mod Taken

@@ -1,6 +1,6 @@
 -- Which beginnings of a path are folders.
 use Rattle.std.proofs.Common.{◌≡◌, ◌⊎◌, inl, inr, ℕ, zero, suc, ◌<◌, ◌≤◌, Bool, true, false, not, ◌&&◌, ◌||◌, List, [], ◌∷◌, ◌++◌}
-use Rattle.std.proofs.Common.{length, take, drop, get_or, nat_eq, refl, sym, ap, subst, ◌∙◌, arith, length-take}
+use Rattle.std.proofs.Common.{length, take, drop, get_or, nat_eq, nat_lt, cond, refl, sym, ap, subst, ◌∙◌, arith, length-take}
 use Rattle.std.proofs.lemmas.Bool.{cases_lt}
 use Rattle.std.proofs.lemmas.Bool.Decides.{nat_tests}
 use Rattle.std.proofs.lemmas.List.{take-append-drop}
@@ -8,7 +8,8 @@ use Rattle.std.specs.Prelude.{Option, Some, None, option_to_list, if◌then◌el
 use Rattle.std.specs.List.{list_any}
 use Rattle.std.specs.List.Sorted.{IsPartitionPoint, IsStrictlySortedBy}
 use Rattle.std.specs.Str.{bytes_eq}
-use Rattle.std.specs.Ordering.{is_lt}
+use Rattle.std.specs.declared.cmp.Ordering.TheVariants.{Less, Equal, Greater}
+use Rattle.std.specs.Ordering.{is_lt, ordering_then}
 use Rattle.song_db.specs.declared.place.Place.{Place}
 use Rattle.song_db.specs.Place.{is_below}
 use Rattle.song_db.specs.Replaced.{IsRising, IsBefore, IsNotBefore}
@@ -107,6 +108,27 @@ none_behind row (next ∷ rows) n rising within short =
 
     late : is_lt (texts next.uri (take n row.uri ++ 48 ∷ [])) ≡ false
     late = passed (take n row.uri) (drop n row.uri) next.uri (rw whole rising.0.0) (rw whole (omega (arith, length-take n row.uri)))
+
+past_slash : (path : List ℕ) (n : ℕ) → n < length path → 47 < get_or path n 0 → is_lt (texts path (take n path ++ 48 ∷ [])) ≡ false
+past_slash [] n within past = absurd (omega arith)
+past_slash (x ∷ xs) zero within past = by_cases (nat_lt x 48) refl (nat_eq x 48) refl xs
+  where
+    by_cases : (a : Bool) → nat_lt x 48 ≡ a → (b : Bool) → nat_eq x 48 ≡ b → (xs : List ℕ)
+        → is_lt (ordering_then (cond a Less (cond b Equal Greater)) (texts xs [])) ≡ false
+    by_cases true g b h xs = absurd (grind (arith, nat_tests))
+    by_cases false g true h [] = refl
+    by_cases false g true h (y ∷ ys) = refl
+    by_cases false g false h xs = refl
+past_slash (x ∷ xs) (suc n) within past =
+    let less : nat_lt x x ≡ false = grind (arith, nat_tests) in
+    let same : nat_eq x x ≡ true = grind (arith, nat_tests) in
+    rw (less, same) (past_slash xs n (omega arith) past)
+
+-- where the path goes on with a byte behind a slash, nothing from there on is below what it begins with
+pub none_past : (row : Row) (rows : List Row) (n : ℕ) → IsRising row_uri (row ∷ rows) → n < length row.uri → 47 < get_or row.uri n 0
+    → list_any (λ r. is_below (take n row.uri) r.uri) (row ∷ rows) ≡ false
+none_past row rows n rising within past = any_none (λ r. is_below (take n row.uri) r.uri) (row ∷ rows) no_row (λ k inside. behind_all
+    (row ∷ rows) (take n row.uri) 0 rising (omega arith) (past_slash row.uri n within past) k (omega arith) inside)
 
 -- the text of a folder, read from a path below it
 pub text_below : (folder path : List ℕ) → is_below folder path ≡ true → Begins folder path

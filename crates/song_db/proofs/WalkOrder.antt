@@ -45,13 +45,13 @@ all_also : {X : Type 0} (P Q : X → Type 0) → ((x : X) → P x → Q x) → (
 all_also P Q step [] all = tt
 all_also P Q step (x ∷ xs) all = (step x all.0, all_also P Q step xs all.1)
 
-sorted_drop : {X : Type 0} (c : X → X → Ordering) (n : ℕ) (xs : List X) → IsStrictlySortedBy c xs → IsStrictlySortedBy c (drop n xs)
+pub sorted_drop : {X : Type 0} (c : X → X → Ordering) (n : ℕ) (xs : List X) → IsStrictlySortedBy c xs → IsStrictlySortedBy c (drop n xs)
 unfolding IsStrictlySortedBy
 sorted_drop c zero xs sorted = sorted
 sorted_drop c (suc n) [] sorted = tt
 sorted_drop c (suc n) (x ∷ xs) sorted = sorted_drop c n xs sorted.1
 
-sorted_map : {X Y : Type 0} (c : X → X → Ordering) (d : Y → Y → Ordering) (f : X → Y) → ((x y : X) → c x y ≡ Less → d (f x) (f y) ≡ Less)
+pub sorted_map : {X Y : Type 0} (c : X → X → Ordering) (d : Y → Y → Ordering) (f : X → Y) → ((x y : X) → c x y ≡ Less → d (f x) (f y) ≡ Less)
     → (xs : List X) → IsStrictlySortedBy c xs → IsStrictlySortedBy d (map f xs)
 unfolding IsStrictlySortedBy
 sorted_map c d f step [] sorted = tt

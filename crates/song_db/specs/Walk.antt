@@ -74,6 +74,11 @@ abbrev pub shared : List ℕ → List Row → ℕ
 shared path [] = 0
 shared path (next ∷ rows) = common_prefix_len (λ a b. a == b) path next.uri
 
+-- how many bytes of the first path the second row begins with
+abbrev pub shared_first : List Row → ℕ
+shared_first [] = 0
+shared_first (row ∷ rows) = shared row.uri rows
+
 -- the folders among what the first song's path begins with, without the n shortest beginnings
 abbrev pub opened : Place → ℕ → List Row → List (List ℕ)
 opened place n [] = []

@@ -31,6 +31,17 @@ pub(crate) fn position(rows: &[SongRow], uri: &str) -> Option<usize>
     ensures row { option_and_then (slice_get rows.now) result ≡ row_at rows.now uri.now }
 {
     let at = split_point(rows, uri);
+    own_place(rows, uri, at)
+}
+
+// The same, at the place of the first row whose URI isn't below the given one.
+pub(crate) fn own_place(rows: &[SongRow], uri: &str, at: usize) -> Option<usize>
+    requires rising { IsRising row_uri rows.now }
+    requires split { IsPartitionPoint (IsBefore row_uri uri.now) (IsNotBefore row_uri uri.now) rows.now at }
+    ensures number { result ≡ number_at rows.now uri.now }
+    ensures bound { IfSome result (λ at. at < length rows.now) }
+    ensures row { option_and_then (slice_get rows.now) result ≡ row_at rows.now uri.now }
+{
     if at < rows.len() && rows[at].uri() == uri {
         return Some(at);
     }

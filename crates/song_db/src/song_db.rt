@@ -19,10 +19,12 @@ use crate::effect::Effects;
 use crate::folder_rows::{rows_below, run_below};
 use crate::known_rows::known_in;
 use crate::limits::MAX_ROWS;
+use crate::near::position_near;
 use crate::order::ScanOrder;
 use crate::place::Place;
 use crate::refusal::{PushError, SongDbError};
 use crate::row::SongRow;
+use crate::row_uri::RowUri;
 use crate::rows::{clone_rows, ends_before, position};
 use crate::texts::Texts;
 use crate::uri::Uri;
@@ -128,6 +130,25 @@ impl SongDb {
         ensures answer { AnswersExactlyIfThere (is_some (row_at self.now uri.now)) result }
     {
         position(&self.rows, uri).ok_or(SongDbError::NoSuchUri)
+    }
+
+    /// The song of a URI, looked for first where its row was last known to stand. Refused by `NoSuchUri`.
+    pub fn row_of(&self, uri: &RowUri) -> Result<&SongRow, SongDbError>
+        ensures row { IfOk result (λ row. row_at self.now uri.now ≡ Some row.now) }
+        ensures answer { AnswersExactlyIfThere (is_some (row_at self.now uri.now)) result }
+    {
+        match position_near(&self.rows, uri.as_str(), uri.number()) {
+            Some(number) => Ok(&self.rows[number]),
+            None => Err(SongDbError::NoSuchUri),
+        }
+    }
+
+    /// The number of a URI's song, looked for first where its row was last known to stand. Refused by `NoSuchUri`.
+    pub fn number_of(&self, uri: &RowUri) -> Result<usize, SongDbError>
+        ensures number { IfOk result (λ at. number_at self.now uri.now ≡ Some at) }
+        ensures answer { AnswersExactlyIfThere (is_some (row_at self.now uri.now)) result }
+    {
+        position_near(&self.rows, uri.as_str(), uri.number()).ok_or(SongDbError::NoSuchUri)
     }
 
     /// The songs under a place, by URI: they stand together. Refused by `NoSuchUri` where the place is no folder: none
@@ -244,7 +265,7 @@ impl SongDb {
         Ok(songs_of(alloc, rows, place)?)
     }
 
-    /// How many artists and albums the songs have, each counted once, in one pass that copies no text. Refused by `NoMemory`.
+    /// How many artists and albums the songs have, each counted once; no text is copied. Refused by `NoMemory`.
     pub fn value_counts(&self, alloc: Global) -> Result<ValueCounts, SongDbError>
         ensures artists { IfOk result (λ counts. counts.artists ≡ length (values_of self.now Artist)) }
         ensures albums { IfOk result (λ counts. counts.albums ≡ length (values_of self.now Album)) }

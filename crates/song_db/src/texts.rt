@@ -1,8 +1,13 @@
-ghost use Rattle.std.specs.Prelude.{◌≡◌, ◌↔◌, [], ◌∷◌, length, map, IsTrue, OnOk, OnErr};
+ghost use Rattle.std.specs.Prelude.{◌≡◌, ◌↔◌, [], ◌∷◌, length, map, IsTrue, IfOk, OnOk, OnErr};
+ghost use Rattle.std.specs.BTreeSet.{IsFromIterResult};
+ghost use Rattle.std.specs.Cmp.Lexicographic.{slice_cmp};
+ghost use Rattle.std.specs.Ordering.{nat_cmp};
+ghost use Rattle.song_db.specs.Query.{distinct_of};
 ghost use Rattle.song_db.specs.Replaced.{replaced};
 
 use std::alloc::{AllocError, Global};
 use std::collections::{BTreeSet, btree_set};
+use std::iter::{IntoIterator, Iterator};
 use std::marker::Model;
 
 /// Texts of the database in their order by bytes, each once.
@@ -27,6 +32,15 @@ impl<'a> Texts<'a> {
         Texts {
             texts: BTreeSet::new(alloc),
         }
+    }
+
+    // The texts of a list.
+    pub(crate) fn of(alloc: Global, texts: Vec<&'a str>) -> Result<Self, AllocError>
+        ensures { IfOk result (λ all. all ≡ distinct_of (map (λ text. text.now) texts.entry.items)) }
+    {
+        Ok(Texts {
+            texts: set_of(alloc, texts)?,
+        })
     }
 
     pub fn len(&self) -> usize
@@ -55,4 +69,10 @@ impl<'a> Texts<'a> {
         self.texts.insert(text)?;
         Ok(())
     }
+}
+
+fn set_of(alloc: Global, texts: Vec<&str>) -> Result<BTreeSet<&str>, AllocError>
+    ensures { IfOk result (IsFromIterResult (λ a b. slice_cmp nat_cmp a.now b.now) texts.entry.items) }
+{
+    texts.into_iter().collect(alloc)
 }

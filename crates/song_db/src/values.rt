@@ -1,4 +1,4 @@
-ghost use Rattle.std.specs.Prelude.{◌≡◌, ◌==◌, true, length, map, filter, IfOk, OnOk, IfSome, option_copied, option_to_list};
+ghost use Rattle.std.specs.Prelude.{◌≡◌, ◌==◌, true, [], ◌∷◌, length, map, filter, IsTrue, IfOk, OnOk, IfSome, option_copied, option_to_list};
 ghost use Rattle.std.specs.List.{filter_map, position};
 ghost use Rattle.song_db.specs.Place.{is_below};
 ghost use Rattle.song_db.specs.Replaced.{IsRising};
@@ -14,17 +14,49 @@ use crate::texts::Texts;
 use std::alloc::{AllocError, Global};
 use wave_pcm::Tag;
 
-// The values of a tag.
+// The values of a tag, which are sorted once.
 pub(crate) fn values_of(alloc: Global, rows: &[SongRow], tag: Tag) -> Result<Texts<'_>, AllocError>
     ensures { IfOk result (λ values. values ≡ values_of rows.now tag) }
 {
-    let mut values = Texts::new(alloc);
+    let values = row_values(alloc, rows, tag)?;
+    Texts::of(alloc, values)
+}
+
+// The values of a tag row by row, without one that the row before has, too.
+fn row_values(alloc: Global, rows: &[SongRow], tag: Tag) -> Result<Vec<&str>, AllocError>
+    ensures { IfOk result (λ values. distinct_of (map (λ value. value.now) values.items) ≡ values_of rows.now tag) }
+{
+    let mut values = Vec::new(alloc);
     for row in rows {
-        if let Some(text) = row.tag(tag) {
-            values.insert(text)?;
-        }
+        push_value(&mut values, row, tag)?;
     }
     Ok(values)
+}
+
+// Takes a row's value of a tag, if it has one, and it isn't the last one taken.
+fn push_value<'a>(values: &mut Vec<&'a str>, row: &'a SongRow, tag: Tag) -> Result<(), AllocError>
+    ensures { OnOk result (distinct_of (map (λ value. value.now) values.new.items)
+        ≡ with_texts (distinct_of (map (λ value. value.now) values.old.items)) (option_to_list (text_of row.now.tags tag))) }
+{
+    let Some(text) = row.tag(tag) else {
+        return Ok(());
+    };
+    if ends_with(values, text) {
+        return Ok(());
+    }
+    values.push(text)?;
+    Ok(())
+}
+
+// Whether a text is the last one, so that taking it once more changes nothing.
+fn ends_with(texts: &[&str], text: &str) -> bool
+    ensures { IsTrue result → (with_texts (distinct_of (map (λ t. t.now) texts.now)) (text.now
+        ∷ []) ≡ distinct_of (map (λ t. t.now) texts.now)) }
+{
+    match texts.last() {
+        None => false,
+        Some(last) => *last == text,
+    }
 }
 
 /// How many artists and albums there are, each counted once.
@@ -39,26 +71,12 @@ pub(crate) fn value_counts(alloc: Global, rows: &[SongRow]) -> Result<ValueCount
     ensures artists { IfOk result (λ counts. counts.artists ≡ length (values_of rows.now Artist)) }
     ensures albums { IfOk result (λ counts. counts.albums ≡ length (values_of rows.now Album)) }
 {
-    let mut artists = Texts::new(alloc);
-    let mut albums = Texts::new(alloc);
-    for row in rows {
-        insert_value(&mut artists, row, Tag::Artist)?;
-        insert_value(&mut albums, row, Tag::Album)?;
-    }
+    let artists = values_of(alloc, rows, Tag::Artist)?;
+    let albums = values_of(alloc, rows, Tag::Album)?;
     Ok(ValueCounts {
         artists: artists.len(),
         albums: albums.len(),
     })
-}
-
-// Takes a row's value of a tag, if it has one.
-fn insert_value<'a>(values: &mut Texts<'a>, row: &'a SongRow, tag: Tag) -> Result<(), AllocError>
-    ensures { OnOk result (values.new ≡ with_texts values.old (option_to_list (text_of row.now.tags tag))) }
-{
-    if let Some(text) = row.tag(tag) {
-        values.insert(text)?;
-    }
-    Ok(())
 }
 
 // The folders directly in a place that the rows stand below. The rows below a folder are passed by with a search.

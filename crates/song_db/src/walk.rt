@@ -9,7 +9,7 @@ ghost use Rattle.std.specs.Cmp.Lexicographic.{slice_cmp};
 ghost use Rattle.song_db.specs.Place.{is_below, is_under};
 ghost use Rattle.song_db.specs.Replaced.{IsRising, IsBefore, IsNotBefore};
 ghost use Rattle.song_db.specs.Row.{row_uri};
-ghost use Rattle.song_db.specs.Walk.{item_of, is_folder_under, opened, shared, walk_from};
+ghost use Rattle.song_db.specs.Walk.{item_of, is_folder_under, opened, shared, shared_first, walk_from};
 
 use crate::folder_rows::is_before;
 use crate::place::{Place, is_below};
@@ -27,8 +27,9 @@ pub enum Listed<'a> {
 
 /// The folders and songs below a place, at all depths, by the bytes of their paths; a folder comes before a song of the same path.
 ///
-/// It takes no memory: a folder is found at the first song whose path begins with its path, by a look at that path, or by a binary
-/// search where the song itself stands elsewhere, as `a.wav` before `a/b.wav`.
+/// It takes no memory and passes over the songs once: a folder is found at the first song whose path begins with its path, by a look
+/// at that path. Only where that goes on with a byte that stands before a slash, and the next one begins so too, as `a.wav` before
+/// `a/b.wav`, there is a binary search for a song below it.
 #[derive(Debug, Drop)]
 pub struct Walk<'a> {
     place: Place<'a>,
@@ -36,19 +37,21 @@ pub struct Walk<'a> {
     rows: &'a [SongRow],
     // The beginnings of the first one's path up to this many bytes are done.
     done: usize,
+    // So many bytes of the first one's path are of the second one's, too.
+    common: usize,
 }
 
 impl<'a> Model for Walk<'a> {
-    ghost use Rattle.std.specs.Prelude.{List};
+    ghost use Rattle.std.specs.Prelude.{◌≡◌, List};
     ghost use Rattle.song_db.specs.Replaced.{IsRising};
     ghost use Rattle.song_db.specs.Row.{row_uri};
-    ghost use Rattle.song_db.specs.Walk.{Item, walk_from};
+    ghost use Rattle.song_db.specs.Walk.{Item, shared_first, walk_from};
 
     ghost Value = { List Item };
 
     ghost view = { λ w. walk_from w.place w.done w.rows.now };
 
-    ghost invariant = { λ w. IsRising row_uri w.rows.now };
+    ghost invariant = { λ w. IsRising row_uri w.rows.now × (w.common ≡ shared_first w.rows.now) };
 }
 
 impl<'a> Walk<'a> {
@@ -61,6 +64,7 @@ impl<'a> Walk<'a> {
             place,
             rows,
             done: 0,
+            common: shared_first(rows),
         }
     }
 }
@@ -74,11 +78,12 @@ impl<'a> Iterator for Walk<'a> {
 
     fn next(&mut self) -> Option<Listed<'a>> {
         let (row, rest) = self.rows.split_first()?;
-        if let Some((folder, length)) = next_folder(self.place, row, rest, self.done) {
+        if let Some((folder, length)) = next_folder(self.place, row, rest, self.done, self.common) {
             self.done = length;
             return Some(Listed::Folder(folder));
         }
-        self.done = shared(row.uri(), rest);
+        self.done = self.common;
+        self.common = shared_first(rest);
         self.rows = rest;
         Some(Listed::Song(row))
     }
@@ -90,12 +95,13 @@ fn next_folder<'a>(
     row: &'a SongRow,
     rest: &'a [SongRow],
     done: usize,
+    common: usize,
 ) -> Option<(&'a str, usize)>
-    requires { IsRising row_uri (row.now ∷ rest.now) }
+    requires rising { IsRising row_uri (row.now ∷ rest.now) }
+    requires common { common ≡ shared row.now.uri rest.now }
     ensures { MatchOption result (opened place.entry done (row.now ∷ rest.now) ≡ []) (λ next. opened place.entry done (row.now ∷
         rest.now) ≡ next.0.now ∷ opened place.entry next.1 (row.now ∷ rest.now)) }
 {
-    let common = shared(row.uri(), rest);
     for before in done..row.uri().len() {
         let end = before + 1;
         if let Some(folder) = folder_at(place, row, rest, end, common) {
@@ -146,6 +152,9 @@ fn folder_of<'a>(
     if common < end {
         return None;
     }
+    if goes_on_behind(path.as_bytes(), end) {
+        return None;
+    }
     folder_among(rest, &path.as_bytes()[..end])
 }
 
@@ -159,6 +168,13 @@ fn ends_a_part(path: &[u8], end: usize) -> bool
         return false;
     }
     path[end] == b'/'
+}
+
+// Whether a path goes on with a byte behind a slash, so that what begins like it and goes on with a slash comes before it.
+fn goes_on_behind(path: &[u8], end: usize) -> bool
+    ensures { IsTrue result → end < length path.now × 47 < slice_index path.now end }
+{
+    end < path.len() && b'/' < path[end]
 }
 
 // A folder, as the path of a row below it begins.
@@ -189,6 +205,16 @@ fn slash_point(rows: &[SongRow], folder: &[u8]) -> usize
             ensures { result ≡ is_lt (slice_cmp nat_cmp row.now.uri (folder.entry.now ++ 47 ∷ [])) }
         { is_before(row.uri().as_bytes(), folder, b'/') },
     )
+}
+
+// How many bytes of the first path the second one begins with.
+fn shared_first(rows: &[SongRow]) -> usize
+    ensures { result ≡ shared_first rows.now }
+{
+    match rows.split_first() {
+        None => 0,
+        Some((row, rest)) => shared(row.uri(), rest),
+    }
 }
 
 // How many bytes of a path the next row begins with.

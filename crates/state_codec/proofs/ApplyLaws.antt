@@ -4,6 +4,7 @@ use Rattle.std.proofs.Common.{Some, None, refl, sym, ap, ◌∙◌, arith}
 use Rattle.std.specs.Prelude.{Option}
 use Rattle.std.specs.Option.{ok_or}
 use Rattle.std.proofs.lemmas.List.{length-append}
+use Rattle.state_codec.specs.declared.layout.Layout.{Layout}
 use Rattle.state_codec.specs.declared.op.Op.{Op}
 use Rattle.state_codec.specs.declared.fields.ReadError.{ReadError}
 use Rattle.state_codec.specs.declared.fields.ReadError.TheVariants.{Fault, NoMemory}
@@ -13,10 +14,11 @@ use Rattle.state_codec.specs.declared.refusal.BodyError.{BodyError}
 use Rattle.state_codec.specs.declared.refusal.BodyError.TheVariants.{BadOp, DoesNotApply}
 use Rattle.state_codec.specs.declared.refusal.OpRefusal.{OpRefusal}
 use Rattle.state_codec.specs.Applied.{refusal_of, after, applied, applied_from, unless_refused}
-use Rattle.state_codec.specs.Body.{told, told_place, body_from, body_applied, GivesBody, bad_op, not_applied}
+use Rattle.state_codec.specs.Body.{told, told_place, body_from, body_applied, body_applied_in, GivesBody, bad_op, not_applied}
 use Rattle.state_codec.specs.Editing.{AnswersApply}
 use Rattle.state_codec.specs.Fields.{Field}
 use Rattle.state_codec.specs.Given.{Fails}
+use Rattle.state_codec.specs.Layout.{layout_1}
 use Rattle.state_codec.specs.Reading.{in_bytes, ops_reading}
 use Rattle.state_codec.specs.ReadingOps.{op_at, ops_at}
 use Rattle.state_codec.specs.SavedState.{SavedState, IsBytes}
@@ -26,83 +28,88 @@ use Rattle.state_codec.proofs.FieldLaws.{bind_ok, ok_is}
 use Rattle.state_codec.proofs.OpLaws.{op_takes, op_spelled}
 
 -- an op that was read, or the fault, and what follows
-abbrev turn : ℕ → ℕ → ℕ → SavedState → Field Op → Result SavedState BodyError
-turn total n i s read = told total read >>= λ op. ok_or (applied op.0 s) (DoesNotApply i) >>= λ next. body_from total n (suc i) op.1 next
+abbrev turn : (layout : Layout) → ℕ → ℕ → ℕ → SavedState → Field Op → Result SavedState BodyError
+turn layout total n i s read = told total read >>= λ op. ok_or (applied op.0 s) (DoesNotApply i) >>= λ next. body_from layout total n
+    (suc i) op.1 next
 
 -- what follows an op that was read
-abbrev follow : ℕ → ℕ → ℕ → List ℕ → Option SavedState → Result SavedState BodyError
-follow total n i back o = ok_or o (DoesNotApply i) >>= λ next. body_from total n (suc i) back next
+abbrev follow : (layout : Layout) → ℕ → ℕ → ℕ → List ℕ → Option SavedState → Result SavedState BodyError
+follow layout total n i back o = ok_or o (DoesNotApply i) >>= λ next. body_from layout total n (suc i) back next
 
-step : (total n i : ℕ) (bytes : List ℕ) (s : SavedState) → 0 < length bytes
-    → body_from total (suc n) i bytes s ≡ turn total n i s (op_at bytes)
+step : (layout : Layout) (total n i : ℕ) (bytes : List ℕ) (s : SavedState) → 0 < length bytes
+    → body_from layout total (suc n) i bytes s ≡ turn layout total n i s (op_at layout bytes)
 unfolding body_from
-step total n i [] s some = absurd (omega arith)
-step total n i (b ∷ rest) s some = refl
+step layout total n i [] s some = absurd (omega arith)
+step layout total n i (b ∷ rest) s some = refl
 
-ended : (total n i : ℕ) (bytes : List ℕ) (s : SavedState) → length bytes ≡ 0 → body_from total n i bytes s ≡ Ok s
+ended : (layout : Layout) (total n i : ℕ) (bytes : List ℕ) (s : SavedState) → length bytes ≡ 0 → body_from layout total n i bytes s ≡ Ok s
 unfolding body_from
-ended total n i [] s none = refl
-ended total n i (b ∷ rest) s none = absurd (omega arith)
+ended layout total n i [] s none = refl
+ended layout total n i (b ∷ rest) s none = absurd (omega arith)
 
 -- what a loop keeps, after so many ops
-pub record BodySoFar (total i : ℕ) (rest : List ℕ) (s : SavedState) (all : Result SavedState BodyError) : Type 0 where
-  pub reads : body_from total (total - i) i rest s ≡ all
+pub record BodySoFar (layout : Layout) (total i : ℕ) (rest : List ℕ) (s : SavedState) (all : Result SavedState BodyError) : Type 0 where
+  pub reads : body_from layout total (total - i) i rest s ≡ all
   pub enough : i + length rest ≤ total
   pub rest_fits : IsBytes rest
 
-pub begins : (bytes : List ℕ) (s : SavedState) → IsBytes bytes → eqb (length bytes) 0 ≡ false
-    → BodySoFar (length bytes) 0 bytes s (body_applied bytes s)
-begins bytes s fits some =
+pub begins : (layout : Layout) (bytes : List ℕ) (s : SavedState) → IsBytes bytes → eqb (length bytes) 0 ≡ false
+    → BodySoFar layout (length bytes) 0 bytes s (body_applied_in layout bytes s)
+begins layout bytes s fits some =
     let all : length bytes - 0 ≡ length bytes = omega arith in
     record {
       reads =
-          ap (λ (n : ℕ). body_from (length bytes) n 0 bytes s) all
-          ∙ ap (λ (b : Bool). cond b (Err (BadOp 0)) (body_from (length bytes) (length bytes) 0 bytes s)) (sym some);
+          ap (λ (n : ℕ). body_from layout (length bytes) n 0 bytes s) all
+          ∙ ap (λ (b : Bool). cond b (Err (BadOp 0)) (body_from layout (length bytes) (length bytes) 0 bytes s)) (sym some);
       enough = omega arith;
       rest_fits = fits;
     }
 
-op_shorter : (rest : List ℕ) (op : Op) (back : List ℕ) → IsBytes rest → op_at rest ≡ Ok (op, back) → length back < length rest
-op_shorter rest op back fits e = let t = (op_takes rest (op, back) fits e).0 in omega (
+op_shorter : (layout : Layout) (rest : List ℕ) (op : Op) (back : List ℕ) → IsBytes rest → op_at layout rest ≡ Ok (op, back)
+    → length back < length rest
+op_shorter layout rest op back fits e = let t = (op_takes layout rest (op, back) fits e).0 in omega (
   arith,
   ap length t.parts,
   length-append (op_bytes op) back,
   op_spelled op,
 )
 
-pub falls : (total i : ℕ) (rest : List ℕ) (s : SavedState) (op : Op) (back : List ℕ) (all : Result SavedState BodyError)
-    → op_at rest ≡ Ok (op, back) → BodySoFar total i rest s all → length back < length rest
-falls total i rest s op back all e so_far = op_shorter rest op back so_far.rest_fits e
+pub falls : (layout : Layout) (total i : ℕ) (rest : List ℕ) (s : SavedState) (op : Op) (back : List ℕ) (all : Result SavedState BodyError)
+    → op_at layout rest ≡ Ok (op, back) → BodySoFar layout total i rest s all → length back < length rest
+falls layout total i rest s op back all e so_far = op_shorter layout rest op back so_far.rest_fits e
 
 -- the next step, of bytes that are not at their end
-next_step : (total i : ℕ) (rest : List ℕ) (s : SavedState) (all : Result SavedState BodyError) → 0 < length rest
-    → BodySoFar total i rest s all
-    → turn total (total - (i + 1)) i s (op_at rest) ≡ all
-next_step total i rest s all some so_far =
+next_step : (layout : Layout) (total i : ℕ) (rest : List ℕ) (s : SavedState) (all : Result SavedState BodyError) → 0 < length rest
+    → BodySoFar layout total i rest s all
+    → turn layout total (total - (i + 1)) i s (op_at layout rest) ≡ all
+next_step layout total i rest s all some so_far =
     let k : total - i ≡ suc (total - (i + 1)) = omega (arith, so_far.enough) in
-    sym (step total (total - (i + 1)) i rest s some) ∙ ap (λ (n : ℕ). body_from total n i rest s) (sym k) ∙ so_far.reads
+    sym (step layout total (total - (i + 1)) i rest s some) ∙ ap (λ (n : ℕ). body_from layout total n i rest s) (sym k) ∙ so_far.reads
 
-pub goes_on : (total i : ℕ) (rest : List ℕ) (s t : SavedState) (op : Op) (back : List ℕ) (all : Result SavedState BodyError)
-    → op_at rest ≡ Ok (op, back) → applied op s ≡ Some t
-    → BodySoFar total i rest s all → BodySoFar total (i + 1) back t all
-goes_on total i rest s t op back all e f so_far =
-    let less = op_shorter rest op back so_far.rest_fits e in
+pub goes_on : (layout : Layout) (total i : ℕ) (rest : List ℕ) (s t : SavedState) (op : Op) (back : List ℕ) (all : Result SavedState
+    BodyError)
+    → op_at layout rest ≡ Ok (op, back) → applied op s ≡ Some t
+    → BodySoFar layout total i rest s all → BodySoFar layout total (i + 1) back t all
+goes_on layout total i rest s t op back all e f so_far =
+    let less = op_shorter layout rest op back so_far.rest_fits e in
     let n = total - (i + 1) in
     let one : suc i ≡ i + 1 = omega arith in
-    let here : turn total n i s (op_at rest) ≡ all = next_step total i rest s all (omega (arith, less)) so_far in
-    let there : body_from total n (suc i) back t ≡ all = sym (ap (turn total n i s) e ∙ ap (follow total n i back) f) ∙ here in
+    let here : turn layout total n i s (op_at layout rest) ≡ all = next_step layout total i rest s all (omega (arith, less)) so_far in
+    let there : body_from layout total n (suc i) back t ≡ all = sym (ap (turn layout total n i s) e
+    ∙ ap (follow layout total n i back) f) ∙ here in
     record {
-      reads = ap (λ (k : ℕ). body_from total n k back t) (sym one) ∙ there;
+      reads = ap (λ (k : ℕ). body_from layout total n k back t) (sym one) ∙ there;
       enough = omega (arith, so_far.enough, less);
-      rest_fits = (op_takes rest (op, back) so_far.rest_fits e).0.rest_fits;
+      rest_fits = (op_takes layout rest (op, back) so_far.rest_fits e).0.rest_fits;
     }
 
-pub bad : (total i : ℕ) (rest : List ℕ) (s t : SavedState) (error : ReadError) (all : Result SavedState BodyError) → 0 < length rest
-    → Fails error (op_at rest) → BodySoFar total i rest s all
+pub bad : (layout : Layout) (total i : ℕ) (rest : List ℕ) (s t : SavedState) (error : ReadError) (all : Result SavedState BodyError)
+    → 0 < length rest
+    → Fails error (op_at layout rest) → BodySoFar layout total i rest s all
     → GivesBody (Err (bad_op total error)) t all
-bad total i rest s t NoMemory all some e so_far = tt
-bad total i rest s t (Fault left) all some e so_far = sym (next_step total i rest s all some so_far)
-    ∙ ap (turn total (total - (i + 1)) i s) e
+bad layout total i rest s t NoMemory all some e so_far = tt
+bad layout total i rest s t (Fault left) all some e so_far = sym (next_step layout total i rest s all some so_far)
+    ∙ ap (turn layout total (total - (i + 1)) i s) e
 
 -- an op that was refused doesn't apply
 no_state : (o : Option OpRefusal) (refusal : OpRefusal) (s : SavedState) → AnswersApply {T = Unit {0}} o (Err (Refused refusal))
@@ -110,37 +117,38 @@ no_state : (o : Option OpRefusal) (refusal : OpRefusal) (s : SavedState) → Ans
 no_state None refusal s answer = absurd cc
 no_state (Some other) refusal s answer = refl
 
-pub refused : (total i : ℕ) (rest : List ℕ) (s t : SavedState) (op : Op) (rest_after : List ℕ) (error : ApplyError)
-    (all : Result SavedState BodyError) → 0 < length rest → op_at rest ≡ Ok (op, rest_after)
-    → AnswersApply {T = Unit {0}} (refusal_of op s) (Err error) → BodySoFar total i rest s all → GivesBody (Err (not_applied i error)) t all
-refused total i rest s t op rest_after Unapplied all some e answer so_far = tt
-refused total i rest s t op rest_after (Refused refusal) all some e answer so_far =
-    sym (next_step total i rest s all some so_far) ∙ ap (turn total (total - (i + 1)) i s) e
-    ∙ ap (follow total (total - (i + 1)) i rest_after) (no_state (refusal_of op s) refusal (after op s) answer)
+pub refused : (layout : Layout) (total i : ℕ) (rest : List ℕ) (s t : SavedState) (op : Op) (rest_after : List ℕ) (error : ApplyError)
+    (all : Result SavedState BodyError) → 0 < length rest → op_at layout rest ≡ Ok (op, rest_after)
+    → AnswersApply {T = Unit {0}} (refusal_of op s) (Err error) → BodySoFar layout total i rest s all
+    → GivesBody (Err (not_applied i error)) t all
+refused layout total i rest s t op rest_after Unapplied all some e answer so_far = tt
+refused layout total i rest s t op rest_after (Refused refusal) all some e answer so_far =
+    sym (next_step layout total i rest s all some so_far) ∙ ap (turn layout total (total - (i + 1)) i s) e
+    ∙ ap (follow layout total (total - (i + 1)) i rest_after) (no_state (refusal_of op s) refusal (after op s) answer)
 
-pub is_done : (total i : ℕ) (rest : List ℕ) (s : SavedState) (all : Result SavedState BodyError) → length rest ≡ 0
-    → BodySoFar total i rest s all → all ≡ Ok s
-is_done total i rest s all none so_far = sym so_far.reads ∙ ended total (total - i) i rest s none
+pub is_done : (layout : Layout) (total i : ℕ) (rest : List ℕ) (s : SavedState) (all : Result SavedState BodyError) → length rest ≡ 0
+    → BodySoFar layout total i rest s all → all ≡ Ok s
+is_done layout total i rest s all none so_far = sym so_far.reads ∙ ended layout total (total - i) i rest s none
 
 -- ---- a body that spells ops
 
-go_after : (total n i : ℕ) (back : List ℕ) (o : Option SavedState) (others : List Op)
-    → ((t : SavedState) → body_from total n (suc i) back t ≡ told_place (applied_from (suc i) others t))
-    → follow total n i back o ≡ told_place (ok_or o i >>= λ t. applied_from (suc i) others t)
-go_after total n i back None others h = refl
-go_after total n i back (Some t) others h = h t
+go_after : (layout : Layout) (total n i : ℕ) (back : List ℕ) (o : Option SavedState) (others : List Op)
+    → ((t : SavedState) → body_from layout total n (suc i) back t ≡ told_place (applied_from (suc i) others t))
+    → follow layout total n i back o ≡ told_place (ok_or o i >>= λ t. applied_from (suc i) others t)
+go_after layout total n i back None others h = refl
+go_after layout total n i back (Some t) others h = h t
 
-reads : (total n i : ℕ) (bytes : List ℕ) (s : SavedState) (ops : List Op) → ops_at n bytes ≡ Ok ops
-    → body_from total n i bytes s ≡ told_place (applied_from i ops s)
+reads : (layout : Layout) (total n i : ℕ) (bytes : List ℕ) (s : SavedState) (ops : List Op) → ops_at layout n bytes ≡ Ok ops
+    → body_from layout total n i bytes s ≡ told_place (applied_from i ops s)
 unfolding ops_at body_from
-reads total n i [] s ops e = ap (λ ops. told_place (applied_from i ops s)) (ok_is [] ops e)
-reads total zero i (b ∷ rest) s ops e = absurd cc
-reads total (suc n) i (b ∷ rest) s ops e =
-    let first = bind_ok (op_at (b ∷ rest)) _ ops e in
-    let others = bind_ok (ops_at n first.0.1) _ ops first.2 in
+reads layout total n i [] s ops e = ap (λ ops. told_place (applied_from i ops s)) (ok_is [] ops e)
+reads layout total zero i (b ∷ rest) s ops e = absurd cc
+reads layout total (suc n) i (b ∷ rest) s ops e =
+    let first = bind_ok (op_at layout (b ∷ rest)) _ ops e in
+    let others = bind_ok (ops_at layout n first.0.1) _ ops first.2 in
     let same = ok_is (first.0.0 ∷ others.0) ops others.2 in
-    ap (turn total n i s) first.1
-    ∙ go_after total n i first.0.1 (applied first.0.0 s) others.0 (λ t. reads total n (suc i) first.0.1 t others.0 others.1)
+    ap (turn layout total n i s) first.1
+    ∙ go_after layout total n i first.0.1 (applied first.0.0 s) others.0 (λ t. reads layout total n (suc i) first.0.1 t others.0 others.1)
     ∙ ap (λ ops. told_place (applied_from i ops s)) same
 
 whole : (bytes : List ℕ) (r : Result (List Op) ℕ) (ops : List Op) → in_bytes bytes r ≡ Ok ops → r ≡ Ok ops
@@ -150,14 +158,14 @@ whole bytes (Err left) ops f = absurd cc
 of_body : (b : Bool) (bytes : List ℕ) (s : SavedState) (ops : List Op) → eqb (length bytes) 0 ≡ b → ops_reading bytes ≡ Ok ops
     → body_applied bytes s ≡ told_place (applied_from 0 ops s)
 of_body true bytes s ops none e =
-    let h : ops_reading bytes ≡ Err 0 = ap (λ (b : Bool). cond b (Err 0) (in_bytes bytes (ops_at (length bytes) bytes))) none in
+    let h : ops_reading bytes ≡ Err 0 = ap (λ (b : Bool). cond b (Err 0) (in_bytes bytes (ops_at layout_1 (length bytes) bytes))) none in
     absurd (let clash : Err 0 ≡ Ok ops = sym h ∙ e in cc)
 of_body false bytes s ops some e =
-    let h : ops_reading bytes ≡ in_bytes bytes (ops_at (length bytes) bytes) =
-    ap (λ (b : Bool). cond b (Err 0) (in_bytes bytes (ops_at (length bytes) bytes))) some in
-    let k : body_applied bytes s ≡ body_from (length bytes) (length bytes) 0 bytes s =
-    ap (λ (b : Bool). cond b (Err (BadOp 0)) (body_from (length bytes) (length bytes) 0 bytes s)) some in
-    k ∙ reads (length bytes) (length bytes) 0 bytes s ops (whole bytes (ops_at (length bytes) bytes) ops (sym h ∙ e))
+    let h : ops_reading bytes ≡ in_bytes bytes (ops_at layout_1 (length bytes) bytes) =
+    ap (λ (b : Bool). cond b (Err 0) (in_bytes bytes (ops_at layout_1 (length bytes) bytes))) some in
+    let k : body_applied bytes s ≡ body_from layout_1 (length bytes) (length bytes) 0 bytes s =
+    ap (λ (b : Bool). cond b (Err (BadOp 0)) (body_from layout_1 (length bytes) (length bytes) 0 bytes s)) some in
+    k ∙ reads layout_1 (length bytes) (length bytes) 0 bytes s ops (whole bytes (ops_at layout_1 (length bytes) bytes) ops (sym h ∙ e))
 
 -- a body that spells ops does what they do in turn
 pub spelled : (bytes : List ℕ) (s : SavedState) (ops : List Op) → ops_reading bytes ≡ Ok ops

@@ -8,62 +8,73 @@ use Rattle.std.proofs.lemmas.Bool.{ne_eqb}
 use Rattle.std.proofs.lemmas.List.{append-nil, length-append}
 use Rattle.std.proofs.lemmas.List.Concat.{flat_map-cons}
 use Rattle.state_codec.specs.declared.refusal.CodecError.{CodecError}
+use Rattle.state_codec.specs.declared.layout.Layout.{Layout}
 use Rattle.state_codec.specs.declared.op.Op.{Op}
+use Rattle.state_codec.specs.declared.op.Op.TheVariants.{SetOption, SetVolume, SetOrder, Queue, List as OfList, Sticker, Batch}
+use Rattle.state_codec.specs.declared.op.setting.Setting.{Setting}
+use Rattle.state_codec.specs.declared.op.setting.Setting.TheVariants as settings
 use Rattle.state_codec.specs.SavedState.{IsBytes}
 use Rattle.state_codec.specs.Ops.{IsOp, AreOps}
 use Rattle.state_codec.specs.Steps.{◌>>=◌}
 use Rattle.state_codec.specs.Spelling.{ops_bytes}
 use Rattle.state_codec.specs.SpellingOps.{op_bytes}
-use Rattle.state_codec.specs.Reading.{in_bytes, ops_reading}
+use Rattle.state_codec.specs.Layout.{layout_1, IsSettingIn, IsOpIn}
+use Rattle.state_codec.specs.Reading.{in_bytes, ops_reading, ops_reading_in}
 use Rattle.state_codec.specs.ReadingOps.{op_at, ops_at}
 use Rattle.state_codec.specs.Answers.{GivesOps, op_error}
 use Rattle.state_codec.specs.Given.{Fails}
 use Rattle.state_codec.specs.declared.fields.ReadError.{ReadError}
 use Rattle.state_codec.specs.declared.fields.ReadError.TheVariants.{Fault, NoMemory}
-use Rattle.state_codec.proofs.FieldLaws.{bind_ok, ok_is, Takes}
+use Rattle.state_codec.proofs.FieldLaws.{bind_ok, ok_is, consume_1, Takes}
 use Rattle.state_codec.proofs.OpLaws.{op_takes, op_again, op_spelled}
+use Rattle.state_codec.proofs.Rising.{all_weaker}
 
 -- which way a test went
 chosen : {A : Type 0} (b : Bool) (x y z : A) → cond b x y ≡ z → ((b ≡ true) × (x ≡ z)) ⊎ ((b ≡ false) × (y ≡ z))
 chosen true x y z e = inl (refl, e)
 chosen false x y z e = inr (refl, e)
 
-ops_take : (n : ℕ) (bytes : List ℕ) (ops : List Op) → IsBytes bytes → ops_at n bytes ≡ Ok ops
+ops_take : (layout : Layout) (n : ℕ) (bytes : List ℕ) (ops : List Op) → IsBytes bytes → ops_at layout n bytes ≡ Ok ops
     → (bytes ≡ ops_bytes ops) × AllByRecursion IsOp ops
 unfolding ops_at
-ops_take n [] ops fits e = subst (λ (x : List Op). ([] ≡ ops_bytes x) × AllByRecursion IsOp x) (ok_is [] ops e) (refl, tt)
-ops_take zero (b ∷ rest) ops fits e = absurd cc
-ops_take (suc n) (b ∷ rest) ops fits e =
-    let first = bind_ok (op_at (b ∷ rest)) _ ops e in
-    let others = bind_ok (ops_at n first.0.1) _ ops first.2 in
-    let one = op_takes (b ∷ rest) first.0 fits first.1 in
-    let more = ops_take n first.0.1 others.0 one.0.rest_fits others.1 in
+ops_take layout n [] ops fits e = subst (λ (x : List Op). ([] ≡ ops_bytes x) × AllByRecursion IsOp x) (ok_is [] ops e) (refl, tt)
+ops_take layout zero (b ∷ rest) ops fits e = absurd cc
+ops_take layout (suc n) (b ∷ rest) ops fits e =
+    let first = bind_ok (op_at layout (b ∷ rest)) _ ops e in
+    let others = bind_ok (ops_at layout n first.0.1) _ ops first.2 in
+    let one = op_takes layout (b ∷ rest) first.0 fits first.1 in
+    let more = ops_take layout n first.0.1 others.0 one.0.rest_fits others.1 in
     let whole : b ∷ rest ≡ ops_bytes (first.0.0 ∷ others.0) = one.0.parts ∙ ap (λ (x : List ℕ). op_bytes first.0.0 ++ x) more.0
     ∙ sym (flat_map-cons op_bytes first.0.0 others.0) in
     subst (λ (x : List Op). (b ∷ rest ≡ ops_bytes x) × AllByRecursion IsOp x) (ok_is (first.0.0 ∷ others.0) ops others.2) (
       whole,
-      (one.1, more.1),
+      (one.1.0, more.1),
     )
 
 -- reading goes on at bytes that are not at their end
-ops_step : (n : ℕ) (bytes : List ℕ) → 0 < length bytes
-    → ops_at (suc n) bytes ≡ (op_at bytes >>= λ first. ops_at n first.1 >>= λ others. Ok (first.0 ∷ others))
+ops_step : (layout : Layout) (n : ℕ) (bytes : List ℕ) → 0 < length bytes
+    → ops_at layout (suc n) bytes ≡ (op_at layout bytes >>= λ first. ops_at layout n first.1 >>= λ others. Ok (first.0 ∷ others))
 unfolding ops_at
-ops_step n [] some = absurd (omega arith)
-ops_step n (b ∷ rest) some = refl
+ops_step layout n [] some = absurd (omega arith)
+ops_step layout n (b ∷ rest) some = refl
 
-ops_ended : (n : ℕ) (bytes : List ℕ) → length bytes ≡ 0 → ops_at n bytes ≡ Ok []
+ops_ended : (layout : Layout) (n : ℕ) (bytes : List ℕ) → length bytes ≡ 0 → ops_at layout n bytes ≡ Ok []
 unfolding ops_at
-ops_ended n [] none = refl
-ops_ended n (b ∷ rest) none = absurd (omega arith)
+ops_ended layout n [] none = refl
+ops_ended layout n (b ∷ rest) none = absurd (omega arith)
 
-ops_again : (ops : List Op) (n : ℕ) → AllByRecursion IsOp ops → length (ops_bytes ops) ≤ n → ops_at n (ops_bytes ops) ≡ Ok ops
-ops_again [] n fits le = ops_ended n [] refl
-ops_again (op ∷ ops) zero fits le = absurd (omega (arith, op_spelled op, length-append (op_bytes op) (ops_bytes ops)))
-ops_again (op ∷ ops) (suc n) fits le =
+ops_again : (layout : Layout) (ops : List Op) (n : ℕ) → AllByRecursion IsOp ops → AllByRecursion (IsOpIn layout) ops
+    → length (ops_bytes ops) ≤ n
+    → ops_at layout n (ops_bytes ops) ≡ Ok ops
+ops_again layout [] n fits in_layout le = ops_ended layout n [] refl
+ops_again layout (op ∷ ops) zero fits in_layout le = absurd (omega (arith, op_spelled op, length-append (op_bytes op) (ops_bytes ops)))
+ops_again layout (op ∷ ops) (suc n) fits in_layout le =
     let some : 0 < length (op_bytes op ++ ops_bytes ops) = omega (arith, op_spelled op, length-append (op_bytes op) (ops_bytes ops)) in
     let less : length (ops_bytes ops) ≤ n = omega (arith, op_spelled op, length-append (op_bytes op) (ops_bytes ops)) in
-    ops_step n (op_bytes op ++ ops_bytes ops) some ∙ rw (op_again op (ops_bytes ops) fits.0, ops_again ops n fits.1 less) refl
+    ops_step layout n (op_bytes op ++ ops_bytes ops) some ∙ rw (
+      op_again layout op (ops_bytes ops) fits.0 in_layout.0,
+      ops_again layout ops n fits.1 in_layout.1 less,
+    ) refl
 
 -- ---- the whole body
 
@@ -75,12 +86,13 @@ some_ops : (bytes : List ℕ) (ops : List Op) → eqb (length bytes) 0 ≡ false
 some_ops bytes [] some e = let none : length bytes ≡ 0 = ap length e in absurd (let h : eqb (length bytes) 0 ≡ true = rw none refl in cc)
 some_ops bytes (op ∷ ops) some e = omega arith
 
-pub body_takes : (bytes : List ℕ) (ops : List Op) → IsBytes bytes → ops_reading bytes ≡ Ok ops → AreOps ops × (bytes ≡ ops_bytes ops)
-body_takes bytes ops fits e =
+pub body_takes : (layout : Layout) (bytes : List ℕ) (ops : List Op) → IsBytes bytes → ops_reading_in layout bytes ≡ Ok ops
+    → AreOps ops × (bytes ≡ ops_bytes ops)
+body_takes layout bytes ops fits e =
     elim (chosen (eqb (length bytes) 0) _ _ (Ok ops) e) [
       | inl none ↦ let h = none.1 in absurd cc
       | inr some ↦
-          let t = ops_take (length bytes) bytes ops fits (in_bytes_ok bytes (ops_at (length bytes) bytes) ops some.1) in
+          let t = ops_take layout (length bytes) bytes ops fits (in_bytes_ok bytes (ops_at layout (length bytes) bytes) ops some.1) in
           ((some_ops bytes ops some.0 t.0, t.1), t.0)
     ]
 
@@ -93,13 +105,35 @@ some_bytes (op ∷ ops) some =
       length-append (op_bytes op) (ops_bytes ops),
     ))
 
-pub body_again : (ops : List Op) → AreOps ops → ops_reading (ops_bytes ops) ≡ Ok ops
-body_again ops fits = rw (some_bytes ops fits.0, ops_again ops (length (ops_bytes ops)) fits.1 (omega arith)) refl
+pub body_again_in : (layout : Layout) (ops : List Op) → AreOps ops → AllByRecursion (IsOpIn layout) ops
+    → ops_reading_in layout (ops_bytes ops) ≡ Ok ops
+body_again_in layout ops fits in_layout =
+    rw (some_bytes ops fits.0, ops_again layout ops (length (ops_bytes ops)) fits.1 in_layout (omega arith)) refl
 
-pub body_found : (bytes : List ℕ) (r : Result (Vec Op) CodecError) → IsBytes bytes → GivesOps r (ops_reading bytes)
+-- layout 1 has the values of every op
+setting_1 : (value : Setting) → IsSettingIn layout_1 value
+setting_1 (settings.Repeat on) = tt
+setting_1 (settings.Random on) = tt
+setting_1 (settings.Single value) = tt
+setting_1 (settings.Consume on) = consume_1 on
+
+in_layout_1 : (op : Op) → IsOpIn layout_1 op
+in_layout_1 (SetOption value) = setting_1 value
+in_layout_1 (SetVolume volume) = tt
+in_layout_1 (SetOrder order) = tt
+in_layout_1 (Queue op) = tt
+in_layout_1 (OfList op) = tt
+in_layout_1 (Sticker op) = tt
+in_layout_1 (Batch changes) = tt
+
+pub body_again : (ops : List Op) → AreOps ops → ops_reading (ops_bytes ops) ≡ Ok ops
+body_again ops fits = body_again_in layout_1 ops fits (all_weaker IsOp (IsOpIn layout_1) (λ op good. in_layout_1 op) ops fits.1)
+
+pub body_found : (layout : Layout) (bytes : List ℕ) (r : Result (Vec Op) CodecError) → IsBytes bytes
+    → GivesOps r (ops_reading_in layout bytes)
     → IfOk r (λ ops. AreOps ops.items × (bytes ≡ ops_bytes ops.items))
-body_found bytes (Ok ops) fits given = body_takes bytes ops.items fits given
-body_found bytes (Err e) fits given = tt
+body_found layout bytes (Ok ops) fits given = body_takes layout bytes ops.items fits given
+body_found layout bytes (Err e) fits given = tt
 
 pub body_only : (bytes : List ℕ) (r : Result (Vec Op) CodecError) (ops : List Op) → AreOps ops → bytes ≡ ops_bytes ops
     → GivesOps r (ops_reading bytes) → GivesOps r (Ok ops)
@@ -117,17 +151,18 @@ regroup front op (Ok ops) = ap (λ (x : List Op). Ok x) (simp append_assoc)
 regroup front op (Err f) = refl
 
 -- what a loop keeps, with so many bytes in all
-pub record ReadSoFar (total : ℕ) (front : List Op) (rest : List ℕ) (all : Result (List Op) ℕ) : Type 0 where
-  pub reads : with_front front (ops_at (total - length front) rest) ≡ all
+pub record ReadSoFar (layout : Layout) (total : ℕ) (front : List Op) (rest : List ℕ) (all : Result (List Op) ℕ) : Type 0 where
+  pub reads : with_front front (ops_at layout (total - length front) rest) ≡ all
   pub enough : length front + length rest ≤ total
   pub rest_fits : IsBytes rest
 
-pub so_far_begins : (bytes : List ℕ) → IsBytes bytes → ReadSoFar (length bytes) [] bytes (ops_at (length bytes) bytes)
-so_far_begins bytes fits =
+pub so_far_begins : (layout : Layout) (bytes : List ℕ) → IsBytes bytes
+    → ReadSoFar layout (length bytes) [] bytes (ops_at layout (length bytes) bytes)
+so_far_begins layout bytes fits =
     let front : List Op = [] in
     let k : length bytes - length front ≡ length bytes = omega arith in
     record {
-      reads = ap (λ (n : ℕ). with_front [] (ops_at n bytes)) k ∙ nothing (ops_at (length bytes) bytes);
+      reads = ap (λ (n : ℕ). with_front [] (ops_at layout n bytes)) k ∙ nothing (ops_at layout (length bytes) bytes);
       enough = omega arith;
       rest_fits = fits;
     } where
@@ -138,43 +173,50 @@ so_far_begins bytes fits =
 op_shorter : (rest : List ℕ) (op : Op) (after : List ℕ) → Takes rest (op_bytes op) after → length after < length rest
 op_shorter rest op after t = omega (arith, ap length t.parts, length-append (op_bytes op) after, op_spelled op)
 
-pub falls : (total : ℕ) (front : List Op) (rest : List ℕ) (op : Op) (after : List ℕ) (all : Result (List Op) ℕ)
-    → op_at rest ≡ Ok (op, after) → ReadSoFar total front rest all → length after < length rest
-falls total front rest op after all e so_far = op_shorter rest op after (op_takes rest (op, after) so_far.rest_fits e).0
+pub falls : (layout : Layout) (total : ℕ) (front : List Op) (rest : List ℕ) (op : Op) (after : List ℕ) (all : Result (List Op) ℕ)
+    → op_at layout rest ≡ Ok (op, after) → ReadSoFar layout total front rest all → length after < length rest
+falls layout total front rest op after all e so_far = op_shorter rest op after (op_takes layout rest (op, after) so_far.rest_fits e).0
 
-pub goes_on : (total : ℕ) (front : List Op) (rest : List ℕ) (op : Op) (after : List ℕ) (all : Result (List Op) ℕ)
-    → op_at rest ≡ Ok (op, after)
-    → ReadSoFar total front rest all → ReadSoFar total (front ++ op ∷ []) after all
-goes_on total front rest op after all e so_far =
-    let t = op_takes rest (op, after) so_far.rest_fits e in
+pub goes_on : (layout : Layout) (total : ℕ) (front : List Op) (rest : List ℕ) (op : Op) (after : List ℕ) (all : Result (List Op) ℕ)
+    → op_at layout rest ≡ Ok (op, after)
+    → ReadSoFar layout total front rest all → ReadSoFar layout total (front ++ op ∷ []) after all
+goes_on layout total front rest op after all e so_far =
+    let t = op_takes layout rest (op, after) so_far.rest_fits e in
     let shorter : length after < length rest = op_shorter rest op after t.0 in
     let len : length (front ++ op ∷ []) ≡ suc (length front) = omega (arith, length-append front (op ∷ [])) in
     let k : total - length front ≡ suc (total - length (front ++ op ∷ [])) = omega (arith, so_far.enough) in
-    let step : ops_at (total - length front) rest ≡ (ops_at (total - length (front ++ op ∷ [])) after >>= λ ops. Ok (op ∷ ops)) =
-    ap (λ (n : ℕ). ops_at n rest) k ∙ ops_step (total - length (front ++ op ∷ [])) rest (omega arith) ∙ rw e refl in
+    let step : ops_at layout (total - length front) rest ≡ (ops_at layout (total - length (front ++ op ∷ [])) after >>= λ ops. Ok (op ∷
+    ops)) =
+    ap (λ (n : ℕ). ops_at layout n rest) k ∙ ops_step layout (total - length (front ++ op ∷ [])) rest (omega arith) ∙ rw e refl in
     record {
-      reads = sym (regroup front op (ops_at (total - length (front ++ op ∷ [])) after)) ∙ ap (with_front front) (sym step) ∙ so_far.reads;
+      reads = sym (regroup front op (ops_at layout (total - length (front ++ op ∷ [])) after)) ∙ ap (with_front front) (sym step)
+          ∙ so_far.reads;
       enough = omega (arith, so_far.enough);
       rest_fits = t.0.rest_fits;
     }
 
 -- what the body reads as, once its ops are
-pub body_is : (bytes : List ℕ) (read : Result (List Op) ℕ) → eqb (length bytes) 0 ≡ false → ops_at (length bytes) bytes ≡ read
-    → ops_reading bytes ≡ in_bytes bytes read
-body_is bytes read some e = rw (some, e) refl
+pub body_is : (layout : Layout) (bytes : List ℕ) (read : Result (List Op) ℕ) → eqb (length bytes) 0 ≡ false
+    → ops_at layout (length bytes) bytes ≡ read
+    → ops_reading_in layout bytes ≡ in_bytes bytes read
+body_is layout bytes read some e = rw (some, e) refl
 
-pub stops : (bytes : List ℕ) (front : List Op) (rest : List ℕ) (error : ReadError) → eqb (length bytes) 0 ≡ false → 0 < length rest
-    → Fails error (op_at rest)
-    → ReadSoFar (length bytes) front rest (ops_at (length bytes) bytes) → GivesOps (Err (op_error (length bytes) error)) (ops_reading bytes)
-stops bytes front rest NoMemory some more e so_far = tt
-stops bytes front rest (Fault left) some more e so_far =
+pub stops : (layout : Layout) (bytes : List ℕ) (front : List Op) (rest : List ℕ) (error : ReadError) → eqb (length bytes) 0 ≡ false
+    → 0 < length rest
+    → Fails error (op_at layout rest)
+    → ReadSoFar layout (length bytes) front rest (ops_at layout (length bytes) bytes)
+    → GivesOps (Err (op_error (length bytes) error)) (ops_reading_in layout bytes)
+stops layout bytes front rest NoMemory some more e so_far = tt
+stops layout bytes front rest (Fault left) some more e so_far =
     let total = length bytes in
     let k : total - length front ≡ suc (total - length front - 1) = omega (arith, so_far.enough) in
-    let step : ops_at (total - length front) rest ≡ Err left = ap (λ (n : ℕ). ops_at n rest) k
-    ∙ ops_step (total - length front - 1) rest more ∙ rw e refl in
-    body_is bytes (Err left) some (sym so_far.reads ∙ ap (with_front front) step)
+    let step : ops_at layout (total - length front) rest ≡ Err left = ap (λ (n : ℕ). ops_at layout n rest) k
+    ∙ ops_step layout (total - length front - 1) rest more ∙ rw e refl in
+    body_is layout bytes (Err left) some (sym so_far.reads ∙ ap (with_front front) step)
 
-pub is_done : (total : ℕ) (front : List Op) (rest : List ℕ) (all : Result (List Op) ℕ) → length rest ≡ 0 → ReadSoFar total front rest all
+pub is_done : (layout : Layout) (total : ℕ) (front : List Op) (rest : List ℕ) (all : Result (List Op) ℕ) → length rest ≡ 0
+    → ReadSoFar layout total front rest all
     → all ≡ Ok front
-is_done total front rest all none so_far =
-    sym so_far.reads ∙ ap (with_front front) (ops_ended (total - length front) rest none) ∙ ap (λ (x : List Op). Ok x) (append-nil front)
+is_done layout total front rest all none so_far =
+    sym so_far.reads ∙ ap (with_front front) (ops_ended layout (total - length front) rest none)
+    ∙ ap (λ (x : List Op). Ok x) (append-nil front)

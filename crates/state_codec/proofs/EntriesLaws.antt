@@ -17,6 +17,8 @@ use Rattle.play_queue.specs.declared.entry.Entry.{Entry}
 use Rattle.song_db.specs.Change.{has_uri}
 use Rattle.song_db.specs.Query.{number_at as number_of}
 use Rattle.song_db.specs.Row.{Row}
+use Rattle.state_codec.specs.declared.layout.Layout.{Layout}
+use Rattle.state_codec.specs.Layout.{IsLayout}
 use Rattle.state_codec.specs.Fields.{such, u32_at, byte_at, number_within}
 use Rattle.state_codec.specs.ReadingSaved.{numbered_at, is_free_id, rest_of_entry_at, entry_at, entries_at}
 use Rattle.state_codec.specs.SavedState.{AreSavedSongs, IsSavedEntry, IsSavedQueue, IsBytes}
@@ -190,33 +192,43 @@ module _ (songs : List Row) (saved : AreSavedSongs songs) (version next_id : ℕ
   abbrev queue_of : List Entry → QueueState
   queue_of entries = record { entries = entries; version = version; next_id = next_id }
 
-  entries_field : IsField (λ bytes. entries_at songs version next_id bytes) (λ entries. list_bytes (entry_bytes songs) entries)
-      (λ entries. IsSavedQueue songs (queue_of entries))
-  entries_field =
-      fits_is (λ bytes. entries_at songs version next_id bytes) (λ entries. list_bytes (entry_bytes songs) entries)
-      (λ entries. ((0 ≤ length entries) × (length entries ≤ MAX_ENTRIES)) × KnownEntries songs version next_id entries)
-      (λ entries. IsSavedQueue songs (queue_of entries))
-      (counted_is (λ bytes. number_within 0 MAX_ENTRIES bytes) (λ n. u32_bytes n) (λ n. (0 ≤ n) × (n ≤ MAX_ENTRIES))
-      (within_is 0 MAX_ENTRIES (omega arith)) (entry_at songs version next_id) (entry_bytes songs) (KnownEntries songs version next_id)
-      (record { takes = entry_takes; again = entry_again }) none_known)
-      (λ entries h. record {
-        queue = record {
-          few = h.0.1;
-          version_low = bounds.version_low;
-          version_high = bounds.version_high;
-          next_low = bounds.next_low;
-          next_high = bounds.next_high;
-          entry = h.1.0;
-          own_ids = h.1.1.0;
-        };
-        entries = h.1.1.1;
-      })
-      (λ entries h. ((omega arith, h.queue.few), (h.queue.entry, (h.queue.own_ids, h.entries))))
+  -- a queue of so many entries at most
+  abbrev IsQueueWithin : ℕ → List Entry → Type 0
+  IsQueueWithin limit entries = IsSavedQueue songs (queue_of entries) × (length entries ≤ limit)
 
-pub entries_is : (songs : List Row) → AreSavedSongs songs → (version next_id : ℕ) → 1 ≤ version → version ≤ MAX_VERSION → 1 ≤ next_id
-    → next_id ≤ MAX_ID + 1
-    → IsField (λ bytes. entries_at songs version next_id bytes) (λ entries. list_bytes (entry_bytes songs) entries)
-    (λ entries. IsSavedQueue songs (record { entries = entries; version = version; next_id = next_id }))
-entries_is songs saved version next_id version_low version_high next_low next_high =
+  entries_field : (layout : Layout) → layout.queue_limit ≤ MAX_ENTRIES
+      → IsField (λ bytes. entries_at layout songs version next_id bytes) (λ entries. list_bytes (entry_bytes songs) entries)
+      (IsQueueWithin layout.queue_limit)
+  entries_field layout fits =
+      fits_is (λ bytes. entries_at layout songs version next_id bytes) (λ entries. list_bytes (entry_bytes songs) entries)
+      (λ entries. ((0 ≤ length entries) × (length entries ≤ layout.queue_limit)) × KnownEntries songs version next_id entries)
+      (IsQueueWithin layout.queue_limit)
+      (counted_is (λ bytes. number_within 0 layout.queue_limit bytes) (λ n. u32_bytes n) (λ n. (0 ≤ n) × (n ≤ layout.queue_limit))
+      (within_is 0 layout.queue_limit (omega (arith, fits))) (entry_at songs version next_id) (entry_bytes songs) (KnownEntries songs
+      version next_id)
+      (record { takes = entry_takes; again = entry_again }) none_known)
+      (λ entries h. (
+        record {
+          queue = record {
+            few = omega (arith, h.0.1, fits);
+            version_low = bounds.version_low;
+            version_high = bounds.version_high;
+            next_low = bounds.next_low;
+            next_high = bounds.next_high;
+            entry = h.1.0;
+            own_ids = h.1.1.0;
+          };
+          entries = h.1.1.1;
+        },
+        h.0.1,
+      ))
+      (λ entries h. ((omega arith, h.1), (h.0.queue.entry, (h.0.queue.own_ids, h.0.entries))))
+
+pub entries_is : (layout : Layout) → IsLayout layout → (songs : List Row) → AreSavedSongs songs → (version next_id : ℕ) → 1 ≤ version
+    → version ≤ MAX_VERSION → 1 ≤ next_id → next_id ≤ MAX_ID + 1
+    → IsField (λ bytes. entries_at layout songs version next_id bytes) (λ entries. list_bytes (entry_bytes songs) entries)
+    (λ entries. IsSavedQueue songs (record { entries = entries; version = version; next_id = next_id })
+    × (length entries ≤ layout.queue_limit))
+entries_is layout form songs saved version next_id version_low version_high next_low next_high =
     entries_field songs saved version next_id
-    (record { version_low = version_low; version_high = version_high; next_low = next_low; next_high = next_high })
+    (record { version_low = version_low; version_high = version_high; next_low = next_low; next_high = next_high }) layout form.queue_limit

@@ -10,12 +10,14 @@ use Rattle.std.proofs.lemmas.Nat.{le_bytes_2, le_bytes_4, le_bytes_8, from_le_by
 use Rattle.std.proofs.lemmas.Nat.{from_le_bytes-to_le_bytes_8}
 use Rattle.player_core.specs.declared.options.Single.{Single}
 use Rattle.player_core.specs.declared.options.Single.TheVariants.{Off, On, Oneshot}
+use Rattle.state_codec.specs.declared.layout.Layout.{Layout}
+use Rattle.state_codec.specs.Layout.{layout_1, is_consume}
 use Rattle.state_codec.specs.SavedState.{IsBytes, key_len}
 use Rattle.state_codec.specs.Text.{is_text}
 use Rattle.state_codec.specs.Steps.{◌>>=◌}
 use Rattle.state_codec.specs.SpellingFields.{byte_bytes, u32_bytes, u64_bytes, flag_bytes, single_bytes, text_bytes}
 use Rattle.state_codec.specs.Fields.{Field, made, such, both, byte_at, number_at, u32_at, u64_at, number_within, volume_at, flag_at}
-use Rattle.state_codec.specs.Fields.{single_at, key_at, text_at}
+use Rattle.state_codec.specs.Fields.{consume_at, single_at, key_at, text_at}
 
 pub IsBytes-drop : (n : ℕ) (bytes : List ℕ) → IsBytes bytes → IsBytes (drop n bytes)
 IsBytes-drop n bytes h i = rw get_or-drop (h (n + i))
@@ -258,6 +260,17 @@ flag_again true rest any = refl
 
 pub flag_is : IsField (λ bytes. flag_at bytes) flag_bytes (λ on. Any on)
 flag_is = record { takes = flag_takes; again = flag_again }
+
+abbrev pub IsConsume : Layout → Bool → Type 0
+IsConsume layout on = Any on × (is_consume layout on ≡ true)
+
+pub consume_is : (layout : Layout) → IsField (λ bytes. consume_at layout bytes) flag_bytes (IsConsume layout)
+consume_is layout = such_is (is_consume layout) (λ bytes. flag_at bytes) flag_bytes (λ on. Any on) flag_is
+
+-- layout 1 has both values
+pub consume_1 : (on : Bool) → is_consume layout_1 on ≡ true
+consume_1 false = refl
+consume_1 true = refl
 
 single_takes : (bytes : List ℕ) (x : Single × List ℕ) → IsBytes bytes → single_at bytes ≡ Ok x
     → Takes bytes (single_bytes x.0) x.1 × Any x.0

@@ -1,7 +1,7 @@
 -- Items one after the other.
-use Rattle.std.proofs.Common.{◌≡◌, ℕ, zero, suc, List, [], ◌∷◌, ◌++◌, length, Ok, Err, refl, sym, ap, subst, ◌∙◌, append_assoc, arith}
+use Rattle.std.proofs.Common.{◌≡◌, ℕ, zero, suc, ◌+◌, List, [], ◌∷◌, ◌++◌, length, Ok, Err, refl, sym, ap, subst, ◌∙◌, append_assoc, arith}
 use Rattle.std.specs.List.{flat_map, AllByRecursion}
-use Rattle.std.proofs.lemmas.List.{append-nil}
+use Rattle.std.proofs.lemmas.List.{append-nil, length-append}
 use Rattle.std.proofs.lemmas.List.Concat.{flat_map-cons}
 use Rattle.state_codec.specs.SavedState.{IsBytes}
 use Rattle.state_codec.specs.Fields.{Field}
@@ -115,6 +115,16 @@ alone_is at text Fits field = record {
   takes = λ known bytes x fits in_range e. let t = field.takes bytes x in_range e in (t.0, all_push Fits known x.0 fits t.1);
   again = λ known a more rest fits. field.again a rest (all_middle Fits known a more fits);
 }
+
+-- so many items are read
+pub items_count : {A : Type 0} (item : List A → List ℕ → Field A) (n : ℕ) (known : List A) (bytes : List ℕ) (x : List A × List ℕ)
+    → items_at item n known bytes ≡ Ok x → length x.0 ≡ length known + n
+unfolding items_at
+items_count item zero known bytes x e =
+    subst (λ y. length y.0 ≡ length known + 0) (ok_is (known, bytes) x e) (omega arith)
+items_count item (suc n) known bytes x e =
+    let next = bind_ok (item known bytes) _ x e in
+    omega (arith, items_count item n (known ++ next.0.0 ∷ []) next.0.1 x next.2, length-append known (next.0.0 ∷ []))
 
 -- ---- one more item, as a loop reads
 

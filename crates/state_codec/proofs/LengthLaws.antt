@@ -17,6 +17,7 @@ use Rattle.player_core.specs.declared.options.Single.TheVariants.{Off, On, Onesh
 use Rattle.song_db.specs.Row.{Row, is_good_tag}
 use Rattle.song_db.specs.Uri.{is_uri}
 use Rattle.stickers.specs.Sticker.{Sticker, IsSticker}
+use Rattle.stickers.specs.Value.{is_good_value}
 use Rattle.stored_lists.specs.Lists.{Stored, total}
 use Rattle.stored_lists.specs.Name.{is_good_name}
 use Rattle.stored_lists.specs.Songs.{AreUris}
@@ -31,18 +32,18 @@ use Rattle.state_codec.proofs.RowLaws.{fields_fit}
 use Rattle.state_codec.proofs.Rising.{all_places, all_in_turn, all_weaker}
 
 -- each of them is no longer than this, so all together aren't longer than so many of these
-flat_short : {X : Type 0} (f : X → List ℕ) (m : ℕ) (xs : List X) → AllByRecursion (λ x. length (f x) ≤ m) xs
+pub flat_short : {X : Type 0} (f : X → List ℕ) (m : ℕ) (xs : List X) → AllByRecursion (λ x. length (f x) ≤ m) xs
     → length (flat_map f xs) ≤ length xs * m
 flat_short f m xs short = subst (λ (n : ℕ). n ≤ length xs * m) (sym (length-flat_map f xs))
     (sum_by-le (λ x. length (f x)) m xs (all_places (λ x. length (f x) ≤ m) xs short))
 
-text_len : (text : List ℕ) → length (text_bytes text) ≡ 2 + length text
+pub text_len : (text : List ℕ) → length (text_bytes text) ≡ 2 + length text
 text_len text = length-append (to_le_bytes w16 (length text)) text
 
-list_len : {X : Type 0} (f : X → List ℕ) (xs : List X) → length (list_bytes f xs) ≡ 4 + length (flat_map f xs)
+pub list_len : {X : Type 0} (f : X → List ℕ) (xs : List X) → length (list_bytes f xs) ≡ 4 + length (flat_map f xs)
 list_len f xs = length-append (u32_bytes (length xs)) (flat_map f xs)
 
-uri_len : (uri : List ℕ) → is_uri uri ≡ true → length (text_bytes uri) ≤ 1026
+pub uri_len : (uri : List ℕ) → is_uri uri ≡ true → length (text_bytes uri) ≤ 1026
 uri_len uri form =
     let utf8 = both_true (is_utf8 uri) _ form in
     let len = both_true (leb (length uri) 1024) _ utf8.1 in
@@ -83,12 +84,12 @@ songs_len songs good =
           (all_in_turn (λ uri. IsTrue (is_uri uri)) songs good)),
     )
 
-name_len : (name : List ℕ) → is_good_name name ≡ true → length name ≤ 256
+pub name_len : (name : List ℕ) → is_good_name name ≡ true → length name ≤ 256
 name_len name good =
     let parts = both_true (Rattle.std.specs.Prelude.not (eqb (length name) 0)) _ good in
     leb-true _ _ (both_true (leb (length name) 256) _ parts.1).0
 
-lists_len : (lists : Stored) → AllByRecursion (λ list. IsTrue (is_good_name list.0) × AreUris list.1) lists
+pub lists_len : (lists : Stored) → AllByRecursion (λ list. IsTrue (is_good_name list.0) × AreUris list.1) lists
     → length (flat_map playlist_bytes lists) ≤ length lists * 262 + total lists * 1026
 lists_len [] good = omega arith
 lists_len (list ∷ lists) good =
@@ -106,15 +107,17 @@ lists_len (list ∷ lists) good =
 
 -- ---- entries and stickers
 
+pub value_len : (value : List ℕ) → is_good_value value ≡ true → length value ≤ 4096
+value_len value good = leb-true _ _ good
+
 entry_len : (songs : List Row) (entries : List Entry) → AllByRecursion (λ entry. length (entry_bytes songs entry) ≤ 13) entries
 entry_len songs [] = tt
 entry_len songs (entry ∷ entries) = (omega arith, entry_len songs entries)
 
-sticker_len : (s : Sticker) → IsSticker s → length (sticker_bytes s) ≤ longest_sticker
+pub sticker_len : (s : Sticker) → IsSticker s → length (sticker_bytes s) ≤ longest_sticker
 sticker_len s good =
     let parts = both_true (Rattle.std.specs.Prelude.not (eqb (length s.name) 0)) _ good.good_name in
     let name : length s.name ≤ 256 = leb-true _ _ (both_true (leb (length s.name) 256) _ parts.1).0 in
-    let value : length s.value ≤ 4096 = leb-true _ _ good.good_value in
     omega (
       arith,
       length-append (text_bytes s.uri) (text_bytes s.name ++ text_bytes s.value),
@@ -123,7 +126,7 @@ sticker_len s good =
       text_len s.name,
       name,
       text_len s.value,
-      value,
+      value_len s.value good.good_value,
     )
 
 -- ---- the head
@@ -150,7 +153,7 @@ options_len o =
       flag_len o.consume,
     )
 
-head_len : (s : SavedState) → IsSavedState s → length (head_bytes s) ≡ 53
+pub head_len : (s : SavedState) → IsSavedState s → length (head_bytes s) ≡ 53
 head_len s good =
     let r4 = options_bytes s.options in
     let r3 = byte_bytes s.volume ++ r4 in

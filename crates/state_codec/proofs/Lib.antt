@@ -13,6 +13,7 @@ pub mod PlaylistsLaws
 pub mod StickersLaws
 pub mod SavedLaws
 pub mod LengthLaws
+pub mod SnapshotLaws
 pub mod RoomLaws
 pub mod ApplyLaws
 pub mod AppliedLaws

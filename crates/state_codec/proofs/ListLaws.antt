@@ -1,9 +1,11 @@
 -- Lists: all items, and whether there is one.
-use Rattle.std.proofs.Common.{◌≡◌, ℕ, zero, suc, ◌+◌, Bool, true, false, cond, ltb, List, [], ◌∷◌, length, refl, sym, ◌∙◌, arith, Some}
+use Rattle.std.proofs.Common.{◌≡◌, ℕ, zero, suc, ◌+◌, Bool, true, false, cond, ltb, List, [], ◌∷◌, ◌++◌, length, refl, sym, ◌∙◌, arith}
+use Rattle.std.proofs.Common.{Some}
 use Rattle.std.proofs.Common.{None, inl, inr}
-use Rattle.std.specs.Prelude.{is_some, position}
-use Rattle.std.specs.List.{All, AllByRecursion, list_any, position_or_len}
+use Rattle.std.specs.Prelude.{Option, is_some, position}
+use Rattle.std.specs.List.{All, AllByRecursion, list_all, list_any, position_or_len}
 use Rattle.std.proofs.lemmas.Bool.{cases_lt, lt-ltb, le-ltb}
+use Rattle.std.proofs.lemmas.List.Folds.{list_all-append}
 
 -- all items, by place and by recursion
 pub all_by : {A : Type 0} (P : A → Type 0) (xs : List A) → All P xs → AllByRecursion P xs
@@ -14,6 +16,15 @@ pub by_all : {A : Type 0} (P : A → Type 0) (xs : List A) → AllByRecursion P 
 by_all P [] all k d lt = absurd (omega arith)
 by_all P (x ∷ xs) all zero d lt = all.0
 by_all P (x ∷ xs) all (suc k) d lt = by_all P xs all.1 k d (omega arith)
+
+pub all_pushed : {A : Type 0} (p : A → Bool) (xs : List A) (x : A) → list_all p xs ≡ true → p x ≡ true
+    → list_all p (xs ++ x ∷ []) ≡ true
+all_pushed p xs x all holds = list_all-append p xs (x ∷ []) ∙ rw (all, holds) refl
+
+-- what is made where a test is passed is made
+pub not_none : {A : Type 0} (b : Bool) (x : A) (o : Option A) → o ≡ cond b (Some x) None → b ≡ true → o ≡ None → ⊥
+not_none true x o e h f = absurd cc
+not_none false x o e h f = absurd cc
 
 some_if : {A : Type 0} (b : Bool) (x : A) → is_some (cond b (Some x) None) ≡ b
 some_if true x = refl

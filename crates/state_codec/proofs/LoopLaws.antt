@@ -1,5 +1,6 @@
 -- One item after the other, as a loop reads.
-use Rattle.std.proofs.Common.{◌≡◌, ℕ, suc, ◌+◌, ◌-◌, ◌<◌, ◌≤◌, List, ◌∷◌, [], ◌++◌, Ok, sym, ap, ◌∙◌, arith}
+use Rattle.std.proofs.Common.{◌≡◌, ℕ, suc, ◌+◌, ◌-◌, ◌<◌, ◌≤◌, List, ◌∷◌, [], ◌++◌, length, Ok, sym, ap, ◌∙◌, arith}
+use Rattle.std.proofs.lemmas.List.{length-append}
 use Rattle.state_codec.specs.declared.fields.ReadError.{ReadError}
 use Rattle.state_codec.specs.declared.fields.ReadError.TheVariants.{Fault, NoMemory}
 use Rattle.state_codec.specs.Fields.{Field}
@@ -15,6 +16,10 @@ pub items_go_on : {A : Type 0} (item : List A → List ℕ → Field A) (count i
 items_go_on item count i known bytes a rest whole lt e so_far =
     let n : count - i ≡ suc (count - (i + 1)) = omega arith in
     sym (items_step item (count - (i + 1)) known bytes a rest e) ∙ ap (λ (k : ℕ). items_at item k known bytes) (sym n) ∙ so_far
+
+-- and so many are read by now
+pub one_counted : {A : Type 0} (known : List A) (a : A) (i : ℕ) → length known ≡ i → length (known ++ a ∷ []) ≡ i + 1
+one_counted known a i so_far = omega (arith, length-append known (a ∷ []), so_far)
 
 -- an item was at fault
 pub items_fail : {A : Type 0} (item : List A → List ℕ → Field A) (count i : ℕ) (known : List A) (bytes : List ℕ) (error : ReadError)

@@ -10,6 +10,7 @@ use Rattle.song_db.specs.Uri.{is_uri}
 use Rattle.song_db.specs.declared.change.RowChange.{RowChange}
 use Rattle.song_db.specs.declared.change.RowChange.TheVariants.{Put, Drop}
 use Rattle.stickers.specs.Value.{is_good_value}
+use Rattle.state_codec.specs.declared.layout.Layout.{Layout}
 use Rattle.state_codec.specs.declared.op.Op.{Op}
 use Rattle.state_codec.specs.declared.op.Op.TheVariants.{SetOption, SetVolume, SetOrder, Queue, List as OfList, Sticker, Batch}
 use Rattle.state_codec.specs.declared.op.setting.Setting.{Setting}
@@ -21,7 +22,9 @@ use Rattle.state_codec.specs.declared.op.list_op.ListOp.TheVariants as lists
 use Rattle.state_codec.specs.declared.op.sticker_op.StickerOp.{StickerOp}
 use Rattle.state_codec.specs.declared.op.sticker_op.StickerOp.TheVariants as stickers
 use Rattle.state_codec.specs.Changes.{is_count, IsChange, AreChanges}
-use Rattle.state_codec.specs.Fields.{Field, made, such, both, byte_at, u32_at, u64_at, pair_at, volume_at, flag_at, single_at, text_at}
+use Rattle.state_codec.specs.Fields.{Field, made, such, both, byte_at, u32_at, u64_at, pair_at, volume_at, flag_at, consume_at, single_at}
+use Rattle.state_codec.specs.Fields.{text_at}
+use Rattle.state_codec.specs.Layout.{IsSettingIn, IsOpIn}
 use Rattle.state_codec.specs.Numbers.{MAX_COUNT, AreRowNumbers, AreOpRanges}
 use Rattle.state_codec.specs.Ops.{IsOp, AreNumbers, IsQueueOp, IsListOp, IsStickerOp, IsText}
 use Rattle.state_codec.specs.ReadingOps.{setting_at, row_numbers_at, ranges_at, queue_op_at, list_op_at, value_at, sticker_op_at, op_at}
@@ -33,7 +36,7 @@ use Rattle.state_codec.specs.SpellingOps.{sticker_kind, sticker_fields, op_bytes
 use Rattle.state_codec.specs.SpellingRows.{row_bytes, change_bytes, changes_bytes}
 use Rattle.state_codec.specs.Text.{is_text, is_sticker_text}
 use Rattle.state_codec.proofs.FieldLaws.{bind_ok, ok_is, both_true, Takes, Takes-then, IsField, Any, both_is, such_is, fits_is, byte_is}
-use Rattle.state_codec.proofs.FieldLaws.{u32_is, u64_is, volume_is, flag_is, single_is, text_is}
+use Rattle.state_codec.proofs.FieldLaws.{u32_is, u64_is, volume_is, flag_is, IsConsume, consume_is, single_is, text_is}
 use Rattle.state_codec.proofs.ItemLaws.{counted_is, alone_is}
 use Rattle.state_codec.proofs.ListLaws.{all_by, by_all}
 use Rattle.state_codec.proofs.RowLaws.{uri_is, row_is}
@@ -142,52 +145,55 @@ changes_is =
 
 -- ---- settings
 
-setting_takes : (bytes : List ℕ) (y : Setting × List ℕ) → IsBytes bytes → setting_at bytes ≡ Ok y
-    → Takes bytes (setting_bytes y.0) y.1 × Any y.0
+setting_takes : (layout : Layout) (bytes : List ℕ) (y : Setting × List ℕ) → IsBytes bytes → setting_at layout bytes ≡ Ok y
+    → Takes bytes (setting_bytes y.0) y.1 × IsSettingIn layout y.0
 unfolding setting_at
-setting_takes bytes y fits e =
+setting_takes layout bytes y fits e =
     let b = bind_ok (byte_at bytes) _ y e in
     let k = b.0.0 in
     let rest = b.0.1 in
     let front = (byte_is.takes bytes b.0 fits b.1).0 in
     elim (chosen (eqb k 1) _ _ (Ok y) b.2) [
-      | inl h ↦ option settings.Repeat flag_bytes 1 k bytes rest (flag_at rest) y front h.0
-          (λ x r. (flag_is.takes rest x front.rest_fits r).0) (λ a. refl) h.1
+      | inl h ↦ option settings.Repeat flag_bytes (λ a. Any a) 1 k bytes rest (flag_at rest) y front h.0
+          (λ x r. flag_is.takes rest x front.rest_fits r) (λ a. refl) (λ a g. tt) h.1
       | inr n1 ↦ elim (chosen (eqb k 2) _ _ (Ok y) n1.1) [
-        | inl h ↦ option settings.Random flag_bytes 2 k bytes rest (flag_at rest) y front h.0
-            (λ x r. (flag_is.takes rest x front.rest_fits r).0) (λ a. refl) h.1
+        | inl h ↦ option settings.Random flag_bytes (λ a. Any a) 2 k bytes rest (flag_at rest) y front h.0
+            (λ x r. flag_is.takes rest x front.rest_fits r) (λ a. refl) (λ a g. tt) h.1
         | inr n2 ↦ elim (chosen (eqb k 3) _ _ (Ok y) n2.1) [
-          | inl h ↦ option settings.Single single_bytes 3 k bytes rest (single_at rest) y front h.0
-              (λ x r. (single_is.takes rest x front.rest_fits r).0) (λ a. refl) h.1
+          | inl h ↦ option settings.Single single_bytes (λ a. Any a) 3 k bytes rest (single_at rest) y front h.0
+              (λ x r. single_is.takes rest x front.rest_fits r) (λ a. refl) (λ a g. tt) h.1
           | inr n3 ↦ elim (chosen (eqb k 4) _ _ (Ok y) n3.1) [
-            | inl h ↦ option settings.Consume flag_bytes 4 k bytes rest (flag_at rest) y front h.0
-                (λ x r. (flag_is.takes rest x front.rest_fits r).0) (λ a. refl) h.1
+            | inl h ↦ option settings.Consume flag_bytes (IsConsume layout) 4 k bytes rest (consume_at layout rest) y front h.0
+                (λ x r. (consume_is layout).takes rest x front.rest_fits r) (λ a. refl) (λ a g. g.1) h.1
             | inr n4 ↦ let h = n4.1 in absurd cc
           ]
         ]
       ]
     ] where
-      option : {A : Type 0} (f : A → Setting) (text : A → List ℕ) (kind found : ℕ) (bytes rest : List ℕ) (field : Field A)
-          (y : Setting × List ℕ)
-          → Takes bytes (found ∷ []) rest → eqb found kind ≡ true → ((x : A × List ℕ) → field ≡ Ok x → Takes rest (text x.0) x.1)
-          → ((a : A) → kind ∷ text a ≡ setting_bytes (f a)) → made f field ≡ Ok y → Takes bytes (setting_bytes y.0) y.1 × Any y.0
-      option f text kind found bytes rest field y front is_kind reads spelled e =
+      option : {A : Type 0} (f : A → Setting) (text : A → List ℕ) (Fits : A → Type 0) (kind found : ℕ) (bytes rest : List ℕ)
+          (field : Field A) (y : Setting × List ℕ)
+          → Takes bytes (found ∷ []) rest → eqb found kind ≡ true
+          → ((x : A × List ℕ) → field ≡ Ok x → Takes rest (text x.0) x.1 × Fits x.0)
+          → ((a : A) → kind ∷ text a ≡ setting_bytes (f a)) → ((a : A) → Fits a → IsSettingIn layout (f a)) → made f field ≡ Ok y
+          → Takes bytes (setting_bytes y.0) y.1 × IsSettingIn layout y.0
+      option f text Fits kind found bytes rest field y front is_kind reads spelled keeps e =
           let b = bind_ok field _ y e in
           let t = reads b.0 b.1 in
           let named : Takes bytes (kind ∷ []) rest = subst (λ (k : ℕ). Takes bytes (k ∷ []) rest) (eqb-true _ _ is_kind) front in
-          let joined : Takes bytes (kind ∷ text b.0.0) b.0.1 = Takes-then bytes (kind ∷ []) rest (text b.0.0) b.0.1 named t in
-          subst (λ z. Takes bytes (setting_bytes z.0) z.1 × Any z.0) (ok_is (f b.0.0, b.0.1) y b.2)
-          (subst (λ (w : List ℕ). Takes bytes w b.0.1) (spelled b.0.0) joined, tt)
+          let joined : Takes bytes (kind ∷ text b.0.0) b.0.1 = Takes-then bytes (kind ∷ []) rest (text b.0.0) b.0.1 named t.0 in
+          subst (λ z. Takes bytes (setting_bytes z.0) z.1 × IsSettingIn layout z.0) (ok_is (f b.0.0, b.0.1) y b.2)
+          (subst (λ (w : List ℕ). Takes bytes w b.0.1) (spelled b.0.0) joined, keeps b.0.0 t.1)
 
-setting_again : (value : Setting) (rest : List ℕ) → Any value → setting_at (setting_bytes value ++ rest) ≡ Ok (value, rest)
+setting_again : (layout : Layout) (value : Setting) (rest : List ℕ) → IsSettingIn layout value
+    → setting_at layout (setting_bytes value ++ rest) ≡ Ok (value, rest)
 unfolding setting_at
-setting_again (settings.Repeat on) rest any = ap (made settings.Repeat) (flag_is.again on rest tt)
-setting_again (settings.Random on) rest any = ap (made settings.Random) (flag_is.again on rest tt)
-setting_again (settings.Single value) rest any = ap (made settings.Single) (single_is.again value rest tt)
-setting_again (settings.Consume on) rest any = ap (made settings.Consume) (flag_is.again on rest tt)
+setting_again layout (settings.Repeat on) rest any = ap (made settings.Repeat) (flag_is.again on rest tt)
+setting_again layout (settings.Random on) rest any = ap (made settings.Random) (flag_is.again on rest tt)
+setting_again layout (settings.Single value) rest any = ap (made settings.Single) (single_is.again value rest tt)
+setting_again layout (settings.Consume on) rest any = ap (made settings.Consume) ((consume_is layout).again on rest (tt, any))
 
-setting_is : IsField (λ bytes. setting_at bytes) setting_bytes (λ value. Any value)
-setting_is = record { takes = setting_takes; again = setting_again }
+setting_is : (layout : Layout) → IsField (λ bytes. setting_at layout bytes) setting_bytes (IsSettingIn layout)
+setting_is layout = record { takes = setting_takes layout; again = setting_again layout }
 
 -- ---- the families
 
@@ -387,60 +393,72 @@ sticker_again (stickers.DeleteAll uri) rest good = ap (made stickers.DeleteAll) 
 -- ---- an op
 
 -- an op of a kind alone
-alone : {A : Type 0} (f : A → Op) (kind found : ℕ) (bytes rest : List ℕ) (at : List ℕ → Field A) (text : A → List ℕ) (Fits : A → Type 0)
+alone : (layout : Layout) {A : Type 0} (f : A → Op) (kind found : ℕ) (bytes rest : List ℕ) (at : List ℕ → Field A) (text : A
+    → List ℕ) (Fits : A → Type 0)
     → IsField at text Fits
-    → Takes bytes (found ∷ []) rest → eqb found kind ≡ true → ((a : A) → kind ∷ text a ≡ op_bytes (f a)) → ((a : A) → Fits a → IsOp (f a))
-    → (y : Op × List ℕ) → made f (at rest) ≡ Ok y → Takes bytes (op_bytes y.0) y.1 × IsOp y.0
-alone f kind found bytes rest at text Fits field front is_kind spelled keeps y e =
+    → Takes bytes (found ∷ []) rest → eqb found kind ≡ true → ((a : A) → kind ∷ text a ≡ op_bytes (f a)) → ((a : A) → Fits a
+    → IsOp (f a) × IsOpIn layout (f a))
+    → (y : Op × List ℕ) → made f (at rest) ≡ Ok y → Takes bytes (op_bytes y.0) y.1 × (IsOp y.0 × IsOpIn layout y.0)
+alone layout f kind found bytes rest at text Fits field front is_kind spelled keeps y e =
     let b = bind_ok (at rest) _ y e in
     let t = field.takes rest b.0 front.rest_fits b.1 in
     let named : Takes bytes (kind ∷ []) rest = subst (λ (k : ℕ). Takes bytes (k ∷ []) rest) (eqb-true _ _ is_kind) front in
     let joined : Takes bytes (kind ∷ text b.0.0) b.0.1 = Takes-then bytes (kind ∷ []) rest (text b.0.0) b.0.1 named t.0 in
-    subst (λ z. Takes bytes (op_bytes z.0) z.1 × IsOp z.0) (ok_is (f b.0.0, b.0.1) y b.2)
+    subst (λ z. Takes bytes (op_bytes z.0) z.1 × (IsOp z.0 × IsOpIn layout z.0)) (ok_is (f b.0.0, b.0.1) y b.2)
     (subst (λ (w : List ℕ). Takes bytes w b.0.1) (spelled b.0.0) joined, keeps b.0.0 t.1)
 
 -- an op of a family
-of_family : {B : Type 0} (f : B → Op) (kind_of : B → ℕ) (fields : B → List ℕ) (Good : B → Type 0) (found : ℕ) (bytes rest : List ℕ)
+of_family : (layout : Layout) {B : Type 0} (f : B → Op) (kind_of : B → ℕ) (fields : B → List ℕ) (Good : B
+    → Type 0) (found : ℕ) (bytes rest : List ℕ)
     (field : Field B)
     → Takes bytes (found ∷ []) rest → ((z : B × List ℕ) → field ≡ Ok z → IsKind kind_of fields Good found rest z)
-    → ((b : B) → kind_of b ∷ fields b ≡ op_bytes (f b)) → ((b : B) → Good b → IsOp (f b)) → (y : Op × List ℕ) → made f field ≡ Ok y
-    → Takes bytes (op_bytes y.0) y.1 × IsOp y.0
-of_family f kind_of fields Good found bytes rest field front takes spelled keeps y e =
+    → ((b : B) → kind_of b ∷ fields b ≡ op_bytes (f b)) → ((b : B) → Good b → IsOp (f b) × IsOpIn layout (f b)) → (y : Op × List ℕ)
+    → made f field ≡ Ok y
+    → Takes bytes (op_bytes y.0) y.1 × (IsOp y.0 × IsOpIn layout y.0)
+of_family layout f kind_of fields Good found bytes rest field front takes spelled keeps y e =
     let b = bind_ok field _ y e in
     let k = takes b.0 b.1 in
     let named : Takes bytes (kind_of b.0.0 ∷ []) rest = subst (λ (n : ℕ). Takes bytes (n ∷ []) rest) (sym k.named) front in
     let joined : Takes bytes (kind_of b.0.0 ∷ fields b.0.0) b.0.1 =
     Takes-then bytes (kind_of b.0.0 ∷ []) rest (fields b.0.0) b.0.1 named k.taken in
-    subst (λ z. Takes bytes (op_bytes z.0) z.1 × IsOp z.0) (ok_is (f b.0.0, b.0.1) y b.2)
+    subst (λ z. Takes bytes (op_bytes z.0) z.1 × (IsOp z.0 × IsOpIn layout z.0)) (ok_is (f b.0.0, b.0.1) y b.2)
     (subst (λ (w : List ℕ). Takes bytes w b.0.1) (spelled b.0.0) joined, keeps b.0.0 k.good)
 
 within : (low high n : ℕ) → is_in_range low high n ≡ true → (low ≤ n) × (n ≤ high)
 within low high n h = let b = both_true (leb low n) (leb n high) h in (leb-true _ _ b.0, leb-true _ _ b.1)
 
-pub op_takes : (bytes : List ℕ) (y : Op × List ℕ) → IsBytes bytes → op_at bytes ≡ Ok y → Takes bytes (op_bytes y.0) y.1 × IsOp y.0
+pub op_takes : (layout : Layout) (bytes : List ℕ) (y : Op × List ℕ) → IsBytes bytes → op_at layout bytes ≡ Ok y
+    → Takes bytes (op_bytes y.0) y.1 × (IsOp y.0 × IsOpIn layout y.0)
 unfolding op_at
-op_takes bytes y fits e =
+op_takes layout bytes y fits e =
     let b = bind_ok (byte_at bytes) _ y e in
     let k = b.0.0 in
     let rest = b.0.1 in
     let front = (byte_is.takes bytes b.0 fits b.1).0 in
     elim (chosen (eqb k 1) _ _ (Ok y) b.2) [
-      | inl h ↦ alone SetOption 1 k bytes rest (λ s. setting_at s) _ _ setting_is front h.0 (λ a. refl) (λ a g. tt) y h.1
+      | inl h ↦ alone layout SetOption 1 k bytes rest (λ s. setting_at layout s) _ _ (setting_is layout) front h.0 (λ a. refl) (λ a g.
+          (tt, g)) y h.1
       | inr n1 ↦ elim (chosen (eqb k 2) _ _ (Ok y) n1.1) [
-        | inl h ↦ alone SetVolume 2 k bytes rest (λ s. volume_at s) _ _ volume_is front h.0 (λ a. refl) (λ a g. g) y h.1
+        | inl h ↦ alone layout SetVolume 2 k bytes rest (λ s. volume_at s) _ _ volume_is front h.0 (λ a. refl) (λ a g. (g, tt)) y h.1
         | inr n2 ↦ elim (chosen (eqb k 3) _ _ (Ok y) n2.1) [
-          | inl h ↦ alone SetOrder 3 k bytes rest (λ s. u64_at s) _ _ u64_is front h.0 (λ a. refl) (λ a g. g) y h.1
+          | inl h ↦ alone layout SetOrder 3 k bytes rest (λ s. u64_at s) _ _ u64_is front h.0 (λ a. refl) (λ a g. (g, tt)) y h.1
           | inr n3 ↦ elim (chosen (is_in_range 4 9 k) _ _ (Ok y) n3.1) [
-            | inl h ↦ let r = within 4 9 k h.0 in of_family Queue queue_kind queue_fields IsQueueOp k bytes rest (queue_op_at k rest) front
-                (λ z f. queue_takes k rest z r.0 r.1 front.rest_fits f) (λ a. refl) (λ a g. g) y h.1
+            | inl h ↦ let r = within 4 9 k h.0 in of_family layout Queue queue_kind queue_fields IsQueueOp k bytes rest (queue_op_at k
+                rest) front
+                (λ z f. queue_takes k rest z r.0 r.1 front.rest_fits f) (λ a. refl) (λ a g. (g, tt)) y h.1
             | inr n4 ↦ elim (chosen (is_in_range 10 16 k) _ _ (Ok y) n4.1) [
-              | inl h ↦ let r = within 10 16 k h.0 in of_family OfList list_kind list_fields IsListOp k bytes rest (list_op_at k rest) front
-                  (λ z f. list_takes k rest z r.0 r.1 front.rest_fits f) (λ a. refl) (λ a g. g) y h.1
+              | inl h ↦ let r = within 10 16 k h.0 in of_family layout OfList list_kind list_fields IsListOp k bytes rest (list_op_at k
+                  rest) front
+                  (λ z f. list_takes k rest z r.0 r.1 front.rest_fits f) (λ a. refl) (λ a g. (g, tt)) y h.1
               | inr n5 ↦ elim (chosen (is_in_range 17 19 k) _ _ (Ok y) n5.1) [
-                | inl h ↦ let r = within 17 19 k h.0 in of_family Sticker sticker_kind sticker_fields IsStickerOp k bytes rest
-                    (sticker_op_at k rest) front (λ z f. sticker_takes k rest z r.0 r.1 front.rest_fits f) (λ a. refl) (λ a g. g) y h.1
+                | inl h ↦ let r = within 17 19 k h.0 in of_family layout Sticker sticker_kind sticker_fields IsStickerOp k bytes rest
+                    (sticker_op_at k rest) front (λ z f. sticker_takes k rest z r.0 r.1 front.rest_fits f) (λ a. refl) (λ a g. (g, tt))
+                    y h.1
                 | inr n6 ↦ elim (chosen (eqb k 20) _ _ (Ok y) n6.1) [
-                  | inl h ↦ alone Batch 20 k bytes rest (λ s. changes_at s) _ _ changes_is front h.0 (λ a. refl) (λ a g. g) y h.1
+                  | inl h ↦ alone layout Batch 20 k bytes rest (λ s. changes_at s) _ _ changes_is front h.0 (λ a. refl) (λ a g. (
+                    g,
+                    tt,
+                  )) y h.1
                   | inr n7 ↦ let h = n7.1 in absurd cc
                 ]
               ]
@@ -450,43 +468,45 @@ op_takes bytes y fits e =
       ]
     ]
 
-queue_kinds : (op : QueueOp) (rest : List ℕ) → op_at (queue_kind op ∷ rest) ≡ made Queue (queue_op_at (queue_kind op) rest)
+queue_kinds : (layout : Layout) (op : QueueOp) (rest : List ℕ)
+    → op_at layout (queue_kind op ∷ rest) ≡ made Queue (queue_op_at (queue_kind op) rest)
 unfolding op_at
-queue_kinds (queue.Add at rows) rest = refl
-queue_kinds (queue.Delete start end) rest = refl
-queue_kinds (queue.Move start end to) rest = refl
-queue_kinds (queue.Swap one other) rest = refl
-queue_kinds (queue.Shuffle start end) rest = refl
-queue_kinds (queue.Prio priority ranges) rest = refl
+queue_kinds layout (queue.Add at rows) rest = refl
+queue_kinds layout (queue.Delete start end) rest = refl
+queue_kinds layout (queue.Move start end to) rest = refl
+queue_kinds layout (queue.Swap one other) rest = refl
+queue_kinds layout (queue.Shuffle start end) rest = refl
+queue_kinds layout (queue.Prio priority ranges) rest = refl
 
-list_kinds : (op : ListOp) (rest : List ℕ) → op_at (list_kind op ∷ rest) ≡ made OfList (list_op_at (list_kind op) rest)
+list_kinds : (layout : Layout) (op : ListOp) (rest : List ℕ)
+    → op_at layout (list_kind op ∷ rest) ≡ made OfList (list_op_at (list_kind op) rest)
 unfolding op_at
-list_kinds (lists.Save name) rest = refl
-list_kinds (lists.Add name rows) rest = refl
-list_kinds (lists.Remove name start end) rest = refl
-list_kinds (lists.Move name from to) rest = refl
-list_kinds (lists.Clear name) rest = refl
-list_kinds (lists.Rename from to) rest = refl
-list_kinds (lists.Drop name) rest = refl
+list_kinds layout (lists.Save name) rest = refl
+list_kinds layout (lists.Add name rows) rest = refl
+list_kinds layout (lists.Remove name start end) rest = refl
+list_kinds layout (lists.Move name from to) rest = refl
+list_kinds layout (lists.Clear name) rest = refl
+list_kinds layout (lists.Rename from to) rest = refl
+list_kinds layout (lists.Drop name) rest = refl
 
-sticker_kinds : (op : StickerOp) (rest : List ℕ) → op_at (sticker_kind op ∷ rest) ≡ made Sticker (sticker_op_at (sticker_kind op) rest)
+sticker_kinds : (layout : Layout) (op : StickerOp) (rest : List ℕ)
+    → op_at layout (sticker_kind op ∷ rest) ≡ made Sticker (sticker_op_at (sticker_kind op) rest)
 unfolding op_at
-sticker_kinds (stickers.Set uri name value) rest = refl
-sticker_kinds (stickers.Delete uri name) rest = refl
-sticker_kinds (stickers.DeleteAll uri) rest = refl
+sticker_kinds layout (stickers.Set uri name value) rest = refl
+sticker_kinds layout (stickers.Delete uri name) rest = refl
+sticker_kinds layout (stickers.DeleteAll uri) rest = refl
 
-pub op_again : (op : Op) (rest : List ℕ) → IsOp op → op_at (op_bytes op ++ rest) ≡ Ok (op, rest)
+pub op_again : (layout : Layout) (op : Op) (rest : List ℕ) → IsOp op → IsOpIn layout op → op_at layout (op_bytes op ++ rest) ≡ Ok (op, rest)
 unfolding op_at
-op_again (SetOption value) rest good = ap (made SetOption) (setting_is.again value rest tt)
-op_again (SetVolume volume) rest good = ap (made SetVolume) (volume_is.again volume rest good)
-op_again (SetOrder order) rest good = ap (made SetOrder) (u64_is.again order rest good)
-op_again (Queue op) rest good = queue_kinds op (queue_fields op ++ rest) ∙ ap (made Queue) (queue_again op rest good)
-op_again (OfList op) rest good = list_kinds op (list_fields op ++ rest) ∙ ap (made OfList) (list_again op rest good)
-op_again (Sticker op) rest good = sticker_kinds op (sticker_fields op ++ rest) ∙ ap (made Sticker) (sticker_again op rest good)
-op_again (Batch changes) rest good = ap (made Batch) (changes_is.again changes rest good)
-
-pub op_is : IsField (λ bytes. op_at bytes) op_bytes IsOp
-op_is = record { takes = op_takes; again = op_again }
+op_again layout (SetOption value) rest good in_layout = ap (made SetOption) ((setting_is layout).again value rest in_layout)
+op_again layout (SetVolume volume) rest good in_layout = ap (made SetVolume) (volume_is.again volume rest good)
+op_again layout (SetOrder order) rest good in_layout = ap (made SetOrder) (u64_is.again order rest good)
+op_again layout (Queue op) rest good in_layout = queue_kinds layout op (queue_fields op ++ rest)
+    ∙ ap (made Queue) (queue_again op rest good)
+op_again layout (OfList op) rest good in_layout = list_kinds layout op (list_fields op ++ rest) ∙ ap (made OfList) (list_again op rest good)
+op_again layout (Sticker op) rest good in_layout = sticker_kinds layout op (sticker_fields op ++ rest)
+    ∙ ap (made Sticker) (sticker_again op rest good)
+op_again layout (Batch changes) rest good in_layout = ap (made Batch) (changes_is.again changes rest good)
 
 -- an op takes a byte at least
 pub op_spelled : (op : Op) → 1 ≤ length (op_bytes op)

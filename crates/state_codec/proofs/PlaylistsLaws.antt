@@ -12,11 +12,13 @@ use Rattle.std.proofs.lemmas.Bool.{leb-true, le-leb, ltb-false, le-ltb, not-true
 use Rattle.std.proofs.lemmas.List.{map-append}
 use Rattle.std.proofs.lemmas.List.Sums.{sum_by_push, sum_by-append, sum_by-cons}
 use Rattle.song_db.specs.Uri.{is_uri}
-use Rattle.stored_lists.specs.Limits.{MAX_LISTS, MAX_ENTRIES}
+use Rattle.stored_lists.specs.Limits.{MAX_ENTRIES}
 use Rattle.stored_lists.specs.Lists.{Stored, names_of, total, is_full_for}
 use Rattle.stored_lists.specs.Name.{is_good_name}
 use Rattle.stored_lists.specs.Part.{is_last}
 use Rattle.stored_lists.specs.Songs.{AreUris}
+use Rattle.state_codec.specs.declared.layout.Layout.{Layout}
+use Rattle.state_codec.specs.Layout.{IsLayout}
 use Rattle.state_codec.specs.Fields.{such, u32_at, number_within, text_at}
 use Rattle.state_codec.specs.ReadingRows.{uri_at}
 use Rattle.state_codec.specs.ReadingSaved.{uris_at, list_name_at, playlist_at, lists_at}
@@ -131,23 +133,34 @@ none_known : KnownLists []
 unfolding IsStrictlySortedBy
 none_known = (tt, (omega arith, tt))
 
-pub lists_is : IsField (λ bytes. lists_at bytes) (λ lists. list_bytes playlist_bytes lists) AreSavedLists
-lists_is =
-    fits_is (λ bytes. lists_at bytes) (λ lists. list_bytes playlist_bytes lists)
-    (λ lists. ((0 ≤ length lists) × (length lists ≤ MAX_LISTS)) × KnownLists lists) AreSavedLists
-    (counted_is (λ bytes. number_within 0 MAX_LISTS bytes) (λ n. u32_bytes n) (λ n. (0 ≤ n) × (n ≤ MAX_LISTS))
-    (within_is 0 MAX_LISTS (omega arith)) playlist_at playlist_bytes KnownLists
+-- so many playlists at most
+abbrev pub AreListsWithin : ℕ → Stored → Type 0
+AreListsWithin limit lists = AreSavedLists lists × (length lists ≤ limit)
+
+pub lists_is : (layout : Layout) → IsLayout layout
+    → IsField (λ bytes. lists_at layout bytes) (λ lists. list_bytes playlist_bytes lists) (AreListsWithin layout.list_limit)
+lists_is layout form =
+    fits_is (λ bytes. lists_at layout bytes) (λ lists. list_bytes playlist_bytes lists)
+    (λ lists. ((0 ≤ length lists) × (length lists ≤ layout.list_limit)) × KnownLists lists) (AreListsWithin layout.list_limit)
+    (counted_is (λ bytes. number_within 0 layout.list_limit bytes) (λ n. u32_bytes n) (λ n. (0 ≤ n) × (n ≤ layout.list_limit))
+    (within_is 0 layout.list_limit (omega (arith, form.list_limit))) playlist_at playlist_bytes KnownLists
     (record { takes = list_takes; again = list_again }) none_known)
-    (λ lists h. record {
-      rising = h.1.0;
-      within = record {
-        few_lists = h.0.1;
-        few_entries = h.1.1.0;
-        good_lists = all_weaker IsGood (λ list. IsTrue (is_good_name list.0) × AreUris list.1) (λ list good. good.0) lists h.1.1.1;
-      };
-      texts = all_weaker IsGood IsSavedList (λ list good. good.1) lists h.1.1.1;
-    })
-    (λ lists h. ((omega arith, h.within.few_lists), (h.rising, (h.within.few_entries, both_facts lists h.within.good_lists h.texts))))
+    (λ lists h. (
+      record {
+        rising = h.1.0;
+        within = record {
+          few_lists = omega (arith, h.0.1, form.list_limit);
+          few_entries = h.1.1.0;
+          good_lists = all_weaker IsGood (λ list. IsTrue (is_good_name list.0) × AreUris list.1) (λ list good. good.0) lists h.1.1.1;
+        };
+        texts = all_weaker IsGood IsSavedList (λ list good. good.1) lists h.1.1.1;
+      },
+      h.0.1,
+    ))
+    (λ lists h. (
+      (omega arith, h.1),
+      (h.0.rising, (h.0.within.few_entries, both_facts lists h.0.within.good_lists h.0.texts)),
+    ))
   where
     both_facts : (lists : Stored) → AllByRecursion (λ list. IsTrue (is_good_name list.0) × AreUris list.1) lists
         → AllByRecursion IsSavedList lists → AllByRecursion IsGood lists

@@ -1,23 +1,25 @@
 -- A snapshot that is read is spelled so, and what is spelled so is read.
-use Rattle.std.proofs.Common.{◌≡◌, ℕ, ◌+◌, ◌^◌, ◌<◌, ◌≤◌, eqb, List, [], ◌++◌, length, Result, Ok, Err, refl, sym, ap, subst, ◌∙◌}
+use Rattle.std.proofs.Common.{◌≡◌, ℕ, ◌+◌, ◌^◌, ◌<◌, ◌≤◌, true, eqb, List, [], ◌++◌, length, Result, Ok, Err, refl, sym, ap, subst, ◌∙◌}
 use Rattle.std.proofs.Common.{append_assoc, arith}
 use Rattle.std.specs.Prelude.{IfOk}
 use Rattle.std.proofs.lemmas.Bool.{eqb-true}
 use Rattle.std.proofs.lemmas.List.{append-nil, nil_from_length}
 use Rattle.play_queue.specs.Limits.{MAX_ID, MAX_VERSION}
 use Rattle.player_core.specs.declared.options.Options.{Options}
+use Rattle.state_codec.specs.declared.layout.Layout.{Layout}
 use Rattle.state_codec.specs.declared.refusal.CodecError.{CodecError}
 use Rattle.state_codec.specs.declared.reading.saved.Header.{Header}
 use Rattle.state_codec.specs.Answers.{GivesSaved}
-use Rattle.state_codec.specs.Fields.{u64_at, number_within, volume_at, flag_at, single_at, key_at}
-use Rattle.state_codec.specs.Reading.{alone, in_bytes, saved_reading}
+use Rattle.state_codec.specs.Fields.{u64_at, number_within, volume_at, flag_at, consume_at, single_at, key_at}
+use Rattle.state_codec.specs.Layout.{layout_1, is_consume, IsLayout, IsStateIn}
+use Rattle.state_codec.specs.Reading.{alone, in_bytes, saved_reading, saved_reading_in}
 use Rattle.state_codec.specs.ReadingSaved.{options_at, songs_at, entries_at, lists_at, stickers_at, header_at, parts_at, saved_at}
 use Rattle.state_codec.specs.SavedState.{SavedState, IsSavedState, IsBytes, key_len}
 use Rattle.state_codec.specs.Spelling.{options_bytes, entry_bytes, playlist_bytes, sticker_bytes, head_bytes, parts_bytes, saved_bytes}
 use Rattle.state_codec.specs.SpellingFields.{byte_bytes, u32_bytes, u64_bytes, flag_bytes, single_bytes, list_bytes}
 use Rattle.state_codec.specs.SpellingRows.{row_bytes}
 use Rattle.state_codec.proofs.FieldLaws.{bind_ok, ok_is, passed_ok, Takes, Takes-then, u64_is, within_is, flag_is, single_is, volume_is}
-use Rattle.state_codec.proofs.FieldLaws.{key_is}
+use Rattle.state_codec.proofs.FieldLaws.{key_is, consume_is, consume_1}
 use Rattle.state_codec.proofs.SongsLaws.{songs_is}
 use Rattle.state_codec.proofs.EntriesLaws.{entries_is}
 use Rattle.state_codec.proofs.PlaylistsLaws.{lists_is}
@@ -25,40 +27,45 @@ use Rattle.state_codec.proofs.StickersLaws.{stickers_is}
 
 -- ---- options
 
-options_take : (bytes : List ℕ) (x : Options × List ℕ) → IsBytes bytes → options_at bytes ≡ Ok x → Takes bytes (options_bytes x.0) x.1
+options_take : (layout : Layout) (bytes : List ℕ) (x : Options × List ℕ) → IsBytes bytes → options_at layout bytes ≡ Ok x
+    → Takes bytes (options_bytes x.0) x.1 × (is_consume layout x.0.consume ≡ true)
 unfolding options_at
-options_take bytes x fits e =
+options_take layout bytes x fits e =
     let a = bind_ok (flag_at bytes) _ x e in
     let b = bind_ok (flag_at a.0.1) _ x a.2 in
     let c = bind_ok (single_at b.0.1) _ x b.2 in
-    let d = bind_ok (flag_at c.0.1) _ x c.2 in
+    let d = bind_ok (consume_at layout c.0.1) _ x c.2 in
     let ta = (flag_is.takes bytes a.0 fits a.1).0 in
     let tb = (flag_is.takes a.0.1 b.0 ta.rest_fits b.1).0 in
     let tc = (single_is.takes b.0.1 c.0 tb.rest_fits c.1).0 in
-    let td = (flag_is.takes c.0.1 d.0 tc.rest_fits d.1).0 in
+    let read = (consume_is layout).takes c.0.1 d.0 tc.rest_fits d.1 in
+    let td = read.0 in
     let tcd = Takes-then b.0.1 (single_bytes c.0.0) c.0.1 (flag_bytes d.0.0) d.0.1 tc td in
     let tbd = Takes-then a.0.1 (flag_bytes b.0.0) b.0.1 (single_bytes c.0.0 ++ flag_bytes d.0.0) d.0.1 tb tcd in
     let tad = Takes-then bytes (flag_bytes a.0.0) a.0.1 (flag_bytes b.0.0 ++ (single_bytes c.0.0 ++ flag_bytes d.0.0)) d.0.1 ta tbd in
     let made : Options × List ℕ = (record { repeat = a.0.0; random = b.0.0; single = c.0.0; consume = d.0.0 }, d.0.1) in
-    subst (λ (y : Options × List ℕ). Takes bytes (options_bytes y.0) y.1) {x = made} (ok_is made x d.2) tad
+    subst (λ (y : Options × List ℕ). Takes bytes (options_bytes y.0) y.1 × (is_consume layout y.0.consume ≡ true)) {x = made}
+    (ok_is made x d.2) (tad, read.1.1)
 
-options_again : (options : Options) (rest : List ℕ) → options_at (options_bytes options ++ rest) ≡ Ok (options, rest)
+options_again : (layout : Layout) (options : Options) (rest : List ℕ) → is_consume layout options.consume ≡ true
+    → options_at layout (options_bytes options ++ rest) ≡ Ok (options, rest)
 unfolding options_at
-options_again o rest =
+options_again layout o rest in_layout =
     let regrouped : options_bytes o ++ rest ≡ flag_bytes o.repeat
     ++ (flag_bytes o.random ++ (single_bytes o.single ++ (flag_bytes o.consume ++ rest))) = simp append_assoc in
-    ap options_at regrouped
+    ap (options_at layout) regrouped
     ∙ rw (
       flag_is.again o.repeat (flag_bytes o.random ++ (single_bytes o.single ++ (flag_bytes o.consume ++ rest))) tt,
       flag_is.again o.random (single_bytes o.single ++ (flag_bytes o.consume ++ rest)) tt,
       single_is.again o.single (flag_bytes o.consume ++ rest) tt,
-      flag_is.again o.consume rest tt,
+      (consume_is layout).again o.consume rest (tt, in_layout),
     )
     refl
 
 -- ---- the header
 
-record IsHeader (header : Header) : Type 0 where
+record IsHeader (layout : Layout) (header : Header) : Type 0 where
+  consume : is_consume layout header.options.consume ≡ true
   key_len : length header.key ≡ key_len
   key_bytes : IsBytes header.key
   order : header.order < 2 ^ 64
@@ -72,22 +79,22 @@ abbrev header_text : Header → List ℕ
 header_text h = h.key
     ++ (u64_bytes h.order ++ (u32_bytes h.version ++ (u32_bytes h.next_id ++ (byte_bytes h.volume ++ options_bytes h.options))))
 
-header_takes : (bytes : List ℕ) (x : Header × List ℕ) → IsBytes bytes → header_at bytes ≡ Ok x
-    → Takes bytes (header_text x.0) x.1 × IsHeader x.0
+header_takes : (layout : Layout) (bytes : List ℕ) (x : Header × List ℕ) → IsBytes bytes → header_at layout bytes ≡ Ok x
+    → Takes bytes (header_text x.0) x.1 × IsHeader layout x.0
 unfolding header_at
-header_takes bytes x fits e =
+header_takes layout bytes x fits e =
     let key = bind_ok (key_at bytes) _ x e in
     let order = bind_ok (u64_at key.0.1) _ x key.2 in
     let version = bind_ok (number_within 1 MAX_VERSION order.0.1) _ x order.2 in
     let next_id = bind_ok (number_within 1 (MAX_ID + 1) version.0.1) _ x version.2 in
     let volume = bind_ok (volume_at next_id.0.1) _ x next_id.2 in
-    let options = bind_ok (options_at volume.0.1) _ x volume.2 in
+    let options = bind_ok (options_at layout volume.0.1) _ x volume.2 in
     let t0 = key_is.takes bytes key.0 fits key.1 in
     let t1 = u64_is.takes key.0.1 order.0 t0.0.rest_fits order.1 in
     let t2 = (within_is 1 MAX_VERSION (omega arith)).takes order.0.1 version.0 t1.0.rest_fits version.1 in
     let t3 = (within_is 1 (MAX_ID + 1) (omega arith)).takes version.0.1 next_id.0 t2.0.rest_fits next_id.1 in
     let t4 = volume_is.takes next_id.0.1 volume.0 t3.0.rest_fits volume.1 in
-    let t5 = options_take volume.0.1 options.0 t4.0.rest_fits options.1 in
+    let t5 = options_take layout volume.0.1 options.0 t4.0.rest_fits options.1 in
     let end = options.0.1 in
     let h : Header = record {
       key = key.0.0;
@@ -98,7 +105,7 @@ header_takes bytes x fits e =
       options =
           options.0.0;
     } in
-    let j4 = Takes-then next_id.0.1 (byte_bytes h.volume) volume.0.1 (options_bytes h.options) end t4.0 t5 in
+    let j4 = Takes-then next_id.0.1 (byte_bytes h.volume) volume.0.1 (options_bytes h.options) end t4.0 t5.0 in
     let j3 = Takes-then version.0.1 (u32_bytes h.next_id) next_id.0.1 (byte_bytes h.volume ++ options_bytes h.options) end t3.0 j4 in
     let j2 = Takes-then order.0.1 (u32_bytes h.version) version.0.1
     (u32_bytes h.next_id ++ (byte_bytes h.volume ++ options_bytes h.options)) end t2.0 j3 in
@@ -107,7 +114,7 @@ header_takes bytes x fits e =
     let j0 : Takes bytes (header_text h) end =
     Takes-then bytes h.key key.0.1 (u64_bytes h.order
     ++ (u32_bytes h.version ++ (u32_bytes h.next_id ++ (byte_bytes h.volume ++ options_bytes h.options)))) end t0.0 j1 in
-    let good : IsHeader h = record {
+    let good : IsHeader layout h = record {
       key_len = t0.1.0;
       key_bytes = t0.1.1;
       order = t1.1;
@@ -116,26 +123,28 @@ header_takes bytes x fits e =
       next_low = t3.1.0;
       next_high = t3.1.1;
       volume = t4.1;
+      consume = t5.1;
     } in
-    subst (λ (y : Header × List ℕ). Takes bytes (header_text y.0) y.1 × IsHeader y.0) {x = (h, end)} (ok_is (h, end) x options.2) (j0, good)
+    subst (λ (y : Header × List ℕ). Takes bytes (header_text y.0) y.1 × IsHeader layout y.0) {x = (h, end)} (ok_is (h, end) x
+    options.2) (j0, good)
 
-header_again : (h : Header) (rest : List ℕ) → IsHeader h → header_at (header_text h ++ rest) ≡ Ok (h, rest)
+header_again : (layout : Layout) (h : Header) (rest : List ℕ) → IsHeader layout h → header_at layout (header_text h ++ rest) ≡ Ok (h, rest)
 unfolding header_at
-header_again h rest fits =
+header_again layout h rest fits =
     let r5 = options_bytes h.options ++ rest in
     let r4 = byte_bytes h.volume ++ r5 in
     let r3 = u32_bytes h.next_id ++ r4 in
     let r2 = u32_bytes h.version ++ r3 in
     let r1 = u64_bytes h.order ++ r2 in
     let regrouped : header_text h ++ rest ≡ h.key ++ r1 = simp append_assoc in
-    ap header_at regrouped
+    ap (header_at layout) regrouped
     ∙ rw (
       key_is.again h.key r1 (fits.key_len, fits.key_bytes),
       u64_is.again h.order r2 fits.order,
       (within_is 1 MAX_VERSION (omega arith)).again h.version r3 (fits.version_low, fits.version_high),
       (within_is 1 (MAX_ID + 1) (omega arith)).again h.next_id r4 (fits.next_low, fits.next_high),
       volume_is.again h.volume r5 fits.volume,
-      options_again h.options rest,
+      options_again layout h.options rest fits.consume,
     )
     refl
 
@@ -152,18 +161,20 @@ header_of s = record {
       s.options;
 }
 
-parts_take : (h : Header) (bytes : List ℕ) (x : SavedState × List ℕ) → IsHeader h → IsBytes bytes → parts_at h bytes ≡ Ok x
-    → Takes bytes (parts_bytes x.0) x.1 × (IsSavedState x.0 × (header_of x.0 ≡ h))
+parts_take : (layout : Layout) → IsLayout layout → (h : Header) (bytes : List ℕ) (x : SavedState × List ℕ) → IsHeader layout h
+    → IsBytes bytes → parts_at layout h bytes ≡ Ok x
+    → Takes bytes (parts_bytes x.0) x.1 × ((IsSavedState x.0 × IsStateIn layout x.0) × (header_of x.0 ≡ h))
 unfolding parts_at
-parts_take h bytes x header fits e =
+parts_take layout form h bytes x header fits e =
     let songs = bind_ok (songs_at bytes) _ x e in
-    let entries = bind_ok (entries_at songs.0.0 h.version h.next_id songs.0.1) _ x songs.2 in
-    let lists = bind_ok (lists_at entries.0.1) _ x entries.2 in
+    let entries = bind_ok (entries_at layout songs.0.0 h.version h.next_id songs.0.1) _ x songs.2 in
+    let lists = bind_ok (lists_at layout entries.0.1) _ x entries.2 in
     let stickers = bind_ok (stickers_at songs.0.0 lists.0.1) _ x lists.2 in
     let t0 = songs_is.takes bytes songs.0 fits songs.1 in
-    let t1 = (entries_is songs.0.0 t0.1 h.version h.next_id header.version_low header.version_high header.next_low header.next_high).takes
+    let t1 = (entries_is layout form songs.0.0 t0.1 h.version h.next_id header.version_low header.version_high header.next_low
+    header.next_high).takes
     songs.0.1 entries.0 t0.0.rest_fits entries.1 in
-    let t2 = lists_is.takes entries.0.1 lists.0 t1.0.rest_fits lists.1 in
+    let t2 = (lists_is layout form).takes entries.0.1 lists.0 t1.0.rest_fits lists.1 in
     let t3 = (stickers_is songs.0.0 t0.1).takes lists.0.1 stickers.0 t2.0.rest_fits stickers.1 in
     let end = stickers.0.1 in
     let s : SavedState = record {
@@ -190,16 +201,18 @@ parts_take h bytes x header fits e =
       order = header.order;
       volume = header.volume;
       songs = t0.1;
-      queue = t1.1;
-      lists = t2.1;
+      queue = t1.1.0;
+      lists = t2.1.0;
       stickers = t3.1;
     } in
-    subst (λ (y : SavedState × List ℕ). Takes bytes (parts_bytes y.0) y.1 × (IsSavedState y.0 × (header_of y.0 ≡ h))) {x = (s, end)}
-    (ok_is (s, end) x stickers.2) (j0, (good, refl))
+    let within : IsStateIn layout s = record { consume = header.consume; queue = t1.1.1; lists = t2.1.1 } in
+    subst (λ (y : SavedState × List ℕ). Takes bytes (parts_bytes y.0) y.1 × ((IsSavedState y.0 × IsStateIn layout y.0)
+    × (header_of y.0 ≡ h))) {x = (s, end)} (ok_is (s, end) x stickers.2) (j0, ((good, within), refl))
 
-parts_again : (s : SavedState) (rest : List ℕ) → IsSavedState s → parts_at (header_of s) (parts_bytes s ++ rest) ≡ Ok (s, rest)
+parts_again : (layout : Layout) → IsLayout layout → (s : SavedState) (rest : List ℕ) → IsSavedState s → IsStateIn layout s
+    → parts_at layout (header_of s) (parts_bytes s ++ rest) ≡ Ok (s, rest)
 unfolding parts_at
-parts_again s rest fits =
+parts_again layout form s rest fits within =
     let queue = fits.queue.queue in
     let r3 = list_bytes sticker_bytes s.stickers ++ rest in
     let r2 = list_bytes playlist_bytes s.lists ++ r3 in
@@ -215,33 +228,35 @@ parts_again s rest fits =
     join (list_bytes row_bytes s.songs)
     (list_bytes (entry_bytes s.songs) s.queue.entries ++ (list_bytes playlist_bytes s.lists ++ list_bytes sticker_bytes s.stickers))
     rest ∙ ap (λ (r : List ℕ). list_bytes row_bytes s.songs ++ r) middle in
-    ap (parts_at (header_of s)) regrouped
+    ap (parts_at layout (header_of s)) regrouped
     ∙ rw (
       songs_is.again s.songs r1 fits.songs,
-      (entries_is s.songs fits.songs s.queue.version s.queue.next_id queue.version_low queue.version_high queue.next_low
-          queue.next_high).again s.queue.entries r2 fits.queue,
-      lists_is.again s.lists r3 fits.lists,
+      (entries_is layout form s.songs fits.songs s.queue.version s.queue.next_id queue.version_low queue.version_high queue.next_low
+          queue.next_high).again s.queue.entries r2 (fits.queue, within.queue),
+      (lists_is layout form).again s.lists r3 (fits.lists, within.lists),
       (stickers_is s.songs fits.songs).again s.stickers rest fits.stickers,
     )
     refl
 
 -- ---- the state
 
-pub saved_takes : (bytes : List ℕ) (x : SavedState × List ℕ) → IsBytes bytes → saved_at bytes ≡ Ok x
-    → Takes bytes (saved_bytes x.0) x.1 × IsSavedState x.0
+pub saved_takes : (layout : Layout) → IsLayout layout → (bytes : List ℕ) (x : SavedState × List ℕ) → IsBytes bytes
+    → saved_at layout bytes ≡ Ok x
+    → Takes bytes (saved_bytes x.0) x.1 × (IsSavedState x.0 × IsStateIn layout x.0)
 unfolding saved_at
-saved_takes bytes x fits e =
-    let h = bind_ok (header_at bytes) _ x e in
-    let t = header_takes bytes h.0 fits h.1 in
-    let u = parts_take h.0.0 h.0.1 x t.1 t.0.rest_fits h.2 in
+saved_takes layout form bytes x fits e =
+    let h = bind_ok (header_at layout bytes) _ x e in
+    let t = header_takes layout bytes h.0 fits h.1 in
+    let u = parts_take layout form h.0.0 h.0.1 x t.1 t.0.rest_fits h.2 in
     let front : Takes bytes (head_bytes x.0) h.0.1 = subst (λ (header : Header). Takes bytes (header_text header) h.0.1) (sym u.1.1) t.0 in
     (Takes-then bytes (head_bytes x.0) h.0.1 (parts_bytes x.0) x.1 front u.0, u.1.0)
 
-pub saved_again : (s : SavedState) (rest : List ℕ) → IsSavedState s → saved_at (saved_bytes s ++ rest) ≡ Ok (s, rest)
+pub saved_again : (layout : Layout) → IsLayout layout → (s : SavedState) (rest : List ℕ) → IsSavedState s → IsStateIn layout s
+    → saved_at layout (saved_bytes s ++ rest) ≡ Ok (s, rest)
 unfolding saved_at
-saved_again s rest fits =
+saved_again layout form s rest fits within =
     let queue = fits.queue.queue in
-    let header : IsHeader (header_of s) = record {
+    let header : IsHeader layout (header_of s) = record {
       key_len = fits.key_len;
       key_bytes = fits.key_bytes;
       order = fits.order;
@@ -250,9 +265,10 @@ saved_again s rest fits =
       next_low = queue.next_low;
       next_high = queue.next_high;
       volume = fits.volume;
+      consume = within.consume;
     } in
-    ap saved_at (append_assoc (head_bytes s) (parts_bytes s) rest)
-    ∙ rw (header_again (header_of s) (parts_bytes s ++ rest) header) (parts_again s rest fits)
+    ap (saved_at layout) (append_assoc (head_bytes s) (parts_bytes s) rest)
+    ∙ rw (header_again layout (header_of s) (parts_bytes s ++ rest) header) (parts_again layout form s rest fits within)
 
 -- ---- the whole snapshot
 
@@ -260,26 +276,40 @@ in_bytes_ok : {A : Type 0} (bytes : List ℕ) (r : Result A ℕ) (x : A) → in_
 in_bytes_ok bytes (Ok y) x e = e
 in_bytes_ok bytes (Err d) x e = absurd cc
 
-pub snapshot_takes : (bytes : List ℕ) (s : SavedState) → IsBytes bytes → saved_reading bytes ≡ Ok s
+pub snapshot_takes : (layout : Layout) → IsLayout layout → (bytes : List ℕ) (s : SavedState) → IsBytes bytes
+    → saved_reading_in layout bytes ≡ Ok s
     → IsSavedState s × (bytes ≡ saved_bytes s)
-snapshot_takes bytes s fits e =
-    let b = bind_ok (saved_at bytes) _ s (in_bytes_ok bytes (alone (saved_at bytes)) s e) in
+snapshot_takes layout form bytes s fits e =
+    let b = bind_ok (saved_at layout bytes) _ s (in_bytes_ok bytes (alone (saved_at layout bytes)) s e) in
     let g = passed_ok (eqb (length b.0.1) 0) (length b.0.1) b.0.0 s b.2 in
-    let t = saved_takes bytes b.0 fits b.1 in
+    let t = saved_takes layout form bytes b.0 fits b.1 in
     let nothing : b.0.1 ≡ [] = nil_from_length b.0.1 (eqb-true _ _ g.0) in
     let whole : bytes ≡ saved_bytes b.0.0 = t.0.parts ∙ ap (λ (r : List ℕ). saved_bytes b.0.0 ++ r) nothing
     ∙ append-nil (saved_bytes b.0.0) in
-    subst (λ (y : SavedState). IsSavedState y × (bytes ≡ saved_bytes y)) g.1 (t.1, whole)
+    subst (λ (y : SavedState). IsSavedState y × (bytes ≡ saved_bytes y)) g.1 (t.1.0, whole)
 
-pub snapshot_again : (s : SavedState) → IsSavedState s → saved_reading (saved_bytes s) ≡ Ok s
-snapshot_again s fits =
-    let read : saved_at (saved_bytes s) ≡ Ok (s, []) = ap saved_at (sym (append-nil (saved_bytes s))) ∙ saved_again s [] fits in
+pub snapshot_again_in : (layout : Layout) → IsLayout layout → (s : SavedState) → IsSavedState s → IsStateIn layout s
+    → saved_reading_in layout (saved_bytes s) ≡ Ok s
+snapshot_again_in layout form s fits within =
+    let read : saved_at layout (saved_bytes s) ≡ Ok (s, []) =
+    ap (saved_at layout) (sym (append-nil (saved_bytes s))) ∙ saved_again layout form s [] fits within in
     rw read refl
 
-pub snapshot_found : (bytes : List ℕ) (r : Result SavedState CodecError) → IsBytes bytes → GivesSaved r (saved_reading bytes)
+-- layout 1 has the ranges of every state
+pub form_1 : IsLayout layout_1
+form_1 = record { queue_limit = omega arith; list_limit = omega arith }
+
+within_1 : (s : SavedState) → IsSavedState s → IsStateIn layout_1 s
+within_1 s fits = record { consume = consume_1 s.options.consume; queue = fits.queue.queue.few; lists = fits.lists.within.few_lists }
+
+pub snapshot_again : (s : SavedState) → IsSavedState s → saved_reading (saved_bytes s) ≡ Ok s
+snapshot_again s fits = snapshot_again_in layout_1 form_1 s fits (within_1 s fits)
+
+pub snapshot_found : (layout : Layout) → IsLayout layout → (bytes : List ℕ) (r : Result SavedState CodecError) → IsBytes bytes
+    → GivesSaved r (saved_reading_in layout bytes)
     → IfOk r (λ s. IsSavedState s × (bytes ≡ saved_bytes s))
-snapshot_found bytes (Ok s) fits given = snapshot_takes bytes s fits given
-snapshot_found bytes (Err e) fits given = tt
+snapshot_found layout form bytes (Ok s) fits given = snapshot_takes layout form bytes s fits given
+snapshot_found layout form bytes (Err e) fits given = tt
 
 -- a state that is spelled is answered, unless memory runs out
 pub snapshot_only : (bytes : List ℕ) (r : Result SavedState CodecError) (s : SavedState) → IsSavedState s → bytes ≡ saved_bytes s

@@ -133,6 +133,17 @@ row_of (x ∷ songs) uri has = by (bytes_eq uri x.uri) refl (row_of songs uri) h
         let rest = behind has in
         record { n = suc rest.n; row = rest.row; at = rest.at; same = rest.same }
 
+-- a row that is found by its URI has it
+pub found_uri : (songs : List Row) (uri : List ℕ) (row : Row) → find (λ r. bytes_eq uri r.uri) songs ≡ Some row → row.uri ≡ uri
+found_uri [] uri row e = absurd cc
+found_uri (x ∷ songs) uri row e = by (bytes_eq uri x.uri) refl e (found_uri songs uri row)
+  where
+    by : (b : Bool) → bytes_eq uri x.uri ≡ b → cond b (Some x) (find (λ r. bytes_eq uri r.uri) songs) ≡ Some row
+        → (find (λ r. bytes_eq uri r.uri) songs ≡ Some row → row.uri ≡ uri) → row.uri ≡ uri
+    by true is found behind =
+        let same : x ≡ row = cc in subst (λ (r : Row). r.uri ≡ uri) same (sym ((bytes_eq-Decides uri x.uri).0 is))
+    by false is found behind = behind found
+
 -- the URI of each row has one
 pub has_of : (songs : List Row) (n : ℕ) (row : Row) → slice_get songs n ≡ Some row → has_uri songs row.uri ≡ true
 has_of [] n row at = absurd cc

@@ -2,12 +2,14 @@
 use Rattle.std.specs.Prelude.{◌≡◌, ℕ, suc, zero, ◌-◌, ⊤, List, [], ◌∷◌, length, Result, Ok, Err, ◌==◌, if◌then◌else◌}
 use Rattle.std.specs.Option.{ok_or}
 use Rattle.state_codec.specs.declared.fields.ReadError.{ReadError}
+use Rattle.state_codec.specs.declared.layout.Layout.{Layout}
 use Rattle.state_codec.specs.declared.fields.ReadError.TheVariants.{Fault, NoMemory as OutOfMemory}
 use Rattle.state_codec.specs.declared.refusal.ApplyError.{ApplyError}
 use Rattle.state_codec.specs.declared.refusal.ApplyError.TheVariants.{NoMemory as Unapplied, Refused}
 use Rattle.state_codec.specs.declared.refusal.BodyError.{BodyError}
 use Rattle.state_codec.specs.declared.refusal.BodyError.TheVariants.{NoMemory, BadOp, DoesNotApply}
 use Rattle.state_codec.specs.Applied.{applied}
+use Rattle.state_codec.specs.Layout.{layout_1}
 use Rattle.state_codec.specs.ReadingOps.{op_at}
 use Rattle.state_codec.specs.SavedState.{SavedState}
 use Rattle.state_codec.specs.Steps.{◌>>=◌}
@@ -19,17 +21,21 @@ told total (Err left) = Err (BadOp (total - left))
 
 -- The ops up to the end, at most n of them, of a body of so many bytes: each is read and applied, and then the next.
 -- The first of them has the place i.
-unfoldable pub body_from : ℕ → ℕ → ℕ → List ℕ → SavedState → Result SavedState BodyError
-body_from total n i [] s = Ok s
-body_from total zero i (b ∷ rest) s = Err (BadOp (total - length (b ∷ rest)))
-body_from total (suc n) i (b ∷ rest) s = do
-  op ← told total (op_at (b ∷ rest))
+unfoldable pub body_from : Layout → ℕ → ℕ → ℕ → List ℕ → SavedState → Result SavedState BodyError
+body_from layout total n i [] s = Ok s
+body_from layout total zero i (b ∷ rest) s = Err (BadOp (total - length (b ∷ rest)))
+body_from layout total (suc n) i (b ∷ rest) s = do
+  op ← told total (op_at layout (b ∷ rest))
   next ← ok_or (applied op.0 s) (DoesNotApply i)
-  body_from total n (suc i) op.1 next
+  body_from layout total n (suc i) op.1 next
 
 -- the state after the body of a record, which has one op at least, or the first thing that is wrong
+abbrev pub body_applied_in : Layout → List ℕ → SavedState → Result SavedState BodyError
+body_applied_in layout body s = if length body == 0 then Err (BadOp 0) else body_from layout (length body) (length body) 0 body s
+
+-- the same in the layout that is read today
 abbrev pub body_applied : List ℕ → SavedState → Result SavedState BodyError
-body_applied body s = if length body == 0 then Err (BadOp 0) else body_from (length body) (length body) 0 body s
+body_applied body s = body_applied_in layout_1 body s
 
 -- the state or the fault, unless memory ran out
 abbrev pub GivesBody : Result (Unit {0}) BodyError → SavedState → Result SavedState BodyError → Type 0

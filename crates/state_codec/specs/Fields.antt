@@ -6,6 +6,8 @@ use Rattle.std.specs.Int.{Width, w16, w32, w64, byte_len, from_le_bytes, is_in_r
 use Rattle.std.specs.Str.{is_utf8}
 use Rattle.player_core.specs.declared.options.Single.{Single}
 use Rattle.player_core.specs.declared.options.Single.TheVariants.{Off, On, Oneshot}
+use Rattle.state_codec.specs.declared.layout.Layout.{Layout}
+use Rattle.state_codec.specs.Layout.{is_consume}
 use Rattle.state_codec.specs.SavedState.{key_len}
 use Rattle.state_codec.specs.Steps.{◌>>=◌}
 
@@ -64,6 +66,10 @@ unfoldable pub flag_at : List ℕ → Field Bool
 flag_at (zero ∷ rest) = Ok (false, rest)
 flag_at (suc zero ∷ rest) = Ok (true, rest)
 flag_at bytes = Err (length bytes)
+
+-- the consume option, of the values that a layout has
+abbrev pub consume_at : Layout → List ℕ → Field Bool
+consume_at layout bytes = such (is_consume layout) flag_at bytes
 
 -- off, on or oneshot
 unfoldable pub single_at : List ℕ → Field Single

@@ -7,7 +7,7 @@ use Rattle.std.specs.Global.{Vec}
 use denote.Ref.{Bor}
 use Rattle.state_codec.specs.declared.fields.ReadError.{ReadError}
 use Rattle.state_codec.specs.declared.fields.ReadError.TheVariants.{Fault, NoMemory}
-use Rattle.song_db.specs.Row.{six_texts}
+use Rattle.song_db.specs.Row.{Row, six_texts}
 use Rattle.play_queue.specs.Builder.{has_id}
 use Rattle.play_queue.specs.Queue.{QueueState}
 use Rattle.play_queue.specs.declared.entry.Entry.{Entry}
@@ -32,6 +32,11 @@ Gives (Err e) rest field = Fails e field
 abbrev pub GivesText : Result (Bor (List ℕ)) ReadError → List ℕ → Field (List ℕ) → Type 0
 GivesText (Ok text) rest field = field ≡ Ok (text.now, rest)
 GivesText (Err e) rest field = Fails e field
+
+-- the same of a row, whose URI was read
+abbrev pub GivesRow : Result (Bor Row) ReadError → List ℕ → Field (List ℕ) → Type 0
+GivesRow (Ok row) rest field = field ≡ Ok (row.now.uri, rest)
+GivesRow (Err e) rest field = Fails e field
 
 -- the same of a list
 abbrev pub GivesList : {A : Type 0} → Result (Vec A) ReadError → List ℕ → Field (List A) → Type 0

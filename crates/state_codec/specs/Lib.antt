@@ -15,6 +15,7 @@ pub mod SavedState
 pub mod Steps
 pub mod Stored
 pub mod Text
+pub mod Layout
 pub mod Fields
 pub mod Items
 pub mod Given

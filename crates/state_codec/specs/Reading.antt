@@ -1,6 +1,8 @@
 -- What the body of a record and a snapshot spell, or the offset of the first field at fault.
 use Rattle.std.specs.Prelude.{ℕ, ◌-◌, List, length, Result, Ok, Err, ◌==◌, if◌then◌else◌}
+use Rattle.state_codec.specs.declared.layout.Layout.{Layout}
 use Rattle.state_codec.specs.declared.op.Op.{Op}
+use Rattle.state_codec.specs.Layout.{layout_1}
 use Rattle.state_codec.specs.Fields.{Field}
 use Rattle.state_codec.specs.ReadingOps.{ops_at}
 use Rattle.state_codec.specs.ReadingSaved.{saved_at}
@@ -18,10 +20,17 @@ abbrev pub in_bytes : {A : Type 0} → List ℕ → Result A ℕ → Result A �
 in_bytes bytes (Ok x) = Ok x
 in_bytes bytes (Err left) = Err (length bytes - left)
 
--- the ops that the body of a record spells
-abbrev pub ops_reading : List ℕ → Result (List Op) ℕ
-ops_reading bytes = if length bytes == 0 then Err 0 else in_bytes bytes (ops_at (length bytes) bytes)
+-- the ops that the body of a record spells in a layout
+abbrev pub ops_reading_in : Layout → List ℕ → Result (List Op) ℕ
+ops_reading_in layout bytes = if length bytes == 0 then Err 0 else in_bytes bytes (ops_at layout (length bytes) bytes)
 
--- the state that a snapshot spells
+-- the state that a snapshot spells in a layout
+abbrev pub saved_reading_in : Layout → List ℕ → Result SavedState ℕ
+saved_reading_in layout bytes = in_bytes bytes (alone (saved_at layout bytes))
+
+-- the same in the layout that is read today
+abbrev pub ops_reading : List ℕ → Result (List Op) ℕ
+ops_reading bytes = ops_reading_in layout_1 bytes
+
 abbrev pub saved_reading : List ℕ → Result SavedState ℕ
-saved_reading bytes = in_bytes bytes (alone (saved_at bytes))
+saved_reading bytes = saved_reading_in layout_1 bytes

@@ -12,19 +12,21 @@ use Rattle.state_codec.specs.declared.op.list_op.ListOp.{ListOp}
 use Rattle.state_codec.specs.declared.op.list_op.ListOp.TheVariants as lists
 use Rattle.state_codec.specs.declared.op.sticker_op.StickerOp.{StickerOp}
 use Rattle.state_codec.specs.declared.op.sticker_op.StickerOp.TheVariants as stickers
-use Rattle.state_codec.specs.Fields.{Field, made, such, both, byte_at, u32_at, u64_at, pair_at, volume_at, flag_at, single_at, text_at}
+use Rattle.state_codec.specs.declared.layout.Layout.{Layout}
+use Rattle.state_codec.specs.Fields.{Field, made, such, both, byte_at, u32_at, u64_at, pair_at, volume_at, flag_at, consume_at, single_at}
+use Rattle.state_codec.specs.Fields.{text_at}
 use Rattle.state_codec.specs.Items.{list_at}
 use Rattle.state_codec.specs.ReadingRows.{uri_at, changes_at}
 use Rattle.state_codec.specs.Steps.{◌>>=◌}
 
 -- an option's number and its value
-unfoldable pub setting_at : List ℕ → Field Setting
-setting_at bytes = do
+unfoldable pub setting_at : Layout → List ℕ → Field Setting
+setting_at layout bytes = do
   kind ← byte_at bytes
   if kind.0 == 1 then made settings.Repeat (flag_at kind.1)
       else if kind.0 == 2 then made settings.Random (flag_at kind.1)
       else if kind.0 == 3 then made settings.Single (single_at kind.1)
-      else if kind.0 == 4 then made settings.Consume (flag_at kind.1)
+      else if kind.0 == 4 then made settings.Consume (consume_at layout kind.1)
       else Err (length bytes)
 
 abbrev pub row_numbers_at : List ℕ → Field (List ℕ)
@@ -66,10 +68,10 @@ sticker_op_at kind bytes =
     else made stickers.DeleteAll (uri_at bytes)
 
 -- an op: its number and its fields
-unfoldable pub op_at : List ℕ → Field Op
-op_at bytes = do
+unfoldable pub op_at : Layout → List ℕ → Field Op
+op_at layout bytes = do
   kind ← byte_at bytes
-  if kind.0 == 1 then made SetOption (setting_at kind.1)
+  if kind.0 == 1 then made SetOption (setting_at layout kind.1)
       else if kind.0 == 2 then made SetVolume (volume_at kind.1)
       else if kind.0 == 3 then made SetOrder (u64_at kind.1)
       else if is_in_range 4 9 kind.0 then made Queue (queue_op_at kind.0 kind.1)
@@ -79,10 +81,10 @@ op_at bytes = do
       else Err (length bytes)
 
 -- the ops up to the end, at most n of them
-unfoldable pub ops_at : ℕ → List ℕ → Result (List Op) ℕ
-ops_at n [] = Ok []
-ops_at zero (b ∷ rest) = Err (length (b ∷ rest))
-ops_at (suc n) (b ∷ rest) = do
-  first ← op_at (b ∷ rest)
-  others ← ops_at n first.1
+unfoldable pub ops_at : Layout → ℕ → List ℕ → Result (List Op) ℕ
+ops_at layout n [] = Ok []
+ops_at layout zero (b ∷ rest) = Err (length (b ∷ rest))
+ops_at layout (suc n) (b ∷ rest) = do
+  first ← op_at layout (b ∷ rest)
+  others ← ops_at layout n first.1
   Ok (first.0 ∷ others)

@@ -6,7 +6,7 @@ use Rattle.std.specs.Ordering.{nat_cmp, is_lt}
 use Rattle.std.specs.Cmp.Lexicographic.{slice_cmp}
 use Rattle.player_core.specs.declared.options.Options.{Options}
 use Rattle.play_queue.specs.Builder.{has_id}
-use Rattle.play_queue.specs.Limits.{MAX_ENTRIES as QUEUE_LIMIT, MAX_ID, MAX_VERSION}
+use Rattle.play_queue.specs.Limits.{MAX_ID, MAX_VERSION}
 use Rattle.play_queue.specs.declared.entry.Entry.{Entry}
 use Rattle.song_db.specs.Change.{has_uri}
 use Rattle.song_db.specs.Last.{ends_before}
@@ -17,24 +17,25 @@ use Rattle.stickers.specs.Limits.{MAX_STICKERS}
 use Rattle.stickers.specs.Name.{is_good_name as is_sticker_name}
 use Rattle.stickers.specs.Part.{is_last as is_last_sticker}
 use Rattle.stickers.specs.Sticker.{Sticker}
-use Rattle.stored_lists.specs.Limits.{MAX_LISTS}
 use Rattle.stored_lists.specs.Lists.{Stored, is_full_for}
 use Rattle.stored_lists.specs.Name.{is_good_name as is_list_name}
 use Rattle.stored_lists.specs.Part.{is_last as is_last_list}
+use Rattle.state_codec.specs.declared.layout.Layout.{Layout}
 use Rattle.state_codec.specs.declared.reading.saved.Header.{Header}
-use Rattle.state_codec.specs.Fields.{Field, such, byte_at, u32_at, u64_at, number_within, volume_at, flag_at, single_at, key_at, text_at}
+use Rattle.state_codec.specs.Fields.{Field, such, byte_at, u32_at, u64_at, number_within, volume_at, flag_at, consume_at, single_at, key_at}
+use Rattle.state_codec.specs.Fields.{text_at}
 use Rattle.state_codec.specs.Items.{counted_at}
 use Rattle.state_codec.specs.ReadingOps.{value_at}
 use Rattle.state_codec.specs.ReadingRows.{uri_at, row_at}
 use Rattle.state_codec.specs.SavedState.{SavedState}
 use Rattle.state_codec.specs.Steps.{◌>>=◌}
 
-unfoldable pub options_at : List ℕ → Field Options
-options_at bytes = do
+unfoldable pub options_at : Layout → List ℕ → Field Options
+options_at layout bytes = do
   repeat ← flag_at bytes
   random ← flag_at repeat.1
   single ← single_at random.1
-  consume ← flag_at single.1
+  consume ← consume_at layout single.1
   Ok (record { repeat = repeat.0; random = random.0; single = single.0; consume = consume.0 }, consume.1)
 
 -- the URI of a row that stands behind the known ones
@@ -70,8 +71,8 @@ entry_at songs version next_id known bytes = do
   id ← such (is_free_id next_id known) u32_at bytes
   rest_of_entry_at songs version id.0 id.1
 
-abbrev pub entries_at : List Row → ℕ → ℕ → List ℕ → Field (List Entry)
-entries_at songs version next_id bytes = counted_at (number_within 0 QUEUE_LIMIT) (entry_at songs version next_id) bytes
+abbrev pub entries_at : Layout → List Row → ℕ → ℕ → List ℕ → Field (List Entry)
+entries_at layout songs version next_id bytes = counted_at (number_within 0 layout.queue_limit) (entry_at songs version next_id) bytes
 
 -- the songs of a playlist, where so many more fit
 abbrev pub uris_at : Stored → List ℕ → Field (List (List ℕ))
@@ -88,8 +89,8 @@ playlist_at known bytes = do
   songs ← uris_at known name.1
   Ok ((name.0, songs.0), songs.1)
 
-abbrev pub lists_at : List ℕ → Field Stored
-lists_at bytes = counted_at (number_within 0 MAX_LISTS) playlist_at bytes
+abbrev pub lists_at : Layout → List ℕ → Field Stored
+lists_at layout bytes = counted_at (number_within 0 layout.list_limit) playlist_at bytes
 
 -- the URI of the last sticker
 abbrev pub last_uri : List Sticker → List ℕ
@@ -117,22 +118,22 @@ abbrev pub stickers_at : List Row → List ℕ → Field (List Sticker)
 stickers_at songs bytes = counted_at (number_within 0 MAX_STICKERS) (sticker_at songs) bytes
 
 -- what stands in front of the parts
-unfoldable pub header_at : List ℕ → Field Header
-header_at bytes = do
+unfoldable pub header_at : Layout → List ℕ → Field Header
+header_at layout bytes = do
   key ← key_at bytes
   order ← u64_at key.1
   version ← number_within 1 MAX_VERSION order.1
   next_id ← number_within 1 (MAX_ID + 1) version.1
   volume ← volume_at next_id.1
-  options ← options_at volume.1
+  options ← options_at layout volume.1
   Ok (record { key = key.0; order = order.0; version = version.0; next_id = next_id.0; volume = volume.0; options = options.0 }, options.1)
 
 -- rows, queue entries, playlists and stickers, behind a header
-unfoldable pub parts_at : Header → List ℕ → Field SavedState
-parts_at header bytes = do
+unfoldable pub parts_at : Layout → Header → List ℕ → Field SavedState
+parts_at layout header bytes = do
   songs ← songs_at bytes
-  entries ← entries_at songs.0 header.version header.next_id songs.1
-  lists ← lists_at entries.1
+  entries ← entries_at layout songs.0 header.version header.next_id songs.1
+  lists ← lists_at layout entries.1
   stickers ← stickers_at songs.0 lists.1
   Ok (
     record {
@@ -149,7 +150,7 @@ parts_at header bytes = do
   )
 
 -- a snapshot
-unfoldable pub saved_at : List ℕ → Field SavedState
-saved_at bytes = do
-  header ← header_at bytes
-  parts_at header.0 header.1
+unfoldable pub saved_at : Layout → List ℕ → Field SavedState
+saved_at layout bytes = do
+  header ← header_at layout bytes
+  parts_at layout header.0 header.1

@@ -1,12 +1,15 @@
 ghost use Rattle.std.specs.Prelude.{◌≡◌, ◌-◌, length, IfOk, IfSome, IsTrue, is_some};
 ghost use Rattle.std.specs.Int.{IsInRange, w16};
 ghost use Rattle.std.specs.Str.{is_utf8};
+ghost use Rattle.state_codec.specs.Layout.{consume_number};
+ghost use Rattle.state_codec.specs.SavedState.{IsBytes};
 ghost use Rattle.state_codec.specs.Text.{is_text};
 ghost use Rattle.state_codec.specs.Given.{Gives, GivesText};
 ghost use Rattle.state_codec.specs.Fields.{byte_at, number_at, u32_at, u64_at, number_within};
-ghost use Rattle.state_codec.specs.Fields.{pair_at, volume_at, flag_at, single_at, key_at, text_at};
+ghost use Rattle.state_codec.specs.Fields.{pair_at, volume_at, flag_at, consume_at, single_at, key_at, text_at};
 ghost use Rattle.state_codec.specs.declared.fields.ReadError.TheVariants.{NoMemory as OutOfMemory};
 
+use crate::layout::Layout;
 use player_core::{Single, Volume};
 use std::alloc::{AllocError, AllocFailed};
 use std::str;
@@ -132,6 +135,19 @@ impl<'a> Reader<'a> {
         Ok(on)
     }
 
+    /// The consume option, of the values that the layout has.
+    #[tactic(auto, unfolding(crate::specs::Fields::such))]
+    pub(crate) fn consume(&mut self, layout: Layout) -> Result<bool, ReadError>
+        ensures { Gives result self.new.rest.now (consume_at layout self.old.rest.now) }
+    {
+        let fault = self.fault();
+        let on = self.flag()?;
+        if layout.greatest_consume < consume_number(on) {
+            return Err(fault);
+        }
+        Ok(on)
+    }
+
     #[tactic(auto, unfolding(crate::specs::Fields::such))]
     pub fn volume(&mut self) -> Result<Volume, ReadError>
         ensures { Gives result self.new.rest.now (volume_at self.old.rest.now) }
@@ -187,6 +203,20 @@ impl<'a> Reader<'a> {
         self.rest = rest;
         Ok(text)
     }
+}
+
+/// What the type of bytes says of them.
+pub fn are_bytes(bytes: &[u8])
+    ensures { IsBytes bytes.now }
+{
+    let _bytes = bytes;
+}
+
+// The number that spells the consume option.
+fn consume_number(on: bool) -> u8
+    ensures { result ≡ consume_number on }
+{
+    u8::from(on)
 }
 
 // The text that the bytes are in UTF-8.

@@ -3,6 +3,7 @@
 
 mod fields;
 pub mod laws;
+mod layout;
 pub mod op;
 mod reading;
 pub mod refusal;

@@ -2,11 +2,13 @@ ghost use Rattle.std.specs.Prelude.{◌≡◌, ◌-◌, List, IfOk, Ok, length};
 ghost use Rattle.state_codec.specs.Ops.{AreOps};
 ghost use Rattle.state_codec.specs.SavedState.{SavedState, IsSavedState};
 ghost use Rattle.state_codec.specs.Spelling.{ops_bytes, saved_bytes};
-ghost use Rattle.state_codec.specs.Reading.{ops_reading, saved_reading};
+ghost use Rattle.state_codec.specs.Reading.{ops_reading, saved_reading, ops_reading_in, saved_reading_in};
+ghost use Rattle.state_codec.specs.Layout.{IsLayout};
 ghost use Rattle.state_codec.specs.Answers.{GivesOps, GivesSaved, op_error, snapshot_error};
 ghost use Rattle.state_codec.specs.declared.op.Op.{Op as AnOp};
 
 use crate::fields::{ReadError, Reader};
+use crate::layout::{Layout, layout_1};
 use crate::op::Op;
 use crate::refusal::CodecError;
 use crate::saved::Saved;
@@ -40,8 +42,8 @@ fn snapshot_error(bytes: &[u8], error: ReadError) -> CodecError
     }
 }
 
-fn all_ops(alloc: Global, bytes: &[u8]) -> Result<Vec<Op>, CodecError>
-    ensures { GivesOps result (ops_reading bytes.now) }
+fn all_ops(alloc: Global, layout: Layout, bytes: &[u8]) -> Result<Vec<Op>, CodecError>
+    ensures { GivesOps result (ops_reading_in layout bytes.now) }
 {
     if bytes.is_empty() {
         return Err(CodecError::BadOp(0));
@@ -49,7 +51,7 @@ fn all_ops(alloc: Global, bytes: &[u8]) -> Result<Vec<Op>, CodecError>
     let mut reader = Reader { rest: bytes };
     let mut ops = Vec::new(alloc);
     while !reader.rest.is_empty() {
-        match reader.op(alloc) {
+        match reader.op(alloc, layout) {
             Ok(op) => ops.push(op)?,
             Err(error) => return Err(op_error(bytes, error)),
         }
@@ -66,14 +68,15 @@ pub fn take_ops(alloc: Global, bytes: &[u8]) -> Result<Vec<Op>, CodecError>
     // Else the fault is that of the first field from the left.
     ensures exact { GivesOps result (ops_reading bytes.now) }
 {
-    all_ops(alloc, bytes)
+    all_ops(alloc, layout_1(), bytes)
 }
 
-fn only_saved(alloc: Global, bytes: &[u8]) -> Result<Saved, CodecError>
-    ensures { GivesSaved result (saved_reading bytes.now) }
+fn only_saved(alloc: Global, layout: Layout, bytes: &[u8]) -> Result<Saved, CodecError>
+    requires { IsLayout layout }
+    ensures { GivesSaved result (saved_reading_in layout bytes.now) }
 {
     let mut reader = Reader { rest: bytes };
-    match reader.saved(alloc) {
+    match reader.saved(alloc, layout) {
         Ok(saved) if reader.rest.is_empty() => Ok(saved),
         Ok(_) => Err(snapshot_error(bytes, reader.fault())),
         Err(error) => Err(snapshot_error(bytes, error)),
@@ -90,5 +93,5 @@ pub fn take_saved(alloc: Global, bytes: &[u8]) -> Result<Saved, CodecError>
     // Else the fault is that of the first field from the left.
     ensures exact { GivesSaved result (saved_reading bytes.now) }
 {
-    only_saved(alloc, bytes)
+    only_saved(alloc, layout_1(), bytes)
 }

@@ -10,6 +10,7 @@ use no_memory::NoMemory;
 use std::alloc::Global;
 
 mod bytes;
+mod lengths;
 mod ops;
 mod rows;
 mod saved;
@@ -31,18 +32,19 @@ pub fn put_op(out: &mut Vec<u8>, op: &Op) -> Result<(), NoMemory>
     Ok(())
 }
 
-/// The one spelling of a saved state, a snapshot. It is made from the parts, in one pass; each entry of the queue takes a
-/// binary search for its row.
+/// The one spelling of a saved state, a snapshot. Room for just its bytes is taken first, and nothing else is; then it is made
+/// from the parts in one pass. Each entry of the queue takes a binary search for its row.
 pub fn put_saved(alloc: Global, saved: &Saved) -> Result<Vec<u8>, NoMemory>
     ensures spelled { IfOk result (λ bytes. bytes.items ≡ saved_bytes saved.now) }
+    ensures full { IfOk result (λ bytes. vec_capacity bytes ≡ vec_len bytes) }
     ensures in_range { OnOk result (IsSavedState saved.now) }
 {
     let _key = saved.key();
-    let mut out = Vec::new(alloc);
-    saved::put_head(&mut out, saved)?;
-    saved::put_songs(&mut out, saved.songs())?;
-    saved::put_queue(&mut out, saved.songs(), saved.queue())?;
-    saved::put_lists(&mut out, saved.lists())?;
-    saved::put_stickers(&mut out, saved.stickers())?;
+    let mut out = Vec::with_capacity(alloc, lengths::saved_len(saved))?;
+    saved::put_head(&mut out, saved);
+    saved::put_songs(&mut out, saved.songs());
+    saved::put_queue(&mut out, saved.songs(), saved.queue());
+    saved::put_lists(&mut out, saved.lists());
+    saved::put_stickers(&mut out, saved.stickers());
     Ok(out)
 }

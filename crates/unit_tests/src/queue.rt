@@ -1,6 +1,7 @@
 // `play_queue`: a queue that is made of its parts at once.
 use crate::assertions::{equal, uri};
 use play_queue::{Entry, Queue};
+use song_db::RowUri;
 use std::alloc::Global;
 use std::test::Fail;
 
@@ -8,7 +9,7 @@ use std::test::Fail;
 fn two_entries(alloc: Global) -> Result<Vec<Entry>, Fail> {
     let mut entries = Vec::new(alloc);
     for (id, stamp) in [(7, 2), (3, 9)] {
-        let uri = uri(alloc, "a.wav")?;
+        let uri = RowUri::new(uri(alloc, "a.wav")?, 0);
         entries.push(Entry {
             id,
             uri,

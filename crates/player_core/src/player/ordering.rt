@@ -41,7 +41,7 @@ impl Player {
         match current_entry(entries, self.playing.current) {
             Some(entry) => Ok(Order::Play(PlayOrder {
                 ticket: self.playing.ticket,
-                uri: entry.uri.try_clone(alloc)?,
+                uri: entry.uri.as_uri().try_clone(alloc)?,
                 first_frame: self.playing.frame,
                 volume,
             })),

@@ -1,11 +1,12 @@
 // The body of a record, applied as it is read.
 ghost use Rattle.std.specs.Prelude.{◌≡◌, List, Ok, OnOk, length};
 ghost use Rattle.state_codec.specs.Applied.{applied_from};
-ghost use Rattle.state_codec.specs.Body.{body_applied, GivesBody, told_place, bad_op, not_applied};
+ghost use Rattle.state_codec.specs.Body.{body_applied, body_applied_in, GivesBody, told_place, bad_op, not_applied};
 ghost use Rattle.state_codec.specs.Reading.{ops_reading};
 ghost use Rattle.state_codec.specs.declared.op.Op.{Op as AnOp};
 
 use crate::fields::{ReadError, Reader};
+use crate::layout::{Layout, layout_1};
 use crate::refusal::{ApplyError, BodyError};
 use crate::saved::Saved;
 use std::alloc::Global;
@@ -40,11 +41,11 @@ impl Saved {
         ensures ops { (ops : List AnOp) → ops_reading body.now ≡ Ok ops
             → GivesBody result self.new (told_place (applied_from 0 ops self.old)) }
     {
-        self.apply_all(alloc, body)
+        self.apply_all(alloc, layout_1(), body)
     }
 
-    fn apply_all(&mut self, alloc: Global, body: &[u8]) -> Result<(), BodyError>
-        ensures { GivesBody result self.new (body_applied body.now self.old) }
+    fn apply_all(&mut self, alloc: Global, layout: Layout, body: &[u8]) -> Result<(), BodyError>
+        ensures { GivesBody result self.new (body_applied_in layout body.now self.old) }
     {
         if body.is_empty() {
             return Err(BodyError::BadOp(0));
@@ -52,7 +53,7 @@ impl Saved {
         let mut reader = Reader { rest: body };
         let mut place = 0;
         while !reader.rest.is_empty() {
-            let op = match reader.op(alloc) {
+            let op = match reader.op(alloc, layout) {
                 Ok(op) => op,
                 Err(error) => return Err(bad_op(body, error)),
             };

@@ -1,7 +1,9 @@
 // The reading of ops, a reader for each family.
-ghost use Rattle.std.specs.Prelude.{◌≡◌, ◌≤◌, ℕ, List, [], length};
+ghost use Rattle.std.specs.Prelude.{◌≡◌, ◌≤◌, ℕ, List, [], length, IfOk, IsTrue};
+ghost use Rattle.std.specs.List.{list_all};
 ghost use Rattle.state_codec.specs.Given.{Gives, GivesList};
 ghost use Rattle.state_codec.specs.Items.{items_at};
+ghost use Rattle.state_codec.specs.Numbers.{is_range};
 ghost use Rattle.state_codec.specs.Fields.{made, both, byte_at, u32_at, pair_at, text_at};
 ghost use Rattle.state_codec.specs.ReadingRows.{uri_at};
 ghost use Rattle.state_codec.specs.declared.op.queue_op.QueueOp.TheVariants as queue;
@@ -11,6 +13,7 @@ ghost use Rattle.state_codec.specs.ReadingOps.{setting_at, row_numbers_at, range
 ghost use Rattle.state_codec.specs.ReadingOps.{list_op_at, value_at, sticker_op_at, op_at};
 
 use crate::fields::{ReadError, Reader};
+use crate::layout::Layout;
 use crate::op::{ListOp, Op, OpRanges, QueueOp, RowNumbers, Setting, StickerOp, Text};
 use play_queue::Ranges;
 use std::alloc::Global;
@@ -18,15 +21,15 @@ use stickers::StickerValue;
 
 impl Reader<'_> {
     #[tactic(auto, unfolding(crate::specs::ReadingOps::setting_at))]
-    fn setting(&mut self) -> Result<Setting, ReadError>
-        ensures { Gives result self.new.rest.now (setting_at self.old.rest.now) }
+    fn setting(&mut self, layout: Layout) -> Result<Setting, ReadError>
+        ensures { Gives result self.new.rest.now (setting_at layout self.old.rest.now) }
     {
         let fault = self.fault();
         match self.byte()? {
             1 => Ok(Setting::Repeat(self.flag()?)),
             2 => Ok(Setting::Random(self.flag()?)),
             3 => Ok(Setting::Single(self.single()?)),
-            4 => Ok(Setting::Consume(self.flag()?)),
+            4 => Ok(Setting::Consume(self.consume(layout)?)),
             _ => Err(fault),
         }
     }
@@ -56,11 +59,15 @@ impl Reader<'_> {
     {
         let count = self.u32()?;
         let numbers = self.numbers(alloc, count)?;
-        RowNumbers::new(numbers).ok_or(ReadError::NoMemory)
+        match RowNumbers::new(numbers) {
+            Some(rows) => Ok(rows),
+            None => unreachable!(),
+        }
     }
 
     fn pairs(&mut self, alloc: Global, count: u32) -> Result<Vec<(usize, usize)>, ReadError>
-        ensures { GivesList result self.new.rest.now (items_at (λ known. pair_at) count [] self.old.rest.now) }
+        ensures pairs { GivesList result self.new.rest.now (items_at (λ known. pair_at) count [] self.old.rest.now) }
+        ensures within { IfOk result (λ pairs. IsTrue (list_all is_range pairs.items)) }
     {
         let mut pairs = Vec::with_capacity(alloc, self.at_most(count, 8))?;
         for _i in 0..count {
@@ -77,7 +84,10 @@ impl Reader<'_> {
         let count = self.u32()?;
         let pairs = self.pairs(alloc, count)?;
         let ranges = Ranges::new(alloc, pairs)?;
-        OpRanges::new(ranges).ok_or(ReadError::NoMemory)
+        match OpRanges::new(ranges) {
+            Some(ranges) => Ok(ranges),
+            None => unreachable!(),
+        }
     }
 
     #[tactic(auto, unfolding(crate::specs::Fields::both))]
@@ -136,7 +146,7 @@ impl Reader<'_> {
         let text = self.text()?;
         match Text::read(alloc, text)? {
             Some(name) => Ok(name),
-            None => Err(ReadError::NoMemory),
+            None => unreachable!(),
         }
     }
 
@@ -242,15 +252,15 @@ impl Reader<'_> {
         }
     }
 
-    /// The op at the front.
+    /// The op at the front, of the values that the layout has.
     #[tactic(auto, unfolding(crate::specs::ReadingOps::op_at))]
-    pub(crate) fn op(&mut self, alloc: Global) -> Result<Op, ReadError>
-        ensures { Gives result self.new.rest.now (op_at self.old.rest.now) }
+    pub(crate) fn op(&mut self, alloc: Global, layout: Layout) -> Result<Op, ReadError>
+        ensures { Gives result self.new.rest.now (op_at layout self.old.rest.now) }
     {
         let fault = self.fault();
         let kind = self.byte()?;
         match kind {
-            1 => Ok(Op::SetOption(self.setting()?)),
+            1 => Ok(Op::SetOption(self.setting(layout)?)),
             2 => Ok(Op::SetVolume(self.volume()?)),
             3 => Ok(Op::SetOrder(self.u64()?)),
             4..=9 => Ok(Op::Queue(self.queue_op(alloc, kind)?)),

@@ -11,7 +11,7 @@ ghost use Rattle.state_codec.specs.Items.{items_at};
 ghost use Rattle.state_codec.specs.ReadingRows.{uri_at, tag_at, tags_at, rate_at, channels_at};
 ghost use Rattle.state_codec.specs.ReadingRows.{row_fields_at, row_with, row_at, change_at, changes_at};
 
-use crate::fields::{ReadError, Reader};
+use crate::fields::{ReadError, Reader, are_bytes};
 use crate::op::Changes;
 use song_db::{RowChange, SongRow, Uri};
 use std::alloc::Global;
@@ -113,12 +113,16 @@ impl Reader<'_> {
 
     // The row of a URI, from what follows the URI.
     pub(crate) fn rest_of_row(&mut self, alloc: Global, uri: Uri) -> Result<SongRow, ReadError>
-        ensures { Gives result self.new.rest.now (made (row_with uri) (row_fields_at self.old.rest.now)) }
+        ensures row { Gives result self.new.rest.now (made (row_with uri) (row_fields_at self.old.rest.now)) }
+        ensures uri { IfOk result (λ row. row.uri ≡ uri) }
     {
+        are_bytes(self.rest);
+        let _form = uri.as_str();
         let info = self.head(alloc)?;
+        // Each field was tested.
         match SongRow::new(alloc, uri, info)? {
             Some(row) => Ok(row),
-            None => Err(ReadError::NoMemory),
+            None => unreachable!(),
         }
     }
 
@@ -155,7 +159,8 @@ impl Reader<'_> {
 
     #[tactic(auto, unfolding(crate::specs::Fields::such))]
     fn change_count(&mut self) -> Result<u8, ReadError>
-        ensures { Gives result self.new.rest.now (such is_count byte_at self.old.rest.now) }
+        ensures value { Gives result self.new.rest.now (such is_count byte_at self.old.rest.now) }
+        ensures within { IfOk result (λ count. IsTrue (is_count count)) }
     {
         let fault = self.fault();
         let count = self.byte()?;
@@ -174,7 +179,7 @@ impl Reader<'_> {
         let changes = self.change_list(alloc, count)?;
         match Changes::new(changes) {
             Some(changes) => Ok(changes),
-            None => Err(ReadError::NoMemory),
+            None => unreachable!(),
         }
     }
 }

@@ -1,17 +1,21 @@
 // The reading of the head of a snapshot, its rows and the whole.
-ghost use Rattle.std.specs.Prelude.{◌≡◌, ◌≤◌, [], IfOk};
+ghost use Rattle.std.specs.Prelude.{◌≡◌, ◌+◌, ◌≤◌, [], IfOk, IsTrue};
+ghost use Rattle.std.specs.Int.{IsInRange};
+ghost use Rattle.play_queue.specs.Limits.{MAX_ID, MAX_VERSION};
 ghost use Rattle.song_db.specs.Last.{ends_before};
+ghost use Rattle.song_db.specs.Limits.{MAX_ROWS};
 ghost use Rattle.state_codec.specs.Given.{Gives, GivesParts};
 ghost use Rattle.state_codec.specs.Items.{items_at};
+ghost use Rattle.state_codec.specs.Layout.{IsLayout};
 ghost use Rattle.state_codec.specs.ReadingRows.{row_at};
 ghost use Rattle.state_codec.specs.ReadingSaved.{next_uri_at, songs_at};
-ghost use Rattle.state_codec.specs.SavedState.{IsBytes};
 
-use crate::fields::{ReadError, Reader};
+use crate::fields::{ReadError, Reader, are_bytes};
+use crate::layout::Layout;
 use crate::saved::{Saved, SavedParts};
 use play_queue::{MAX_ID, MAX_VERSION};
 use player_core::{Options, Volume};
-use song_db::{MAX_ROWS, SongDb, SongRow, Uri};
+use song_db::{MAX_ROWS, PushError, SongDb, SongRow, Uri};
 use std::alloc::Global;
 
 // What stands in front of the parts.
@@ -23,13 +27,6 @@ pub(crate) struct Header {
     pub next_id: u32,
     pub volume: Volume,
     pub options: Options,
-}
-
-// What the type of bytes says of them.
-fn are_bytes(bytes: &[u8])
-    ensures { IsBytes bytes.now }
-{
-    let _bytes = bytes;
 }
 
 // Whether the last row stands before a URI.
@@ -46,28 +43,29 @@ impl Reader<'_> {
     ghost use Rattle.state_codec.specs.ReadingSaved.{options_at, header_at, saved_at, parts_at};
 
     #[tactic(auto, unfolding(crate::specs::ReadingSaved::options_at))]
-    fn options(&mut self) -> Result<Options, ReadError>
-        ensures { Gives result self.new.rest.now (options_at self.old.rest.now) }
+    fn options(&mut self, layout: Layout) -> Result<Options, ReadError>
+        ensures { Gives result self.new.rest.now (options_at layout self.old.rest.now) }
     {
         Ok(Options {
             repeat: self.flag()?,
             random: self.flag()?,
             single: self.single()?,
-            consume: self.flag()?,
+            consume: self.consume(layout)?,
         })
     }
 
     #[tactic(auto, unfolding(crate::specs::ReadingSaved::header_at))]
-    fn header(&mut self) -> Result<Header, ReadError>
-        ensures header { Gives result self.new.rest.now (header_at self.old.rest.now) }
-        ensures next_id { IfOk result (λ header. 1 ≤ header.next_id) }
+    fn header(&mut self, layout: Layout) -> Result<Header, ReadError>
+        ensures header { Gives result self.new.rest.now (header_at layout self.old.rest.now) }
+        ensures version { IfOk result (λ header. IsInRange 1 MAX_VERSION header.version) }
+        ensures next_id { IfOk result (λ header. IsInRange 1 (MAX_ID + 1) header.next_id) }
     {
         let key = self.key()?;
         let order = self.u64()?;
         let version = self.u32_within(1, MAX_VERSION)?;
         let next_id = self.u32_within(1, MAX_ID + 1)?;
         let volume = self.volume()?;
-        let options = self.options()?;
+        let options = self.options(layout)?;
         Ok(Header {
             key,
             order,
@@ -81,7 +79,8 @@ impl Reader<'_> {
     // The URI of a row behind the known ones.
     #[tactic(auto, unfolding(crate::specs::Fields::such))]
     fn next_uri(&mut self, alloc: Global, songs: &SongDb) -> Result<Uri, ReadError>
-        ensures { Gives result self.new.rest.now (next_uri_at songs.now self.old.rest.now) }
+        ensures uri { Gives result self.new.rest.now (next_uri_at songs.now self.old.rest.now) }
+        ensures behind { IfOk result (λ uri. IsTrue (ends_before songs.now uri)) }
     {
         let fault = self.fault();
         let text = self.text()?;
@@ -96,13 +95,15 @@ impl Reader<'_> {
 
     #[tactic(auto, unfolding(crate::specs::ReadingRows::row_at))]
     fn next_row(&mut self, alloc: Global, songs: &SongDb) -> Result<SongRow, ReadError>
-        ensures { Gives result self.new.rest.now (row_at (next_uri_at songs.now) self.old.rest.now) }
+        ensures row { Gives result self.new.rest.now (row_at (next_uri_at songs.now) self.old.rest.now) }
+        ensures behind { IfOk result (λ row. IsTrue (ends_before songs.now row.uri)) }
     {
         let uri = self.next_uri(alloc, songs)?;
         self.rest_of_row(alloc, uri)
     }
 
     fn rows(&mut self, alloc: Global, count: u32) -> Result<SongDb, ReadError>
+        requires { count ≤ MAX_ROWS }
         ensures { Gives result self.new.rest.now (items_at (λ known. row_at (next_uri_at known)) count [] self.old.rest.now) }
     {
         let mut songs = SongDb::new(alloc);
@@ -113,8 +114,9 @@ impl Reader<'_> {
             };
             match songs.push_last(row) {
                 Ok(()) => {}
+                Err(PushError::NoMemory) => return Err(ReadError::NoMemory),
                 // The row stands behind the others, and the limit was tested.
-                Err(_) => return Err(ReadError::NoMemory),
+                Err(_) => unreachable!(),
             }
         }
         Ok(songs)
@@ -129,13 +131,20 @@ impl Reader<'_> {
     }
 
     #[tactic(auto, unfolding(crate::specs::ReadingSaved::parts_at))]
-    fn parts(&mut self, alloc: Global, header: Header) -> Result<SavedParts, ReadError>
-        requires { 1 ≤ header.next_id }
-        ensures { GivesParts result self.new.rest.now (parts_at header self.old.rest.now) }
+    fn parts(
+        &mut self,
+        alloc: Global,
+        layout: Layout,
+        header: Header,
+    ) -> Result<SavedParts, ReadError>
+        requires layout { IsLayout layout }
+        requires version { IsInRange 1 MAX_VERSION header.version }
+        requires next_id { IsInRange 1 (MAX_ID + 1) header.next_id }
+        ensures { GivesParts result self.new.rest.now (parts_at layout header self.old.rest.now) }
     {
         let songs = self.songs(alloc)?;
-        let queue = self.queue(alloc, &songs, header.version, header.next_id)?;
-        let lists = self.lists(alloc)?;
+        let queue = self.queue(alloc, layout, &songs, header.version, header.next_id)?;
+        let lists = self.lists(alloc, layout)?;
         let stickers = self.stickers(alloc, &songs)?;
         let key = header.key;
         Ok(SavedParts {
@@ -152,12 +161,13 @@ impl Reader<'_> {
 
     /// The state that the bytes spell.
     #[tactic(auto, unfolding(crate::specs::ReadingSaved::saved_at))]
-    pub(crate) fn saved(&mut self, alloc: Global) -> Result<Saved, ReadError>
-        ensures { Gives result self.new.rest.now (saved_at self.old.rest.now) }
+    pub(crate) fn saved(&mut self, alloc: Global, layout: Layout) -> Result<Saved, ReadError>
+        requires { IsLayout layout }
+        ensures { Gives result self.new.rest.now (saved_at layout self.old.rest.now) }
     {
         are_bytes(self.rest);
-        let header = self.header()?;
-        let parts = self.parts(alloc, header)?;
+        let header = self.header(layout)?;
+        let parts = self.parts(alloc, layout, header)?;
         Ok(Saved::from_parts(parts))
     }
 }

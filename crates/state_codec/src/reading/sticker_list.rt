@@ -1,16 +1,17 @@
 // The reading of the stickers.
-ghost use Rattle.std.specs.Prelude.{◌≡◌, ◌&&◌, [], is_some};
+ghost use Rattle.std.specs.Prelude.{◌≡◌, ◌≤◌, ◌<◌, ◌&&◌, [], length, is_some, IfOk, IfSome, IsTrue};
 ghost use Rattle.std.specs.Cmp.Lexicographic.{slice_cmp};
 ghost use Rattle.std.specs.Ordering.{nat_cmp, is_lt};
 ghost use Rattle.song_db.specs.Change.{has_uri};
+ghost use Rattle.stickers.specs.Limits.{MAX_STICKERS};
 ghost use Rattle.stickers.specs.Name.{is_good_name};
 ghost use Rattle.stickers.specs.Part.{is_last};
-ghost use Rattle.state_codec.specs.Given.{Gives, GivesText, GivesSticker};
+ghost use Rattle.state_codec.specs.Given.{Gives, GivesText, GivesRow, GivesSticker};
 ghost use Rattle.state_codec.specs.Items.{items_at};
 ghost use Rattle.state_codec.specs.ReadingSaved.{last_uri, song_uri_at, sticker_name_at, sticker_at, stickers_at};
 
 use crate::fields::{ReadError, Reader};
-use song_db::{SongDb, Uri};
+use song_db::{SongDb, SongRow, Uri};
 use std::alloc::Global;
 use stickers::{MAX_STICKERS, PartError, Stickers, StickersBuilder};
 
@@ -25,11 +26,15 @@ fn is_next(stickers: &StickersBuilder, uri: &Uri, name: &str) -> bool
     }
 }
 
-// Whether a URI has a row.
-fn has_row(songs: &SongDb, uri: &str) -> bool
-    ensures { result ≡ has_uri songs.now uri.now }
+// The row of a URI, if it has one.
+fn row_of<'b>(songs: &'b SongDb, uri: &str) -> Option<&'b SongRow>
+    ensures row { IfSome result (λ row. row.now.uri ≡ uri.now) }
+    ensures there { is_some result ≡ has_uri songs.now uri.now }
 {
-    songs.row_number(uri).is_ok()
+    match songs.get(uri) {
+        Ok(row) => Some(row),
+        Err(_) => None,
+    }
 }
 
 // Whether a URI stands below the last one.
@@ -40,22 +45,26 @@ fn is_below(uri: &str, last: &[u8]) -> bool
 }
 
 impl<'a> Reader<'a> {
-    // The URI of a row, that of the last sticker or one above it.
+    // The row of a URI, that of the last sticker or one above it.
     #[tactic(auto, unfolding(crate::specs::Fields::such))]
-    fn song_uri(&mut self, songs: &SongDb, last: &[u8]) -> Result<&'a str, ReadError>
-        ensures { GivesText result self.new.rest.now (song_uri_at songs.now last.now self.old.rest.now) }
+    fn song_uri<'b>(&mut self, songs: &'b SongDb, last: &[u8]) -> Result<&'b SongRow, ReadError>
+        ensures { GivesRow result self.new.rest.now (song_uri_at songs.now last.now self.old.rest.now) }
     {
         let fault = self.fault();
         let uri = self.text()?;
-        if !has_row(songs, uri) || is_below(uri, last) {
+        let Some(row) = row_of(songs, uri) else {
+            return Err(fault);
+        };
+        if is_below(uri, last) {
             return Err(fault);
         }
-        Ok(uri)
+        Ok(row)
     }
 
     #[tactic(auto, unfolding(crate::specs::Fields::such))]
     fn sticker_name(&mut self, stickers: &StickersBuilder, uri: &Uri) -> Result<&'a str, ReadError>
-        ensures { GivesText result self.new.rest.now (sticker_name_at stickers.now uri.now self.old.rest.now) }
+        ensures name { GivesText result self.new.rest.now (sticker_name_at stickers.now uri.now self.old.rest.now) }
+        ensures next { IfOk result (λ name. IsTrue (is_good_name name.now && is_last stickers.now uri.now name.now)) }
     {
         let fault = self.fault();
         let name = self.text()?;
@@ -67,27 +76,27 @@ impl<'a> Reader<'a> {
 
     // Answers the sticker's URI, beside which the next one stands.
     #[tactic(auto, unfolding(crate::specs::ReadingSaved::sticker_at))]
-    fn sticker(
+    fn sticker<'b>(
         &mut self,
         alloc: Global,
-        songs: &SongDb,
+        songs: &'b SongDb,
         stickers: &mut StickersBuilder,
         last: &[u8],
-    ) -> Result<&'a [u8], ReadError>
-        requires { last.now ≡ last_uri stickers.old }
+    ) -> Result<&'b [u8], ReadError>
+        requires last { last.now ≡ last_uri stickers.old }
+        requires few { length stickers.old < MAX_STICKERS }
         ensures { GivesSticker result stickers.old stickers.new self.new.rest.now (sticker_at songs.now stickers.old self.old.rest.now) }
     {
-        let text = self.song_uri(songs, last)?;
-        let Some(uri) = Uri::read(alloc, text)? else {
-            return Err(ReadError::NoMemory);
-        };
+        let row = self.song_uri(songs, last)?;
+        let uri = row.as_uri().try_clone(alloc)?;
         let name = self.sticker_name(stickers, &uri)?;
         let value = self.value(alloc)?;
-        // Name, order and limit were tested.
-        stickers
-            .push(alloc, uri, name, value)
-            .map_err(|_| ReadError::NoMemory)?;
-        Ok(text.as_bytes())
+        match stickers.push(alloc, uri, name, value) {
+            Ok(()) => Ok(row.uri().as_bytes()),
+            Err(PartError::NoMemory) => Err(ReadError::NoMemory),
+            // Name, order and limit were tested.
+            Err(_) => unreachable!(),
+        }
     }
 
     fn sticker_list(
@@ -96,6 +105,7 @@ impl<'a> Reader<'a> {
         songs: &SongDb,
         count: u32,
     ) -> Result<Stickers, ReadError>
+        requires { count ≤ MAX_STICKERS }
         ensures { Gives result self.new.rest.now (items_at (sticker_at songs.now) count [] self.old.rest.now) }
     {
         let mut stickers = StickersBuilder::new(alloc);

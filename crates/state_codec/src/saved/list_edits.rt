@@ -83,7 +83,7 @@ fn songs_of(alloc: Global, entries: &[Entry]) -> Result<Songs, ListsError>
 {
     let mut songs = Songs::new(alloc);
     for entry in entries {
-        songs.push(entry.uri.try_clone(alloc)?)?;
+        songs.push(entry.uri.as_uri().try_clone(alloc)?)?;
     }
     Ok(songs)
 }

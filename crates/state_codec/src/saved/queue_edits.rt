@@ -13,7 +13,7 @@ use crate::op::{QueueOp, RowNumbers};
 use crate::refusal::ApplyError;
 use play_queue::QueueError;
 use player_core::{next_order, words_of};
-use song_db::{SongDb, SongRow, Uri};
+use song_db::{RowUri, SongDb, SongRow};
 use std::alloc::{AllocError, Global};
 
 impl SavedParts {
@@ -72,7 +72,7 @@ pub(super) fn uris_at(
     alloc: Global,
     songs: &SongDb,
     numbers: &[u32],
-) -> Result<Vec<Uri>, AllocError>
+) -> Result<Vec<RowUri>, AllocError>
     ensures { IfOk result (λ uris. uris.items ≡ uris_at songs.now numbers.now) }
 {
     let rows = songs.rows();
@@ -88,12 +88,12 @@ fn push_uri(
     alloc: Global,
     rows: &[SongRow],
     number: u32,
-    uris: &mut Vec<Uri>,
+    uris: &mut Vec<RowUri>,
 ) -> Result<(), AllocError>
     ensures { OnOk result (uris.new.items ≡ uris.old.items ++ option_to_list (uri_at rows.now number)) }
 {
     match rows.get(number as usize) {
-        Some(row) => uris.push(row.as_uri().try_clone(alloc)?)?,
+        Some(row) => uris.push(RowUri::new(row.as_uri().try_clone(alloc)?, number))?,
         None => {}
     }
     Ok(())

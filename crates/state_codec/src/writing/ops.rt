@@ -231,14 +231,16 @@ fn sticker_kind(op: &StickerOp) -> u8
     }
 }
 
-fn uri_len(uri: &Uri) -> usize
+/// How many bytes a URI takes, at most 1,026.
+pub(crate) fn uri_len(uri: &Uri) -> usize
     ensures len { result ≡ length (text_bytes uri.now) }
     ensures within { result ≤ 1026 }
 {
     text_len(uri.as_str())
 }
 
-fn put_uri(out: &mut Vec<u8>, uri: &Uri)
+/// Appends a URI.
+pub(crate) fn put_uri(out: &mut Vec<u8>, uri: &Uri)
     requires { HasRoom out.old (length (text_bytes uri.now)) }
     ensures { Appends out.old out.new (text_bytes uri.now) }
 {

@@ -88,7 +88,7 @@ fn write_match(
 ) -> Result<(), NoMemory>
     ensures { Writes (entry_found case filter.now position entry.now (row_at songs.now entry.now.uri)) result out.old out.new }
 {
-    let Ok(row) = songs.get(entry.uri.as_str()) else {
+    let Ok(row) = songs.row_of(&entry.uri) else {
         return Ok(());
     };
     if !filter.matches(alloc, row, case)? {

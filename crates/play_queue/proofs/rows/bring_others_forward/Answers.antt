@@ -12,13 +12,15 @@ loop-at-preserved c =
     let now = c.loop-at.entries in
     let at = c.loop-at.at in
     let entry = get_or now at c.index-entries-at.result in
+    let told : not (is_among c.args.uris.now entry.uri) ≡ not (is_among c.args.uris.now c.as_uri.result.now) =
+    ap (λ uri. not (is_among c.args.uris.now uri)) (sym c.as_uri.ensures) in
     elim c.if-not-contains.branch [
       | then-not-contains w ↦
-          let yes : test entry ≡ true = ap not (sym c.contains.ensures ∙ w.if-not-contains.true) in
+          let yes : test entry ≡ true = told ∙ ap not (sym c.contains.ensures ∙ w.if-not-contains.true) in
           rw (w.entries-is, w.count-is, w.swap.ensures.after)
           (step_taken test before now c.loop-at.count at c.index-entries-at.result c.loop-at.invariant (omega arith) yes)
       | else-not-contains w ↦
-          let no : test entry ≡ false = ap not (sym c.contains.ensures ∙ w.if-not-contains.false) in
+          let no : test entry ≡ false = told ∙ ap not (sym c.contains.ensures ∙ w.if-not-contains.false) in
           rw (w.entries-is, w.count-is) (step_left test before now c.loop-at.count
           at c.index-entries-at.result c.loop-at.invariant (omega arith) no)
     ]

@@ -1,9 +1,18 @@
-use Rattle.std.proofs.Common.{arith}
+use Rattle.std.proofs.Common.{subst, arith}
+use Rattle.state_codec.specs.declared.layout.Layout.{Layout}
+use Rattle.state_codec.specs.Answers.{GivesOps}
+use Rattle.state_codec.specs.Reading.{ops_reading_in}
 use Rattle.state_codec.proofs.BodyLaws.{body_found, body_only}
 use Rattle.state_codec.proofs.reading.take_ops.Goals as goal
 
 pub returns-clause-found : goal.returns-clause-found
-returns-clause-found c = body_found c.args.bytes.now c.all_ops.result (λ i. omega (arith, c.type_inv.bytes i)) c.all_ops.ensures
+returns-clause-found c =
+    body_found c.layout_1.result c.args.bytes.now c.all_ops.result (λ i. omega (arith, c.type_inv.bytes i)) c.all_ops.ensures
 
 pub returns-clause-only : goal.returns-clause-only
-returns-clause-only c = λ ops fits e. body_only c.args.bytes.now c.all_ops.result ops fits e c.all_ops.ensures
+returns-clause-only c = λ ops fits e. body_only c.args.bytes.now c.all_ops.result ops fits e
+    (subst (λ (l : Layout). GivesOps c.all_ops.result (ops_reading_in l c.args.bytes.now)) c.layout_1.ensures.value c.all_ops.ensures)
+
+pub returns-clause-exact : goal.returns-clause-exact
+returns-clause-exact c =
+    subst (λ (l : Layout). GivesOps c.all_ops.result (ops_reading_in l c.args.bytes.now)) c.layout_1.ensures.value c.all_ops.ensures

@@ -1,6 +1,4 @@
-use Rattle.std.proofs.Common.{◌≡◌, [], length, Some, ap, ◌∙◌, sym}
-use Rattle.state_codec.specs.SavedState.{SavedState}
-use Rattle.state_codec.specs.Spelling.{saved_bytes}
+use Rattle.std.proofs.Common.{◌≡◌, [], Some, ap, ◌∙◌, sym}
 use Rattle.daemon_core.specs.State.{State}
 use Rattle.live_stage.proofs.FoundLaws.{find_now}
 use Rattle.live_stage.proofs.StartLaws.{fresh_stands, only_a_fault}

@@ -1,7 +1,8 @@
-use Rattle.std.proofs.Common.{◌≡◌, ◌++◌, take}
+use Rattle.std.proofs.Common.{◌≡◌, ◌++◌, take, vec_capacity}
 use Rattle.std.specs.List.{flat_map}
 use Rattle.state_codec.specs.Spelling.{entry_bytes}
 use Rattle.state_codec.proofs.writing.saved.put_entries.Given as goal
 
 abbrev pub invariant-loop-entry : goal.invariant-loop-entry
-invariant-loop-entry l = l.out.items ≡ l.fn.out.items ++ flat_map (entry_bytes l.songs) (take l.entry-index l.entries)
+invariant-loop-entry l = (l.out.items ≡ l.fn.out.items ++ flat_map (entry_bytes l.songs) (take l.entry-index l.entries))
+    × (vec_capacity l.out ≡ vec_capacity l.fn.out)

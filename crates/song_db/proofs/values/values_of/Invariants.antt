@@ -1,9 +1,0 @@
-use Rattle.std.proofs.Common.{◌≡◌, drop}
-use Rattle.std.specs.List.{filter_map}
-use Rattle.wave_pcm.specs.Tag.{text_of}
-use Rattle.song_db.specs.Query.{with_texts, values_of}
-use Rattle.song_db.proofs.values.values_of.Given as goal
-
--- the values so far, with those of the rows that are left
-abbrev pub invariant-loop-row : goal.invariant-loop-row
-invariant-loop-row l = with_texts l.values (filter_map (λ row. text_of row.tags l.tag) (drop l.row-index l.rows)) ≡ values_of l.rows l.tag
