@@ -31,7 +31,6 @@ use Rattle.daemon_core.specs.Request.{stop_of_reading, ran_of, WentOn, IsStop, S
 use Rattle.daemon_core.specs.Request.{RunsLines}
 use Rattle.daemon_core.specs.Room.{KeepsRoom, HasRoomToEnd}
 use Rattle.daemon_core.specs.Session.{of_ran, runs}
-use Rattle.daemon_core.specs.State.{State}
 use Rattle.daemon_core.specs.Run.{Did, Goes, Refuses, Ends, ending_of, did_of, unless_it_ends, performed, read_and_performed, attempted}
 use Rattle.daemon_core.specs.Run.{Ran, ends, wants_memory, preceded, follow, is_refused_at, ran}
 use Rattle.daemon_core.specs.declared.outcome.Ending.{Ending}
@@ -147,7 +146,7 @@ or_false : (a : Bool) → (a || false) ≡ a
 or_false true = refl
 or_false false = refl
 
-union_none_right : (a : Subsystems) → union a none ≡ a
+pub union_none_right : (a : Subsystems) → union a none ≡ a
 union_none_right a = set_ext _ _ (λ x.
     contains-set_of (λ y. contains a y || contains none y) x
     ∙ ap (λ v. contains a x || v) (contains-set_of (λ _. false) x) ∙ or_false (contains a x))
@@ -413,15 +412,15 @@ line_runs place between line words slice named s t before mid after r parted sam
     ∙ read_performed place before.size line slice s named (parted ∙ ap Ok (sym same)) read) h)
 
 -- the room that a stop took is there for the request's end
-pub ends_with_room : (c : ℕ) (p : CoreParts) (stop : Stop) (index : ℕ) (line : List ℕ) (refused : Option ℕ) (ending : Ending)
-    (work done : Work) → HasRoomToStop c p stop → AnswersStop stop index line refused ending work done → HasRoomToEnd c ending p
-ends_with_room c p (stops.Ends it) index line None ending work done has answer =
-    subst (λ e. HasRoomToEnd c e p) (sym answer.0) has
-ends_with_room c p (stops.Refused refusal) index line None ending work done has answer =
-    subst (λ e. HasRoomToEnd c e p) (sym answer.0) tt
-ends_with_room c p stops.NoMemory index line None ending work done has answer = absurd answer
-ends_with_room c p stop index line (Some at) ending work done has answer =
-    let wants = answer.1 in subst (λ e. HasRoomToEnd c e p) (sym wants.0) tt
+pub ends_with_room : (p : CoreParts) (stop : Stop) (index : ℕ) (line : List ℕ) (refused : Option ℕ) (ending : Ending)
+    (work done : Work) → HasRoomToStop p stop → AnswersStop stop index line refused ending work done → HasRoomToEnd ending p
+ends_with_room p (stops.Ends it) index line None ending work done has answer =
+    subst (λ e. HasRoomToEnd e p) (sym answer.0) has
+ends_with_room p (stops.Refused refusal) index line None ending work done has answer =
+    subst (λ e. HasRoomToEnd e p) (sym answer.0) tt
+ends_with_room p stops.NoMemory index line None ending work done has answer = absurd answer
+ends_with_room p stop index line (Some at) ending work done has answer =
+    let wants = answer.1 in subst (λ e. HasRoomToEnd e p) (sym wants.0) tt
 
 pub kept_more : (a b c : Room) → KeepsRoom a b → KeepsRoom b c → KeepsRoom a c
 kept_more a b c first second = record {

@@ -1,58 +1,46 @@
 -- The memory that was taken before an event is enough for what it gives out.
-use Rattle.std.proofs.Common.{◌≡◌, ℕ, zero, suc, ◌≤◌, ◌<◌, Bool, true, false, ◌==◌, ◌||◌, ◌&&◌, not, List, [], ◌∷◌, length}
-use Rattle.std.proofs.Common.{filter}
+use Rattle.std.proofs.Common.{◌≡◌, ℕ, suc, ◌≤◌, ◌<◌, Bool, true, false, ◌==◌, ◌&&◌, not, List, [], ◌∷◌, length}
 use Rattle.std.proofs.Common.{cond, Option, Some, None, refl, sym, ◌∙◌, ap, arith}
 use Rattle.std.specs.List.{cons_option, list_all}
-use Rattle.std.specs.Prelude.{is_some, unwrap_or, IsSome, IsOk, OnOk, OnErr, Result, Ok, Err, ◌↔◌}
+use Rattle.std.specs.Prelude.{IsSome, IsOk, OnOk, OnErr, Result, Ok, Err, ◌↔◌}
 use Rattle.std.proofs.lemmas.Bool.{false≢true}
-use Rattle.idle_masks.specs.Subsystems.{none, intersection, difference, is_empty}
-use Rattle.idle_masks.specs.Watched.{watched, left, with_waiting, grown, marked, due, report_of, reports_of, reported}
+use Rattle.idle_masks.specs.Subsystems.{none, difference, is_empty}
+use Rattle.idle_masks.specs.Watched.{watched, left, with_waiting, marked, due, reports_of, reported}
 use Rattle.idle_masks.specs.Watched.{after_reports}
 use Rattle.idle_masks.specs.declared.ready.Report.{Report}
 use Rattle.idle_masks.specs.declared.refusal.WatchError.{WatchError}
 use Rattle.idle_masks.specs.declared.subsystem.Subsystems.{Subsystems}
 use Rattle.idle_masks.specs.declared.watch.Watched.{Watched}
-use Rattle.daemon_core.specs.Room.{waiting_count, waiting_count_with, IsRoomFor, KeepsRoom}
+use Rattle.daemon_core.specs.Room.{IsRoomFor, KeepsRoom}
 use Rattle.daemon_core.specs.declared.room.Room.{Room}
-use Rattle.daemon_core.proofs.HistoryLaws.{intersection-none}
+use Rattle.daemon_core.proofs.PendingLaws.{set_ext, contains-set_of, contains-empty}
+use Rattle.daemon_core.proofs.RequestLaws.{union_none_right}
 
--- nothing is due to a client that doesn't wait
-no_due : (w : Watched) → w.waiting ≡ None → due w ≡ none
-no_due w waits = ap (λ m. intersection w.pending (unwrap_or m none)) waits ∙ intersection-none w.pending
-
--- a client gets at most one report, and none where it doesn't wait
+-- a client gets at most one report
 one_at_most : (r : Report) (rest : List Report) (empty : Bool) → length (cons_option (cond empty None (Some r)) rest) ≤ suc (length rest)
 one_at_most r rest true = omega arith
 one_at_most r rest false = omega arith
 
-no_report : (w : Watched) → w.waiting ≡ None → report_of w ≡ None
-no_report w waits = ap (λ d. cond (is_empty d) None (Some (record { client = w.client; changed = d }))) (no_due w waits)
-
-report_fits : (w : Watched) (rest : List Report) (fewer : List Watched) (o : Option Subsystems) → w.waiting ≡ o →
-    length rest ≤ length fewer →
-    length (cons_option (report_of w) rest) ≤ length (cond (is_some o) (w ∷ fewer) fewer)
-report_fits w rest fewer None waits h = rw (no_report w waits) h
-report_fits w rest fewer (Some mask) waits h =
-    let one = one_at_most (record { client = w.client; changed = due w }) rest (is_empty (due w)) in omega (arith, one, h)
-
-pub reports_fit : (ws : List Watched) → length (reports_of ws) ≤ waiting_count ws
+pub reports_fit : (ws : List Watched) → length (reports_of ws) ≤ length ws
 reports_fit [] = omega arith
-reports_fit (w ∷ ws) = report_fits w (reports_of ws) (filter (λ v. is_some v.waiting) ws) w.waiting refl (reports_fit ws)
-
--- marking makes nobody wait
-pub marked_waits : (ws : List Watched) (changed : Subsystems) → waiting_count (marked ws changed) ≡ waiting_count ws
-marked_waits [] changed = refl
-marked_waits (w ∷ ws) changed =
-    elim (is_some w.waiting) as (λ b. length (cond b (grown changed w ∷ filter (λ v. is_some v.waiting) (marked ws changed))
-    (filter (λ v. is_some v.waiting) (marked ws changed))) ≡ length (cond b (w ∷ filter (λ v. is_some v.waiting) ws)
-    (filter (λ v. is_some v.waiting) ws))) [
-      | true ↦ ap suc (marked_waits ws changed)
-      | false ↦ marked_waits ws changed
-    ]
+reports_fit (w ∷ ws) =
+    let one = one_at_most (record { client = w.client; changed = due w }) (reports_of ws) (is_empty (due w)) in
+    omega (arith, one, reports_fit ws)
 
 pub marked_length : (ws : List Watched) (changed : Subsystems) → length (marked ws changed) ≡ length ws
 marked_length [] changed = refl
 marked_length (w ∷ ws) changed = ap suc (marked_length ws changed)
+
+-- nothing more is pending where nothing changed
+marked_none : (ws : List Watched) → marked ws none ≡ ws
+marked_none [] = refl
+marked_none (w ∷ ws) = λ i. record w { pending = union_none_right w.pending i } ∷ marked_none ws i
+
+is_none : (set : Subsystems) → is_empty set ≡ true → set ≡ none
+is_none set empty = set_ext set none (λ x. contains-empty set x empty ∙ sym (contains-set_of (λ _. false) x))
+
+pub marked_nothing : (ws : List Watched) (changed : Subsystems) → is_empty changed ≡ true → marked ws changed ≡ ws
+marked_nothing ws changed empty = ap (marked ws) (is_none changed empty) ∙ marked_none ws
 
 -- where nothing is due, nothing is reported
 both_true : (a b : Bool) → (a && b) ≡ true → (a ≡ true) × (b ≡ true)
@@ -75,79 +63,28 @@ none_taken (w ∷ ws) h =
     let both = both_true (is_empty (due w)) (list_all (λ v. is_empty (due v)) ws) h in
     λ i. reported_nothing w both.0 i ∷ none_taken ws both.1 i
 
--- where nobody waits, nothing is due
-none_waits_one : (w : Watched) (o : Option Subsystems) (rest : List Watched) → w.waiting ≡ o →
-    length (cond (is_some o) (w ∷ rest) rest) ≡ 0 →
-    (is_empty (due w) ≡ true) × (length rest ≡ 0)
-none_waits_one w None rest waits h = (ap is_empty (no_due w waits), h)
-none_waits_one w (Some mask) rest waits h = absurd (omega (arith, h))
-
-pub none_due : (ws : List Watched) → waiting_count ws ≡ 0 → list_all (λ w. is_empty (due w)) ws ≡ true
-none_due [] h = refl
-none_due (w ∷ ws) h =
-    let one = none_waits_one w w.waiting (filter (λ v. is_some v.waiting) ws) refl h in
-    ap (λ b. b && list_all (λ v. is_empty (due v)) ws) one.0 ∙ none_due ws one.1
-
-positive : (n : ℕ) → (n ≡ 0 → ⊥) → 0 < n
-positive zero h = absurd (h refl)
-positive (suc n) h = omega arith
-
-pub some_wait : (ws : List Watched) → list_all (λ w. is_empty (due w)) ws ≡ false → 0 < waiting_count ws
-some_wait ws h = positive (waiting_count ws) (λ e. false≢true (sym h ∙ none_due ws e))
-
--- the clients that would wait if one more did
--- one more may wait
-with_one : (w : Watched) (mask : Subsystems) (rest later : List Watched) (is_it waits : Bool) → is_some w.waiting ≡ waits →
-    length rest ≡ length later →
-    length (cond (waits || is_it) (w ∷ rest) rest)
-    ≡ (let v = cond is_it (record w { waiting = Some mask }) w in length (cond (is_some v.waiting) (v ∷ later) later))
-with_one w mask rest later true true is same = ap suc same
-with_one w mask rest later true false is same = ap suc same
-with_one w mask rest later false true is same = ap suc same ∙ ap (λ a. length (cond a (w ∷ later) later)) (sym is)
-with_one w mask rest later false false is same = same ∙ ap (λ a. length (cond a (w ∷ later) later)) (sym is)
-
-pub waits_with : (ws : List Watched) (c : ℕ) (mask : Subsystems) →
-    waiting_count_with c ws ≡ waiting_count (with_waiting ws c (Some mask))
-waits_with [] c mask = refl
-waits_with (w ∷ ws) c mask =
-    with_one w mask (filter (λ v. is_some v.waiting || (v.client == c)) ws)
-    (filter (λ v. is_some v.waiting) (with_waiting ws c (Some mask)))
-    (w.client == c) (is_some w.waiting) refl (waits_with ws c mask)
-
--- a client that waits no more
-stops_one : (w : Watched) (mask : Option Subsystems) (fewer more : List Watched) (b : Bool) → length fewer ≤ length more → mask ≡ None →
-    let v = cond b (record w { waiting = mask }) w in length (cond (is_some v.waiting) (v ∷ fewer) fewer) ≤ length
-    (cond (is_some w.waiting) (w ∷ more) more)
-stops_one w mask fewer more true h none = rw none
-    (elim (is_some w.waiting) as (λ b. length fewer ≤ length (cond b (w ∷ more) more)) [ true ↦ omega (arith, h) | false ↦ h ])
-stops_one w mask fewer more false h none =
-    elim (is_some w.waiting) as (λ b. length (cond b (w ∷ fewer) fewer) ≤ length (cond b (w ∷ more) more))
-    [ true ↦ omega (arith, h) | false ↦ h ]
-
-pub stops_waiting : (ws : List Watched) (c : ℕ) → waiting_count (with_waiting ws c None) ≤ waiting_count ws
-stops_waiting [] c = omega arith
-stops_waiting (w ∷ ws) c = stops_one w None (filter (λ v. is_some v.waiting) (with_waiting ws c None))
-    (filter (λ v. is_some v.waiting) ws) (w.client == c) (stops_waiting ws c) refl
+-- somebody is there to whom something is due
+pub some_are : (ws : List Watched) → list_all (λ w. is_empty (due w)) ws ≡ false → 0 < length ws
+some_are [] h = absurd (false≢true (sym h))
+some_are (w ∷ ws) h = omega arith
 
 pub length_with : (ws : List Watched) (c : ℕ) (mask : Option Subsystems) → length (with_waiting ws c mask) ≡ length ws
 length_with [] c mask = refl
 length_with (w ∷ ws) c mask = ap suc (length_with ws c mask)
 
 -- room for more is room for less, and room that was kept is still there
-pub fewer_fit : (waiting clients fewer less : ℕ) (room : Room) → IsRoomFor waiting clients room → fewer ≤ waiting → less ≤ clients →
-    IsRoomFor fewer less room
-fewer_fit waiting clients fewer less room has h k = record {
+pub fewer_fit : (clients fewer : ℕ) (room : Room) → IsRoomFor clients room → fewer ≤ clients → IsRoomFor fewer room
+fewer_fit clients fewer room has h = record {
   texts = omega (arith, has.texts, h);
   outputs = λ some. let o = has.outputs (omega (arith, some, h)) in omega (arith, o, h);
-  reports = λ some. let r = has.reports (omega (arith, some, h)) in omega (arith, r, k);
+  reports = omega (arith, has.reports, h);
 }
 
-pub still_fits : (waiting clients : ℕ) (before after : Room) → IsRoomFor waiting clients before → KeepsRoom before after →
-    IsRoomFor waiting clients after
-still_fits waiting clients before after has kept = record {
+pub still_fits : (clients : ℕ) (before after : Room) → IsRoomFor clients before → KeepsRoom before after → IsRoomFor clients after
+still_fits clients before after has kept = record {
   texts = omega (arith, has.texts, kept.texts);
   outputs = λ some. let o = has.outputs some in omega (arith, o, kept.outputs);
-  reports = λ some. let r = has.reports some in omega (arith, r, kept.reports);
+  reports = omega (arith, has.reports, kept.reports);
 }
 
 -- a client that isn't watched leaves nothing behind

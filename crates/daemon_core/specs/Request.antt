@@ -62,10 +62,10 @@ abbrev pub RunsLine : List ℕ → Did → MachineState → MachineState → Wor
 RunsLine separator did before after work done (Ok set) = WentOn separator did before after work done set
 RunsLine separator did before after work done (Err stop) = Stopped did before after work done stop
 
-abbrev pub HasRoomToStop : ℕ → CoreParts → Stop → Type 0
-HasRoomToStop c p (stops.Ends ending) = HasRoomToEnd c ending p
-HasRoomToStop c p (stops.Refused refusal) = Unit {0}
-HasRoomToStop c p stops.NoMemory = Unit {0}
+abbrev pub HasRoomToStop : CoreParts → Stop → Type 0
+HasRoomToStop p (stops.Ends ending) = HasRoomToEnd ending p
+HasRoomToStop p (stops.Refused refusal) = Unit {0}
+HasRoomToStop p stops.NoMemory = Unit {0}
 
 -- How a stop is answered: by nothing where the command ends the request, by the line of its refusal, or by that of want of memory.
 abbrev pub AnswersIt : Stop → ℕ → Ending → Work → Work → Type 0

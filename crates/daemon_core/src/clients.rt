@@ -39,7 +39,7 @@ fn ok(alloc: Global) -> Result<Bytes, NoMemory>
 impl CoreParts {
     ghost use Rattle.idle_masks.specs.Watched.{watched, left, marked, with_waiting, reports_of, after_reports};
     ghost use Rattle.std.specs.Prelude.{Some};
-    ghost use Rattle.daemon_core.specs.Room.{IsReadyToTell, KeepsRoom, HasRoomToEnd, waiting_count};
+    ghost use Rattle.daemon_core.specs.Room.{IsReadyToTell};
     ghost use Rattle.daemon_core.specs.Session.{nothing, without};
     ghost use Rattle.daemon_core.specs.Step.{connects_client, told_to, waits_no_more};
     ghost use Rattle.daemon_core.specs.declared.outcome.Ending.TheVariants.{Waits};
@@ -53,11 +53,10 @@ impl CoreParts {
         if self.watch.get(client).is_some() {
             return Ok(Handled::nothing(alloc));
         }
-        let waiting = self.waiting();
         let Some(clients) = self.watch.len().checked_add(1) else {
             return Err(NoMemory);
         };
-        self.room.take(alloc, waiting, clients)?;
+        self.room.take(alloc, clients)?;
         let handled = Handled::answered(alloc, client, greeting(alloc)?)?;
         if self.watch.join(client).is_err() {
             return Err(NoMemory);
@@ -112,7 +111,7 @@ impl CoreParts {
         }
     }
 
-    // A client waits for these, where there is room for what it is told.
+    // A client waits for these.
     pub(crate) fn wait(&mut self, client: ClientId, mask: Subsystems)
         requires { IsSome (watched self.old.watch client) }
         ensures watch { self.new.watch ≡ with_waiting self.old.watch client (Some mask) }
@@ -150,8 +149,7 @@ impl CoreParts {
         ensures watch { self.new.watch ≡ after_reports (marked self.old.watch changed) }
         ensures machine { self.new.machine ≡ self.old.machine }
     {
-        self.watch.mark(changed);
-        if is_none_due(self.watch.as_slice()) {
+        if self.watch.mark(changed) {
             return answer;
         }
         let Some(room) = self.room.give_reports() else {
@@ -180,13 +178,6 @@ impl Room {
         tell_all(reports, &mut self.texts, &mut outputs);
         outputs
     }
-}
-
-// Whether no client is to be told of anything.
-fn is_none_due(clients: &[Watched]) -> bool
-    ensures { result ≡ list_all (λ w. is_empty (due w)) clients.now }
-{
-    clients.iter().all(|w| w.due().is_empty())
 }
 
 // The numbers of these clients.

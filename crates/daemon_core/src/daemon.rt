@@ -5,7 +5,7 @@ ghost use Rattle.daemon_core.specs.State.{start};
 
 use crate::parts::CoreParts;
 use crate::room::Room;
-use idle_masks::Watch;
+use crate::watching::Clients;
 use machine_core::Machine;
 use no_memory::NoMemory;
 use player_core::{Order, PlayState};
@@ -40,7 +40,7 @@ impl Core {
         Core {
             parts: CoreParts {
                 machine: Machine::new(alloc, saved),
-                watch: Watch::new(alloc),
+                watch: Clients::new(alloc),
                 room: Room::new(alloc),
             },
         }

@@ -13,6 +13,7 @@ mod request;
 mod room;
 mod step;
 mod tell;
+mod watching;
 
 pub use daemon::Core;
 pub use event::Event;

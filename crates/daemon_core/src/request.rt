@@ -170,7 +170,7 @@ impl CoreParts {
         }
         let outputs = Vec::with_capacity(alloc, 1)?;
         let mut work = Work::new(alloc)?;
-        let end = self.run_lines(alloc, client, place, separated, lines, &mut work);
+        let end = self.run_lines(alloc, place, separated, lines, &mut work);
         Ok(self.end_request(alloc, client, work, end, outputs))
     }
 
@@ -185,7 +185,7 @@ impl CoreParts {
     ) -> Handled
         requires ready { IsReadyToTell self.old }
         requires known { IsSome (watched self.old.watch client) }
-        requires room { HasRoomToEnd client end.ending self.old }
+        requires room { HasRoomToEnd end.ending self.old }
         requires empty { outputs.items ≡ [] }
         requires one { 0 < vec_capacity outputs }
         ensures { Does (of_ran client (state_of self.old) (ran_of self.old.machine work end) end.ending) self.new result }
@@ -252,7 +252,6 @@ impl CoreParts {
     fn run_lines(
         &mut self,
         alloc: Global,
-        client: ClientId,
         place: Place,
         separated: bool,
         lines: LinesRef<'_>,
@@ -263,13 +262,13 @@ impl CoreParts {
         ensures ran { RunsLines place (separator separated) lines.entry self.old.machine self.new.machine work.old work.new result }
         ensures watch { self.new.watch ≡ self.old.watch }
         ensures kept { KeepsRoom self.old.room self.new.room }
-        ensures ending { HasRoomToEnd client result.ending self.new }
+        ensures ending { HasRoomToEnd result.ending self.new }
     {
         let mut changed = Subsystems::none();
         let mut index = 0;
         let mut rest = lines;
         while let Some((line, after)) = rest.split_first() {
-            match self.run_line(alloc, client, place, separated, line, work) {
+            match self.run_line(alloc, place, separated, line, work) {
                 Ok(set) => changed = changed.union(set),
                 Err(stop) => {
                     let (ending, refused_at) = answer_stop(index, line, stop, work);
@@ -295,7 +294,6 @@ impl CoreParts {
     fn run_line(
         &mut self,
         alloc: Global,
-        client: ClientId,
         place: Place,
         separated: bool,
         line: &[u8],
@@ -306,7 +304,7 @@ impl CoreParts {
             self.old.machine self.new.machine work.old work.new result }
         ensures watch { self.new.watch ≡ self.old.watch }
         ensures kept { KeepsRoom self.old.room self.new.room }
-        ensures stop { IfErr result (HasRoomToStop client self.new) }
+        ensures stop { IfErr result (HasRoomToStop self.new) }
     {
         if work.make_room().is_err() {
             return Err(Stop::NoMemory);
@@ -316,7 +314,7 @@ impl CoreParts {
             Err(error) => return Err(stop_of_reading(error)),
         };
         match Command::read(alloc, place, words.as_slice()) {
-            Ok(command) => self.run_command(alloc, client, separated, command, work),
+            Ok(command) => self.run_command(alloc, separated, command, work),
             Err(error) => Err(stop_of_reading(error)),
         }
     }
@@ -324,7 +322,6 @@ impl CoreParts {
     fn run_command(
         &mut self,
         alloc: Global,
-        client: ClientId,
         separated: bool,
         command: NamedCommand<'_>,
         work: &mut Work,
@@ -334,13 +331,13 @@ impl CoreParts {
             self.old.machine self.new.machine work.old work.new result }
         ensures watch { self.new.watch ≡ self.old.watch }
         ensures kept { KeepsRoom self.old.room self.new.room }
-        ensures stop { IfErr result (HasRoomToStop client self.new) }
+        ensures stop { IfErr result (HasRoomToStop self.new) }
     {
         let NamedCommand { name, command } = command;
         match ending_of(&command) {
             Some(ending) => {
                 drop(command);
-                self.take_room_to_end(alloc, client, ending)?;
+                self.take_room_to_end(ending)?;
                 return Err(Stop::Ends(ending));
             }
             None => {}
@@ -357,26 +354,17 @@ impl CoreParts {
         }
     }
 
-    // Takes the room for a request of this client that ends so.
-    fn take_room_to_end(
-        &mut self,
-        alloc: Global,
-        client: ClientId,
-        ending: Ending,
-    ) -> Result<(), NoMemory>
-        ensures ok { OnOk result (HasRoomToEnd client ending self.new) }
+    // Takes the room for the clients that a request closes that ends so.
+    fn take_room_to_end(&mut self, ending: Ending) -> Result<(), NoMemory>
+        ensures ok { OnOk result (HasRoomToEnd ending self.new) }
         ensures machine { self.new.machine ≡ self.old.machine }
         ensures watch { self.new.watch ≡ self.old.watch }
         ensures kept { KeepsRoom self.old.room self.new.room }
     {
         match ending {
-            Ending::Answered => Ok(()),
+            Ending::Answered | Ending::Waits(_) => Ok(()),
             Ending::Closed => self.room.take_closes(1),
             Ending::Killed => self.room.take_closes(self.watch.len()),
-            Ending::Waits(_) => {
-                let waiting = self.waiting_with(client);
-                self.room.take(alloc, waiting, self.watch.len())
-            }
         }
     }
 }

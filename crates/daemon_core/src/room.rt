@@ -1,5 +1,5 @@
-// Memory for what an event gives out beside its answer, taken before it. It is kept from event to event and grows where clients connect and
-// begin to wait, so that an event that tells nobody takes none.
+// Memory for what an event gives out beside its answer, taken before it: enough for each client that is connected, whether it waits or not,
+// so that nobody needs to count those that do. It is kept from event to event and grows where clients connect.
 ghost use Rattle.std.specs.Prelude.{◌≡◌, ◌≤◌, [], OnOk, unwrap_or, vec_len, vec_capacity};
 
 use crate::outcome::Output;
@@ -11,9 +11,9 @@ use std::mem;
 
 #[derive(Drop)]
 pub struct Room {
-    // For an answer, and for what each client that waits is told.
+    // For an answer, and for what each client may be told.
     pub(crate) outputs: Vec<Output>,
-    // An empty text for each client that waits.
+    // An empty text for each client.
     pub(crate) texts: Vec<TellRoom>,
     pub(crate) reports: Option<ReadyRoom>,
     // For how many clients `reports` is.
@@ -39,22 +39,17 @@ impl Room {
         }
     }
 
-    // Takes what is missing to tell so many clients that wait, of so many that are connected.
-    pub(crate) fn take(
-        &mut self,
-        alloc: Global,
-        waiting: usize,
-        clients: usize,
-    ) -> Result<(), NoMemory>
-        ensures ok { OnOk result (IsRoomFor waiting clients self.new) }
+    // Takes what is missing to tell so many clients.
+    pub(crate) fn take(&mut self, alloc: Global, clients: usize) -> Result<(), NoMemory>
+        ensures ok { OnOk result (IsRoomFor clients self.new) }
         ensures kept { KeepsRoom self.old self.new }
         ensures closes { self.new.closes ≡ self.old.closes }
     {
-        if waiting == 0 {
+        if clients == 0 {
             return Ok(());
         }
-        take_texts(alloc, &mut self.texts, waiting)?;
-        self.outputs.reserve(waiting.saturating_add(1))?;
+        take_texts(alloc, &mut self.texts, clients)?;
+        self.outputs.reserve(clients.saturating_add(1))?;
         if self.reports_for < clients {
             self.reports = Some(ReadyRoom::new(alloc, clients)?);
             self.reports_for = clients;

@@ -5,7 +5,7 @@ use Rattle.daemon_core.specs.Parts.{state_of}
 use Rattle.daemon_core.specs.Session.{output}
 use Rattle.daemon_core.specs.Step.{waits_no_more}
 use Rattle.daemon_core.specs.declared.parts.CoreParts.{CoreParts}
-use Rattle.daemon_core.proofs.ClientLaws.{does_but, left_ready, stopped_ready, so_ok}
+use Rattle.daemon_core.proofs.ClientLaws.{does_but, left_ready, waiting_ready, so_ok}
 use Rattle.daemon_core.proofs.parts.CoreParts.end_waiting.Goals as goal
 
 pub returns-else-is_err-clause-ok : goal.returns-else-is_err-clause-ok
@@ -18,7 +18,7 @@ returns-else-is_err-clause-ok c =
     so_ok c.cancel.result (c.cancel.ensures.found.1 c.requires.known) c.cancel.ensures.ok in
     subst (λ (b : Bool). Does (waits_no_more b c.args.client (state_of p)) q h) (sym c.if-is_noidle.true)
     (does_but (waits_no_more true c.args.client (state_of p)) q h but (λ i. record { machine = p.machine; clients = watch i })
-    refl refl refl refl (stopped_ready p q c.args.client c.requires.ready watch refl))
+    refl refl refl refl (waiting_ready p q c.args.client None c.requires.ready watch refl))
 
 pub returns-in_ok-handled-2-clause-ok : goal.returns-in_ok-handled-2-clause-ok
 returns-in_ok-handled-2-clause-ok c =

@@ -50,7 +50,7 @@ returns-in-Err-clause-kept c =
 pub returns-in-Err-clause-ending : goal.returns-in-Err-clause-ending
 returns-in-Err-clause-ending c =
     let err = c.in-Err.ensures in
-    ends_with_room c.args.client c.run_line.new.self c.in-Err.stop c.loop-line.index c.in-Some.line.now c.answer_stop-ending.result.1
+    ends_with_room c.run_line.new.self c.in-Err.stop c.loop-line.index c.in-Some.line.now c.answer_stop-ending.result.1
     c.answer_stop-ending.result.0 c.run_line.new.work c.answer_stop-ending.new.work err.stop c.answer_stop-ending.ensures
 
 pub returns-clause-ran : goal.returns-clause-ran
