@@ -130,8 +130,8 @@ class Daemon:
             raise Failure(f"create: {done}")
         return self
 
-    def start(self, limits=(), stdout=subprocess.DEVNULL):
-        """Starts it, and waits until it listens; limits are pairs for setrlimit."""
+    def start(self, limits=(), stdout=subprocess.DEVNULL, settings=None):
+        """Starts it, and waits until it listens; limits are pairs for setrlimit, settings what its environment has more."""
 
         def limit():
             # Signals end it, also where the test was begun by `nohup`.
@@ -141,6 +141,7 @@ class Daemon:
                 resource.setrlimit(what, (count, resource.getrlimit(what)[1]))
 
         how = {"cwd": self.folder, "stdin": subprocess.DEVNULL, "stdout": stdout, "stderr": subprocess.PIPE, "restore_signals": False}
+        how["env"] = {**os.environ, **(settings or {})}
         self.process = subprocess.Popen([self.program, "serve", "c.toml"], preexec_fn=limit, **how)
         self.listening = threading.Thread(target=self.listen, args=(self.process.stderr,))
         self.listening.start()

@@ -1,13 +1,15 @@
 /* Loaded into a program in front of the C library (LD_PRELOAD), it fails calls that the program makes of the two files of a journal, `a`
  * and `b`: reads, writes, cuts and syncs, which are counted together from 1 on.
  *
- * FIRST and LAST are the numbers of the first and the last call that fail; COUNTS is a file of two numbers of eight bytes, made by whoever
+ * FIRST and LAST are the numbers of the first and the last call that fail; KILLED, if it is there, is that of a call before which the program
+ * is killed; COUNTS is a file of two numbers of eight bytes, made by whoever
  * runs the program: how many calls there were, and how many of them failed.
  */
 #define _GNU_SOURCE
 #include <dlfcn.h>
 #include <errno.h>
 #include <fcntl.h>
+#include <signal.h>
 #include <stdio.h>
 #include <stdlib.h>
 #include <string.h>
@@ -17,7 +19,7 @@
 
 static long none[2];
 static long *counts = none;
-static long first, last;
+static long first, last, killed;
 
 __attribute__((constructor)) static void begin(void)
 {
@@ -28,6 +30,8 @@ __attribute__((constructor)) static void begin(void)
     counts = shared;
     first = atol(getenv("FIRST"));
     last = atol(getenv("LAST"));
+    if (getenv("KILLED"))
+        killed = atol(getenv("KILLED"));
 }
 
 /* Whether a call of this open file is to fail. */
@@ -39,6 +43,8 @@ static int fails(int file)
     if (length < 2 || path[length - 2] != '/' || (path[length - 1] != 'a' && path[length - 1] != 'b'))
         return 0;
     long number = __atomic_add_fetch(&counts[0], 1, __ATOMIC_RELAXED);
+    if (number == killed)
+        raise(SIGKILL);
     if (number < first || last < number)
         return 0;
     __atomic_add_fetch(&counts[1], 1, __ATOMIC_RELAXED);

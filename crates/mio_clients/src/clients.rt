@@ -289,6 +289,28 @@ impl<S: Stream, L: Listener<S>, P: Ready<S>> Clients<S, L, P> {
         self.connections.give(client, bytes);
     }
 
+    // The same, and sends them, so that no client waits for the events of others behind its own. Where its next request is served next, that
+    // one's answer goes with this.
+    pub(crate) fn hand_out(&mut self, client: u64, bytes: &[u8])
+        ensures later { AllGoOn S.remaining S.contents (bytes_for client bytes.now) no_requests self.old self.new }
+        ensures quiet { StaysQuiet self.old.events self.new.events }
+    {
+        self.give(client, bytes);
+        if !self.connections.is_next(client) {
+            self.send_to(client);
+        }
+    }
+
+    // Sends what is queued for the client of this number.
+    fn send_to(&mut self, client: u64)
+        ensures later { AllGoOn S.remaining S.contents no_bytes no_requests self.old self.new }
+        ensures quiet { StaysQuiet self.old.events self.new.events }
+    {
+        if let Some(key) = self.connections.find(client) {
+            self.send(key);
+        }
+    }
+
     // Has the client of this number closed, once what is queued for it is sent: the daemon knows of it no more.
     pub(crate) fn release(&mut self, client: u64)
         ensures later { AllGoOn S.remaining S.contents no_bytes no_requests self.old self.new }

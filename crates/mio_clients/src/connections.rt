@@ -231,6 +231,11 @@ impl<S: Stream> Connections<S> {
         }
     }
 
+    /// Whether the first event that waits is a request of this client.
+    pub(crate) fn is_next(&self, id: u64) -> bool {
+        self.queue.is_next(id)
+    }
+
     /// Takes the first event that waits.
     pub(crate) fn pop(&mut self) -> Option<ClientEvent>
         ensures same { self.new ≡ record self.old { events = self.new.events; room = self.new.room } }

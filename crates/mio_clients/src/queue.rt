@@ -110,6 +110,14 @@ impl EventQueue {
         Ok(())
     }
 
+    /// Whether the first event is a request of this client.
+    pub(crate) fn is_next(&self, client: u64) -> bool {
+        match self.events.front() {
+            Some(ClientEvent::Request(id, _)) => *id == client,
+            Some(_) | None => false,
+        }
+    }
+
     /// Takes the first event.
     pub(crate) fn pop(&mut self) -> Option<ClientEvent>
         ensures event { MatchOption result ((self.old.events ≡ []) × (self.new.events ≡ [])) (λ event. self.old.events ≡ event ∷ self.new.events) }

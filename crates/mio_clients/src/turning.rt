@@ -192,14 +192,14 @@ impl<S: Stream, L: Listener<S>, P: Ready<S>> Clients<S, L, P> {
         }
     }
 
-    // Gives each output to its client.
+    // Gives each output to its client, and sends it.
     fn give_outputs(&mut self, outputs: &[Output])
         ensures later { AllGoOn S.remaining S.contents (sent_by outputs.now) no_requests self.old self.new }
         ensures quiet { StaysQuiet self.old.events self.new.events }
     {
         let mut rest = outputs;
         while let Some((output, after)) = rest.split_first() {
-            self.give(output.client, output.bytes.as_slice());
+            self.hand_out(output.client, output.bytes.as_slice());
             rest = after;
         }
     }
