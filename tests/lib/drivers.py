@@ -14,7 +14,7 @@ Each file `NAME.events` is a script, run in a folder of its own. Its lines:
     < LINE              a line that the program must print behind the line before
     any other           a line of the program's input; the README.md of the driver has them
 
-In all of them `%{TEXT*N}` stands for a text N times.
+In all of them `%{TEXT*N}` stands for a text N times. A script in which a disk fails at each call in turn has lines more (fuses.py).
 """
 
 import concurrent.futures
@@ -26,6 +26,7 @@ import tempfile
 import threading
 
 sys.path.insert(0, os.path.dirname(os.path.abspath(__file__)))
+import fuses
 from scripts import Failure, whole
 
 SECONDS = 60
@@ -36,17 +37,30 @@ class Step:
 
     def __init__(self, number, line):
         self.number, self.line, self.wanted = number, line, []
+        # In a script with fuses: whether it is done behind a refusal too, and the state that it leaves.
+        self.is_always, self.leaves = False, None
+
+    def compare(self, printed):
+        compare(self, printed)
+
+    def is_event(self):
+        """Whether it must print an event's number."""
+        return any(it.startswith(b"event ") for it in self.wanted)
 
 
 class Script:
     """A script, read."""
 
     step = Step
+    # The lines before and behind a look at the files, in a script with fuses.
+    around = [b"aside"], [b"back"]
 
     def __init__(self, path):
         with open(path, encoding="utf-8") as file:
             lines = list(enumerate(file.read().split("\n"), 1))
-        self.steps, names = [], {}
+        self.steps, self.fused, names = [], fuses.Fused(), {}
+        # Those to which a line belongs.
+        self.present = self.steps
         for number, line in spread(lines):
             line = named(line, names)
             if line.startswith("name "):
@@ -57,20 +71,27 @@ class Script:
 
     def take(self, number, line):
         word, _, rest = line.partition(" ")
-        if word != "<":
-            self.steps.append(self.step(number, whole(line)))
-        elif self.steps:
-            self.steps[-1].wanted.append(whole(rest))
-        else:
+        if word == "<" and not self.present:
             raise Failure(f"line {number}: nothing was done before it")
+        if word == "<":
+            self.present[-1].wanted.append(whole(rest))
+        elif not self.fused.take(self, number, line):
+            self.add(number, line)
+
+    def add(self, number, line):
+        """Takes a line of the program's input."""
+        self.present.append(self.step(number, whole(line)))
 
     def run(self, program):
         """Runs it, and gives what is to be said of it beside, or None."""
+        if self.fused.fuses:
+            return fuses.Sweep(self, program).run()
         self.compare(Run(program, [it.line for it in self.steps]).printed)
+        return None
 
     def compare(self, printed):
         for step, lines in zip(self.steps, printed):
-            compare(step, lines)
+            step.compare(lines)
 
 
 def spread(lines):

@@ -60,6 +60,8 @@ def sound_of(data, first, count, percent):
 class Script(drivers.Script):
     """A script of workers, read."""
 
+    around = [], []
+
     def __init__(self, path):
         self.waves = {}
         super().__init__(path)

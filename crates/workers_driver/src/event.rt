@@ -1,15 +1,23 @@
 //! The events of a stage, as lines of the input say them.
 use crate::fault::Fault;
 use crate::words::{first_number, first_word, number};
-use command_text::{Line, Request};
+use command_text::{Line, Lines, Request};
 use daemon_core::Event;
 use player_core::BrokenCause;
 use song_db::{RowChange, Uri};
 use state_codec::Changes;
-use std::alloc::Global;
+use std::alloc::{AllocError, Global};
 
-fn request_of(alloc: Global, text: &str) -> Result<Request, Fault> {
+fn line_of(alloc: Global, text: &str) -> Result<Request, AllocError> {
     Ok(Request::Single(Line::from_bytes(alloc, text.as_bytes())?))
+}
+
+fn list_of(alloc: Global, text: &str) -> Result<Request, AllocError> {
+    let mut lines = Lines::new(alloc);
+    for line in text.split(" & ") {
+        lines.push(line.as_bytes())?;
+    }
+    Ok(Request::List(lines))
 }
 
 fn cause_of(word: &str) -> Result<BrokenCause, Fault> {
@@ -53,7 +61,8 @@ pub fn event_of(alloc: Global, text: &str) -> Result<Event, Fault> {
     match word {
         "connect" => Ok(Event::Connect(first)),
         "gone" => Ok(Event::Gone(first)),
-        "line" => Ok(Event::Request(first, request_of(alloc, rest)?)),
+        "line" => Ok(Event::Request(first, line_of(alloc, rest)?)),
+        "list" => Ok(Event::Request(first, list_of(alloc, rest)?)),
         "fed" => Ok(Event::Fed {
             ticket: first,
             frames: number(rest)?,

@@ -39,8 +39,9 @@ fn take_line<R: Threads + Wait + Clock + Sync, B: BufRead>(
         "make" => live_once(rt, host, desk, true, input),
         "open" => live_once(rt, host, desk, false, input),
         line => {
-            desk.take(host, line)?;
-            write_out(host, &mut Printer::new(host.alloc()))
+            let mut printer = Printer::new(host.alloc());
+            desk.take(host, &mut printer, line)?;
+            write_out(host, &mut printer)
         }
     }
 }
