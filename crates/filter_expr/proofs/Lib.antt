@@ -1,4 +1,5 @@
 mod Ascii
+mod Chosen
 mod Comparisons
 mod Enclosing
 mod Expressions

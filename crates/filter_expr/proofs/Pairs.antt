@@ -1,5 +1,5 @@
 -- How pairs are read, one after the other.
-use Rattle.std.proofs.Common.{◌≡◌, ℕ, zero, suc, ◌+◌, ◌-◌, ◌<◌, ◌≤◌, List, [], ◌∷◌, length, take, drop, Result, Ok, Err, refl, ap, ◌∙◌}
+use Rattle.std.proofs.Common.{◌≡◌, ℕ, zero, suc, ◌+◌, ◌-◌, ◌<◌, ◌≤◌, List, [], ◌∷◌, length, take, drop, Result, Ok, Err, refl, ap}
 use Rattle.std.proofs.Common.{arith, length-drop}
 use Rattle.filter_expr.specs.declared.name.Key.{Key}
 use Rattle.filter_expr.specs.declared.refusal.FilterError.{FilterError}

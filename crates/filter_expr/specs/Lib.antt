@@ -5,6 +5,7 @@ pub mod Names
 pub mod Order
 pub mod Parts
 pub mod Reading
+pub mod Numbered
 pub mod LineWord
 pub mod Meaning
 pub mod SortWord

@@ -1,5 +1,7 @@
-ghost use Rattle.std.specs.Prelude.{◌≡◌, IfOk};
+ghost use Rattle.std.specs.Prelude.{◌≡◌, true, IfOk, IfSome};
 ghost use Rattle.filter_expr.specs.Meaning.{denotes, is_match, is_at};
+ghost use Rattle.song_db.specs.Row.{Row};
+ghost use Rattle.song_db.specs.Valued.{has_value};
 ghost use Rattle.filter_expr.specs.Tree.{tree_of};
 ghost use Rattle.filter_expr.specs.declared.case.Case.TheVariants.{Exact, Folded};
 
@@ -9,6 +11,7 @@ use crate::subject::{Comparison, Subject};
 use crate::value::TestValue;
 use song_db::SongRow;
 use std::alloc::{AllocError, Global};
+use wave_pcm::Tag;
 
 /// What a filter says. A list of three or more that hold is kept as the last of them beside the others.
 #[derive(Debug, Drop)]
@@ -38,6 +41,29 @@ impl Expression {
             Expression::Base(base) => is_at(base.as_str(), row.uri()),
             Expression::Not(inner) => !inner.matches_exact(row),
             Expression::And(_, _) => unreachable!(),
+        }
+    }
+
+    /// A tag and a value that each song denoted where the case counts has: the expression, or a part of its outermost `AND`, says so.
+    pub(crate) fn needed_value(&self) -> Option<(Tag, &TestValue)>
+        ensures { IfSome result (λ needed. (row : Row) → is_match Exact (tree_of self.now) row ≡ true
+            → has_value needed.0 needed.1.now row ≡ true) }
+    {
+        let mut left = self;
+        while let Expression::And(others, last) = left {
+            if let Some(needed) = last.needed_value() {
+                return Some(needed);
+            }
+            left = others;
+        }
+        match left {
+            Expression::Test(Subject::OfTag(tag), comparison, value) => {
+                if *comparison == Comparison::Contains || value.text().is_empty() {
+                    return None;
+                }
+                Some((*tag, value))
+            }
+            _ => None,
         }
     }
 

@@ -1,4 +1,5 @@
 ghost use Rattle.std.specs.Prelude.{◌≡◌, IfOk, IsOk};
+ghost use Rattle.song_db.specs.Valued.{numbers_of};
 ghost use Rattle.filter_expr.specs.Words.{Gives, filter_of};
 ghost use Rattle.filter_expr.specs.Meaning.{is_match};
 ghost use Rattle.filter_expr.specs.declared.case.Case.TheVariants.{Exact, Folded};
@@ -7,10 +8,11 @@ use crate::case::Case;
 use crate::expression::Expression;
 use crate::folded_row::FoldedRow;
 use crate::refusal::FilterError;
+use crate::select::{select_of_all, select_with};
 use crate::word::LineWord;
 use crate::words;
 use no_memory::NoMemory;
-use song_db::SongRow;
+use song_db::{SongDb, SongRow};
 use std::alloc::Global;
 use std::marker::Model;
 
@@ -56,5 +58,19 @@ impl Filter {
                 Ok(self.root.matches_folded(alloc, &mut folded)?)
             }
         }
+    }
+
+    /// The numbers of the songs that the filter denotes, rising; a song's number is its place by URI, from 0 on. Where the case counts,
+    /// and the filter or a part of its outermost `AND` says that a tag has a value, only songs with that value are matched.
+    pub fn select(&self, alloc: Global, songs: &SongDb, case: Case) -> Result<Vec<u32>, NoMemory>
+        ensures numbers { IfOk result (λ numbers. numbers.items ≡ numbers_of (is_match case self.now) songs.now) }
+    {
+        if case == Case::Exact
+            && let Some((tag, value)) = self.root.needed_value()
+        {
+            return select_with(alloc, songs, &self.root, tag, value);
+        }
+        let _limit = songs.len();
+        select_of_all(alloc, songs.rows(), self, case)
     }
 }

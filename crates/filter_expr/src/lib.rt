@@ -14,6 +14,7 @@ mod parts;
 mod reading;
 pub mod refusal;
 mod row_text;
+mod select;
 pub mod subject;
 mod value;
 pub mod word;

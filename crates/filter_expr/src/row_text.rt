@@ -1,5 +1,6 @@
 ghost use Rattle.std.specs.Prelude.{◌≡◌, Some, IfOk, option_copied};
 ghost use Rattle.song_db.specs.Row.{six_texts};
+ghost use Rattle.wave_pcm.specs.Tag.{text_of};
 ghost use Rattle.filter_expr.specs.Meaning.{is_equal, is_within, passes, occurs_in, song_of, does_hold, any_passes, is_at};
 ghost use Rattle.filter_expr.specs.declared.case.Case.TheVariants.{Exact};
 
@@ -57,21 +58,31 @@ pub(crate) fn does_hold_exact(
     ensures { result ≡ does_hold Exact subject comparison value.now (song_of row.now) }
 {
     match subject {
-        Subject::OfTag(tag) => passes_exact(comparison, value, row.tag(tag)),
+        Subject::OfTag(tag) => tag_passes_exact(comparison, value, row, tag),
         Subject::Any => any_passes_exact(comparison, value, row),
         Subject::File => passes_exact(comparison, value, Some(row.uri())),
     }
 }
 
+// A row without the value is told by its keys, where they are looked for.
+fn tag_passes_exact(comparison: Comparison, value: &TestValue, row: &SongRow, tag: Tag) -> bool
+    ensures { result ≡ passes Exact comparison value.now (text_of row.now.tags tag) }
+{
+    if comparison == Comparison::Contains || value.text().is_empty() {
+        return passes_exact(comparison, value, row.tag(tag));
+    }
+    value.is_of(tag, row)
+}
+
 fn any_passes_exact(comparison: Comparison, value: &TestValue, row: &SongRow) -> bool
     ensures { result ≡ any_passes Exact comparison value.now (six_texts row.now.tags) }
 {
-    let title = passes_exact(comparison, value, row.tag(Tag::Title));
-    let artist = passes_exact(comparison, value, row.tag(Tag::Artist));
-    let album = passes_exact(comparison, value, row.tag(Tag::Album));
-    let date = passes_exact(comparison, value, row.tag(Tag::Date));
-    let genre = passes_exact(comparison, value, row.tag(Tag::Genre));
-    let comment = passes_exact(comparison, value, row.tag(Tag::Comment));
+    let title = tag_passes_exact(comparison, value, row, Tag::Title);
+    let artist = tag_passes_exact(comparison, value, row, Tag::Artist);
+    let album = tag_passes_exact(comparison, value, row, Tag::Album);
+    let date = tag_passes_exact(comparison, value, row, Tag::Date);
+    let genre = tag_passes_exact(comparison, value, row, Tag::Genre);
+    let comment = tag_passes_exact(comparison, value, row, Tag::Comment);
     if value.text().is_empty() {
         title && artist && album && date && genre && comment
     } else {

@@ -19,5 +19,7 @@ pub mod Replaced
 pub mod Row
 pub mod Same
 pub mod Scan
+pub mod TextKey
 pub mod Uri
+pub mod Valued
 pub mod Walk

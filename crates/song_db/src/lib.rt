@@ -17,8 +17,10 @@ pub mod row_uri;
 mod rows;
 pub mod scan;
 pub mod song_db;
+pub mod text_key;
 pub mod texts;
 pub mod uri;
+mod valued;
 mod values;
 pub mod walk;
 
@@ -32,6 +34,7 @@ pub use row::SongRow;
 pub use row_uri::RowUri;
 pub use scan::Scan;
 pub use song_db::SongDb;
+pub use text_key::TextKey;
 pub use texts::Texts;
 pub use uri::{Uri, is_uri};
 pub use values::ValueCounts;

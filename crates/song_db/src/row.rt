@@ -4,7 +4,10 @@ ghost use Rattle.wave_pcm.specs.Tag.{text_of};
 ghost use Rattle.song_db.specs.Duration.{milliseconds};
 ghost use Rattle.song_db.specs.Row.{row_of, six_texts, is_good_tag, is_within_limits, is_row};
 ghost use Rattle.song_db.specs.Same.{same_text, same_texts, same_row};
+ghost use Rattle.song_db.specs.TextKey.{text_key};
+ghost use Rattle.song_db.specs.Valued.{has_value};
 
+use crate::text_key::{TextKey, keys_of};
 use crate::uri::Uri;
 use std::alloc::{AllocError, Global};
 use std::marker::Model;
@@ -26,17 +29,21 @@ struct RowParts {
 #[derive(Debug, Drop)]
 pub struct SongRow {
     parts: Arc<RowParts>,
+    // The keys of its six texts, which stand beside the other rows' keys: a value is looked for among them alone.
+    keys: [u8; 6],
 }
 
 impl Model for SongRow {
-    ghost use Rattle.std.specs.Prelude.{IsTrue};
-    ghost use Rattle.song_db.specs.Row.{Row, row_of, is_within_limits};
+    ghost use Rattle.std.specs.Prelude.{◌≡◌, IsTrue, map};
+    ghost use Rattle.song_db.specs.Row.{Row, row_of, six_texts, is_within_limits};
+    ghost use Rattle.song_db.specs.TextKey.{key_of};
 
     ghost Value = { Row };
 
     ghost view = { λ r. row_of r.parts.value.uri r.parts.value.info };
 
-    ghost invariant = { λ r. IsTrue (is_within_limits (row_of r.parts.value.uri r.parts.value.info)) };
+    ghost invariant = { λ r. IsTrue (is_within_limits (row_of r.parts.value.uri r.parts.value.info))
+        × (r.keys ≡ map key_of (six_texts r.parts.value.info.tags)) };
 }
 
 impl SongRow {
@@ -47,8 +54,9 @@ impl SongRow {
         if !has_good_format(&info) || !has_good_tags(&info.tags) {
             return Ok(None);
         }
+        let keys = keys_of(&info.tags);
         let parts = Arc::new(alloc, RowParts { uri, info })?;
-        Ok(Some(SongRow { parts }))
+        Ok(Some(SongRow { parts, keys }))
     }
 
     pub fn uri(&self) -> &str
@@ -75,6 +83,20 @@ impl SongRow {
         ensures { option_copied result ≡ text_of self.now.tags tag }
     {
         self.parts.info.tags.get(tag)
+    }
+
+    /// Whether the text of a tag is there and is this one, which has this key. A text of another key isn't read.
+    pub fn has_value(&self, tag: Tag, value: &str, key: TextKey) -> bool
+        requires { key ≡ text_key value.now }
+        ensures { result ≡ has_value tag value.now self.now }
+    {
+        if self.keys[tag.place()] != key.byte {
+            return false;
+        }
+        match self.tag(tag) {
+            None => false,
+            Some(text) => text == value,
+        }
     }
 
     /// How many milliseconds it plays, rounded down.
@@ -112,7 +134,10 @@ impl SongRow {
         ensures { IfOk result (λ row. row ≡ self.now) }
     {
         let parts = Arc::try_clone(&self.parts)?;
-        Ok(SongRow { parts })
+        Ok(SongRow {
+            parts,
+            keys: self.keys,
+        })
     }
 }
 

@@ -9,6 +9,7 @@ ghost use Rattle.song_db.specs.Query.{number_at, rows_under, is_folder, folders_
 ghost use Rattle.song_db.specs.Refusal.{AnswersExactlyIfThere, AnswersIfThere};
 ghost use Rattle.song_db.specs.Replaced.{IsRising};
 ghost use Rattle.song_db.specs.Row.{row_uri, row_at};
+ghost use Rattle.song_db.specs.Valued.{rows_with};
 ghost use Rattle.song_db.specs.Walk.{IsWalk, walk_of};
 ghost use Rattle.song_db.specs.declared.refusal.SongDbError.TheVariants.{NoMemory};
 ghost use Rattle.wave_pcm.specs.declared.tags.Tag.TheVariants.{Artist, Album};
@@ -28,6 +29,7 @@ use crate::row_uri::RowUri;
 use crate::rows::{clone_rows, ends_before, position};
 use crate::texts::Texts;
 use crate::uri::Uri;
+use crate::valued::rows_with;
 use crate::values::{ValueCounts, folders_of, songs_of, value_counts, values_of};
 use crate::walk::Walk;
 use std::alloc::Global;
@@ -263,6 +265,15 @@ impl SongDb {
     {
         let rows = self.rows_under(place)?;
         Ok(songs_of(alloc, rows, place)?)
+    }
+
+    /// The numbers of the rows whose text of a tag is exactly this value, rising. Of the rows only those are read whose text has the
+    /// value's key. Refused by `NoMemory`.
+    pub fn rows_with(&self, alloc: Global, tag: Tag, value: &str) -> Result<Vec<u32>, SongDbError>
+        ensures numbers { IfOk result (λ numbers. numbers.items ≡ rows_with self.now tag value.now) }
+        ensures only { IsOkUnless result NoMemory }
+    {
+        Ok(rows_with(alloc, &self.rows, tag, value)?)
     }
 
     /// How many artists and albums the songs have, each counted once; no text is copied. Refused by `NoMemory`.
