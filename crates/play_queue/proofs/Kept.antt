@@ -3,7 +3,7 @@ use Rattle.std.proofs.Common.{◌≡◌, ℕ, zero, suc, ◌+◌, ◌-◌, ◌<�
 use Rattle.std.proofs.Common.{List, [], ◌∷◌, ◌++◌, length, get_or, map, take, drop, filter, refl, sym, ap, ◌∙◌, arith}
 use Rattle.std.specs.List.{All, list_any, prefix_len}
 use Rattle.std.proofs.lemmas.Bool.{eqb-true, eqb-false, eq-eqb}
-use Rattle.std.proofs.lemmas.List.{length-map, length-append, length-take-le, take-append-drop, take_at, drop_at, take_all, drop_all}
+use Rattle.std.proofs.lemmas.List.{length-map, length-take-le, take-append-drop, take_at, drop_at, take_all, drop_all}
 use Rattle.std.proofs.lemmas.List.{append-nil, length-drop}
 use Rattle.std.proofs.lemmas.List.Elements.{All-cons, All-head, All-tail}
 use Rattle.std.proofs.lemmas.List.Sorted.{IsPermutation-filter_both}
@@ -288,20 +288,6 @@ pub fit-kept : (q : QueueState) (dropped : Uris) → IsQueue q → AreFit q.next
 fit-kept q dropped sound = fit-reordered q.next_id q.version q.entries (filter (λ entry. is_among dropped entry.uri) q.entries)
     (kept q.entries dropped) (fit-queue q sound)
     (IsPermutation-filter_both (λ entry. is_among dropped entry.uri) (λ entry. not (is_among dropped entry.uri)) (λ entry. refl) q.entries)
-
--- the entries that are kept reach as far as the first that is dropped
-pub kept-first : (q : QueueState) (dropped : Uris)
-    → kept_front (λ entry. not (is_among dropped entry.uri)) q.entries ≤ length (kept q.entries dropped)
-kept-first q dropped =
-    let keep : Entry → Bool = λ entry. not (is_among dropped entry.uri) in
-    let first : ℕ = kept_front keep q.entries in
-    let parts : kept q.entries dropped ≡ take first q.entries ++ filter keep (drop first q.entries) = before_dropped keep q.entries in
-    omega (
-      arith,
-      ap length parts,
-      length-append (take first q.entries) (filter keep (drop first q.entries)),
-      length-take-le first q.entries (front_fits keep q.entries),
-    )
 
 -- where no URI is dropped
 pub kept-none : (entries : List Entry) → kept entries [] ≡ entries

@@ -1,5 +1,7 @@
 pub mod Added
+pub mod BlockStamps
 pub mod Blocks
+pub mod Bounds
 pub mod Built
 mod Compacted
 pub mod Exchanged
@@ -7,6 +9,7 @@ pub mod Kept
 mod Located
 mod Marked
 mod Merged
+pub mod Near
 pub mod OwnIds
 pub mod Saved
 pub mod Searched

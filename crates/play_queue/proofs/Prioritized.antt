@@ -131,7 +131,7 @@ above_mid : (a n : ℕ) (xs ys : List Entry) (k : ℕ) (d : Entry) → a + n ≤
     → get_or (put_mid a n xs ys) k d ≡ get_or xs k d
 above_mid a n xs ys k d within long high = search (rules, places)
 
-length-mid : (a n : ℕ) (xs ys : List Entry) → a + n ≤ length xs → length ys ≡ n → length (put_mid a n xs ys) ≡ length xs
+pub length-mid : (a n : ℕ) (xs ys : List Entry) → a + n ≤ length xs → length ys ≡ n → length (put_mid a n xs ys) ≡ length xs
 length-mid a n xs ys within long = search (rules, places)
 
 not_in_below : (range : ℕ × ℕ) (k : ℕ) → k < range.0 → in_range range k ≡ false

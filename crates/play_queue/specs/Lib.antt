@@ -2,6 +2,7 @@ pub mod Builder
 pub mod Changes
 pub mod Entries
 pub mod Fits
+pub mod Latest
 pub mod Limits
 pub mod Marks
 pub mod Positions

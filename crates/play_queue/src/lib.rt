@@ -3,6 +3,9 @@
 
 mod editing;
 pub mod entry;
+mod entry_list;
+mod hints;
+mod latest;
 pub mod limits;
 mod marks;
 mod parts;

@@ -1,11 +1,13 @@
-ghost use Rattle.std.specs.Prelude.{◌≡◌, ◌≢◌, ℕ, ◌≤◌, ◌<◌, true, length, map, slice_index_or};
+ghost use Rattle.std.specs.Prelude.{◌≡◌, ◌≢◌, ℕ, ◌≤◌, ◌<◌, true, length, map, replicate, slice_index_or};
 ghost use Rattle.std.specs.Bool.{OnTrue, OnFalse};
 ghost use Rattle.play_queue.specs.Entries.{is_in_some};
+ghost use Rattle.play_queue.specs.Latest.{AreLatest};
 ghost use Rattle.play_queue.specs.Refused.{has_bad};
 ghost use Rattle.play_queue.specs.Restamp.{raised, raised_in, reprioritized, next_version, AreRanges};
 ghost use Rattle.play_queue.specs.declared.entry.Entry.{Entry};
 
 use crate::entry::Entry;
+use crate::latest::{BLOCKS, raise_latest};
 use crate::limits::MAX_VERSION;
 use crate::stamping::stamp_all;
 
@@ -51,30 +53,44 @@ pub(crate) fn has_other(entries: &[Entry], ranges: &[(usize, usize)], priority: 
 // Sets the priority on each entry at a position of some range, and gives those that had another one a new stamp, as `restamp` does.
 pub(crate) fn prioritize(
     entries: &mut Vec<Entry>,
+    latest: &mut [u32; BLOCKS],
     ranges: &[(usize, usize)],
     priority: u8,
     version: u32,
 ) -> u32
     requires ranges { AreRanges ranges.now (length entries.old.items) }
     requires within { version ≤ MAX_VERSION }
+    requires few { length entries.old.items ≤ 16384 }
     ensures version { result ≡ next_version version }
     ensures entries { entries.new.items ≡ reprioritized version ranges.now priority entries.old.items }
+    ensures begun { version ≡ MAX_VERSION → latest.new ≡ replicate 128 1 }
+    ensures raised { version ≢ MAX_VERSION → AreLatest latest.old entries.old.items → AreLatest latest.new entries.new.items }
 {
     if version == MAX_VERSION {
-        raise_in(entries, ranges, priority, 1);
+        raise_in(entries, latest, ranges, priority, 1);
         stamp_all(entries, 1);
+        *latest = [1; BLOCKS];
         return 1;
     }
-    raise_in(entries, ranges, priority, version + 1);
+    raise_in(entries, latest, ranges, priority, version + 1);
     version + 1
 }
 
-fn raise_in(entries: &mut [Entry], ranges: &[(usize, usize)], priority: u8, stamp: u32)
-    requires { AreRanges ranges.now (length entries.old) }
-    ensures { entries.new ≡ raised_in ranges.now priority stamp entries.old }
+fn raise_in(
+    entries: &mut [Entry],
+    latest: &mut [u32; BLOCKS],
+    ranges: &[(usize, usize)],
+    priority: u8,
+    stamp: u32,
+)
+    requires ranges { AreRanges ranges.now (length entries.old) }
+    requires few { length entries.old ≤ 16384 }
+    ensures entries { entries.new ≡ raised_in ranges.now priority stamp entries.old }
+    ensures latest { AreLatest latest.old entries.old → AreLatest latest.new entries.new }
 {
     for range in ranges {
         raise_all(&mut entries[range.0..range.1], priority, stamp);
+        raise_latest(latest, range.0, range.1, stamp);
     }
 }
 

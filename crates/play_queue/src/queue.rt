@@ -8,15 +8,14 @@ ghost use Rattle.play_queue.specs.Refused.{range_refusal, move_refusal, swap_ref
 ghost use Rattle.play_queue.specs.Restamp.{exchanged};
 ghost use Rattle.play_queue.specs.Shuffle.{shuffled};
 
-use crate::editing::{delete, exchange, insert_all};
 use crate::entry::Entry;
+use crate::entry_list::EntryList;
+use crate::hints::Hints;
 use crate::parts::{have_own_ids, is_bounded};
-use crate::priority::{has_other, prioritize};
+use crate::priority::has_other;
 use crate::ranges::Ranges;
 use crate::refusal::QueueError;
-use crate::rows::{before_first, has_any, keep_others, restamp_batch};
-use crate::shuffling::shuffle;
-use crate::stamping::{restamp, restamp_pair};
+use crate::rows::{before_first, has_any};
 use crate::uris::SortedUris;
 use song_db::RowUri;
 use std::alloc::{AllocError, Global};
@@ -38,7 +37,7 @@ pub use builder::QueueBuilder;
 /// everything as it was.
 #[derive(Debug, Drop)]
 pub struct Queue {
-    entries: Vec<Entry>,
+    entries: EntryList,
     version: u32,
     next_id: u32,
 }
@@ -48,9 +47,9 @@ impl Model for Queue {
 
     ghost Value = { QueueState };
 
-    ghost view = { λ q. record { entries = q.entries.items; version = q.version; next_id = q.next_id } };
+    ghost view = { λ q. record { entries = q.entries; version = q.version; next_id = q.next_id } };
 
-    ghost invariant = { λ q. IsQueue (record { entries = q.entries.items; version = q.version; next_id = q.next_id }) };
+    ghost invariant = { λ q. IsQueue (record { entries = q.entries; version = q.version; next_id = q.next_id }) };
 }
 
 impl Queue {
@@ -59,7 +58,7 @@ impl Queue {
         ensures { result ≡ record { entries = []; version = 1; next_id = 1 } }
     {
         Queue {
-            entries: Vec::new(alloc),
+            entries: EntryList::new(alloc),
             version: 1,
             next_id: 1,
         }
@@ -69,7 +68,8 @@ impl Queue {
     /// keeps: at most 16,384 entries, a version from 1 to 2147483647, a next id from 1 to 2147483648, ids that differ,
     /// from 1 and below the next id, and stamps from 1 to the version.
     ///
-    /// For the test of the ids it takes memory, 4 bytes an entry, which it gives back.
+    /// For the test of the ids it takes memory, 4 bytes an entry, which it gives back. What it keeps for look-ups by id is
+    /// 32 KiB.
     pub fn from_parts(
         alloc: Global,
         entries: Vec<Entry>,
@@ -88,8 +88,10 @@ impl Queue {
         if !own {
             return Ok(None);
         }
+        let mut hints = Hints::new(alloc);
+        hints.reserve(entries.len())?;
         Ok(Some(Queue {
-            entries,
+            entries: EntryList::from_parts(entries, hints),
             version,
             next_id,
         }))
@@ -104,9 +106,7 @@ impl Queue {
     {
         self.check_range(start, end)?;
         if start < end {
-            delete(&mut self.entries, start, end);
-            let left = self.entries.len();
-            self.version = restamp(&mut self.entries, start, left, self.version);
+            self.version = self.entries.delete(start, end, self.version);
         }
         Ok(())
     }
@@ -137,8 +137,7 @@ impl Queue {
         requires in_range { high ≤ length self.old.entries }
         ensures { self.new ≡ ruled self.old (exchanged self.old.entries low middle high) [] }
     {
-        exchange(&mut self.entries, low, middle, high);
-        self.version = restamp(&mut self.entries, low, high, self.version);
+        self.version = self.entries.exchange(low, middle, high, self.version);
     }
 
     /// Two entries change places. Refused by `BadIndex` where a position is past the end of the queue.
@@ -149,8 +148,7 @@ impl Queue {
     {
         self.check_swap(one, other)?;
         if one != other {
-            self.entries.swap(one, other);
-            self.version = restamp_pair(&mut self.entries, one, other, self.version);
+            self.version = self.entries.swap(one, other, self.version);
         }
         Ok(())
     }
@@ -174,7 +172,9 @@ impl Queue {
         ensures answer { AnswersIfMemory (range_refusal self.old.entries start end) result }
     {
         self.check_range(start, end)?;
-        self.version = shuffle(alloc, &mut self.entries, start, end, words, self.version)?;
+        self.version = self
+            .entries
+            .shuffle(alloc, start, end, words, self.version)?;
         Ok(())
     }
 
@@ -183,8 +183,7 @@ impl Queue {
         ensures { self.new ≡ ruled self.old [] [] }
     {
         if !self.entries.is_empty() {
-            self.entries.clear();
-            self.version = restamp(&mut self.entries, 0, 0, self.version);
+            self.version = self.entries.clear(self.version);
         }
     }
 
@@ -205,12 +204,9 @@ impl Queue {
     {
         let count = uris.len();
         self.check_add(at, count)?;
-        self.entries.reserve(count)?;
         let first = self.next_id;
         if count > 0 {
-            insert_all(&mut self.entries, at, first, uris);
-            let left = self.entries.len();
-            self.version = restamp(&mut self.entries, at, left, self.version);
+            self.version = self.entries.insert(at, first, uris, self.version)?;
             self.next_id = first + count as u32;
         }
         Ok(first)
@@ -226,8 +222,8 @@ impl Queue {
     {
         self.check_prio(ranges)?;
         let merged = ranges.merged();
-        if has_other(&self.entries, merged, priority) {
-            self.version = prioritize(&mut self.entries, merged, priority, self.version);
+        if has_other(self.entries.as_slice(), merged, priority) {
+            self.version = self.entries.prioritize(merged, priority, self.version);
         }
         Ok(())
     }
@@ -256,10 +252,11 @@ impl Queue {
         if dropped.is_empty() && changed.is_empty() {
             return;
         }
-        let first = before_first(&self.entries, dropped);
-        if first < self.entries.len() || has_any(&self.entries[..first], changed) {
-            keep_others(&mut self.entries, first, dropped);
-            self.version = restamp_batch(&mut self.entries, first, changed, self.version);
+        let first = before_first(self.entries.as_slice(), dropped);
+        if first < self.entries.len() || has_any(&self.entries.as_slice()[..first], changed) {
+            self.version = self
+                .entries
+                .follow_batch(first, dropped, changed, self.version);
         }
     }
 }

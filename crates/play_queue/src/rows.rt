@@ -1,10 +1,12 @@
 ghost use Rattle.std.specs.Prelude.{◌≡◌, ◌+◌, ◌≤◌, ◌==◌, ◌++◌, not, length, map, take, drop, if◌then◌else◌};
 ghost use Rattle.std.specs.List.{list_any, prefix_len};
 ghost use Rattle.play_queue.specs.Entries.{is_among, kept};
+ghost use Rattle.play_queue.specs.Latest.{AreRestamped, Between};
 ghost use Rattle.play_queue.specs.Queue.{with_stamp};
 ghost use Rattle.play_queue.specs.Restamp.{marked, restamped_batch, next_version};
 
 use crate::entry::Entry;
+use crate::latest::{BLOCKS, raise_latest};
 use crate::limits::MAX_VERSION;
 use crate::stamping::stamp_all;
 use crate::uris::SortedUris;
@@ -81,20 +83,25 @@ fn stamp_row(entry: &mut Entry, uris: &SortedUris, stamp: u32)
 // Gives the entries from `first` on, and those in front of it whose row has changed, a new stamp, as `restamp` does.
 pub(crate) fn restamp_batch(
     entries: &mut Vec<Entry>,
+    latest: &mut [u32; BLOCKS],
     first: usize,
     changed: &SortedUris,
     version: u32,
 ) -> u32
     requires in_range { first ≤ length entries.old.items }
     requires within { version ≤ MAX_VERSION }
+    requires few { length entries.old.items ≤ 16384 }
     ensures version { result ≡ next_version version }
     ensures entries { entries.new.items ≡ restamped_batch version first changed.now entries.old.items }
+    ensures latest { AreRestamped latest.old latest.new (Between 0 (length entries.old.items)) version }
 {
     if version == MAX_VERSION {
         stamp_all(entries, 1);
+        *latest = [1; BLOCKS];
         return 1;
     }
     stamp_batch(entries, first, changed, version + 1);
+    raise_latest(latest, 0, entries.len(), version + 1);
     version + 1
 }
 

@@ -1,10 +1,12 @@
 ghost use Rattle.std.specs.Prelude.{◌≡◌, ◌≢◌, ℕ, ◌+◌, ◌-◌, ◌≤◌, ◌<◌, ◌==◌, ◌||◌, ◌++◌, length, map, take, drop, slice_range, slice_index};
 ghost use Rattle.std.specs.Bool.{OnTrue, OnFalse};
+ghost use Rattle.play_queue.specs.Latest.{AreRestamped, Between, Either};
 ghost use Rattle.play_queue.specs.Queue.{ids_of, with_stamp};
 ghost use Rattle.play_queue.specs.Restamp.{restamped, restamped_pair, stamped_where, next_version};
 ghost use Rattle.play_queue.specs.Shuffle.{stamped_if_moved, stamped_moved, restamped_moved};
 
 use crate::entry::Entry;
+use crate::latest::{BLOCKS, raise_latest};
 use crate::limits::MAX_VERSION;
 
 // Gives each entry the stamp.
@@ -27,34 +29,55 @@ pub(crate) fn stamp_range(entries: &mut [Entry], start: usize, end: usize, stamp
 
 // Gives the entries of a range, which have changed, a new stamp: the version after this one. After the greatest
 // version, all get 1. Answers the new version.
-pub(crate) fn restamp(entries: &mut Vec<Entry>, start: usize, end: usize, version: u32) -> u32
+pub(crate) fn restamp(
+    entries: &mut Vec<Entry>,
+    latest: &mut [u32; BLOCKS],
+    start: usize,
+    end: usize,
+    version: u32,
+) -> u32
     requires forward { start ≤ end }
     requires in_range { end ≤ length entries.old.items }
     requires within { version ≤ MAX_VERSION }
+    requires few { end ≤ 16384 }
     ensures version { result ≡ next_version version }
     ensures entries { entries.new.items ≡ restamped version start end entries.old.items }
+    ensures latest { AreRestamped latest.old latest.new (Between start end) version }
 {
     if version == MAX_VERSION {
         stamp_all(entries, 1);
+        *latest = [1; BLOCKS];
         return 1;
     }
     stamp_range(entries, start, end, version + 1);
+    raise_latest(latest, start, end, version + 1);
     version + 1
 }
 
 // Gives the entries at two positions, which have changed, a new stamp, as `restamp` does.
-pub(crate) fn restamp_pair(entries: &mut Vec<Entry>, one: usize, other: usize, version: u32) -> u32
+pub(crate) fn restamp_pair(
+    entries: &mut Vec<Entry>,
+    latest: &mut [u32; BLOCKS],
+    one: usize,
+    other: usize,
+    version: u32,
+) -> u32
     requires one_in_range { one < length entries.old.items }
     requires other_in_range { other < length entries.old.items }
     requires within { version ≤ MAX_VERSION }
+    requires few { length entries.old.items ≤ 16384 }
     ensures version { result ≡ next_version version }
     ensures entries { entries.new.items ≡ restamped_pair version one other entries.old.items }
+    ensures latest { AreRestamped latest.old latest.new (Either one other) version }
 {
     if version == MAX_VERSION {
         stamp_all(entries, 1);
+        *latest = [1; BLOCKS];
         return 1;
     }
     stamp_pair(entries, one, other, version + 1);
+    raise_latest(latest, one, one + 1, version + 1);
+    raise_latest(latest, other, other + 1, version + 1);
     version + 1
 }
 
@@ -95,6 +118,7 @@ fn has_moved(entries: &[Entry], ids: &[u32]) -> bool
 // Gives the entries of a range at whose positions others stood, with these ids, a new stamp, as `restamp` does.
 pub(crate) fn restamp_moved(
     entries: &mut Vec<Entry>,
+    latest: &mut [u32; BLOCKS],
     start: usize,
     end: usize,
     ids: &[u32],
@@ -104,14 +128,18 @@ pub(crate) fn restamp_moved(
     requires in_range { end ≤ length entries.old.items }
     requires ids { length ids.now ≡ end - start }
     requires within { version ≤ MAX_VERSION }
+    requires few { end ≤ 16384 }
     ensures version { result ≡ next_version version }
     ensures entries { entries.new.items ≡ restamped_moved version start end ids.now entries.old.items }
+    ensures latest { AreRestamped latest.old latest.new (Between start end) version }
 {
     if version == MAX_VERSION {
         stamp_all(entries, 1);
+        *latest = [1; BLOCKS];
         return 1;
     }
     stamp_moved_in(entries, start, end, ids, version + 1);
+    raise_latest(latest, start, end, version + 1);
     version + 1
 }
 

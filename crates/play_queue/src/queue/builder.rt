@@ -5,6 +5,8 @@ ghost use Rattle.play_queue.specs.Refusal.{Answers, AnswersUnless};
 
 use super::Queue;
 use crate::entry::Entry;
+use crate::entry_list::EntryList;
+use crate::hints::Hints;
 use crate::limits::{MAX_ENTRIES, MAX_ID, MAX_VERSION};
 use crate::refusal::PartError;
 use std::alloc::Global;
@@ -16,6 +18,7 @@ use std::marker::Model;
 #[derive(Drop)]
 pub struct QueueBuilder {
     entries: Vec<Entry>,
+    hints: Hints,
     ids: HashSet<u32>,
     version: u32,
     next_id: u32,
@@ -50,6 +53,7 @@ impl QueueBuilder {
         }
         Ok(QueueBuilder {
             entries: Vec::new(alloc),
+            hints: Hints::new(alloc),
             ids: HashSet::new(alloc),
             version,
             next_id,
@@ -75,6 +79,7 @@ impl QueueBuilder {
             return Err(PartError::BadStamp);
         }
         self.entries.reserve(1)?;
+        self.hints.reserve(1)?;
         self.ids.insert(id)?;
         self.entries.push_reserved(entry);
         Ok(())
@@ -85,7 +90,7 @@ impl QueueBuilder {
         ensures { result ≡ self }
     {
         Queue {
-            entries: self.entries,
+            entries: EntryList::from_parts(self.entries, self.hints),
             version: self.version,
             next_id: self.next_id,
         }

@@ -3,6 +3,8 @@ ghost use Rattle.std.specs.Prelude.{◌≡◌, IfOk};
 
 use super::Queue;
 use crate::editing::clone_all;
+use crate::entry_list::EntryList;
+use crate::hints::Hints;
 use std::alloc::{AllocError, Global};
 
 impl Queue {
@@ -11,9 +13,11 @@ impl Queue {
         ensures { IfOk result (λ copy. copy ≡ self.now) }
     {
         let mut entries = Vec::with_capacity(alloc, self.entries.len())?;
-        clone_all(alloc, &self.entries, &mut entries)?;
+        clone_all(alloc, self.entries.as_slice(), &mut entries)?;
+        let mut hints = Hints::new(alloc);
+        hints.reserve(entries.len())?;
         Ok(Queue {
-            entries,
+            entries: EntryList::from_parts(entries, hints),
             version: self.version,
             next_id: self.next_id,
         })

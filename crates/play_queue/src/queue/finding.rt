@@ -14,7 +14,7 @@ impl Queue {
         ensures found { result ≡ position (λ entry. entry.id == id) self.now.entries }
         ensures within { IfSome result (λ at. (at < length self.now.entries) × (at < MAX_ENTRIES)) }
     {
-        self.entries.iter().position(|entry| entry.id == id)
+        self.entries.pos_of(id)
     }
 
     /// The positions of the entries with these ids, in the order of the ids; or the first id that no entry has. It goes
@@ -26,7 +26,7 @@ impl Queue {
     ) -> Result<Result<Vec<usize>, u32>, AllocError>
         ensures { IfOk result (λ found. items_of found ≡ positions_of self.now.entries ids.now) }
     {
-        let places = places_of(alloc, &self.entries, ids)?;
+        let places = places_of(alloc, self.entries.as_slice(), ids)?;
         let mut positions = Vec::with_capacity(alloc, ids.len())?;
         for id in ids {
             match places.get(id) {
@@ -43,10 +43,6 @@ impl Queue {
     {
         let all = self.version < version;
         self.entries
-            .iter()
-            .enumerate()
-            .filter(|at| all || version < at.1.stamp)
-            .map(|at| at.0)
-            .collect(alloc)
+            .later_than(alloc, if all { 0 } else { version })
     }
 }

@@ -1,4 +1,4 @@
-use Rattle.std.proofs.Common.{◌≡◌, length, sym, ap, arith}
+use Rattle.std.proofs.Common.{◌≡◌, sym, arith}
 use Rattle.std.proofs.lemmas.List.{take-append-drop}
 use Rattle.play_queue.specs.Entries.{deleted}
 use Rattle.play_queue.proofs.Ruling.{ruled-deleted, ruled-itself}
@@ -8,11 +8,9 @@ use Rattle.play_queue.proofs.queue.Queue.delete_range.Goals as goal
 -- what stood from the end of the block on has moved up
 pub returns-then-start-end-clause-ok : goal.returns-then-start-end-clause-ok
 returns-then-start-end-clause-ok c =
-    let old = c.self.inside.entries.items in
+    let old = c.self.inside.entries in
     let fits = rw (← c.self.view_is) at c.in_ok-check_range.ensures.fits in
-    let left : c.len-left.result ≡ length (deleted old c.args.start c.args.end) =
-    omega (arith, ap length c.delete.ensures, c.len-left.ensures) in
-    rw (← c.self.view_is, c.restamp-self-inside.ensures.entries, c.restamp-self-inside.ensures.version, c.delete.ensures, left)
+    rw (← c.self.view_is, c.delete-self-inside.ensures.entries, c.delete-self-inside.ensures.version)
     (ruled-deleted (record { entries = old; version = c.self.inside.version; next_id = c.self.inside.next_id }) c.args.start c.args.end
     c.self.invariant.own_ids c.if-start-end.true fits.within)
 
@@ -26,10 +24,8 @@ returns-else-start-end-clause-ok c =
 
 pub invariant_of-self : goal.invariant_of-self
 invariant_of-self c =
-    let old = c.self.inside.entries.items in
+    let old = c.self.inside.entries in
     let fits = rw (← c.self.view_is) at c.in_ok-check_range.ensures.fits in
-    let left : c.len-left.result ≡ length (deleted old c.args.start c.args.end) =
-    omega (arith, ap length c.delete.ensures, c.len-left.ensures) in
-    rw (c.restamp-self-inside.ensures.entries, c.restamp-self-inside.ensures.version, c.delete.ensures, left)
+    rw (c.delete-self-inside.ensures.entries, c.delete-self-inside.ensures.version)
     (sound-deleted (record { entries = old; version = c.self.inside.version; next_id = c.self.inside.next_id }) c.self.invariant
     c.args.start c.args.end fits.forward fits.within)

@@ -1,101 +1,91 @@
-use Rattle.std.proofs.Common.{◌≡◌, ◌⊎◌, inl, inr, ◌<◌, true, false, not, [], take, length, sym, ◌∙◌, subst, arith}
+use Rattle.std.proofs.Common.{◌≡◌, ◌⊎◌, inl, inr, ◌<◌, true, false, not, [], ◌++◌, take, drop, length, sym, ◌∙◌, subst, arith}
 use Rattle.std.specs.List.{list_any, prefix_len}
 use Rattle.std.proofs.lemmas.List.{take_all}
 use Rattle.play_queue.specs.declared.entry.Entry.{Entry}
 use Rattle.play_queue.specs.Entries.{is_among, kept}
 use Rattle.play_queue.specs.Queue.{IsQueue, QueueState}
-use Rattle.play_queue.proofs.Kept.{kept_front, prefix_len-is, ruled-batch, ruled-batch_same, sound-ruled, fit-kept, kept-first, front_fits}
+use Rattle.play_queue.proofs.Kept.{kept_front, prefix_len-is, ruled-batch, ruled-batch_same, sound-ruled, fit-kept, front_fits}
 use Rattle.play_queue.proofs.Kept.{kept-none, before_dropped}
 use Rattle.play_queue.proofs.Ruling.{ruled-itself}
 use Rattle.play_queue.proofs.queue.Queue.follow_batch.Goals as goal
 use Rattle.play_queue.proofs.queue.Queue.follow_batch.Goals.{then-first-len-via-then-first-len}
 use Rattle.play_queue.proofs.queue.Queue.follow_batch.Goals.{then-first-len-via-else-first-len+then-has_any}
 
-pub restamp_batch-self-inside-requires-clause-in_range : goal.restamp_batch-self-inside-requires-clause-in_range
-restamp_batch-self-inside-requires-clause-in_range c =
-    let q : QueueState = record {
-      entries = c.self.inside.entries.items;
-      version = c.self.inside.version;
-      next_id =
-          c.self.inside.next_id;
-    } in
+pub follow_batch-self-inside-requires-clause-in_range : goal.follow_batch-self-inside-requires-clause-in_range
+follow_batch-self-inside-requires-clause-in_range c =
     let keep = λ (entry : Entry). not (is_among c.args.dropped.now entry.uri) in
-    let found : c.before_first-first.result ≡ prefix_len keep c.self.inside.entries.items =
-    rw (c.deref.ensures.value) at c.before_first-first.ensures in
-    let first : c.before_first-first.result ≡ kept_front keep c.self.inside.entries.items =
-    found ∙ prefix_len-is keep c.self.inside.entries.items in
-    let others : c.keep_others.new.entries.items ≡ kept q.entries c.args.dropped.now =
-    c.keep_others.ensures ∙ rw first (sym (before_dropped keep q.entries)) in
-    rw (others, first) (kept-first q c.args.dropped.now)
+    let found : c.before_first-first.result ≡ prefix_len keep c.self.inside.entries =
+    rw (c.as_slice.ensures) at c.before_first-first.ensures in
+    omega (arith, found, prefix_len-is keep c.self.inside.entries, front_fits keep c.self.inside.entries)
 
 pub returns-then-first-len : goal.returns-then-first-len
 returns-then-first-len c =
     let q : QueueState = record {
-      entries = c.self.inside.entries.items;
+      entries = c.self.inside.entries;
       version = c.self.inside.version;
       next_id =
           c.self.inside.next_id;
     } in
     let keep = λ (entry : Entry). not (is_among c.args.dropped.now entry.uri) in
-    let found : c.before_first-first.result ≡ prefix_len keep c.self.inside.entries.items =
-    rw (c.deref.ensures.value) at c.before_first-first.ensures in
-    let first : c.before_first-first.result ≡ kept_front keep c.self.inside.entries.items =
-    found ∙ prefix_len-is keep c.self.inside.entries.items in
-    let others : c.keep_others.new.entries.items ≡ kept q.entries c.args.dropped.now =
-    c.keep_others.ensures ∙ rw first (sym (before_dropped keep q.entries)) in
+    let found : c.before_first-first.result ≡ prefix_len keep c.self.inside.entries =
+    rw (c.as_slice.ensures) at c.before_first-first.ensures in
+    let first : c.before_first-first.result ≡ kept_front keep c.self.inside.entries =
+    found ∙ prefix_len-is keep c.self.inside.entries in
+    let others : take c.before_first-first.result q.entries ++ kept (drop c.before_first-first.result q.entries) c.args.dropped.now
+    ≡ kept q.entries c.args.dropped.now = rw first (sym (before_dropped keep q.entries)) in
     let some : (c.before_first-first.result < length q.entries)
     ⊎ (list_any (λ entry. is_among c.args.changed.now entry.uri) (take c.before_first-first.result q.entries) ≡ true) =
     elim c.then-first-len.branch [
       | then-first-len-via-then-first-len w ↦ inl (omega arith)
       | then-first-len-via-else-first-len+then-has_any w ↦ inr
-          (rw (w.deref-else-first-len.ensures.value) at (sym w.has_any.ensures ∙ w.if-has_any.true))
+          (rw (w.as_slice-else-first-len.ensures) at (sym w.has_any.ensures ∙ w.if-has_any.true))
     ] in
-    rw (← c.self.view_is, c.restamp_batch-self-inside.ensures.entries, c.restamp_batch-self-inside.ensures.version, others)
+    rw (← c.self.view_is, c.follow_batch-self-inside.ensures.entries, c.follow_batch-self-inside.ensures.version, others)
     (ruled-batch q c.args.dropped.now c.args.changed.now c.before_first-first.result c.self.invariant.own_ids first some)
 
 pub invariant_of-self : goal.invariant_of-self
 invariant_of-self c =
     let q : QueueState = record {
-      entries = c.self.inside.entries.items;
+      entries = c.self.inside.entries;
       version = c.self.inside.version;
       next_id =
           c.self.inside.next_id;
     } in
     let keep = λ (entry : Entry). not (is_among c.args.dropped.now entry.uri) in
-    let found : c.before_first-first.result ≡ prefix_len keep c.self.inside.entries.items =
-    rw (c.deref.ensures.value) at c.before_first-first.ensures in
-    let first : c.before_first-first.result ≡ kept_front keep c.self.inside.entries.items =
-    found ∙ prefix_len-is keep c.self.inside.entries.items in
-    let others : c.keep_others.new.entries.items ≡ kept q.entries c.args.dropped.now =
-    c.keep_others.ensures ∙ rw first (sym (before_dropped keep q.entries)) in
+    let found : c.before_first-first.result ≡ prefix_len keep c.self.inside.entries =
+    rw (c.as_slice.ensures) at c.before_first-first.ensures in
+    let first : c.before_first-first.result ≡ kept_front keep c.self.inside.entries =
+    found ∙ prefix_len-is keep c.self.inside.entries in
+    let others : take c.before_first-first.result q.entries ++ kept (drop c.before_first-first.result q.entries) c.args.dropped.now
+    ≡ kept q.entries c.args.dropped.now = rw first (sym (before_dropped keep q.entries)) in
     let some : (c.before_first-first.result < length q.entries)
     ⊎ (list_any (λ entry. is_among c.args.changed.now entry.uri) (take c.before_first-first.result q.entries) ≡ true) =
     elim c.then-first-len.branch [
       | then-first-len-via-then-first-len w ↦ inl (omega arith)
       | then-first-len-via-else-first-len+then-has_any w ↦ inr
-          (rw (w.deref-else-first-len.ensures.value) at (sym w.has_any.ensures ∙ w.if-has_any.true))
+          (rw (w.as_slice-else-first-len.ensures) at (sym w.has_any.ensures ∙ w.if-has_any.true))
     ] in
     let made = ruled-batch q c.args.dropped.now c.args.changed.now c.before_first-first.result c.self.invariant.own_ids first some in
-    rw (c.restamp_batch-self-inside.ensures.entries, c.restamp_batch-self-inside.ensures.version, others)
+    rw (c.follow_batch-self-inside.ensures.entries, c.follow_batch-self-inside.ensures.version, others)
     (subst IsQueue (sym made) (sound-ruled q (kept q.entries c.args.dropped.now) c.args.changed.now c.self.invariant
     (fit-kept q c.args.dropped.now c.self.invariant)))
 
 pub returns-else-has_any : goal.returns-else-has_any
 returns-else-has_any c =
     let q : QueueState = record {
-      entries = c.self.inside.entries.items;
+      entries = c.self.inside.entries;
       version = c.self.inside.version;
       next_id =
           c.self.inside.next_id;
     } in
     let keep = λ (entry : Entry). not (is_among c.args.dropped.now entry.uri) in
-    let found : c.before_first-first.result ≡ prefix_len keep c.self.inside.entries.items =
-    rw (c.deref.ensures.value) at c.before_first-first.ensures in
-    let first : c.before_first-first.result ≡ kept_front keep c.self.inside.entries.items =
-    found ∙ prefix_len-is keep c.self.inside.entries.items in
+    let found : c.before_first-first.result ≡ prefix_len keep c.self.inside.entries =
+    rw (c.as_slice.ensures) at c.before_first-first.ensures in
+    let first : c.before_first-first.result ≡ kept_front keep c.self.inside.entries =
+    found ∙ prefix_len-is keep c.self.inside.entries in
     let all : kept_front keep q.entries ≡ length q.entries = omega (arith, front_fits keep q.entries) in
     let row : list_any (λ entry. is_among c.args.changed.now entry.uri) (take c.before_first-first.result q.entries) ≡ false =
-    rw (c.deref-else-first-len.ensures.value) at (sym c.has_any.ensures ∙ c.if-has_any.false) in
+    rw (c.as_slice-else-first-len.ensures) at (sym c.has_any.ensures ∙ c.if-has_any.false) in
     let none : list_any (λ entry. is_among c.args.changed.now entry.uri) q.entries ≡ false =
     rw (first, all, take_all (length q.entries) q.entries (omega arith)) at row in
     rw (← c.self.view_is) (sym (ruled-batch_same q c.args.dropped.now c.args.changed.now all none))

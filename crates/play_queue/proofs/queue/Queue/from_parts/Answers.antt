@@ -8,10 +8,10 @@ invariant_of-result c =
     let q : QueueState = record { entries = c.args.entries.items; version = c.args.version; next_id = c.args.next_id } in
     let tests : is_bounded q ≡ true = rw (c.deref.ensures.value) at (sym c.is_bounded.ensures ∙ c.if-not-is_bounded.false) in
     let own : HaveOwnIds c.args.entries.items = rw (c.deref-2.ensures.value) at (c.in_ok-own.ensures.0 (rw (c.if-not-own.false) refl)) in
-    queue_from_tests q tests own
+    rw (c.from_parts.ensures) (queue_from_tests q tests own)
 
 pub returns-clause-where_sound : goal.returns-clause-where_sound
-returns-clause-where_sound c = (λ yes. invariant_of-result c, λ sound. refl)
+returns-clause-where_sound c = (λ yes. rw (c.from_parts.ensures) at (invariant_of-result c), λ sound. refl)
 
 pub returns-then-not-is_bounded-clause-where_sound : goal.returns-then-not-is_bounded-clause-where_sound
 returns-then-not-is_bounded-clause-where_sound c =

@@ -10,7 +10,7 @@ returns-in-None c =
     let id = get_or c.args.ids.now c.loop-id.id-index 0 in
     let entries = ap (λ (q : QueueState). q.entries) c.self.view_is in
     let place : get nat_eq c.in_ok-places.places id ≡ position_of c.args.self.now.entries id =
-    rw (c.deref.ensures.value, entries) at (c.in_ok-places.ensures id (is_there c.args.ids.now c.loop-id.id-index (omega arith))) in
+    rw (c.as_slice.ensures, entries) at (c.in_ok-places.ensures id (is_there c.args.ids.now c.loop-id.id-index (omega arith))) in
     found_none c.args.self.now.entries c.args.ids.now c.loop-id.positions.items c.loop-id.id-index (omega arith)
     (sym (c.in-None.ensures.value ∙ place)) ∙ c.loop-id.invariant
 
@@ -19,7 +19,7 @@ loop-id-preserved c =
     let id = get_or c.args.ids.now c.loop-id.id-index 0 in
     let entries = ap (λ (q : QueueState). q.entries) c.self.view_is in
     let place : get nat_eq c.in_ok-places.places id ≡ position_of c.args.self.now.entries id =
-    rw (c.deref.ensures.value, entries) at (c.in_ok-places.ensures id (is_there c.args.ids.now c.loop-id.id-index (omega arith))) in
+    rw (c.as_slice.ensures, entries) at (c.in_ok-places.ensures id (is_there c.args.ids.now c.loop-id.id-index (omega arith))) in
     rw c.in_ok-push-in-Some.ensures.items
     (found_more c.args.self.now.entries c.args.ids.now c.loop-id.positions.items c.loop-id.id-index _ (omega arith)
     (sym (c.in-Some.ensures.value ∙ place)) ∙ c.loop-id.invariant)

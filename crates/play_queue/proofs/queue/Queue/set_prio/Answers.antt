@@ -8,7 +8,7 @@ use Rattle.play_queue.proofs.queue.Queue.set_prio.Goals as goal
 
 pub has_other-requires : goal.has_other-requires
 has_other-requires c =
-    rw (c.deref.ensures.value) (merged_ranges c.args.ranges.now c.merged-merged.result.now _ c.merged-merged.ensures
+    rw (c.as_slice.ensures) (merged_ranges c.args.ranges.now c.merged-merged.result.now _ c.merged-merged.ensures
     (rw (← c.self.view_is) at c.in_ok-check_prio.ensures.fits))
 
 pub prioritize-self-inside-requires-clause-ranges : goal.prioritize-self-inside-requires-clause-ranges
@@ -19,12 +19,12 @@ prioritize-self-inside-requires-clause-ranges c =
 pub returns-then-has_other-clause-ok : goal.returns-then-has_other-clause-ok
 returns-then-has_other-clause-ok c =
     let q : QueueState = record {
-      entries = c.self.inside.entries.items;
+      entries = c.self.inside.entries;
       version = c.self.inside.version;
       next_id =
           c.self.inside.next_id;
     } in
-    let found = rw (c.deref.ensures.value) at c.if-has_other.ensures.yes in
+    let found = rw (c.as_slice.ensures) at c.if-has_other.ensures.yes in
     rw (
       ← c.self.view_is,
       c.prioritize-self-inside.ensures.entries,
@@ -41,12 +41,12 @@ returns-then-has_other-clause-ok c =
 pub invariant_of-self : goal.invariant_of-self
 invariant_of-self c =
     let q : QueueState = record {
-      entries = c.self.inside.entries.items;
+      entries = c.self.inside.entries;
       version = c.self.inside.version;
       next_id =
           c.self.inside.next_id;
     } in
-    let found = rw (c.deref.ensures.value) at c.if-has_other.ensures.yes in
+    let found = rw (c.as_slice.ensures) at c.if-has_other.ensures.yes in
     let made = ruled-prioritized q c.args.ranges.now c.args.priority (
       found.0,
       found.1,
@@ -63,12 +63,12 @@ invariant_of-self c =
 pub returns-else-has_other-clause-ok : goal.returns-else-has_other-clause-ok
 returns-else-has_other-clause-ok c =
     let q : QueueState = record {
-      entries = c.self.inside.entries.items;
+      entries = c.self.inside.entries;
       version = c.self.inside.version;
       next_id =
           c.self.inside.next_id;
     } in
-    let none = rw (c.deref.ensures.value) at c.if-has_other.ensures.no in
+    let none = rw (c.as_slice.ensures) at c.if-has_other.ensures.no in
     rw (← c.self.view_is)
     (sym (ruled-itself q _ (prioritized-same q.entries c.args.ranges.now c.args.priority
     (λ k d within is. none k d within (c.merged-merged.ensures.same k ∙ is)))))

@@ -8,7 +8,7 @@ use Rattle.play_queue.proofs.queue.Queue.shuffle.Goals as goal
 pub invariant_of-self-2 : goal.invariant_of-self-2
 invariant_of-self-2 c =
     let q : QueueState = record {
-      entries = c.self.inside.entries.items;
+      entries = c.self.inside.entries;
       version = c.self.inside.version;
       next_id =
           c.self.inside.next_id;
@@ -22,7 +22,7 @@ invariant_of-self-2 c =
 pub returns-clause-none_lost : goal.returns-clause-none_lost
 returns-clause-none_lost c =
     let q : QueueState = record {
-      entries = c.self.inside.entries.items;
+      entries = c.self.inside.entries;
       version = c.self.inside.version;
       next_id =
           c.self.inside.next_id;

@@ -5,9 +5,9 @@ use Rattle.play_queue.proofs.queue.Queue.swap.Goals as goal
 
 pub returns-then-one-other-clause-ok : goal.returns-then-one-other-clause-ok
 returns-then-one-other-clause-ok c =
-    let old = c.self.inside.entries.items in
+    let old = c.self.inside.entries in
     let fits = rw (← c.self.view_is) at c.in_ok-check_swap.ensures.fits in
-    rw (← c.self.view_is, c.restamp_pair-self-inside.ensures.entries, c.restamp_pair-self-inside.ensures.version, c.swap.ensures.items)
+    rw (← c.self.view_is, c.swap-self-inside.ensures.entries, c.swap-self-inside.ensures.version)
     (ruled-swapped (record { entries = old; version = c.self.inside.version; next_id = c.self.inside.next_id }) c.args.one c.args.other
     c.self.invariant.own_ids fits.one_within fits.other_within c.if-one-other.true)
 
@@ -17,8 +17,8 @@ returns-else-one-other-clause-ok c =
 
 pub invariant_of-self : goal.invariant_of-self
 invariant_of-self c =
-    let old = c.self.inside.entries.items in
+    let old = c.self.inside.entries in
     let fits = rw (← c.self.view_is) at c.in_ok-check_swap.ensures.fits in
-    rw (c.restamp_pair-self-inside.ensures.entries, c.restamp_pair-self-inside.ensures.version, c.swap.ensures.items)
+    rw (c.swap-self-inside.ensures.entries, c.swap-self-inside.ensures.version)
     (sound-swapped (record { entries = old; version = c.self.inside.version; next_id = c.self.inside.next_id }) c.self.invariant c.args.one
     c.args.other fits.one_within fits.other_within)

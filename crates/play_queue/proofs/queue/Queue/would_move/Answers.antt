@@ -7,7 +7,7 @@ use Rattle.play_queue.proofs.queue.Queue.would_move.Goals as goal
 pub returns-then-start-end : goal.returns-then-start-end
 returns-then-start-end c none =
     let q : QueueState = record {
-      entries = c.self.inside.entries.items;
+      entries = c.self.inside.entries;
       version = c.self.inside.version;
       next_id =
           c.self.inside.next_id;
@@ -20,7 +20,7 @@ returns-then-start-end c none =
 pub returns-else-start-end : goal.returns-else-start-end
 returns-else-start-end c none =
     let q : QueueState = record {
-      entries = c.self.inside.entries.items;
+      entries = c.self.inside.entries;
       version = c.self.inside.version;
       next_id =
           c.self.inside.next_id;

@@ -5,7 +5,7 @@ use Rattle.play_queue.proofs.queue.Queue.would_swap.Goals as goal
 pub returns : goal.returns
 returns c none =
     let q : QueueState = record {
-      entries = c.self.inside.entries.items;
+      entries = c.self.inside.entries;
       version = c.self.inside.version;
       next_id =
           c.self.inside.next_id;

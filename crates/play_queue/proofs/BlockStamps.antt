@@ -1,0 +1,181 @@
+-- The latest stamps of blocks of positions.
+use Rattle.std.proofs.Common.{◌≡◌, ◌≢◌, ℕ, suc, ◌+◌, ◌-◌, ◌*◌, ◌/◌, ◌<◌, ◌≤◌, min, Bool, true, false, cond, ◌||◌, ◌⊎◌, inl, inr, nat_lt, List, [], ◌∷◌}
+use Rattle.std.proofs.Common.{◌++◌, length, get_or, set, map, filter, take, drop, slice_range, refl, sym, ap, ◌∙◌, arith}
+use Rattle.std.specs.List.{enumerate_from}
+use Rattle.std.proofs.lemmas.Bool.{cases_eq, cases_lt, le-ltb, lt-ltb}
+use Rattle.std.proofs.lemmas.Bool.Decides.{nat_tests}
+use Rattle.std.proofs.lemmas.List.{get_or-set_same, get_or-set_other, append_assoc, map-append}
+use Rattle.std.proofs.lemmas.List.{get_or_default, length-set, append-nil, take_min, take-take, take-append-drop, length-take-le}
+use Rattle.std.proofs.lemmas.List.Edits.{between_more, length-between, get_or-between}
+use Rattle.std.proofs.lemmas.Nat.{div-mul-add}
+use Rattle.std.proofs.lemmas.Slice.{between_is}
+use Rattle.std.proofs.lemmas.List.Elements.{filter-append}
+use Rattle.play_queue.specs.declared.entry.Entry.{Entry}
+use Rattle.play_queue.specs.Latest.{latest_at, AreLatest, AreRaised, Between, later_than}
+use Rattle.play_queue.specs.Queue.{QueueState, IsQueue, changed_since}
+
+-- blocks that have come to a stamp, from a position on up to a block
+pub record RaisedTo (first latest : List ℕ) (start block stamp : ℕ) : Type 0 where
+  pub long : length latest ≡ 128
+  pub grown : (k : ℕ) → latest_at first k ≤ latest_at latest k
+  pub raised : (k : ℕ) → start ≤ k → k / 128 < block → stamp ≤ latest_at latest k
+
+-- one more block
+pub raised_more : (first latest : List ℕ) (start block stamp x : ℕ) → block < 128 → get_or latest block 0 ≤ x → stamp ≤ x
+    → RaisedTo first latest start block stamp → RaisedTo first (set latest block x) start (block + 1) stamp
+raised_more first latest start block stamp x within grows comes before = record {
+  long = length-set latest block x ∙ before.long;
+  grown = λ k. grown k (cases_eq (k / 128) block);
+  raised = λ k from below. raised k from below (cases_eq (k / 128) block);
+}
+  where
+    here : get_or (set latest block x) block 0 ≡ x
+    here = get_or-set_same latest block x 0 (omega (arith, before.long))
+
+    grown : (k : ℕ) → (k / 128 ≡ block) ⊎ (k / 128 ≢ block) → latest_at first k ≤ latest_at (set latest block x) k
+    grown k (inl same) =
+        let was : latest_at latest k ≡ get_or latest block 0 = ap (λ b. get_or latest b 0) same in
+        let is : latest_at (set latest block x) k ≡ x = ap (λ b. get_or (set latest block x) b 0) same ∙ here in
+        omega (arith, before.grown k)
+    grown k (inr other) =
+        let is : latest_at (set latest block x) k ≡ latest_at latest k = get_or-set_other latest block (k / 128) x 0 other in
+        omega (arith, before.grown k)
+
+    raised : (k : ℕ) → start ≤ k → k / 128 < block + 1 → (k / 128 ≡ block) ⊎ (k / 128 ≢ block)
+        → stamp ≤ latest_at (set latest block x) k
+    raised k from below (inl same) =
+        let is : latest_at (set latest block x) k ≡ x = ap (λ b. get_or (set latest block x) b 0) same ∙ here in
+        omega arith
+    raised k from below (inr other) =
+        let is : latest_at (set latest block x) k ≡ latest_at latest k = get_or-set_other latest block (k / 128) x 0 other in
+        omega (arith, before.raised k from (omega arith))
+
+-- one more entry
+pub latest_more : (entries : List Entry) (latest later : List ℕ) (at stamp : ℕ) → stamp ≡ (get_or entries at (record {
+  id = 0;
+  uri = [];
+  priority = 0;
+  stamp = 0;
+})).stamp → AreRaised latest later (Between at (at + 1)) stamp
+    → ((k : ℕ) (d : Entry) → k < at → (get_or entries k d).stamp ≤ latest_at latest k) → (k : ℕ) (d : Entry) → k < at + 1
+    → k < length entries → (get_or entries k d).stamp ≤ latest_at later k
+latest_more entries latest later at stamp is raised before k d below within = by_cases (cases_lt k at)
+  where
+    by_cases : (k < at) ⊎ (at ≤ k) → (get_or entries k d).stamp ≤ latest_at later k
+    by_cases (inl earlier) = omega (arith, before k d earlier, raised.grown k)
+    by_cases (inr later_on) =
+        let here : k ≡ at = omega arith in
+        let stamp_is : (get_or entries k d).stamp ≡ stamp =
+        ap (λ (e : Entry). e.stamp) (get_or_default entries k d (record { id = 0; uri = []; priority = 0; stamp = 0 }) within)
+        ∙ ap (λ j. (get_or entries j (record { id = 0; uri = []; priority = 0; stamp = 0 })).stamp) here ∙ sym is in
+        omega (arith, raised.raised k (omega arith, omega arith))
+
+-- the positions of two parts
+pub later-append : (version first : ℕ) (front back : List Entry)
+    → later_than version first (front ++ back) ≡ later_than version first front ++ later_than version (first + length front) back
+later-append version first front back =
+    ap (λ l. map (λ (at : ℕ × Entry). at.0) (filter (λ at. nat_lt version at.1.stamp) l)) (enumerated first front back)
+    ∙ ap (map (λ (at : ℕ × Entry). at.0))
+    (filter-append (λ at. nat_lt version at.1.stamp) (enumerate_from first front) (enumerate_from (first + length front) back))
+    ∙ map-append (λ (at : ℕ × Entry). at.0) _ _
+  where
+    enumerated : (n : ℕ) (front back : List Entry)
+        → enumerate_from n (front ++ back) ≡ enumerate_from n front ++ enumerate_from (n + length front) back
+    enumerated n [] back = ap (λ m. enumerate_from m back) (omega arith)
+    enumerated n (entry ∷ front) back =
+        ap (λ l. (n, entry) ∷ l) (enumerated (n + 1) front back
+        ∙ ap (λ m. enumerate_from (n + 1) front ++ enumerate_from m back) (omega arith))
+
+pub later-one : (version at : ℕ) (entry : Entry) → later_than version at (entry ∷ []) ≡ cond (nat_lt version entry.stamp) (at ∷ []) []
+later-one version at entry = of (nat_lt version entry.stamp) refl
+  where
+    of : (b : Bool) → nat_lt version entry.stamp ≡ b → later_than version at (entry ∷ []) ≡ cond b (at ∷ []) []
+    of true is = rw is refl
+    of false is = rw is refl
+
+-- where no stamp is later
+pub later-none : (version first : ℕ) (entries : List Entry) → ((k : ℕ) (d : Entry) → k < length entries
+    → (get_or entries k d).stamp ≤ version) → later_than version first entries ≡ []
+later-none version first [] low = refl
+later-none version first (entry ∷ entries) low =
+    let here : nat_lt version entry.stamp ≡ false = le-ltb version entry.stamp (low 0 entry (omega arith)) in
+    rw here (later-none version (first + 1) entries (λ k d within. low (suc k) d (omega arith)))
+
+-- the code's step: one more entry of a range
+pub later-step : (version start at : ℕ) (entries : List Entry) (before now : List ℕ) (entry : Entry) → start ≤ at → at < length entries
+    → entry ≡ get_or entries at entry → now ≡ before ++ later_than version start (slice_range entries start at)
+    → cond (nat_lt version entry.stamp) (now ++ at ∷ []) now
+    ≡ before ++ later_than version start (slice_range entries start (at + 1))
+later-step version start at entries before now entry from within is so_far =
+    let part : List Entry = slice_range entries start at in
+    let more : slice_range entries start (at + 1) ≡ part ++ entry ∷ [] =
+    between_more entries start at entry from within ∙ ap (λ e. part ++ e ∷ []) (sym is) in
+    let place : start + length part ≡ at = omega (arith, length-between entries start at (omega arith)) in
+    let positions : later_than version start (slice_range entries start (at + 1))
+    ≡ later_than version start part ++ cond (nat_lt version entry.stamp) (at ∷ []) [] =
+    ap (later_than version start) more ∙ later-append version start part (entry ∷ [])
+    ∙ ap (λ n. later_than version start part ++ later_than version n (entry ∷ [])) place
+    ∙ ap (λ l. later_than version start part ++ l) (later-one version at entry) in
+    of (nat_lt version entry.stamp) refl positions
+  where
+    of : (b : Bool) → nat_lt version entry.stamp ≡ b → later_than version start (slice_range entries start (at + 1))
+        ≡ later_than version start (slice_range entries start at) ++ cond b (at ∷ []) [] → cond b (now ++ at ∷ []) now
+        ≡ before ++ later_than version start (slice_range entries start (at + 1))
+    of true told positions = ap (λ l. l ++ at ∷ []) so_far
+        ∙ append_assoc before (later_than version start (slice_range entries start at)) (at ∷ []) ∙ ap (λ l. before ++ l) (sym positions)
+    of false told positions = so_far
+        ∙ ap (λ l. before ++ l) (sym (positions ∙ append-nil (later_than version start (slice_range entries start at))))
+
+-- one more block
+pub later-block : (version block end : ℕ) (entries : List Entry) → block * 128 < length entries
+    → end ≡ min (block * 128 + 128) (length entries) → later_than version 0 (take ((block + 1) * 128) entries)
+    ≡ later_than version 0 (take (block * 128) entries) ++ later_than version (block * 128) (slice_range entries (block * 128) end)
+later-block version block end entries within is =
+    let start : ℕ = block * 128 in
+    let front : List Entry = take start entries in
+    let long : length front ≡ start = length-take-le start entries (omega arith) in
+    let place : 0 + length front ≡ start = omega (arith, long) in
+    let cut : take ((block + 1) * 128) entries ≡ take end entries =
+    ap (λ n. take n entries) (omega arith) ∙ sym (take_min (start + 128) entries) ∙ ap (λ n. take n entries) (sym is) in
+    let parts : take end entries ≡ front ++ slice_range entries start end =
+    sym (take-append-drop start (take end entries)) ∙ ap (λ l. l ++ drop start (take end entries)) (take-take start end entries (omega arith))
+    ∙ ap (λ l. front ++ l) (sym (between_is entries start end)) in
+    ap (later_than version 0) (cut ∙ parts) ∙ later-append version 0 front (slice_range entries start end)
+    ∙ ap (λ n. later_than version 0 front ++ later_than version n (slice_range entries start end)) place
+
+-- a block without a later stamp
+pub later-skipped : (version block end : ℕ) (entries : List Entry) (latest : List ℕ) → AreLatest latest entries → end ≤ length entries
+    → block * 128 ≤ end → end ≤ block * 128 + 128 → get_or latest block 0 ≤ version
+    → later_than version (block * 128) (slice_range entries (block * 128) end) ≡ []
+later-skipped version block end entries latest bounds within from to low =
+    later-none version (block * 128) (slice_range entries (block * 128) end)
+    (λ k d inside.
+    let long : length (slice_range entries (block * 128) end) ≡ end - block * 128 = length-between entries (block * 128) end within in
+    let read : get_or (slice_range entries (block * 128) end) k d ≡ get_or entries (block * 128 + k) d =
+    get_or-between entries (block * 128) end k d (omega arith) in
+    let number : (block * 128 + k) / 128 ≡ block = div-mul-add block 128 k (omega arith) in
+    let bound : (get_or entries (block * 128 + k) d).stamp ≤ get_or latest block 0 =
+    rw number at (bounds (block * 128 + k) d (omega arith)) in
+    rw read (omega arith))
+
+-- all positions, where each stamp is at least 1
+all_later : (n : ℕ) (test : ℕ × Entry → Bool) (entries : List Entry) → ((at : ℕ × Entry) → test at ≡ true)
+    → ((k : ℕ) (d : Entry) → k < length entries → 1 ≤ (get_or entries k d).stamp)
+    → later_than 0 n entries ≡ map (λ at. at.0) (filter test (enumerate_from n entries))
+all_later n test [] all low = refl
+all_later n test (entry ∷ entries) all low =
+    rw (lt-ltb 0 entry.stamp (low 0 entry (omega arith)), all (n, entry))
+    (ap (λ l. n ∷ l) (all_later (n + 1) test entries all (λ k d within. low (suc k) d (omega arith))))
+
+-- what has changed since a version
+pub changed-later : (q : QueueState) (version from : ℕ) → IsQueue q → (q.version < version → from ≡ 0)
+    → (version ≤ q.version → from ≡ version) → later_than from 0 q.entries ≡ changed_since q version
+changed-later q version from sound ahead behind = of (nat_lt q.version version) refl (cases_lt q.version version)
+  where
+    of : (b : Bool) → nat_lt q.version version ≡ b → (q.version < version) ⊎ (version ≤ q.version)
+        → later_than from 0 q.entries ≡ map (λ at. at.0) (filter (λ at. b || nat_lt version at.1.stamp) (enumerate_from 0 q.entries))
+    of true is (inl before) = rw (ahead before) (all_later 0 (λ at. true) q.entries (λ at. refl)
+        (λ k d within. (sound.entry k d within).stamp_low))
+    of true is (inr not_before) = absurd (grind (arith, nat_tests))
+    of false is (inl before) = absurd (grind (arith, nat_tests))
+    of false is (inr not_before) = rw (behind not_before) refl

@@ -1,0 +1,78 @@
+// The latest stamp of each block of positions, by which most blocks are told to have no entry that has changed since.
+ghost use Rattle.std.specs.Prelude.{◌≡◌, ◌≤◌, ◌++◌, length, slice_range, IfOk, OnOk};
+ghost use Rattle.play_queue.specs.Latest.{AreLatest, AreRaised, Between, later_than};
+
+use crate::entry::Entry;
+use std::alloc::{AllocError, Global};
+
+/// How many positions a block has.
+const SPAN: usize = 128;
+
+/// How many blocks there are: they have room for 16,384 entries.
+pub(crate) const BLOCKS: usize = 128;
+
+// Raises the blocks of a range of positions to a stamp.
+pub(crate) fn raise_latest(latest: &mut [u32; BLOCKS], start: usize, end: usize, stamp: u32)
+    requires { end ≤ 16384 }
+    ensures { AreRaised latest.old latest.new (Between start end) stamp }
+{
+    if start < end {
+        for block in start / SPAN..(end - 1) / SPAN + 1 {
+            latest[block] = latest[block].max(stamp);
+        }
+    }
+}
+
+// The latest stamps of the blocks of these entries.
+pub(crate) fn latest_of(entries: &[Entry]) -> [u32; BLOCKS]
+    requires { length entries.now ≤ 16384 }
+    ensures { AreLatest result entries.now }
+{
+    let mut latest = [0; BLOCKS];
+    for at in 0..entries.len() {
+        raise_latest(&mut latest, at, at + 1, entries[at].stamp);
+    }
+    latest
+}
+
+// The positions of the entries with a stamp later than a version.
+pub(crate) fn later_than(
+    alloc: Global,
+    entries: &[Entry],
+    latest: &[u32; BLOCKS],
+    version: u32,
+) -> Result<Vec<usize>, AllocError>
+    requires few { length entries.now ≤ 16384 }
+    requires latest { AreLatest latest.now entries.now }
+    ensures { IfOk result (λ positions. positions.items ≡ later_than version 0 entries.now) }
+{
+    let mut positions = Vec::new(alloc);
+    for block in 0..entries.len().div_ceil(SPAN) {
+        let start = block * SPAN;
+        let end = (start + SPAN).min(entries.len());
+        if version < latest[block] {
+            push_later(&mut positions, entries, start, end, version)?;
+        }
+    }
+    Ok(positions)
+}
+
+// Adds those of a range.
+fn push_later(
+    positions: &mut Vec<usize>,
+    entries: &[Entry],
+    start: usize,
+    end: usize,
+    version: u32,
+) -> Result<(), AllocError>
+    requires forward { start ≤ end }
+    requires in_range { end ≤ length entries.now }
+    ensures { OnOk result (positions.new.items ≡ positions.old.items ++ later_than version start (slice_range entries.now start end)) }
+{
+    for at in start..end {
+        if version < entries[at].stamp {
+            positions.push(at)?;
+        }
+    }
+    Ok(())
+}
