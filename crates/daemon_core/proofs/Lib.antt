@@ -9,3 +9,15 @@ pub mod StepLaws
 pub mod RecoverLaws
 pub mod ClientLaws
 pub mod EndLaws
+mod QuietLaws
+mod StrayLaws
+mod KillLaws
+mod LeavingLaws
+mod SongForms
+mod SongSettings
+mod SongDatabase
+mod SongQueue
+mod SongFinding
+mod SongLists
+mod SongStickers
+mod SongLaws

@@ -14,3 +14,8 @@ pub mod Handled
 pub mod Request
 pub mod Recovered
 pub mod Outcome
+pub mod Quiet
+pub mod Stray
+pub mod Leaving
+pub mod Kill
+pub mod Running

@@ -61,8 +61,8 @@ impl CoreParts {
 
 impl Core {
     /// Handles one event whole. Where memory is refused at a command, the commands before it stand and the answer says so; at a request
-    /// an `Err` comes only where there is no memory for such an answer or for a line that closes its client, at any other event also where
-    /// its own growth is refused. Then nothing was done.
+    /// an `Err` comes only where there is no memory for such an answer, for a line that closes its client or for what each client may be
+    /// told, at any other event also where its own growth is refused. Then nothing was done.
     pub fn step(&mut self, alloc: Global, event: Event) -> Result<Outcome, NoMemory>
         ensures ok { IfOk result (λ outcome. IsOutcome self.old event outcome self.new) }
 
