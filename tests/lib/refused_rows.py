@@ -246,7 +246,8 @@ class Program:
         for name, content in self.files.items():
             scripts.write(f"{place.folder}/{name}", content) if content is not None else remove(f"{place.folder}/{name}")
         done, _, was_refused = self.run(place, self.words, f"{self.given or ''}\n", number)
-        found = done.returncode, done.stdout.decode(), done.stderr.decode()
+        # Of a file that could not be opened or read for want of memory a line says so first.
+        found = done.returncode, done.stdout.decode(), done.stderr.decode().replace("c.toml: out of memory\njournal", "journal")
         if not was_refused:
             return "it made fewer allocations", False
         left = [state for answer, state in [(self.wanted, "after"), *self.refused()] if answer == found]

@@ -1,4 +1,4 @@
-//! The configuration: a TOML document (TOML 1.0) of texts.
+//! The configuration: a TOML document of texts.
 ghost use Rattle.std.specs.Prelude.{◌≡◌, ℕ, None, Some, IfOk, IsErrOf, IsTrue, ◌↔◌, true, option_map, string_bytes};
 ghost use Rattle.std.specs.Option.{option_and_then};
 ghost use Rattle.toml.specs.Data.{get_member};

@@ -11,7 +11,7 @@ use crate::output::Output;
 use crate::serve_config::ServeConfig;
 use crate::stop_flag::StopFlag;
 use crate::stopping_folder::StoppingFolder;
-use crate::tasks::{JournalFiles, open_files, tell_fault};
+use crate::tasks::{JournalFiles, open_files, tell_fault, tell_refusal, told};
 use crate::told_listener::ToldListener;
 use disk_model::FileDisk;
 use log::Log;
@@ -22,7 +22,7 @@ use mpd_server::{ServeEnd, ServeStatus, Stop, Workers, open_journal};
 use stage_workers::Wake;
 use std::alloc::AllocError;
 use std::fs::File;
-use std::io;
+use std::io::{self, ErrorKind};
 use std::net::SocketAddr;
 use std::sync::Wait;
 use std::thread::Threads;
@@ -52,20 +52,24 @@ impl Stop for StopFlag {
 }
 
 /// The address to listen on; a text of another form makes the configuration a bad one.
-fn address_of(tcp: &Option<String>) -> Result<Option<SocketAddr>, Exit> {
+fn address_of(rt: &HostRuntime, tcp: &Option<String>) -> Result<Option<SocketAddr>, Exit> {
     match tcp {
         None => Ok(None),
         Some(text) => match text.as_str().parse::<SocketAddr>() {
             Ok(address) => Ok(Some(address)),
-            Err(_) => Err(Exit::BadConfiguration),
+            Err(_) => {
+                let _printed = eprintln!(rt;
+                    "{text}: an address and port is wanted, as 127.0.0.1:6600"
+                );
+                Err(Exit::BadConfiguration)
+            }
         },
     }
 }
 
 /// Says on standard error what can't be listened on.
 fn cannot_listen(rt: &HostRuntime, at: &str, error: io::Error) -> Exit {
-    let _printed = eprintln!(rt; "{at}: {error}");
-    Exit::CannotListen.unless_memory(&error)
+    told(rt, at, &error, Exit::CannotListen)
 }
 
 /// Listens on the address and at the path.
@@ -122,10 +126,13 @@ fn listen<'a>(
 fn open_output<'a>(rt: &'a HostRuntime, path: &str, stop: &StopFlag) -> Result<Output<'a>, Exit> {
     match Output::open(rt, path, stop.again()?) {
         Ok(output) => Ok(output),
-        Err(error) => {
-            let _printed = eprintln!(rt; "{path}: {error}");
-            Err(Exit::BadConfiguration.unless_memory(&error))
+        Err(error) if error.kind() == ErrorKind::WouldBlock => {
+            let _printed = eprintln!(rt;
+                "{path}: in use already, as the output or a journal file of another daemon"
+            );
+            Err(Exit::BadConfiguration)
         }
+        Err(error) => Err(told(rt, path, &error, Exit::BadConfiguration)),
     }
 }
 
@@ -149,6 +156,10 @@ fn ended(
 ) -> Result<(), Exit> {
     tell_fault(rt, config.journal_a.as_str(), &end.a);
     tell_fault(rt, config.journal_b.as_str(), &end.b);
+    if let ServeStatus::JournalRefused(number) = end.status {
+        let (a, b) = (config.journal_a.as_str(), config.journal_b.as_str());
+        tell_refusal(rt, a, b, number);
+    }
     exit_of(end.status)
 }
 
@@ -225,9 +236,12 @@ pub fn serve<R: Threads + Wait + Clock + Log + Sync>(
     config: Config,
 ) -> Result<(), Exit> {
     let Some(config) = ServeConfig::of(config) else {
+        let _printed = eprintln!(rt;
+            "serve wants an output, which is no file of the journal, and a tcp address or a unix path to listen on"
+        );
         return Err(Exit::BadConfiguration);
     };
-    let address = address_of(&config.tcp)?;
+    let address = address_of(rt, &config.tcp)?;
     let stop = StopFlag::new(rt.alloc())?;
     let output = open_output(rt, config.output.as_str(), &stop)?;
     serve_over(rt, threads, &config, address, output, stop)

@@ -1,4 +1,4 @@
-// The lock on a journal file.
+// The lock on a file that one program at a time writes.
 use std::fs::{File, TryLockError};
 use std::io::{self, ErrorKind};
 
@@ -13,9 +13,15 @@ impl FileLock {
     /// Where the file system knows no locks, nothing is locked.
     pub fn take(rt: &HostRuntime, path: &str) -> io::Result<FileLock> {
         let file = File::open(rt, path)?;
-        match file.try_lock() {
-            Err(TryLockError::WouldBlock) => Err(ErrorKind::WouldBlock.into()),
-            Ok(()) | Err(TryLockError::Error(_)) => Ok(FileLock { _file: file }),
-        }
+        lock(&file)?;
+        Ok(FileLock { _file: file })
+    }
+}
+
+/// Locks a file for as long as it stays open, as `FileLock::take` does.
+pub fn lock(file: &File) -> io::Result<()> {
+    match file.try_lock() {
+        Err(TryLockError::WouldBlock) => Err(ErrorKind::WouldBlock.into()),
+        Ok(()) | Err(TryLockError::Error(_)) => Ok(()),
     }
 }

@@ -1,4 +1,5 @@
 // Where the sound goes.
+use crate::file_lock::lock;
 use crate::stop_flag::StopFlag;
 use mio::unix::SourceFd;
 use mio::{Events, Interest, Poll, Token};
@@ -35,6 +36,19 @@ enum Target<'a> {
     File(File),
 }
 
+// Opens what stands at a path, for reading and writing. Only a regular file is locked.
+fn open_file(rt: &HostRuntime, path: &str) -> io::Result<File> {
+    let file = OpenOptions::new()
+        .read(true)
+        .write(true)
+        .create(true)
+        .open(rt, path)?;
+    if file.metadata()?.is_file() {
+        lock(&file)?;
+    }
+    Ok(file)
+}
+
 // Whether a descriptor takes bytes.
 #[derive(Drop)]
 struct Readiness {
@@ -44,17 +58,14 @@ struct Readiness {
 }
 
 impl<'a> Output<'a> {
-    /// Opens the output at this path, or standard output at `-`. A file is made where there is none, and keeps its bytes until
-    /// `clear`. A named pipe is opened for reading too, so that it needs no reader yet.
+    /// Opens the output at this path, or standard output at `-`. A named pipe is opened for reading too, so that it needs no reader
+    /// yet. A regular file is made where there is none, and keeps its bytes until `clear`. It is locked, so that it is no journal file of
+    /// a daemon, this one under another name or another, and no other daemon's output: `WouldBlock` where somebody has locked it.
     pub fn open(rt: &'a HostRuntime, path: &str, stop: StopFlag) -> io::Result<Output<'a>> {
         let (target, fd) = if path == "-" {
             (Target::Standard(io::writer(rt)), STANDARD_OUTPUT)
         } else {
-            let file = OpenOptions::new()
-                .read(true)
-                .write(true)
-                .create(true)
-                .open(rt, path)?;
+            let file = open_file(rt, path)?;
             let fd = file.as_raw_fd();
             (Target::File(file), fd)
         };

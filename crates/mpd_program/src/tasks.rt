@@ -12,8 +12,8 @@ use crate::music::Music;
 use disk_model::{Disk, FileDisk, MemDisk};
 use live_stage::{Live, Refused, StartError};
 use log::Log;
-use std::fs::{self, File};
-use std::io::{self, ErrorKind};
+use std::fs::File;
+use std::io::{self, ErrorKind, Read};
 use std::sync::Wait;
 use std::thread::Threads;
 use std::time::Clock;
@@ -28,7 +28,12 @@ pub fn run_command_line<R: Threads + Wait + Clock + Log + Sync>(
 ) -> Exit {
     let done = match Task::from_args(rt) {
         Ok(Some(task)) => run(rt, threads, task),
-        Ok(None) => Err(Exit::BadArguments),
+        Ok(None) => {
+            let _printed = eprintln!(rt;
+                "usage: mpd_daemon create CONFIG | console [CONFIG] | serve CONFIG"
+            );
+            Err(Exit::BadArguments)
+        }
         Err(error) => Err(Exit::BadArguments.unless_memory(&error)),
     };
     match done {
@@ -51,17 +56,41 @@ fn run<R: Threads + Wait + Clock + Log + Sync>(
     }
 }
 
+/// How many bytes a configuration may have. What is longer, as a device that never ends, is none.
+const CONFIG_LIMIT: u64 = 1_048_576;
+
 /// Reads the configuration at this path.
 fn read_config(rt: &HostRuntime, path: &str) -> Result<Config, Exit> {
-    let text = match fs::read_to_string(rt, path) {
+    let text = match read_text(rt, path) {
         Ok(text) => text,
-        Err(error) => return Err(Exit::BadConfiguration.unless_memory(&error)),
+        Err(error) => return Err(told(rt, path, &error, Exit::BadConfiguration)),
     };
+    if text.len() as u64 > CONFIG_LIMIT {
+        let _printed = eprintln!(rt; "{path}: more than {CONFIG_LIMIT} bytes");
+        return Err(Exit::BadConfiguration);
+    }
     match Config::read(rt.alloc(), text.as_str()) {
         Ok(config) => Ok(config),
         Err(ConfigError::NoMemory) => Err(Exit::NO_MEMORY),
-        Err(ConfigError::Bad) => Err(Exit::BadConfiguration),
+        Err(ConfigError::Bad) => {
+            let _printed = eprintln!(rt;
+                "{path}: wanted are the texts music, journal_a, another journal_b, key (64 hexadecimal digits), perhaps tcp, unix, output"
+            );
+            Err(Exit::BadConfiguration)
+        }
     }
+}
+
+/// Says on standard error what the system refused at this path, and how the program ends.
+pub(crate) fn told(rt: &HostRuntime, path: &str, error: &io::Error, exit: Exit) -> Exit {
+    let _printed = eprintln!(rt; "{path}: {error}");
+    exit.unless_memory(error)
+}
+
+/// Reads the text at this path, as far as it is a byte longer than a configuration may be.
+fn read_text(rt: &HostRuntime, path: &str) -> io::Result<String> {
+    let file = File::open(rt, path)?;
+    io::read_to_string(rt.alloc(), file.take(CONFIG_LIMIT + 1))
 }
 
 /// Both files of a journal, and the locks by which no other program has them open meanwhile.
@@ -88,19 +117,29 @@ fn open_file(rt: &HostRuntime, path: &str) -> Result<(FileDisk<File>, FileLock),
     let fault = Exit::Ended(Status::DiskFault);
     let disk = match FileDisk::open(rt, path) {
         Ok(disk) => disk,
-        Err(error) => return Err(fault.unless_memory(&error)),
+        Err(error) => return Err(told(rt, path, &error, fault)),
     };
     match FileLock::take(rt, path) {
         Ok(lock) => Ok((disk, lock)),
-        Err(error) => {
-            if error.kind() == ErrorKind::WouldBlock {
-                let _printed = eprintln!(rt;
-                    "{path}: in use already, by another program or as the journal's other file"
-                );
-            }
-            Err(fault.unless_memory(&error))
+        Err(error) if error.kind() == ErrorKind::WouldBlock => {
+            let _printed = eprintln!(rt;
+                "{path}: in use already, by another program, as the journal's other file or as the output"
+            );
+            Err(fault)
         }
+        Err(error) => Err(told(rt, path, &error, fault)),
     }
+}
+
+/// Says on standard error what can be done where a journal was refused with this number.
+pub(crate) fn tell_refusal(rt: &HostRuntime, a: &str, b: &str, number: u8) {
+    let advice = match number {
+        3 => "not both are empty; a journal is made of empty or missing files alone",
+        4 => "no journal; `mpd_daemon create CONFIG` makes one",
+        5 => "damaged, or of a later layout",
+        _ => return,
+    };
+    let _printed = eprintln!(rt; "{a}, {b}: {advice}");
 }
 
 /// Why no journal was made.
@@ -164,6 +203,9 @@ fn console(rt: &HostRuntime, config: Config) -> Result<(), Exit> {
     let end = serve(rt, a, b, &mut Music::new(rt, music));
     tell_fault(rt, journal_a.as_str(), &end.a);
     tell_fault(rt, journal_b.as_str(), &end.b);
+    if let Status::JournalRefused(number) = end.status {
+        tell_refusal(rt, journal_a.as_str(), journal_b.as_str(), number);
+    }
     exit_of(end.status)
 }
 
@@ -183,6 +225,8 @@ fn create(rt: &HostRuntime, config: &Config) -> Result<(), Exit> {
         Err(error) => {
             tell_fault(rt, config.journal_a.as_str(), &error.a);
             tell_fault(rt, config.journal_b.as_str(), &error.b);
+            let (a, b) = (config.journal_a.as_str(), config.journal_b.as_str());
+            tell_refusal(rt, a, b, error.error.number());
             Err(refused(error))
         }
     }
