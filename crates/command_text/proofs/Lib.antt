@@ -14,3 +14,4 @@ pub mod Adding
 pub mod AckLength
 pub mod ControlLaws
 pub mod LinesLaws
+pub mod NameSearch

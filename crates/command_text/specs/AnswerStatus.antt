@@ -36,7 +36,7 @@ setting_lines volume options = concat (
     ∷ pair (codes "repeat") (switch_text options.repeat)
     ∷ pair (codes "random") (switch_text options.random)
     ∷ pair (codes "single") (single_text options.single)
-    ∷ pair (codes "consume") (switch_text options.consume)
+    ∷ pair (codes "consume") (single_text options.consume)
     ∷ [])
 
 -- the position and the id of the current song

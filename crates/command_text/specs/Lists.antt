@@ -1,13 +1,16 @@
 -- The commands of the stored playlists.
-use Rattle.std.specs.Prelude.{List, Result, Ok}
+use Rattle.std.specs.Prelude.{List, Option, Some, None, Result, Ok, codes, if◌then◌else◌}
+use Rattle.std.specs.Str.{bytes_eq}
 use Rattle.command_text.specs.declared.command.lists.ListsCommand.{ListsCommand}
 use Rattle.command_text.specs.declared.command.lists.ListsCommand.TheVariants as commands
+use Rattle.command_text.specs.declared.command.lists.SaveMode.{SaveMode}
+use Rattle.command_text.specs.declared.command.lists.SaveMode.TheVariants.{Create, Append, Replace}
 use Rattle.command_text.specs.declared.refusal.CommandRefusal.{CommandRefusal}
 use Rattle.command_text.specs.declared.topic.ListsName.{ListsName}
 use Rattle.command_text.specs.declared.topic.ListsName.TheVariants as names
 use Rattle.command_text.specs.Arguments.{number_of, range_of, target_of, text_of}
-use Rattle.command_text.specs.Counts.{◌>>=◌, Word, no_argument, one_argument, two_arguments, three_arguments, one_to_three, argument}
-use Rattle.command_text.specs.Counts.{optional}
+use Rattle.command_text.specs.Counts.{◌>>=◌, Word, no_argument, one_argument, two_arguments, three_arguments, one_or_two, one_to_three}
+use Rattle.command_text.specs.Counts.{argument, optional}
 use Rattle.command_text.specs.NameArguments.{playlist_name}
 
 -- the one argument is a playlist's name
@@ -51,6 +54,25 @@ list_move_of words = do
   to ← argument 3 (number_of given.1.1)
   Ok (commands.Move name from to)
 
+-- `create`, `append` or `replace`
+unfoldable pub save_mode_of : Word → Option SaveMode
+save_mode_of word =
+    if bytes_eq word (codes "create") then Some Create
+    else (if bytes_eq word (codes "append") then Some Append
+    else (if bytes_eq word (codes "replace") then Some Replace else None))
+
+-- the second argument; none is `create`
+abbrev pub save_mode : Option Word → Result SaveMode CommandRefusal
+save_mode None = Ok Create
+save_mode (Some word) = argument 2 (save_mode_of word)
+
+unfoldable pub save_of : List Word → Result ListsCommand CommandRefusal
+save_of words = do
+  given ← one_or_two words
+  name ← playlist_name given.0
+  mode ← save_mode given.1
+  Ok (commands.Save name mode)
+
 unfoldable pub lists_of : ListsName → List Word → Result ListsCommand CommandRefusal
 lists_of names.ListPlaylist words = one_name words >>= λ name. Ok (commands.Songs name)
 lists_of names.ListPlaylistInfo words = one_name words >>= λ name. Ok (commands.SongsInfo name)
@@ -62,4 +84,4 @@ lists_of names.PlaylistDelete words = list_delete_of words
 lists_of names.PlaylistMove words = list_move_of words
 lists_of names.Remove words = one_name words >>= λ name. Ok (commands.Remove name)
 lists_of names.Rename words = rename_of words
-lists_of names.Save words = one_name words >>= λ name. Ok (commands.Save name)
+lists_of names.Save words = save_of words

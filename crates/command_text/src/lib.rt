@@ -31,7 +31,7 @@ pub use answer::{
 };
 pub use command::database::DatabaseCommand;
 pub use command::finding::{FindingCommand, Search};
-pub use command::lists::ListsCommand;
+pub use command::lists::{ListsCommand, SaveMode};
 pub use command::playing::PlayingCommand;
 pub use command::queue::QueueCommand;
 pub use command::session::SessionCommand;

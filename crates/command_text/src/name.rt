@@ -281,12 +281,26 @@ impl CommandName {
     pub fn named(word: &[u8]) -> Option<CommandName>
         ensures { result ≡ named word.now }
     {
-        CommandName::named_by(WordText::Bare(word))
+        let names = CommandName::all();
+        match names.binary_search_by(|name| name.text().as_bytes().cmp(word)) {
+            Ok(place) => Some(names[place]),
+            Err(_) => None,
+        }
     }
 
     /// The same for a word as it stands in a line; it takes no memory.
-    #[tactic(auto, unfolding(crate::specs::Names::named))]
     pub(crate) fn named_by(word: WordText<'_>) -> Option<CommandName>
+        ensures { result ≡ named (spelled word.entry) }
+    {
+        match word {
+            WordText::Bare(text) => CommandName::named(text),
+            WordText::Inside(_) => CommandName::named_in_quotes(word),
+        }
+    }
+
+    /// The same name by name: backslashes may spell the word.
+    #[tactic(auto, unfolding(crate::specs::Names::named))]
+    fn named_in_quotes(word: WordText<'_>) -> Option<CommandName>
         ensures { result ≡ named (spelled word.entry) }
     {
         NAMES

@@ -50,7 +50,7 @@ killed_if (Some ending) = is_killed ending
 -- `kill` alone ends a request so
 settings_kill : (command : SettingsCommand) → kills command ≡ killed_if (settings_ending command)
 settings_kill settings.Close = refl
-settings_kill (settings.Consume on) = refl
+settings_kill (settings.Consume consume) = refl
 settings_kill settings.Kill = refl
 settings_kill settings.Ping = refl
 settings_kill (settings.Random on) = refl

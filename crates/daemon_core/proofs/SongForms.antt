@@ -6,7 +6,9 @@ use Rattle.std.proofs.lemmas.Bool.{or_right}
 use Rattle.command_text.specs.declared.refusal.CommandRefusal.{CommandRefusal}
 use Rattle.machine_core.specs.Followed.{followed as follows, follows_queue, follows_setting, cut_to}
 use Rattle.machine_core.specs.Followed.{no_block}
+use Rattle.machine_core.specs.Lists.{replaced, replaces}
 use Rattle.machine_core.specs.Meaning.{Meaning, Meant, says, answers, turns, begins, stands, edited, made, unless_refused, edits}
+use Rattle.machine_core.specs.Meaning.{refusal_of_all}
 use Rattle.machine_core.specs.State.{MachineState, settings_of}
 use Rattle.machine_core.specs.Steps.{moves, puts, from_named, step_of, step_in}
 use Rattle.machine_core.specs.Told.{told}
@@ -34,6 +36,7 @@ use Rattle.player_core.specs.declared.seek.SongLength.{SongLength}
 use Rattle.player_core.specs.declared.settings.PlaySettings.{PlaySettings}
 use Rattle.song_db.specs.Row.{Row}
 use Rattle.state_codec.specs.Applied.{refusal_of, changes_nothing, after}
+use Rattle.state_codec.specs.Replacing.{replace_ops, replaces_nothing}
 use Rattle.state_codec.specs.Steps.{◌>>=◌}
 use Rattle.state_codec.specs.declared.op.Op.{Op}
 use Rattle.state_codec.specs.declared.op.Op.TheVariants.{SetOption, SetVolume, SetOrder, Queue, List as Lists, Sticker, Batch}
@@ -95,7 +98,7 @@ setting_song : (op : Setting) (m : MachineState) → let next = follows_setting 
 setting_song (setting.Repeat on) m = λ h. h
 setting_song (setting.Random on) m = λ h. h
 setting_song (setting.Single single) m = λ h. h
-setting_song (setting.Consume on) m = λ h. h
+setting_song (setting.Consume consume) m = λ h. h
 
 queue_song : (op : QueueOp) (m : MachineState) → let next = follows_queue op m in Keeps m.player next.player
 queue_song (queue.Add at rows) m = λ h. h
@@ -283,3 +286,13 @@ pub edits_song : (op : Op) (text : List ℕ) (m : MachineState) → KeepsSong m 
 unfolding edits
 edits_song op text m =
     unless_song m (told (refusal_of op m.saved)) (made op text m) (made_song op text m (changes_nothing op m.saved))
+
+replaced_song : (name : List ℕ) (m : MachineState) (nothing : Bool) →
+    let x = cond nothing (stands [] m) (replaced name m) in Keeps m.player x.after.player
+replaced_song name m true = λ h. h
+replaced_song name m false = λ h. h
+
+pub replaces_song : (name : List ℕ) (m : MachineState) → KeepsSong m (replaces name m)
+replaces_song name m =
+    unless_song m (told (refusal_of_all (replace_ops name) m.saved)) (cond (replaces_nothing name m.saved) (stands [] m) (replaced name m))
+    (replaced_song name m (replaces_nothing name m.saved))

@@ -2,12 +2,13 @@
 use Rattle.std.proofs.Common.{length}
 use Rattle.command_text.specs.declared.command.lists.ListsCommand.{ListsCommand}
 use Rattle.command_text.specs.declared.command.lists.ListsCommand.TheVariants as lists
+use Rattle.command_text.specs.declared.command.lists.SaveMode.TheVariants.{Create, Append, Replace}
 use Rattle.machine_core.specs.Adding.{place_in}
 use Rattle.machine_core.specs.Lists.{list_name, songs_named, rows_to_load, lists_meaning}
 use Rattle.machine_core.specs.Named.{numbers_named}
 use Rattle.machine_core.specs.Spans.{span_in}
 use Rattle.machine_core.specs.State.{MachineState, shown_of}
-use Rattle.daemon_core.proofs.SongForms.{KeepsSong, edits_song, then_song}
+use Rattle.daemon_core.proofs.SongForms.{KeepsSong, edits_song, replaces_song, then_song}
 
 pub lists_song : (command : ListsCommand) (m : MachineState) → KeepsSong m (lists_meaning command m)
 unfolding lists_meaning
@@ -27,6 +28,8 @@ lists_song lists.Names m = λ h. h
 lists_song (lists.Remove name) m = then_song m (list_name name) _ (λ good. edits_song _ _ m)
 lists_song (lists.Rename from to) m =
     then_song m (list_name from) _ (λ old. then_song m (list_name to) _ (λ new. edits_song _ _ m))
-lists_song (lists.Save name) m = then_song m (list_name name) _ (λ good. edits_song _ _ m)
+lists_song (lists.Save name Create) m = then_song m (list_name name) _ (λ good. edits_song _ _ m)
+lists_song (lists.Save name Append) m = then_song m (songs_named m.saved.lists name) _ (λ songs. edits_song _ _ m)
+lists_song (lists.Save name Replace) m = then_song m (list_name name) _ (λ good. replaces_song good m)
 lists_song (lists.Songs name) m = then_song m (songs_named m.saved.lists name) _ (λ songs. (λ h. h))
 lists_song (lists.SongsInfo name) m = then_song m (songs_named m.saved.lists name) _ (λ songs. (λ h. h))

@@ -7,7 +7,7 @@ use Rattle.daemon_core.proofs.SongForms.{KeepsSong, edits_song}
 
 pub settings_song : (command : SettingsCommand) (m : MachineState) → KeepsSong m (settings_meaning command m)
 unfolding settings_meaning
-settings_song (settings.Consume on) m = edits_song _ _ m
+settings_song (settings.Consume consume) m = edits_song _ _ m
 settings_song (settings.Random on) m = edits_song _ _ m
 settings_song (settings.Repeat on) m = edits_song _ _ m
 settings_song (settings.SetVolume volume) m = edits_song _ _ m

@@ -118,7 +118,7 @@ playing_itself p = and_from _ _ (state_itself p.state) (and_from _ _ (number_its
 options_itself : (o : Options) → same_options o o ≡ true
 options_itself o =
     and_from _ _ (flag_itself o.repeat)
-    (and_from _ _ (flag_itself o.random) (and_from _ _ (single_itself o.single) (flag_itself o.consume)))
+    (and_from _ _ (flag_itself o.random) (and_from _ _ (single_itself o.single) (single_itself o.consume)))
 
 changed_itself : (m : MachineState) → changed m m ≡ none
 unfolding changed

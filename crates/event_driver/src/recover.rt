@@ -7,14 +7,17 @@ use daemon_core::{Core, NoMemory, RecoverError};
 use state_codec::{CodecError, Op, Saved, take_ops, take_saved};
 use std::alloc::Global;
 
+/// The layout of the journal in which what was saved is read.
+const LAYOUT: u32 = 2;
+
 // The prover reads the contracts of these calls here alone.
 
 fn saved_of(alloc: Global, bytes: &[u8]) -> Result<Saved, CodecError> {
-    take_saved(alloc, bytes)
+    take_saved(alloc, LAYOUT, bytes)
 }
 
 fn ops_of(alloc: Global, bytes: &[u8]) -> Result<Vec<Op>, CodecError> {
-    take_ops(alloc, bytes)
+    take_ops(alloc, LAYOUT, bytes)
 }
 
 fn core_of(alloc: Global, saved: Saved, ops: &[Op]) -> Result<Core, RecoverError> {

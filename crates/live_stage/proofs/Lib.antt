@@ -5,3 +5,4 @@ pub mod StartLaws
 pub mod ValidLaws
 pub mod RunLaws
 pub mod TurnLaws
+pub mod OpeningLaws

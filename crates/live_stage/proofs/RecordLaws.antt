@@ -9,7 +9,7 @@ use Rattle.state_codec.specs.declared.refusal.BodyError.TheVariants.{NoMemory, B
 use Rattle.state_codec.specs.Applied.{applied, applied_from, all_applied}
 use Rattle.state_codec.specs.Body.{told, told_place, body_from, body_applied, GivesBody}
 use Rattle.state_codec.specs.Fields.{Field}
-use Rattle.state_codec.specs.Layout.{layout_1}
+use Rattle.state_codec.specs.Layout.{layout_of}
 use Rattle.state_codec.specs.Reading.{ops_reading}
 use Rattle.state_codec.specs.ReadingOps.{op_at, ops_at}
 use Rattle.state_codec.specs.SavedState.{SavedState}
@@ -25,43 +25,44 @@ record Gives (i : ℕ) (read : Result (List Op) ℕ) (s t : SavedState) : Type 0
   applies : applied_from i ops s ≡ Ok t
 
 -- what follows an op, where it applies
-of_applied : (total n i : ℕ) (s t : SavedState) (op : Op) (back : List ℕ) (o : Option SavedState)
-    → ((next : SavedState) → body_from layout_1 total n (suc i) back next ≡ Ok t → Gives (suc i) (ops_at layout_1 n back) next t)
-    → applied op s ≡ o → (ok_or o (DoesNotApply i) >>= λ next. body_from layout_1 total n (suc i) back next) ≡ Ok t
-    → Gives i (ops_at layout_1 n back >>= λ others. Ok (op ∷ others)) s t
-of_applied total n i s t op back None more at is = absurd cc
-of_applied total n i s t op back (Some next) more at is =
+of_applied : (number total n i : ℕ) (s t : SavedState) (op : Op) (back : List ℕ) (o : Option SavedState)
+    → ((next : SavedState) → body_from (layout_of number) total n (suc i) back next ≡ Ok t
+    → Gives (suc i) (ops_at (layout_of number) n back) next t)
+    → applied op s ≡ o → (ok_or o (DoesNotApply i) >>= λ next. body_from (layout_of number) total n (suc i) back next) ≡ Ok t
+    → Gives i (ops_at (layout_of number) n back >>= λ others. Ok (op ∷ others)) s t
+of_applied number total n i s t op back None more at is = absurd cc
+of_applied number total n i s t op back (Some next) more at is =
     let behind = more next is in
     record { ops = op ∷ behind.ops; spells = rw behind.spells refl; applies = rw at behind.applies }
 
 -- an op that was read, and what follows
-of_read : (total n i : ℕ) (s t : SavedState) (read : Field Op)
-    → ((back : List ℕ) (next : SavedState) → body_from layout_1 total n (suc i) back next ≡ Ok t
-    → Gives (suc i) (ops_at layout_1 n back) next t)
-    → (told total read >>= λ op. ok_or (applied op.0 s) (DoesNotApply i) >>= λ next. body_from layout_1 total n (suc i) op.1 next) ≡ Ok t
-    → Gives i (read >>= λ first. ops_at layout_1 n first.1 >>= λ others. Ok (first.0 ∷ others)) s t
-of_read total n i s t (Err left) more is = absurd cc
-of_read total n i s t (Ok op) more is = of_applied total n i s t op.0 op.1 (applied op.0 s) (more op.1) refl is
+of_read : (number total n i : ℕ) (s t : SavedState) (read : Field Op)
+    → ((back : List ℕ) (next : SavedState) → body_from (layout_of number) total n (suc i) back next ≡ Ok t
+    → Gives (suc i) (ops_at (layout_of number) n back) next t)
+    → (told total read >>= λ op. ok_or (applied op.0 s) (DoesNotApply i) >>= λ next. body_from (layout_of number) total n (suc i) op.1 next) ≡ Ok t
+    → Gives i (read >>= λ first. ops_at (layout_of number) n first.1 >>= λ others. Ok (first.0 ∷ others)) s t
+of_read number total n i s t (Err left) more is = absurd cc
+of_read number total n i s t (Ok op) more is = of_applied number total n i s t op.0 op.1 (applied op.0 s) (more op.1) refl is
 
 same_state : (s t : SavedState) → (let end : Result SavedState BodyError = Ok s in end ≡ Ok t) → s ≡ t
 same_state s t is = cc
 
-ops_give : (total n i : ℕ) (bytes : List ℕ) (s t : SavedState) → body_from layout_1 total n i bytes s ≡ Ok t
-    → Gives i (ops_at layout_1 n bytes) s t
+ops_give : (number total n i : ℕ) (bytes : List ℕ) (s t : SavedState) → body_from (layout_of number) total n i bytes s ≡ Ok t
+    → Gives i (ops_at (layout_of number) n bytes) s t
 unfolding body_from ops_at
-ops_give total n i [] s t is = record { ops = []; spells = refl; applies = ap Ok (same_state s t is) }
-ops_give total zero i (b ∷ rest) s t is = absurd cc
-ops_give total (suc n) i (b ∷ rest) s t is = of_read total n i s t (op_at layout_1 (b ∷ rest)) (λ back next. ops_give total n (suc i)
-    back next t) is
+ops_give number total n i [] s t is = record { ops = []; spells = refl; applies = ap Ok (same_state s t is) }
+ops_give number total zero i (b ∷ rest) s t is = absurd cc
+ops_give number total (suc n) i (b ∷ rest) s t is =
+    of_read number total n i s t (op_at (layout_of number) (b ∷ rest)) (λ back next. ops_give number total n (suc i) back next t) is
 
 -- a body that gives a state
-given_body : (b : Bool) (body : List ℕ) (s t : SavedState) → (length body == 0) ≡ b
-    → body_applied body s ≡ Ok t → after_record body s ≡ Some t
-given_body true body s t empty is = absurd (let no : Err (BadOp 0) ≡ Ok t = (rw empty at is) in cc)
-given_body false body s t some is =
-    let from : body_from layout_1 (length body) (length body) 0 body s ≡ Ok t = (rw some at is) in
-    let whole = ops_give (length body) (length body) 0 body s t from in
-    let read : ops_reading body ≡ Ok whole.ops = rw (some, whole.spells) refl in
+given_body : (number : ℕ) (b : Bool) (body : List ℕ) (s t : SavedState) → (length body == 0) ≡ b
+    → body_applied number body s ≡ Ok t → after_record number body s ≡ Some t
+given_body number true body s t empty is = absurd (let no : Err (BadOp 0) ≡ Ok t = (rw empty at is) in cc)
+given_body number false body s t some is =
+    let from : body_from (layout_of number) (length body) (length body) 0 body s ≡ Ok t = (rw some at is) in
+    let whole = ops_give number (length body) (length body) 0 body s t from in
+    let read : ops_reading number body ≡ Ok whole.ops = rw (some, whole.spells) refl in
     rw (read, whole.applies) refl
 
 -- ops that don't apply give no state
@@ -70,20 +71,22 @@ no_state (Ok s) e is = absurd cc
 no_state (Err place) e is = refl
 
 -- a body that gives none
-refused_read : (body : List ℕ) (s : SavedState) (e : BodyError) (read : Result (List Op) ℕ) → ops_reading body ≡ read
-    → body_applied body s ≡ Err e → option_and_then (λ ops. all_applied ops s) (result_ok read) ≡ None
-refused_read body s e (Err left) is fails = refl
-refused_read body s e (Ok ops) is fails = no_state (applied_from 0 ops s) e (sym (spelled body s ops is) ∙ fails)
+refused_read : (number : ℕ) (body : List ℕ) (s : SavedState) (e : BodyError) (read : Result (List Op) ℕ) → ops_reading number body ≡ read
+    → body_applied number body s ≡ Err e → option_and_then (λ ops. all_applied ops s) (result_ok read) ≡ None
+refused_read number body s e (Err left) is fails = refl
+refused_read number body s e (Ok ops) is fails =
+    no_state (applied_from 0 ops s) e (sym (spelled (layout_of number) body s ops is) ∙ fails)
 
-pub body_gives : (body : List ℕ) (s t : SavedState) → body_applied body s ≡ Ok t → after_record body s ≡ Some t
-body_gives body s t is = given_body (length body == 0) body s t refl is
+pub body_gives : (number : ℕ) (body : List ℕ) (s t : SavedState) → body_applied number body s ≡ Ok t → after_record number body s ≡ Some t
+body_gives number body s t is = given_body number (length body == 0) body s t refl is
 
-body_fails : (body : List ℕ) (s : SavedState) (e : BodyError) → body_applied body s ≡ Err e → after_record body s ≡ None
-body_fails body s e is = refused_read body s e (ops_reading body) refl is
+body_fails : (number : ℕ) (body : List ℕ) (s : SavedState) (e : BodyError) → body_applied number body s ≡ Err e
+    → after_record number body s ≡ None
+body_fails number body s e is = refused_read number body s e (ops_reading number body) refl is
 
 -- what is told of a body that gives none
-pub record_fails : (gate : ℕ) (body : List ℕ) (s t : SavedState) (e : BodyError) → GivesBody (Err e) t (body_applied body s)
-    → GivesAfter gate (Err (record_error gate e)) t (after_record body s)
-record_fails gate body s t NoMemory gives = tt
-record_fails gate body s t (BadOp offset) gives = (refl, body_fails body s (BadOp offset) gives)
-record_fails gate body s t (DoesNotApply place) gives = (refl, body_fails body s (DoesNotApply place) gives)
+pub record_fails : (number gate : ℕ) (body : List ℕ) (s t : SavedState) (e : BodyError)
+    → GivesBody (Err e) t (body_applied number body s) → GivesAfter gate (Err (record_error gate e)) t (after_record number body s)
+record_fails number gate body s t NoMemory gives = tt
+record_fails number gate body s t (BadOp offset) gives = (refl, body_fails number body s (BadOp offset) gives)
+record_fails number gate body s t (DoesNotApply place) gives = (refl, body_fails number body s (DoesNotApply place) gives)

@@ -1,35 +1,38 @@
 -- Two files as a stage is made or opened over them.
-use Rattle.std.proofs.Common.{◌≡◌, ◌⊎◌, inl, inr, ℕ, ◌+◌, ◌-◌, ◌^◌, ◌<◌, ◌≤◌, min, List, [], ◌∷◌, length, length-append, Some, None, Result}
+use Rattle.std.proofs.Common.{◌≡◌, inl, inr, ℕ, ◌+◌, ◌-◌, ◌^◌, ◌<◌, ◌≤◌, min, List, [], ◌∷◌, length, length-append, Some, None, Result}
 use Rattle.std.proofs.Common.{Ok, Err, false, refl, sym, ap, ◌∙◌, arith}
 use Rattle.std.specs.Prelude.{IsSome, flat_map}
 use Rattle.std.specs.Option.{ok_or}
 use Rattle.std.specs.Result.{result_ok}
 use Rattle.play_journal.specs.declared.refusal.JournalError.{JournalError}
 use Rattle.play_journal.specs.declared.refusal.JournalError.TheVariants as journal
-use Rattle.play_journal.specs.Content.{Content, fresh}
+use Rattle.play_journal.specs.Content.{Content, fresh, present_layout}
 use Rattle.play_journal.specs.Calls.{RefusesInOrder}
 use Rattle.play_journal.specs.Errors.{IsRefusalOfCreate, IsRefusalOfCheckpoint}
 use Rattle.play_journal.specs.JournalState.{JournalState}
 use Rattle.play_journal.specs.File.{IsFile, gated, spelling}
 use Rattle.disk_model.specs.History.{Change}
-use Rattle.disk_model.proofs.MomentLaws.{now_only}
+use Rattle.disk_model.specs.Moments.{Continues}
+use Rattle.disk_model.proofs.MomentLaws.{now_only, continues_same}
 use Rattle.play_journal.specs.Pair.{reading, found, IsPair, KeepsFound}
 use Rattle.play_journal.proofs.FileLaws.{length-spelling}
 use Rattle.play_journal.proofs.PairLaws.{pair-found}
 use Rattle.play_journal.proofs.RecordLaws.{IsBytes}
 use Rattle.state_codec.specs.SavedState.{SavedState, IsSavedState}
+use Rattle.state_codec.specs.Longest.{longest_snapshot}
 use Rattle.state_codec.specs.Spelling.{saved_bytes}
 use Rattle.state_codec.specs.Reading.{saved_reading}
 use Rattle.state_codec.specs.Steps.{◌>>=◌}
 use Rattle.state_codec.proofs.LengthLaws.{snapshot_len}
 use Rattle.state_codec.proofs.SavedLaws.{snapshot_again}
 use Rattle.live_stage.specs.declared.refusal.StartError.{StartError}
-use Rattle.live_stage.specs.declared.refusal.StartError.TheVariants.{NotEmpty, NoJournal, Damaged, NoMemory, Broken}
+use Rattle.live_stage.specs.declared.refusal.StartError.TheVariants.{NotEmpty, NoJournal, Damaged, NoMemory, NumbersSpent, Broken}
 use Rattle.live_stage.specs.Decoding.{GivesState}
 use Rattle.live_stage.specs.Numbers.{Numbers, FileNumbers, numbers_found, file_found}
 use Rattle.live_stage.specs.declared.refusal.LiveError.TheVariants as turns
 use Rattle.live_stage.specs.Errors.{IsCause, start_error, checkpoint_error}
-use Rattle.live_stage.specs.Found.{after_record, records_reading, stored_reading, content_reading, state_of, found_state, KeepsFoundState}
+use Rattle.live_stage.specs.Found.{after_record, records_reading, stored_reading, content_reading, state_of, found_state, FindsAsBefore}
+use Rattle.live_stage.specs.Found.{AllFindNow, AllFindSince, KeepsFoundState}
 
 -- a pair that reads so is found so
 pub found_as_read : (x y : List ℕ) (content : Content) → reading x y ≡ Ok content → found x y ≡ Some content
@@ -37,10 +40,11 @@ unfolding found
 found_as_read x y content read = ap result_ok read
 
 -- content whose parts are read so stands for this state
-pub stands : (content : Content) (snapshot : List ℕ) (records : List (List ℕ)) (s : SavedState)
-    → snapshot ≡ content.snapshot → records ≡ content.records → stored_reading snapshot records ≡ Ok s → state_of (Some content) ≡ Some s
-stands content snapshot records s own_snapshot own_records read =
-    let whole : content_reading content ≡ Ok s = rw (← own_snapshot, ← own_records) read in
+pub stands : (content : Content) (layout : ℕ) (snapshot : List ℕ) (records : List (List ℕ)) (s : SavedState)
+    → content.layout ≡ layout → snapshot ≡ content.snapshot → records ≡ content.records → stored_reading layout snapshot records ≡ Ok s
+    → state_of (Some content) ≡ Some s
+stands content layout snapshot records s own_layout own_snapshot own_records read =
+    let whole : content_reading content ≡ Ok s = rw (own_layout, ← own_snapshot, ← own_records) read in
     ap result_ok whole
 
 pub found_so : (x y : List ℕ) (content : Content) (s : SavedState) → reading x y ≡ Ok content → state_of (Some content) ≡ Some s
@@ -52,35 +56,36 @@ pub fresh_stands : (content : Content) (snapshot : List ℕ) (s : SavedState) �
     → IsSavedState s → state_of (Some content) ≡ Some s
 unfolding stored_reading
 fresh_stands content snapshot s is spelled good =
-    let read : saved_reading snapshot ≡ Ok s = ap saved_reading spelled ∙ snapshot_again s good in
+    let read : saved_reading present_layout snapshot ≡ Ok s = ap (λ b. saved_reading present_layout b) spelled ∙ snapshot_again s good in
     ap (λ c. state_of (Some c)) is ∙ rw read refl
 
 -- ---- how large a file is
 
 -- the gate of the record that stands for none lies in the file
-records_within : (gate : ℕ) (bodies : List (List ℕ)) (s : SavedState) (at : ℕ) → records_reading gate bodies s ≡ Err at
+records_within : (layout gate : ℕ) (bodies : List (List ℕ)) (s : SavedState) (at : ℕ) → records_reading layout gate bodies s ≡ Err at
     → at ≤ gate + length (flat_map gated bodies)
-records_within gate [] s at is = absurd cc
-records_within gate (body ∷ bodies) s at is =
-    (elim (after_record body s) as (λ o. (ok_or {E = ℕ} o gate >>= λ t. records_reading (gate + (5 + length body)) bodies t) ≡ Err at
+records_within layout gate [] s at is = absurd cc
+records_within layout gate (body ∷ bodies) s at is =
+    (elim (after_record layout body s) as
+    (λ o. (ok_or {E = ℕ} o gate >>= λ t. records_reading layout (gate + (5 + length body)) bodies t) ≡ Err at
     → at ≤ gate + length (flat_map gated (body ∷ bodies))) [
       | None ↦ λ e. let same : gate ≡ at = (cc) in omega arith
-      | Some t ↦ λ e. let behind = records_within (gate + (5 + length body)) bodies t at e in omega (
+      | Some t ↦ λ e. let behind = records_within layout (gate + (5 + length body)) bodies t at e in omega (
         arith,
         behind,
         length-append (gated body) (flat_map gated bodies),
       )
     ]) is
 
-stored_within : (snapshot : List ℕ) (bodies : List (List ℕ)) (at : ℕ) → stored_reading snapshot bodies ≡ Err at
+stored_within : (layout : ℕ) (snapshot : List ℕ) (bodies : List (List ℕ)) (at : ℕ) → stored_reading layout snapshot bodies ≡ Err at
     → at ≤ 32 + length snapshot + length (flat_map gated bodies)
 unfolding stored_reading
-stored_within snapshot bodies at is =
-    (elim (result_ok (saved_reading snapshot)) as
-    (λ o. (ok_or {E = ℕ} o 32 >>= λ t. records_reading (32 + length snapshot) bodies t) ≡ Err at
+stored_within layout snapshot bodies at is =
+    (elim (result_ok (saved_reading layout snapshot)) as
+    (λ o. (ok_or {E = ℕ} o 32 >>= λ t. records_reading layout (32 + length snapshot) bodies t) ≡ Err at
     → at ≤ 32 + length snapshot + length (flat_map gated bodies)) [
       | None ↦ λ e. let same : 32 ≡ at = (cc) in omega arith
-      | Some t ↦ λ e. records_within (32 + length snapshot) bodies t at e
+      | Some t ↦ λ e. records_within layout (32 + length snapshot) bodies t at e
     ]) is
 
 -- one of two files is this one
@@ -114,41 +119,47 @@ damaged_at offset (Ok s) gives = elim gives [ ]
 damaged_at offset (Err at) gives = (at, refl, gives)
 
 -- a pair of files that was read as this content
-pub record WasRead (a b : List ℕ) (content : Content) (snapshot : List ℕ) (records : List (List ℕ)) : Type 0 where
+pub record WasRead (a b : List ℕ) (content : Content) (layout : ℕ) (snapshot : List ℕ) (records : List (List ℕ)) : Type 0 where
   pub read : reading a b ≡ Ok content
+  pub same_layout : content.layout ≡ layout
   pub same_snapshot : snapshot ≡ content.snapshot
   pub same_records : records ≡ content.records
   pub small : IsSmall content
 
-pub refused_content : (a b : List ℕ) (content : Content) (snapshot : List ℕ) (records : List (List ℕ)) (e : StartError)
-    → WasRead a b content snapshot records → GivesState (Err e) (stored_reading snapshot records) → IsCause a b e
-refused_content a b content snapshot records NotEmpty was gives = gives
-refused_content a b content snapshot records NoJournal was gives = elim gives [ ]
-refused_content a b content snapshot records (Damaged offset) was gives =
-    let told = damaged_at offset (stored_reading snapshot records) gives in
-    let bad : content_reading content ≡ Err told.0 = rw (← was.same_snapshot, ← was.same_records) told.1 in
-    let within = stored_within content.snapshot content.records told.0 bad in
+pub refused_content : (a b : List ℕ) (content : Content) (layout : ℕ) (snapshot : List ℕ) (records : List (List ℕ)) (e : StartError)
+    → WasRead a b content layout snapshot records → GivesState (Err e) (stored_reading layout snapshot records) → IsCause a b e
+refused_content a b content layout snapshot records NotEmpty was gives = gives
+refused_content a b content layout snapshot records NoJournal was gives = elim gives [ ]
+refused_content a b content layout snapshot records (Damaged offset) was gives =
+    let told = damaged_at offset (stored_reading layout snapshot records) gives in
+    let bad : content_reading content ≡ Err told.0 = rw (was.same_layout, ← was.same_snapshot, ← was.same_records) told.1 in
+    let within = stored_within content.layout content.snapshot content.records told.0 bad in
     let same : told.0 ≡ offset = omega (arith, within, was.small.size, told.2) in
     inr (record { content = content; read = was.read; bad = bad ∙ ap Err same })
-refused_content a b content snapshot records NoMemory was gives = tt
-refused_content a b content snapshot records Broken was gives = tt
+refused_content a b content layout snapshot records NoMemory was gives = tt
+refused_content a b content layout snapshot records NumbersSpent was gives = elim gives [ ]
+refused_content a b content layout snapshot records Broken was gives = tt
 
--- a pair that gives a state is refused for want of memory or by a fault alone
-pub refused_good : (a b : List ℕ) (content : Content) (snapshot : List ℕ) (records : List (List ℕ)) (e : StartError)
-    → WasRead a b content snapshot records → IsSome (found_state a b) → GivesState (Err e) (stored_reading snapshot records)
-    → (e ≡ NoMemory) ⊎ (e ≡ Broken)
-refused_good a b content snapshot records NotEmpty was some gives = elim gives [ ]
-refused_good a b content snapshot records NoJournal was some gives = elim gives [ ]
-refused_good a b content snapshot records (Damaged offset) was some gives =
-    let told = damaged_at offset (stored_reading snapshot records) gives in
-    let bad : content_reading content ≡ Err told.0 = rw (← was.same_snapshot, ← was.same_records) told.1 in
+-- a pair that gives a state is read, unless memory is wanting
+pub refused_good : (a b : List ℕ) (content : Content) (layout : ℕ) (snapshot : List ℕ) (records : List (List ℕ)) (e : StartError)
+    → WasRead a b content layout snapshot records → IsSome (found_state a b) → GivesState (Err e) (stored_reading layout snapshot records)
+    → e ≡ NoMemory
+refused_good a b content layout snapshot records NotEmpty was some gives = elim gives [ ]
+refused_good a b content layout snapshot records NoJournal was some gives = elim gives [ ]
+refused_good a b content layout snapshot records (Damaged offset) was some gives =
+    let told = damaged_at offset (stored_reading layout snapshot records) gives in
+    let bad : content_reading content ≡ Err told.0 = rw (was.same_layout, ← was.same_snapshot, ← was.same_records) told.1 in
     let none : found_state a b ≡ None = ap state_of (found_as_read a b content was.read) ∙ ap result_ok bad in
     let no : IsSome {T = SavedState} None = rw none at some in
     absurd cc
-refused_good a b content snapshot records NoMemory was some gives = inl refl
-refused_good a b content snapshot records Broken was some gives = elim gives [ ]
+refused_good a b content layout snapshot records NoMemory was some gives = refl
+refused_good a b content layout snapshot records NumbersSpent was some gives = elim gives [ ]
+refused_good a b content layout snapshot records Broken was some gives = elim gives [ ]
 
 -- ---- a snapshot is never too long
+
+within_length : longest_snapshot ≤ 4294967295
+within_length = omega arith
 
 fault_of_create : (e : JournalError) → IsRefusalOfCreate e → (e ≡ journal.TooLong → ⊥) → start_error e ≡ Broken → e ≡ journal.DiskFault
 fault_of_create journal.NotEmpty one short is = cc
@@ -158,32 +169,57 @@ fault_of_create journal.DiskFault one short is = refl
 fault_of_create journal.NoMemory one short is = cc
 fault_of_create journal.TooLong one short is = absurd (short refl)
 fault_of_create journal.NumbersSpent one short is = elim one [ ]
+fault_of_create journal.OldLayout one short is = elim one [ ]
 
 -- a journal that was not made for want of a disk
 pub only_a_fault : (e : JournalError) (snapshot : List ℕ) (s : SavedState) → snapshot ≡ saved_bytes s → IsSavedState s
     → IsRefusalOfCreate e → (e ≡ journal.TooLong → 4294967295 < length snapshot) → start_error e ≡ Broken → e ≡ journal.DiskFault
 only_a_fault e snapshot s spelled good one too_long is =
-    let short : length (saved_bytes s) ≤ 691357253 = snapshot_len s good in
-    fault_of_create e one (λ t. let too = too_long t in omega (arith, too, ap length spelled, short)) is
+    let short : length (saved_bytes s) ≤ longest_snapshot = snapshot_len s good in
+    fault_of_create e one (λ t. let too = too_long t in omega (arith, too, ap length spelled, short, within_length)) is
 
 -- ---- the phases of an opening
+
+-- up to its middle a restart finds what it might have found before
+found_as_before : (old_a old_b new_a new_b : List Change) → KeepsFound old_a old_b new_a new_b → FindsAsBefore old_a old_b new_a new_b
+found_as_before old_a old_b new_a new_b kept x y lx ly =
+    let was = kept x y lx ly in (was.0, was.1, was.2, was.3, ap state_of was.4)
 
 -- nothing was done
 pub nothing_done : (a b : List Change) → KeepsFoundState a b a b
 nothing_done a b = record {
   middle_a = a;
   middle_b = b;
+  in_a = record { before = continues_same a; behind = continues_same a };
+  in_b = record { before = continues_same b; behind = continues_same b };
   first = λ x y lx ly. (x, y, now_only a x lx, now_only b y ly, refl);
-  second = (refl, refl);
+  second = inl (refl, refl);
 }
 
 -- the journal was opened, and nothing was done behind that
-pub opening_done : (old_a old_b new_a new_b : List Change) → KeepsFound old_a old_b new_a new_b → KeepsFoundState old_a old_b new_a new_b
-opening_done old_a old_b new_a new_b kept = record {
+pub opening_done : (old_a old_b new_a new_b : List Change) → Continues old_a new_a → Continues old_b new_b
+    → KeepsFound old_a old_b new_a new_b → KeepsFoundState old_a old_b new_a new_b
+opening_done old_a old_b new_a new_b run_a run_b kept = record {
   middle_a = new_a;
   middle_b = new_b;
-  first = λ x y lx ly. (let was = kept x y lx ly in (was.0, was.1, was.2, was.3, ap state_of was.4));
-  second = (refl, refl);
+  in_a = record { before = run_a; behind = continues_same new_a };
+  in_b = record { before = run_b; behind = continues_same new_b };
+  first = found_as_before old_a old_b new_a new_b kept;
+  second = inl (refl, refl);
+}
+
+-- the journal was opened, and behind that a restart finds this state
+pub opening_goes_on : (old_a old_b middle_a middle_b new_a new_b : List Change) (s : SavedState)
+    → Continues old_a middle_a → Continues old_b middle_b → Continues middle_a new_a → Continues middle_b new_b
+    → KeepsFound old_a old_b middle_a middle_b → AllFindNow (λ f. f ≡ Some s) middle_a middle_b
+    → AllFindSince (λ f. f ≡ Some s) new_a (length middle_a) new_b (length middle_b) → KeepsFoundState old_a old_b new_a new_b
+opening_goes_on old_a old_b middle_a middle_b new_a new_b s run_a run_b more_a more_b kept first since = record {
+  middle_a = middle_a;
+  middle_b = middle_b;
+  in_a = record { before = run_a; behind = more_a };
+  in_b = record { before = run_b; behind = more_b };
+  first = found_as_before old_a old_b middle_a middle_b kept;
+  second = inr (record { state = s; first = first; since = since });
 }
 
 -- the numbers of a stage over a journal that was opened
@@ -211,6 +247,7 @@ only_fault journal.DiskFault one short next is = refl
 only_fault journal.NoMemory one short next is = cc
 only_fault journal.TooLong one short next is = absurd (short refl)
 only_fault journal.NumbersSpent one short next is = absurd (next refl)
+only_fault journal.OldLayout one short next is = elim one [ ]
 
 -- a checkpoint that was not made for want of a disk
 pub checkpoint_fault : {D : Type 0} (old new : JournalState D) (e : JournalError) (snapshot : List ℕ) (s : SavedState)
@@ -218,8 +255,8 @@ pub checkpoint_fault : {D : Type 0} (old new : JournalState D) (e : JournalError
     → RefusesInOrder {T = Unit {0}} old new 4294967295 (length snapshot) old.generation (Err e)
     → checkpoint_error e ≡ turns.Broken → e ≡ journal.DiskFault
 checkpoint_fault old new e snapshot s spelled good usable next one refuses is =
-    let short : length (saved_bytes s) ≤ 691357253 = snapshot_len s good in
-    let fits : length snapshot ≤ 4294967295 = omega (arith, short, ap length spelled) in
+    let short : length (saved_bytes s) ≤ longest_snapshot = snapshot_len s good in
+    let fits : length snapshot ≤ 4294967295 = omega (arith, short, ap length spelled, within_length) in
     only_fault e one (λ t. let too = (refuses.too_long usable).0 (ap Err t) in omega (arith, too, fits))
     (λ t. next ((refuses.numbers_spent usable fits).0 (ap Err t))) is
 
@@ -232,6 +269,7 @@ not_spent journal.DiskFault is = cc
 not_spent journal.NoMemory is = cc
 not_spent journal.TooLong is = cc
 not_spent journal.NumbersSpent is = cc
+not_spent journal.OldLayout is = cc
 
 pub for_memory : (e : JournalError) → checkpoint_error e ≡ turns.NoMemory → e ≡ journal.DiskFault → ⊥
 for_memory journal.NotEmpty is fault = cc
@@ -241,6 +279,7 @@ for_memory journal.DiskFault is fault = cc
 for_memory journal.NoMemory is fault = cc
 for_memory journal.TooLong is fault = cc
 for_memory journal.NumbersSpent is fault = cc
+for_memory journal.OldLayout is fault = cc
 
 pub fault_is : {T : Type 0} (e f : JournalError) → (let r : Result T JournalError = Err e in r ≡ Err f) → e ≡ f
 fault_is e f is = cc

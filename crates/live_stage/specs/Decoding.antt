@@ -7,7 +7,7 @@ use Rattle.state_codec.specs.declared.refusal.CodecError.{CodecError}
 use Rattle.state_codec.specs.declared.refusal.CodecError.TheVariants as codec
 use Rattle.live_stage.specs.Found.{snapshot_at}
 use Rattle.live_stage.specs.declared.refusal.StartError.{StartError}
-use Rattle.live_stage.specs.declared.refusal.StartError.TheVariants.{NotEmpty, NoJournal, Damaged, NoMemory, Broken}
+use Rattle.live_stage.specs.declared.refusal.StartError.TheVariants.{NotEmpty, NoJournal, Damaged, NoMemory, NumbersSpent, Broken}
 
 -- the state or the offset that reading gives, unless memory ran out; offsets are counted up to 2^64 - 1
 abbrev pub GivesState : Result SavedState StartError → Result SavedState ℕ → Type 0
@@ -17,6 +17,7 @@ GivesState (Err NoJournal) read = ⊥
 GivesState (Err (Damaged offset)) (Ok s) = ⊥
 GivesState (Err (Damaged offset)) (Err at) = offset ≡ min at (2 ^ 64 - 1)
 GivesState (Err NoMemory) read = ⊤
+GivesState (Err NumbersSpent) read = ⊥
 GivesState (Err Broken) read = ⊥
 
 -- why a snapshot gives no state
@@ -38,4 +39,5 @@ GivesAfter gate (Err NotEmpty) s after = ⊥
 GivesAfter gate (Err NoJournal) s after = ⊥
 GivesAfter gate (Err (Damaged offset)) s after = (offset ≡ gate) × (after ≡ None)
 GivesAfter gate (Err NoMemory) s after = ⊤
+GivesAfter gate (Err NumbersSpent) s after = ⊥
 GivesAfter gate (Err Broken) s after = ⊥

@@ -1,14 +1,16 @@
 -- The refusals of a live stage.
-use Rattle.std.specs.Prelude.{◌≡◌, ◌⊎◌, ℕ, List, Ok, Err}
+use Rattle.std.specs.Prelude.{◌≡◌, ◌≢◌, ◌⊎◌, ℕ, List, Ok, Err}
 use Rattle.play_journal.specs.declared.refusal.JournalError.{JournalError}
 use Rattle.play_journal.specs.declared.refusal.JournalError.TheVariants as journal
-use Rattle.play_journal.specs.Content.{Content}
+use Rattle.play_journal.specs.Content.{Content, present_layout}
+use Rattle.play_journal.specs.JournalState.{JournalState}
 use Rattle.play_journal.specs.Pair.{reading}
 use Rattle.live_stage.specs.declared.refusal.LiveError.{LiveError}
 use Rattle.live_stage.specs.declared.refusal.LiveError.TheVariants as turns
 use Rattle.live_stage.specs.declared.refusal.StartError.{StartError}
-use Rattle.live_stage.specs.declared.refusal.StartError.TheVariants.{NotEmpty, NoJournal, Damaged, NoMemory, Broken}
+use Rattle.live_stage.specs.declared.refusal.StartError.TheVariants.{NotEmpty, NoJournal, Damaged, NoMemory, NumbersSpent, Broken}
 use Rattle.live_stage.specs.Found.{content_reading}
+use Rattle.live_stage.specs.Numbers.{greatest}
 
 abbrev pub number_of : LiveError → ℕ
 number_of turns.Broken = 42
@@ -20,6 +22,7 @@ start_number_of NotEmpty = 3
 start_number_of NoJournal = 4
 start_number_of (Damaged offset) = 5
 start_number_of NoMemory = 7
+start_number_of NumbersSpent = 49
 start_number_of Broken = 42
 
 -- what `create` refuses with
@@ -28,6 +31,7 @@ IsRefusalOfCreate NotEmpty = Unit {0}
 IsRefusalOfCreate NoJournal = ⊥
 IsRefusalOfCreate (Damaged offset) = ⊥
 IsRefusalOfCreate NoMemory = Unit {0}
+IsRefusalOfCreate NumbersSpent = ⊥
 IsRefusalOfCreate Broken = Unit {0}
 
 -- what `open` refuses with
@@ -36,7 +40,18 @@ IsRefusalOfOpen NotEmpty = ⊥
 IsRefusalOfOpen NoJournal = Unit {0}
 IsRefusalOfOpen (Damaged offset) = Unit {0}
 IsRefusalOfOpen NoMemory = Unit {0}
+IsRefusalOfOpen NumbersSpent = Unit {0}
 IsRefusalOfOpen Broken = Unit {0}
+
+-- What bringing a journal to the layout that is written is refused with: its layout is an old one and its generation has no next
+-- one, memory is wanting, or a disk fails.
+abbrev pub IsRefusalOfMigration : {D : Type 0} → JournalState D → StartError → Type 0
+IsRefusalOfMigration journal NotEmpty = ⊥
+IsRefusalOfMigration journal NoJournal = ⊥
+IsRefusalOfMigration journal (Damaged offset) = ⊥
+IsRefusalOfMigration journal NoMemory = Unit {0}
+IsRefusalOfMigration journal NumbersSpent = (journal.layout ≢ present_layout) × (journal.generation ≡ greatest)
+IsRefusalOfMigration journal Broken = Unit {0}
 
 -- the files are a journal whose content stands for no state, for this reason at this offset
 pub record IsBadContent (a b : List ℕ) (offset : ℕ) : Type 0 where
@@ -44,15 +59,23 @@ pub record IsBadContent (a b : List ℕ) (offset : ℕ) : Type 0 where
   pub read : reading a b ≡ Ok content
   pub bad : content_reading content ≡ Err offset
 
+-- the files are a journal of an old layout, whose generation has no next one
+pub record IsLastOfOldLayout (a b : List ℕ) : Type 0 where
+  pub content : Content
+  pub read : reading a b ≡ Ok content
+  pub old : content.layout ≢ present_layout
+  pub last : content.generation ≡ greatest
+
 -- the files are wrong in this way, or the call gave up before it knew
 abbrev pub IsCause : List ℕ → List ℕ → StartError → Type 0
 IsCause a b NotEmpty = ⊥
 IsCause a b NoJournal = reading a b ≡ Err journal.NoJournal
 IsCause a b (Damaged offset) = (reading a b ≡ Err (journal.Damaged offset)) ⊎ IsBadContent a b offset
 IsCause a b NoMemory = Unit {0}
+IsCause a b NumbersSpent = IsLastOfOldLayout a b
 IsCause a b Broken = Unit {0}
 
--- a refusal of the journal, as a stage answers it; over honest disks the last two don't come when it is made or opened
+-- a refusal of the journal, as a stage answers it; over honest disks the last three don't come when it is made or opened
 abbrev pub start_error : JournalError → StartError
 start_error journal.NotEmpty = NotEmpty
 start_error journal.NoJournal = NoJournal
@@ -61,6 +84,13 @@ start_error journal.DiskFault = Broken
 start_error journal.NoMemory = NoMemory
 start_error journal.TooLong = Broken
 start_error journal.NumbersSpent = Broken
+start_error journal.OldLayout = Broken
+
+-- why a journal is not brought to the layout that is written, whose checkpoint was refused
+abbrev pub migration_error : LiveError → StartError
+migration_error turns.Broken = Broken
+migration_error turns.NoMemory = NoMemory
+migration_error turns.NumbersSpent = NumbersSpent
 
 -- why a checkpoint is refused that the journal refused; but for these two, none comes
 abbrev pub checkpoint_error : JournalError → LiveError
@@ -71,3 +101,4 @@ checkpoint_error journal.DiskFault = turns.Broken
 checkpoint_error journal.NoMemory = turns.NoMemory
 checkpoint_error journal.TooLong = turns.Broken
 checkpoint_error journal.NumbersSpent = turns.Broken
+checkpoint_error journal.OldLayout = turns.Broken

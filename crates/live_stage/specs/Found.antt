@@ -1,10 +1,10 @@
 -- The saved state that a restart finds.
-use Rattle.std.specs.Prelude.{◌≡◌, ℕ, ◌+◌, List, [], ◌∷◌, length, Option, Result, Ok}
+use Rattle.std.specs.Prelude.{◌≡◌, ◌⊎◌, ℕ, ◌+◌, List, [], ◌∷◌, length, Option, Some, Result, Ok}
 use Rattle.std.specs.Option.{option_and_then, ok_or}
 use Rattle.std.specs.Result.{result_ok}
 use Rattle.disk_model.specs.History.{Change}
 use Rattle.disk_model.specs.Images.{window, IsImage}
-use Rattle.disk_model.specs.Moments.{LeftSince}
+use Rattle.disk_model.specs.Moments.{LeftSince, Continues}
 use Rattle.play_journal.specs.Content.{Content}
 use Rattle.play_journal.specs.Pair.{found}
 use Rattle.state_codec.specs.SavedState.{SavedState}
@@ -12,30 +12,30 @@ use Rattle.state_codec.specs.Applied.{all_applied}
 use Rattle.state_codec.specs.Reading.{ops_reading, saved_reading}
 use Rattle.state_codec.specs.Steps.{◌>>=◌}
 
--- the state after the ops that a record's body spells, where it spells ops and all of them apply
-abbrev pub after_record : List ℕ → SavedState → Option SavedState
-after_record body s = option_and_then (λ ops. all_applied ops s) (result_ok (ops_reading body))
+-- the state after the ops that a record's body spells in a layout, where it spells ops and all of them apply
+abbrev pub after_record : ℕ → List ℕ → SavedState → Option SavedState
+after_record layout body s = option_and_then (λ ops. all_applied ops s) (result_ok (ops_reading layout body))
 
--- The state after these records, one after the other, or the offset of the gate of the first that gives none. The first
--- record's gate has this offset; a record is its gate, four bytes of length and its body.
-abbrev pub records_reading : ℕ → List (List ℕ) → SavedState → Result SavedState ℕ
-records_reading gate [] s = Ok s
-records_reading gate (body ∷ bodies) s = do
-  after ← ok_or (after_record body s) gate
-  records_reading (gate + (5 + length body)) bodies after
+-- The state after these records of a layout, one after the other, or the offset of the gate of the first that gives none. The
+-- first record's gate has this offset; a record is its gate, four bytes of length and its body.
+abbrev pub records_reading : ℕ → ℕ → List (List ℕ) → SavedState → Result SavedState ℕ
+records_reading layout gate [] s = Ok s
+records_reading layout gate (body ∷ bodies) s = do
+  after ← ok_or (after_record layout body s) gate
+  records_reading layout (gate + (5 + length body)) bodies after
 
 -- the offset of a snapshot in its file
 abbrev pub snapshot_at : ℕ
 snapshot_at = 32
 
--- the state that a snapshot and its records stand for, or the offset of the first of them that stands for none
-unfoldable pub stored_reading : List ℕ → List (List ℕ) → Result SavedState ℕ
-stored_reading snapshot records = do
-  s ← ok_or (result_ok (saved_reading snapshot)) snapshot_at
-  records_reading (snapshot_at + length snapshot) records s
+-- the state that a snapshot and its records stand for in a layout, or the offset of the first of them that stands for none
+unfoldable pub stored_reading : ℕ → List ℕ → List (List ℕ) → Result SavedState ℕ
+stored_reading layout snapshot records = do
+  s ← ok_or (result_ok (saved_reading layout snapshot)) snapshot_at
+  records_reading layout (snapshot_at + length snapshot) records s
 
 abbrev pub content_reading : Content → Result SavedState ℕ
-content_reading content = stored_reading content.snapshot content.records
+content_reading content = stored_reading content.layout content.snapshot content.records
 
 -- the state that a journal's content stands for, where there is one
 abbrev pub state_of : Option Content → Option SavedState
@@ -59,13 +59,27 @@ FindsAsBefore old_a old_b new_a new_b =
     (x y : List ℕ) → LeftSince new_a (length old_a) x → LeftSince new_b (length old_b) y
     → (v w : List ℕ) × IsImage (window old_a) v × IsImage (window old_b) w × (found_state x y ≡ found_state v w)
 
--- From the middle of an opening to its end a restart finds one state. As yet nothing is done there.
+-- While the files are brought to the layout that is written, a restart finds the state that it finds when that begins.
+pub record FindsOneState (middle_a middle_b new_a new_b : List Change) : Type 0 where
+  pub state : SavedState
+  pub first : AllFindNow (λ f. f ≡ Some state) middle_a middle_b
+  pub since : AllFindSince (λ f. f ≡ Some state) new_a (length middle_a) new_b (length middle_b)
+
+-- From the middle of an opening to its end nothing is done, or a restart finds one state.
 abbrev pub IsSecondPhase : List Change → List Change → List Change → List Change → Type 0
-IsSecondPhase middle_a middle_b new_a new_b = (new_a ≡ middle_a) × (new_b ≡ middle_b)
+IsSecondPhase middle_a middle_b new_a new_b =
+    ((new_a ≡ middle_a) × (new_b ≡ middle_b)) ⊎ FindsOneState middle_a middle_b new_a new_b
+
+-- a moment of a run, from its start to its end
+pub record IsBetween (old middle new : List Change) : Type 0 where
+  pub before : Continues old middle
+  pub behind : Continues middle new
 
 -- An opening has two phases: up to its middle a restart finds what it might have found before, and then it finds one state.
 pub record KeepsFoundState (old_a old_b new_a new_b : List Change) : Type 0 where
   pub middle_a : List Change
   pub middle_b : List Change
+  pub in_a : IsBetween old_a middle_a new_a
+  pub in_b : IsBetween old_b middle_b new_b
   pub first : FindsAsBefore old_a old_b middle_a middle_b
   pub second : IsSecondPhase middle_a middle_b new_a new_b

@@ -5,8 +5,9 @@ use Rattle.play_journal.specs.Content.{Content}
 use Rattle.live_stage.specs.Numbers.{Numbers, FileNumbers}
 
 -- The two disks, the state, the numbers by which it counts, those of the file to which records go and what that file says (as long
--- as the disks are honest and the stage isn't broken), whether it is file b, and whether a disk fault broke the stage. After a fault the
--- state is not to be used: what the files give decides.
+-- as the disks are honest and the stage isn't broken), whether it is file b, whether a disk fault broke the stage, and whether its
+-- opening brought files of an old layout to the one that is written. After a fault the state is not to be used: what the files give
+-- decides.
 pub record LiveState (D : Type 0) : Type 0 where
   pub a : D
   pub b : D
@@ -16,3 +17,4 @@ pub record LiveState (D : Type 0) : Type 0 where
   pub content : Content
   pub is_in_b : Bool
   pub is_broken : Bool
+  pub was_migrated : Bool

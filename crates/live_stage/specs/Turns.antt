@@ -1,10 +1,10 @@
 -- How a stage goes on from one call to the next.
-use Rattle.std.specs.Prelude.{◌≡◌, ◌≢◌, ◌⊎◌, ◌↔◌, ◌≤◌, true, false, not, Bool, ℕ, ◌+◌, List, [], ◌∷◌, length, Some, Result, Err, MatchBool}
-use Rattle.std.specs.Prelude.{OnOk, OnErr, IfErr, if◌then◌else◌}
+use Rattle.std.specs.Prelude.{◌≡◌, ◌≢◌, ◌⊎◌, ◌↔◌, ◌≤◌, true, false, not, Bool, ℕ, ◌+◌, ◌==◌, List, [], ◌∷◌, length, Some, Result, Err}
+use Rattle.std.specs.Prelude.{OnOk, OnErr, IfErr, MatchBool, if◌then◌else◌}
 use Rattle.disk_model.specs.History.{Change}
 use Rattle.disk_model.specs.Later.{HasFailed}
 use Rattle.play_journal.specs.Calls.{SameFaults}
-use Rattle.play_journal.specs.Content.{Content, last_record, with_record, with_snapshot, IsOldOrNew}
+use Rattle.play_journal.specs.Content.{Content, last_record, present_layout, with_record, with_snapshot, IsOldOrNew}
 use Rattle.play_journal.specs.JournalState.{JournalState}
 use Rattle.play_journal.specs.Pair.{AllPairsNow, AllPairsSince}
 use Rattle.state_codec.specs.declared.op.Op.{Op}
@@ -23,19 +23,29 @@ pub record IsBegun {D : Type 0} (kept : SavedState) (live : LiveState D) : Type 
   pub event : live.numbers.event ≡ 0
   pub usable : live.is_broken ≡ false
 
--- a stage whose file says this, with its numbers
-pub record IsOver {D : Type 0} (content : Content) (live : LiveState D) : Type 0 where
-  pub numbers : live.numbers ≡ numbers_found content
-  pub file : live.file ≡ file_found content
-  pub says : live.content ≡ content
-
--- whatever a crash now leaves of the files gives the content of the stage, which stands for its state, and its numbers are those that
--- the stage counts
+-- whatever a crash now leaves of the files gives the content of the stage, in the layout that is written, which stands for its state,
+-- and its numbers are those that the stage counts
 pub record IsStored {D : Type 0} (history : D → List Change) (live : LiveState D) : Type 0 where
   pub kept : AllPairsNow (λ f. f ≡ Some live.content) (history live.a) (history live.b)
+  pub layout : live.content.layout ≡ present_layout
   pub state : state_of (Some live.content) ≡ Some live.state.machine.saved
   pub file : live.file ≡ file_found live.content
   pub numbered : live.numbers.last_record ≡ last_record live.content
+
+-- whether a journal of this layout is brought to the one that is written when it is opened
+abbrev pub is_old : ℕ → Bool
+is_old layout = not (layout == present_layout)
+
+-- what the files say once they were opened, which stood for this state: the same, or the state as a snapshot in the layout that is written
+abbrev pub migrated : Content → SavedState → Content
+migrated content s = if is_old content.layout then with_snapshot content (saved_bytes s) else content
+
+-- A stage that was opened over files that gave this: it goes on from their numbers, which are those of the files now too.
+pub record IsOver {D : Type 0} (history : D → List Change) (content : Content) (live : LiveState D) : Type 0 where
+  pub numbers : live.numbers ≡ numbers_found content
+  pub says : live.content ≡ migrated content live.state.machine.saved
+  pub stored : IsStored history live
+  pub told : live.was_migrated ≡ is_old content.layout
 
 -- the saved state as a snapshot
 abbrev pub snapshot_of : {D : Type 0} → LiveState D → List ℕ

@@ -64,6 +64,7 @@ fn refused_checkpoint(error: JournalError) -> LiveError
         | JournalError::NoJournal
         | JournalError::Damaged(_)
         | JournalError::TooLong
-        | JournalError::NumbersSpent => LiveError::Broken,
+        | JournalError::NumbersSpent
+        | JournalError::OldLayout => LiveError::Broken,
     }
 }

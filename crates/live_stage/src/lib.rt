@@ -11,5 +11,6 @@ mod run;
 mod turn;
 
 pub use live::Live;
+pub use play_journal::LAYOUT;
 pub use refusal::{LiveError, Refused, StartError};
 pub use turn::{Receipt, Turn, TurnResult};

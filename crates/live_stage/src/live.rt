@@ -18,12 +18,12 @@ ghost use Rattle.live_stage.specs.Turns.{ready_content, recorded_content, writes
 ghost use Rattle.live_stage.specs.Found.{found_state, AllFindNow, AllFindSince, KeepsFoundState};
 
 use crate::checkpointing::write_snapshot;
-use crate::decoding::take_state;
 use crate::recording::{LONGEST_BODY, record_ops};
 use crate::turn::Turn;
 use crate::{LiveError, Refused, StartError};
 use daemon_core::{Core, Event};
 use disk_model::Disk;
+use opening::{refused_over, state_in};
 use play_journal::{Journal, JournalError};
 use state_codec::{Saved, put_saved};
 use std::alloc::Global;
@@ -31,6 +31,7 @@ use std::marker::Model;
 use std::snapshot::Snapshot;
 
 mod looks;
+mod opening;
 
 /// So many records stand behind a snapshot at most: a turn that finds them makes a checkpoint first.
 const MOST_RECORDS: u64 = 4_096;
@@ -44,10 +45,12 @@ pub struct Live<D: Disk> {
     journal: Journal<D>,
     room: Vec<u8>,
     event: u64,
+    migrated: bool,
 }
 
 impl<D: Disk> Model for Live<D> {
     ghost use Rattle.std.specs.Prelude.{◌≡◌, ◌≤◌, ◌+◌, ◌-◌, ◌^◌, min, false, Some, vec_capacity};
+    ghost use Rattle.play_journal.specs.Content.{present_layout};
     ghost use Rattle.live_stage.specs.LiveState.{LiveState};
     ghost use Rattle.live_stage.specs.Found.{state_of};
 
@@ -65,9 +68,11 @@ impl<D: Disk> Model for Live<D> {
       content = v.journal.content;
       is_in_b = v.journal.is_in_b;
       is_broken = v.journal.is_spent;
+      was_migrated = v.migrated;
     } };
 
     ghost invariant = { λ v. (2097152 ≤ vec_capacity v.room)
+        × (v.journal.is_spent ≡ false → v.journal.layout ≡ present_layout)
         × (v.journal.is_spent ≡ false → D.honest v.journal.a → D.honest v.journal.b
         → state_of (Some v.journal.content) ≡ Some v.core.machine.saved) };
 }
@@ -82,7 +87,7 @@ impl<D: Disk> Live<D> {
         ensures kept { D.honest a → D.honest b
             → IfOk result (λ live. AllFindNow (λ f. f ≡ Some (fresh key)) (D.history live.a) (D.history live.b)) }
         ensures begun { IfOk result (λ live. IsBegun (fresh key) live) }
-        ensures numbers { IfOk result (λ live. (live.numbers ≡ first_numbers) × (live.file ≡ first_file)) }
+        ensures numbers { IfOk result (λ live. (live.numbers ≡ first_numbers) × (live.file ≡ first_file) × (live.was_migrated ≡ false)) }
 
         ensures not_empty { D.honest a → D.honest b
             → (IsErrAnd result (λ e. e.error ≡ StartError.NotEmpty) ↔ ((D.content a ≢ []) ⊎ (D.content b ≢ []))) }
@@ -113,14 +118,16 @@ impl<D: Disk> Live<D> {
                 journal,
                 room,
                 event: 0,
+                migrated: false,
             }),
             Err(refused) => Err(refused_start(refused)),
         }
     }
 
-    /// Opens the files of a stage, also such as a crash may have left: it goes on from the state that they give.
+    /// Opens the files of a stage, also such as a crash may have left: it goes on from the state that they give. Files of an old
+    /// layout are brought to the present one by a checkpoint, before anything is answered; a program of before can't read them then.
     ///
-    /// A refusal hands both disks back.
+    /// A refusal hands both disks back: another opening finds what this one might have found.
     pub fn open(alloc: Global, a: D, b: D) -> Result<Live<D>, Refused<D>>
         // It answers the state that the files give, and names what is wrong with them.
         ensures found { D.honest a → D.honest b
@@ -128,7 +135,8 @@ impl<D: Disk> Live<D> {
         ensures begun { IfOk result (λ live. IsBegun live.state.machine.saved live) }
         ensures cause { D.honest a → D.honest b → IfErr result (λ e. IsCause (D.content a) (D.content b) e.error) }
 
-        // Stopped at any moment, a restart finds what it might have found before, and from `Ok` on what is answered.
+        // Stopped at any moment, a restart finds what it might have found before, and from `Ok` on what is answered. While files of an
+        // old layout are brought to the present one it finds one state.
         ensures any_moment { D.honest a → D.honest b → MatchResult result
             (λ live. KeepsFoundState (D.history a) (D.history b) (D.history live.a) (D.history live.b))
             (λ e. KeepsFoundState (D.history a) (D.history b) (D.history e.a) (D.history e.b)) }
@@ -137,13 +145,14 @@ impl<D: Disk> Live<D> {
 
         // Where each pair that a crash may have left gives a state, it opens, unless memory is wanting or a disk fails.
         ensures opens { D.honest a → D.honest b → AllFindNow (λ f. IsSome f) (D.history a) (D.history b)
-            → IfErr result (λ e. (e.error ≡ StartError.NoMemory) ⊎ (e.error ≡ StartError.Broken)) }
+            → IfErr result (λ e. (e.error ≡ StartError.NoMemory) ⊎ (e.error ≡ StartError.NumbersSpent) ⊎ (e.error ≡ StartError.Broken)) }
         ensures fault { MatchResult result (λ live. SameFaults D.faults a b live.a live.b)
             (λ e. D.honest a → D.honest b → e.error ≡ StartError.Broken → HasFailed D.faults a b e.a e.b) }
         ensures nothing_else { IfErr result (λ e. IsRefusalOfOpen e.error) }
 
+        // It goes on from the numbers of the file that was found; the files then say the state in the present layout.
         ensures numbers { D.honest a → D.honest b → IfOk result (λ live. (content : Content)
-            → found (D.content a) (D.content b) ≡ Some content → IsOver content live) }
+            → found (D.content a) (D.content b) ≡ Some content → IsOver D.history content live) }
         ensures later { MatchResult result (λ live. AreLater D.honest D.history D.faults a b live.a live.b)
             (λ e. AreLater D.honest D.history D.faults a b e.a e.b) }
     {
@@ -161,17 +170,9 @@ impl<D: Disk> Live<D> {
             Ok(opened) => opened,
             Err(refused) => return Err(refused_start(refused)),
         };
-        match take_state(alloc, &stored) {
-            Ok(saved) => Ok(Live {
-                core: Core::new(alloc, saved),
-                journal,
-                room,
-                event: 0,
-            }),
-            Err(error) => {
-                let (a, b) = journal.into_disks();
-                Err(Refused { error, a, b })
-            }
+        match state_in(alloc, &journal, stored) {
+            Ok(saved) => Live::over(alloc, journal, saved, room),
+            Err(error) => Err(refused_over(error, journal)),
         }
     }
 
@@ -353,6 +354,14 @@ impl<D: Disk> Live<D> {
         self.journal.is_spent()
     }
 
+    /// Whether the files had an old layout when they were opened, and were brought to the present one then: a program of before can't
+    /// read them since.
+    pub fn was_migrated(&self) -> bool
+        ensures { result ≡ self.now.was_migrated }
+    {
+        self.migrated
+    }
+
     /// The disks of files a and b.
     pub fn into_disks(self) -> (D, D)
         ensures { result ≡ (self.a, self.b) }
@@ -362,6 +371,7 @@ impl<D: Disk> Live<D> {
             journal,
             room: _,
             event: _,
+            migrated: _,
         } = self;
         journal.into_disks()
     }
@@ -395,10 +405,11 @@ fn refused_start<D>(refused: play_journal::Refused<D>) -> Refused<D>
         JournalError::NoJournal => StartError::NoJournal,
         JournalError::Damaged(offset) => StartError::Damaged(offset),
         JournalError::NoMemory => StartError::NoMemory,
-        // Over honest disks the last two don't come: a fresh snapshot has 69 bytes.
-        JournalError::DiskFault | JournalError::TooLong | JournalError::NumbersSpent => {
-            StartError::Broken
-        }
+        // Over honest disks the last three don't come: a fresh snapshot has 69 bytes.
+        JournalError::DiskFault
+        | JournalError::TooLong
+        | JournalError::NumbersSpent
+        | JournalError::OldLayout => StartError::Broken,
     };
     Refused { error, a, b }
 }

@@ -3,7 +3,7 @@ ghost use Rattle.std.specs.Prelude.{◌≡◌, ◌≢◌, ◌⊎◌, ◌↔◌, 
 ghost use Rattle.std.specs.Prelude.{IfErr, OnOk, OnErr, MatchBool, vec_capacity};
 ghost use Rattle.disk_model.specs.Later.{AreLater, HasFailed};
 ghost use Rattle.play_journal.specs.Calls.{Holds, StaysInFile, SameFaults};
-ghost use Rattle.play_journal.specs.Content.{with_record, IsBeforeOrAfter};
+ghost use Rattle.play_journal.specs.Content.{present_layout, with_record, IsBeforeOrAfter};
 ghost use Rattle.play_journal.specs.Pair.{AllPairsSince};
 ghost use Rattle.std.specs.List.{AllByRecursion};
 ghost use Rattle.state_codec.specs.Ops.{IsOp};
@@ -43,6 +43,7 @@ pub(crate) fn record_ops<D: Disk>(
     requires room { LONGEST_BODY ≤ vec_capacity room.old }
     requires fits { length (ops_bytes ops.now) ≤ LONGEST_BODY }
     requires usable { journal.old.is_spent ≡ false }
+    requires layout { journal.old.layout ≡ present_layout }
     requires numbers { journal.old.base + journal.old.count < 2 ^ 64 - 1 }
     ensures none { ops.now ≡ [] → (result ≡ Ok None) × (journal.new ≡ journal.old) }
     ensures number { IfOk result (λ number. number ≡ record_number (journal.old.base + journal.old.count) ops.now) }

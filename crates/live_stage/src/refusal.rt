@@ -50,6 +50,9 @@ pub enum StartError {
     /// There was no memory.
     #[error("out of memory")]
     NoMemory,
+    /// The files are of an old layout and have the last generation, 2^64 - 1, so that no checkpoint can bring them to the present one.
+    #[error("numbers are spent")]
+    NumbersSpent,
     /// A disk failed.
     #[error("broken by a disk fault")]
     Broken,
@@ -67,6 +70,7 @@ impl StartError {
             StartError::NoJournal => 4,
             StartError::Damaged(_) => 5,
             StartError::NoMemory => 7,
+            StartError::NumbersSpent => 49,
             StartError::Broken => 42,
         }
     }

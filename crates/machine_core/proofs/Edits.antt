@@ -20,7 +20,7 @@ use Rattle.machine_core.specs.declared.work.Failure.TheVariants.{Refused}
 use Rattle.machine_core.specs.declared.work.Work.{Work}
 
 -- what a check that was refused says
-refused_by : (refusal : Option OpRefusal) (e : OpRefusal) → AnswersCheck {T = Unit {0}} refusal (Err e) → refusal ≡ Some e
+pub refused_by : (refusal : Option OpRefusal) (e : OpRefusal) → AnswersCheck {T = Unit {0}} refusal (Err e) → refusal ≡ Some e
 refused_by None e answer = absurd (cc)
 refused_by (Some refusal) e answer = cc
 

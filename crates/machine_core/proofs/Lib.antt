@@ -1,6 +1,7 @@
 pub mod SameParts
 pub mod OrderSteps
 pub mod FormLaws
+pub mod InTurn
 pub mod PlayingSteps
 pub mod StepsLawful
 pub mod StepsDone
@@ -19,6 +20,7 @@ pub mod CommandLaws
 pub mod ChangedLaws
 pub mod ReportsLaws
 pub mod Edits
+pub mod Replacing
 pub mod EditCommands
 pub mod Answering
 pub mod Lines

@@ -1,5 +1,5 @@
 -- What the player's steps say of the saved half: a new random order is another one, the entry that leaves stands in the queue, and
--- `single` turns off from oneshot alone.
+-- `single` and `consume` turn off from oneshot alone.
 use Rattle.std.proofs.Common.{◌≡◌, ℕ, ◌+◌, ◌<◌, ◌==◌, Bool, true, false, List, [], length, refl, ap, ◌∙◌, arith}
 use Rattle.std.proofs.Common.{Option, Some, None, Result, Ok, Err}
 use Rattle.std.specs.Prelude.{filter, if◌then◌else◌, cond, ltb, option_map}
@@ -9,13 +9,13 @@ use Rattle.play_queue.specs.declared.entry.Entry.{Entry}
 use Rattle.player_core.specs.Staying.{all_staying, staying_behind, first_id}
 use Rattle.player_core.specs.Choice.{chosen, is_left, nothing, this_round, new_round, or_else, round_again, placed, least}
 use Rattle.player_core.specs.Commands.{named, begun, to_resume, resumed, stepped_if_any, unless_stopped}
-use Rattle.player_core.specs.Ending.{consumed, after_single, followed_by, order_of, is_oneshot, over_at, over, ended_in}
+use Rattle.player_core.specs.Ending.{consumed, after_single, followed_by, order_of, is_on, is_oneshot, over_at, over, ended_in}
 use Rattle.player_core.specs.Player.{PlayerState, Step, unchanged}
 use Rattle.player_core.specs.Words.{next_order}
 use Rattle.player_core.specs.declared.block.Block.{Block}
 use Rattle.player_core.specs.declared.choice.Choice.{Choice}
 use Rattle.player_core.specs.declared.options.Single.{Single}
-use Rattle.player_core.specs.declared.options.Single.TheVariants as single
+use Rattle.player_core.specs.declared.options.Single.TheVariants as singles
 use Rattle.player_core.specs.declared.playing.PlayState.{PlayState}
 use Rattle.player_core.specs.declared.playing.PlayState.TheVariants as state
 use Rattle.player_core.specs.declared.refusal.PlayerError.{PlayerError}
@@ -29,7 +29,8 @@ use Rattle.machine_core.specs.declared.steps.PlayerStep.TheVariants.{Resume, Pla
 pub record IsFair (made : Step) (entries : List Entry) (settings : PlaySettings) : Type 0 where
   pub order : (g : ℕ) → made.changes.order ≡ Some g → g ≡ next_order settings.order
   pub removed : (at : ℕ) → made.changes.removed ≡ Some at → at < length entries
-  pub single : made.changes.single_off ≡ true → settings.options.single ≡ single.Oneshot
+  pub single : made.changes.single_off ≡ true → settings.options.single ≡ singles.Oneshot
+  pub consume : made.changes.consume_off ≡ true → settings.options.consume ≡ singles.Oneshot
 
 abbrev pub FairIfMade : Result Step PlayerError → List Entry → PlaySettings → Type 0
 FairIfMade (Ok made) entries settings = IsFair made entries settings
@@ -101,24 +102,26 @@ single_grows order current false false = none_grows order
 
 followed_grows : (settings : PlaySettings) (mode : Single) (entries : List Entry) (played : List ℕ) (at current : ℕ) →
     Grows settings.order (order_of (followed_by settings mode entries played at current))
-followed_grows settings single.Off entries played at current =
-    chosen_grows settings entries (consumed settings.options.consume at) [] played at current
-followed_grows settings single.On entries played at current =
-    single_grows settings.order current settings.options.consume settings.options.repeat
-followed_grows settings single.Oneshot entries played at current =
-    single_grows settings.order current settings.options.consume settings.options.repeat
+followed_grows settings singles.Off entries played at current =
+    chosen_grows settings entries (consumed (is_on settings.options.consume) at) [] played at current
+followed_grows settings singles.On entries played at current =
+    single_grows settings.order current (is_on settings.options.consume) settings.options.repeat
+followed_grows settings singles.Oneshot entries played at current =
+    single_grows settings.order current (is_on settings.options.consume) settings.options.repeat
 
 -- a step that changes the order alone, or nothing
 order_fair : (made : Step) (entries : List Entry) (settings : PlaySettings) → made.changes.removed ≡ None →
-    made.changes.single_off ≡ false → Grows settings.order made.changes.order → IsFair made entries settings
-order_fair made entries settings none off grows = record {
+    made.changes.single_off ≡ false → made.changes.consume_off ≡ false → Grows settings.order made.changes.order →
+    IsFair made entries settings
+order_fair made entries settings none single_stays consume_stays grows = record {
   order = grows;
   removed = λ at is. absurd (cc);
   single = λ is. absurd (cc);
+  consume = λ is. absurd (cc);
 }
 
 unchanged_fair : (player : PlayerState) (entries : List Entry) (settings : PlaySettings) → IsFair (unchanged player) entries settings
-unchanged_fair player entries settings = order_fair (unchanged player) entries settings refl refl (none_grows settings.order)
+unchanged_fair player entries settings = order_fair (unchanged player) entries settings refl refl refl (none_grows settings.order)
 
 -- the current entry's position
 found_within : (entries : List Entry) (found : ℕ) (id : ℕ) (place : ℕ × ℕ) (b : Bool) → ltb found (length entries) ≡ b →
@@ -140,13 +143,13 @@ consumed_within : (entries : List Entry) (consume : Bool) (place at : ℕ) → p
 consumed_within entries true place at within is = let same : place ≡ at = cc in omega (arith, same, within)
 consumed_within entries false place at within is = absurd (cc)
 
-oneshot_is : (mode : Single) → is_oneshot mode ≡ true → mode ≡ single.Oneshot
-oneshot_is single.Off is = absurd (cc)
-oneshot_is single.On is = absurd (cc)
-oneshot_is single.Oneshot is = refl
+oneshot_is : (mode : Single) → is_oneshot mode ≡ true → mode ≡ singles.Oneshot
+oneshot_is singles.Off is = absurd (cc)
+oneshot_is singles.On is = absurd (cc)
+oneshot_is singles.Oneshot is = refl
 
 over_fair : (entries : List Entry) (settings : PlaySettings) (mode : Single) (player : PlayerState) →
-    (is_oneshot mode ≡ true → settings.options.single ≡ single.Oneshot) → IsFair (over entries settings mode player) entries settings
+    (is_oneshot mode ≡ true → settings.options.single ≡ singles.Oneshot) → IsFair (over entries settings mode player) entries settings
 over_fair entries settings mode player once = of (placed entries player.current) refl where
   of : (place : Option (ℕ × ℕ)) → placed entries player.current ≡ place →
       IsFair (over_at entries settings mode player place) entries settings
@@ -154,8 +157,9 @@ over_fair entries settings mode player once = of (placed entries player.current)
   of (Some place) is = record {
     order = followed_grows settings mode entries player.played place.0 place.1;
     removed = λ at removed.
-        consumed_within entries settings.options.consume place.0 at (placed_within entries player.current place is) removed;
+        consumed_within entries (is_on settings.options.consume) place.0 at (placed_within entries player.current place is) removed;
     single = once;
+    consume = oneshot_is settings.options.consume;
   }
 
 named_fair : (found : Result ℕ PlayerError) (step : ℕ → Step) (entries : List Entry) (settings : PlaySettings) →
@@ -166,7 +170,7 @@ named_fair (Err refusal) step entries settings fair = tt
 any_fair : (random : Bool) (player : PlayerState) (choice : Choice) (id : Option ℕ) (entries : List Entry) (settings : PlaySettings) →
     Grows settings.order choice.order → IsFair (stepped_if_any random player choice id) entries settings
 any_fair random player choice None entries settings grows = unchanged_fair player entries settings
-any_fair random player choice (Some id) entries settings grows = order_fair _ entries settings refl refl grows
+any_fair random player choice (Some id) entries settings grows = order_fair _ entries settings refl refl refl grows
 
 resumed_fair : (is : PlayState) (entries : List Entry) (settings : PlaySettings) (player : PlayerState) →
     IsFair (resumed is entries settings player) entries settings
@@ -201,10 +205,10 @@ pub step_fair : (step : PlayerStep) (entries : List Entry) (settings : PlaySetti
 step_fair Resume entries settings player = resumed_fair player.state entries settings player
 step_fair (Play selector) entries settings player =
     named_fair (named selector entries) _ entries settings
-    (λ id. order_fair _ entries settings refl refl (begun_grows settings player.current id))
+    (λ id. order_fair _ entries settings refl refl refl (begun_grows settings player.current id))
 step_fair (Seek selector song milliseconds) entries settings player =
     named_fair (named selector entries) _ entries settings
-    (λ id. order_fair _ entries settings refl refl (begun_grows settings player.current id))
+    (λ id. order_fair _ entries settings refl refl refl (begun_grows settings player.current id))
 step_fair Next entries settings player =
-    next_fair player.state _ entries settings (over_fair entries settings single.Off player (λ is. absurd (cc)))
+    next_fair player.state _ entries settings (over_fair entries settings singles.Off player (λ is. absurd (cc)))
 step_fair (Ended ticket) entries settings player = ended_fair player.state entries settings player ticket

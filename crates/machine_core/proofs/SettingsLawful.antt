@@ -8,7 +8,7 @@ use Rattle.machine_core.proofs.FormLaws.{Lawful, says_lawful, edits_lawful}
 
 pub settings_lawful : (command : SettingsCommand) (m : MachineState) → Lawful m (settings_meaning command m)
 unfolding settings_meaning
-settings_lawful (settings.Consume on) m = edits_lawful _ _ m refl
+settings_lawful (settings.Consume consume) m = edits_lawful _ _ m refl
 settings_lawful (settings.Random on) m = edits_lawful _ _ m refl
 settings_lawful (settings.Repeat on) m = edits_lawful _ _ m refl
 settings_lawful (settings.SetVolume volume) m = edits_lawful _ _ m refl

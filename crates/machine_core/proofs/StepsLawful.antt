@@ -3,7 +3,7 @@ use Rattle.std.proofs.Common.{◌≡◌, ℕ, ◌+◌, ◌<◌, Bool, true, fals
 use Rattle.std.proofs.Common.{refl, sym, ap, ◌∙◌, arith}
 use Rattle.std.proofs.Common.{Option, Some, None, Result, Ok, Err, suc}
 use Rattle.std.specs.List.{list_any}
-use Rattle.std.specs.Option.{ok_or, option_map}
+use Rattle.std.specs.Option.{option_map}
 use Rattle.std.specs.Prelude.{◌&&◌, ◌||◌, nat_lt, if◌then◌else◌}
 use Rattle.std.specs.Result.{result_ok}
 use Rattle.std.proofs.lemmas.Bool.{le-ltb, false≢true}
@@ -15,35 +15,23 @@ use Rattle.play_queue.specs.declared.refusal.QueueError.TheVariants.{BadIndex}
 use Rattle.player_core.specs.Player.{PlayerState, Step}
 use Rattle.player_core.specs.declared.options.Single.TheVariants.{Off, Oneshot}
 use Rattle.player_core.specs.declared.refusal.PlayerError.{PlayerError}
-use Rattle.state_codec.specs.Applied.{refusal_of, after, after_all, applied_from}
-use Rattle.state_codec.specs.Applied.{unless_refused as unless_op_refused}
+use Rattle.state_codec.specs.Applied.{refusal_of, after, after_all}
 use Rattle.state_codec.specs.OpsQueue.{queue_refusal}
 use Rattle.state_codec.specs.SavedState.{SavedState, IsSavedState}
-use Rattle.state_codec.specs.Steps.{◌>>=◌}
 use Rattle.state_codec.specs.declared.op.Op.{Op}
 use Rattle.state_codec.specs.declared.op.Op.TheVariants.{SetOption, SetOrder, Queue as OfQueue}
 use Rattle.state_codec.specs.declared.op.queue_op.QueueOp.TheVariants.{Delete}
-use Rattle.state_codec.specs.declared.op.setting.Setting.TheVariants.{Single}
+use Rattle.state_codec.specs.declared.op.setting.Setting.TheVariants.{Single, Consume}
 use Rattle.state_codec.specs.declared.refusal.OpRefusal.TheVariants.{Queue}
 use Rattle.state_codec.proofs.OpsUnchanged.{op_only}
 use Rattle.machine_core.specs.Before.{is_of_lists, is_of_stickers}
 use Rattle.machine_core.specs.Meaning.{order_ops}
 use Rattle.machine_core.specs.State.{MachineState, settings_of}
-use Rattle.machine_core.specs.Steps.{step_ops, removal_ops, single_ops, steps, moves, puts, step_in}
+use Rattle.machine_core.specs.Steps.{step_ops, removal_ops, single_ops, consume_ops, steps, moves, puts, step_in}
 use Rattle.machine_core.specs.declared.steps.PlayerStep.{PlayerStep}
 use Rattle.machine_core.proofs.FormLaws.{TellsChanges, IsLawful, Lawful, same_lists_told, same_stickers_told, turns_lawful}
+use Rattle.machine_core.proofs.InTurn.{AreFree, all_apply}
 use Rattle.machine_core.proofs.PlayingSteps.{IsFair, FairIfMade, next_is_other, step_fair}
-
--- no op is refused at its turn
-abbrev AreFree : List Op → SavedState → Type 0
-AreFree [] s = Unit {0}
-AreFree (op ∷ ops) s = (refusal_of op s ≡ None) × AreFree ops (after op s)
-
-all_apply : (i : ℕ) (ops : List Op) (s : SavedState) → AreFree ops s → applied_from i ops s ≡ Ok (after_all ops s)
-all_apply i [] s free = refl
-all_apply i (op ∷ ops) s free =
-    ap (λ r. ok_or (unless_op_refused r (after op s)) i >>= λ t. applied_from (suc i) ops t) free.0
-    ∙ all_apply (suc i) ops (after op s) free.1
 
 removal_free : (at : ℕ) (s : SavedState) → at < length s.queue.entries → queue_refusal (Delete at (at + 1)) s ≡ None
 removal_free at s within =
@@ -51,56 +39,97 @@ removal_free at s within =
     let high : nat_lt (length s.queue.entries) (at + 1) ≡ false = le-ltb (length s.queue.entries) (at + 1) (omega (arith, within)) in
     (λ i. option_map Queue (if low i || high i then Some BadIndex else None))
 
-single_free : (off : Bool) (s : SavedState) → AreFree (single_ops off) s
-single_free true s = (refl, tt)
-single_free false s = tt
+options_free : (single consume : Bool) (s : SavedState) → AreFree (single_ops single ++ consume_ops consume) s
+options_free true true s = (refl, (refl, tt))
+options_free true false s = (refl, tt)
+options_free false true s = (refl, tt)
+options_free false false s = tt
 
-behind_free : (removed : Option ℕ) (off : Bool) (s : SavedState) → ((at : ℕ) → removed ≡ Some at → at < length s.queue.entries) →
-    AreFree (removal_ops removed ++ single_ops off) s
-behind_free None off s within = single_free off s
-behind_free (Some at) off s within = (removal_free at s (within at refl), single_free off (after (OfQueue (Delete at (at + 1))) s))
+behind_free : (removed : Option ℕ) (single consume : Bool) (s : SavedState) →
+    ((at : ℕ) → removed ≡ Some at → at < length s.queue.entries) →
+    AreFree (removal_ops removed ++ (single_ops single ++ consume_ops consume)) s
+behind_free None single consume s within = options_free single consume s
+behind_free (Some at) single consume s within =
+    (removal_free at s (within at refl), options_free single consume (after (OfQueue (Delete at (at + 1))) s))
 
-step_free : (order removed : Option ℕ) (off : Bool) (s : SavedState) → ((at : ℕ) → removed ≡ Some at → at < length s.queue.entries) →
-    AreFree (order_ops order ++ (removal_ops removed ++ single_ops off)) s
-step_free None removed off s within = behind_free removed off s within
-step_free (Some g) removed off s within = (refl, behind_free removed off (after (SetOrder g) s) within)
+step_free : (order removed : Option ℕ) (single consume : Bool) (s : SavedState) →
+    ((at : ℕ) → removed ≡ Some at → at < length s.queue.entries) →
+    AreFree (order_ops order ++ (removal_ops removed ++ (single_ops single ++ consume_ops consume))) s
+step_free None removed single consume s within = behind_free removed single consume s within
+step_free (Some g) removed single consume s within = (refl, behind_free removed single consume (after (SetOrder g) s) within)
 
--- the parts after it
-abbrev done : Option ℕ → Option ℕ → Bool → SavedState → SavedState
-done order removed off s = after_all (order_ops order ++ (removal_ops removed ++ single_ops off)) s
+-- the state after the options have turned off, after the entry has left before that, and after the whole step
+abbrev turned : Bool → Bool → SavedState → SavedState
+turned single consume s = after_all (single_ops single ++ consume_ops consume) s
 
-lists_stay : (order removed : Option ℕ) (off : Bool) (s : SavedState) → (done order removed off s).lists ≡ s.lists
-lists_stay None None true s = refl
-lists_stay None None false s = refl
-lists_stay None (Some at) true s = refl
-lists_stay None (Some at) false s = refl
-lists_stay (Some g) None true s = refl
-lists_stay (Some g) None false s = refl
-lists_stay (Some g) (Some at) true s = refl
-lists_stay (Some g) (Some at) false s = refl
+abbrev left : Option ℕ → Bool → Bool → SavedState → SavedState
+left removed single consume s = after_all (removal_ops removed ++ (single_ops single ++ consume_ops consume)) s
 
-stickers_stay : (order removed : Option ℕ) (off : Bool) (s : SavedState) → (done order removed off s).stickers ≡ s.stickers
-stickers_stay None None true s = refl
-stickers_stay None None false s = refl
-stickers_stay None (Some at) true s = refl
-stickers_stay None (Some at) false s = refl
-stickers_stay (Some g) None true s = refl
-stickers_stay (Some g) None false s = refl
-stickers_stay (Some g) (Some at) true s = refl
-stickers_stay (Some g) (Some at) false s = refl
+abbrev done : Option ℕ → Option ℕ → Bool → Bool → SavedState → SavedState
+done order removed single consume s =
+    after_all (order_ops order ++ (removal_ops removed ++ (single_ops single ++ consume_ops consume))) s
+
+-- playlists and stickers stay
+turned_lists : (single consume : Bool) (s : SavedState) → (turned single consume s).lists ≡ s.lists
+turned_lists true true s = refl
+turned_lists true false s = refl
+turned_lists false true s = refl
+turned_lists false false s = refl
+
+left_lists : (removed : Option ℕ) (single consume : Bool) (s : SavedState) → (left removed single consume s).lists ≡ s.lists
+left_lists None single consume s = turned_lists single consume s
+left_lists (Some at) single consume s = turned_lists single consume (after (OfQueue (Delete at (at + 1))) s)
+
+lists_stay : (order removed : Option ℕ) (single consume : Bool) (s : SavedState) → (done order removed single consume s).lists ≡ s.lists
+lists_stay None removed single consume s = left_lists removed single consume s
+lists_stay (Some g) removed single consume s = left_lists removed single consume (after (SetOrder g) s)
+
+turned_stickers : (single consume : Bool) (s : SavedState) → (turned single consume s).stickers ≡ s.stickers
+turned_stickers true true s = refl
+turned_stickers true false s = refl
+turned_stickers false true s = refl
+turned_stickers false false s = refl
+
+left_stickers : (removed : Option ℕ) (single consume : Bool) (s : SavedState) → (left removed single consume s).stickers ≡ s.stickers
+left_stickers None single consume s = turned_stickers single consume s
+left_stickers (Some at) single consume s = turned_stickers single consume (after (OfQueue (Delete at (at + 1))) s)
+
+stickers_stay : (order removed : Option ℕ) (single consume : Bool) (s : SavedState) →
+    (done order removed single consume s).stickers ≡ s.stickers
+stickers_stay None removed single consume s = left_stickers removed single consume s
+stickers_stay (Some g) removed single consume s = left_stickers removed single consume (after (SetOrder g) s)
 
 -- no op is one of playlists or of stickers
-none_told : (test : Op → Bool) (order removed : Option ℕ) (off : Bool) → ((g : ℕ) → test (SetOrder g) ≡ false) →
-    ((at : ℕ) → test (OfQueue (Delete at (at + 1))) ≡ false) → test (SetOption (Single Off)) ≡ false →
-    list_any test (order_ops order ++ (removal_ops removed ++ single_ops off)) ≡ false
-none_told test None None true o r s = ap (λ b. b || false) s
-none_told test None None false o r s = refl
-none_told test None (Some at) true o r s = λ i. r at i || (s i || false)
-none_told test None (Some at) false o r s = λ i. r at i || false
-none_told test (Some g) None true o r s = λ i. o g i || (s i || false)
-none_told test (Some g) None false o r s = λ i. o g i || false
-none_told test (Some g) (Some at) true o r s = λ i. o g i || (r at i || (s i || false))
-none_told test (Some g) (Some at) false o r s = λ i. o g i || (r at i || false)
+turned_told : (test : Op → Bool) (single consume : Bool) → test (SetOption (Single Off)) ≡ false →
+    test (SetOption (Consume Off)) ≡ false → list_any test (single_ops single ++ consume_ops consume) ≡ false
+turned_told test true true s c = λ i. s i || (c i || false)
+turned_told test true false s c = λ i. s i || false
+turned_told test false true s c = λ i. c i || false
+turned_told test false false s c = refl
+
+left_told : (test : Op → Bool) (removed : Option ℕ) (single consume : Bool) →
+    ((at : ℕ) → test (OfQueue (Delete at (at + 1))) ≡ false) → list_any test (single_ops single ++ consume_ops consume) ≡ false →
+    list_any test (removal_ops removed ++ (single_ops single ++ consume_ops consume)) ≡ false
+left_told test None single consume r behind = behind
+left_told test (Some at) single consume r behind = λ i. r at i || behind i
+
+none_told : (test : Op → Bool) (order removed : Option ℕ) (single consume : Bool) → ((g : ℕ) → test (SetOrder g) ≡ false) →
+    list_any test (removal_ops removed ++ (single_ops single ++ consume_ops consume)) ≡ false →
+    list_any test (order_ops order ++ (removal_ops removed ++ (single_ops single ++ consume_ops consume))) ≡ false
+none_told test None removed single consume o behind = behind
+none_told test (Some g) removed single consume o behind = λ i. o g i || behind i
+
+no_list_op : (order removed : Option ℕ) (single consume : Bool) →
+    list_any is_of_lists (order_ops order ++ (removal_ops removed ++ (single_ops single ++ consume_ops consume))) ≡ false
+no_list_op order removed single consume =
+    none_told is_of_lists order removed single consume (λ g. refl)
+    (left_told is_of_lists removed single consume (λ at. refl) (turned_told is_of_lists single consume refl refl))
+
+no_sticker_op : (order removed : Option ℕ) (single consume : Bool) →
+    list_any is_of_stickers (order_ops order ++ (removal_ops removed ++ (single_ops single ++ consume_ops consume))) ≡ false
+no_sticker_op order removed single consume =
+    none_told is_of_stickers order removed single consume (λ g. refl)
+    (left_told is_of_stickers removed single consume (λ at. refl) (turned_told is_of_stickers single consume refl refl))
 
 -- the queue without an entry is another one
 unchanged_length : (a b : List Entry) → is_unchanged [] a b ≡ true → length a ≡ length b
@@ -126,50 +155,68 @@ removal_differs at s kept within same =
     let equal : length entries ≡ length (deleted entries at (at + 1)) = unchanged_length entries _ unchanged in
     absurd (omega (arith, equal, deleted_length at entries within))
 
-queue_of_removal : (order : Option ℕ) (at : ℕ) (off : Bool) (s : SavedState) →
-    (done order (Some at) off s).queue ≡ (after (OfQueue (Delete at (at + 1))) s).queue
-queue_of_removal None at true s = refl
-queue_of_removal None at false s = refl
-queue_of_removal (Some g) at true s = refl
-queue_of_removal (Some g) at false s = refl
+turned_queue : (single consume : Bool) (s : SavedState) → (turned single consume s).queue ≡ s.queue
+turned_queue true true s = refl
+turned_queue true false s = refl
+turned_queue false true s = refl
+turned_queue false false s = refl
 
-single_of_turn : (order : Option ℕ) (s : SavedState) → (done order None true s).options.single ≡ Off
-single_of_turn None s = refl
-single_of_turn (Some g) s = refl
+queue_of_removal : (order : Option ℕ) (at : ℕ) (single consume : Bool) (s : SavedState) →
+    (done order (Some at) single consume s).queue ≡ (after (OfQueue (Delete at (at + 1))) s).queue
+queue_of_removal None at single consume s = turned_queue single consume (after (OfQueue (Delete at (at + 1))) s)
+queue_of_removal (Some g) at single consume s = turned_queue single consume (after (OfQueue (Delete at (at + 1))) (after (SetOrder g) s))
 
-none_if_same : (order removed : Option ℕ) (off : Bool) (s : SavedState) → IsSavedState s →
+-- each option that turned off is off
+single_of_turn : (order : Option ℕ) (consume : Bool) (s : SavedState) → (done order None true consume s).options.single ≡ Off
+single_of_turn None true s = refl
+single_of_turn None false s = refl
+single_of_turn (Some g) true s = refl
+single_of_turn (Some g) false s = refl
+
+consume_of_turn : (order : Option ℕ) (s : SavedState) → (done order None false true s).options.consume ≡ Off
+consume_of_turn None s = refl
+consume_of_turn (Some g) s = refl
+
+none_if_same : (order removed : Option ℕ) (single consume : Bool) (s : SavedState) → IsSavedState s →
     ((g : ℕ) → order ≡ Some g → g ≡ s.order → ⊥) → ((at : ℕ) → removed ≡ Some at → at < length s.queue.entries) →
-    (off ≡ true → s.options.single ≡ Oneshot) → done order removed off s ≡ s →
-    order_ops order ++ (removal_ops removed ++ single_ops off) ≡ []
-none_if_same order (Some at) off s kept grows within once same =
+    (single ≡ true → s.options.single ≡ Oneshot) → (consume ≡ true → s.options.consume ≡ Oneshot) →
+    done order removed single consume s ≡ s →
+    order_ops order ++ (removal_ops removed ++ (single_ops single ++ consume_ops consume)) ≡ []
+none_if_same order (Some at) single consume s kept grows within once too same =
     absurd (removal_differs at s kept (within at refl)
-    (sym (queue_of_removal order at off s) ∙ ap (λ (t : SavedState). t.queue) same))
-none_if_same order None true s kept grows within once same =
-    let turned : Off ≡ Oneshot = sym (single_of_turn order s) ∙ ap (λ (t : SavedState). t.options.single) same ∙ once refl in
+    (sym (queue_of_removal order at single consume s) ∙ ap (λ (t : SavedState). t.queue) same))
+none_if_same order None true consume s kept grows within once too same =
+    let turned : Off ≡ Oneshot =
+    sym (single_of_turn order consume s) ∙ ap (λ (t : SavedState). t.options.single) same ∙ once refl in
     absurd (cc)
-none_if_same (Some g) None false s kept grows within once same = absurd (grows g refl (ap (λ (t : SavedState). t.order) same))
-none_if_same None None false s kept grows within once same = refl
+none_if_same order None false true s kept grows within once too same =
+    let turned : Off ≡ Oneshot = sym (consume_of_turn order s) ∙ ap (λ (t : SavedState). t.options.consume) same ∙ too refl in
+    absurd (cc)
+none_if_same (Some g) None false false s kept grows within once too same =
+    absurd (grows g refl (ap (λ (t : SavedState). t.order) same))
+none_if_same None None false false s kept grows within once too same = refl
 
 step_tells : (made : Step) (m : MachineState) → IsFair made m.saved.queue.entries (settings_of m.saved) → IsSavedState m.saved →
     TellsChanges m (steps made m)
 step_tells made m fair kept =
     let order : Option ℕ = made.changes.order in
     let removed : Option ℕ = made.changes.removed in
-    let off : Bool = made.changes.single_off in
+    let single : Bool = made.changes.single_off in
+    let consume : Bool = made.changes.consume_off in
     let s : SavedState = m.saved in
     record {
-      none = none_if_same order removed off s kept
-          (λ g begins same. next_is_other s.order (sym (fair.order g begins) ∙ same)) fair.removed fair.single;
-      lists = none_told is_of_lists order removed off (λ g. refl) (λ at. refl) refl
-          ∙ same_lists_told s (done order removed off s) (lists_stay order removed off s);
-      stickers = none_told is_of_stickers order removed off (λ g. refl) (λ at. refl) refl
-          ∙ same_stickers_told s (done order removed off s) (stickers_stay order removed off s);
+      none = none_if_same order removed single consume s kept
+          (λ g begins same. next_is_other s.order (sym (fair.order g begins) ∙ same)) fair.removed fair.single fair.consume;
+      lists = no_list_op order removed single consume
+          ∙ same_lists_told s (done order removed single consume s) (lists_stay order removed single consume s);
+      stickers = no_sticker_op order removed single consume
+          ∙ same_stickers_told s (done order removed single consume s) (stickers_stay order removed single consume s);
     }
 
 pub steps_lawful : (made : Step) (m : MachineState) → IsFair made m.saved.queue.entries (settings_of m.saved) → IsLawful m (steps made m)
 steps_lawful made m fair = record {
   rebuilt = ap result_ok (all_apply 0 (step_ops made.changes) m.saved
-      (step_free made.changes.order made.changes.removed made.changes.single_off m.saved fair.removed));
+      (step_free made.changes.order made.changes.removed made.changes.single_off made.changes.consume_off m.saved fair.removed));
   tells = step_tells made m fair;
   place = λ e. refl;
 }

@@ -18,7 +18,7 @@ use Rattle.machine_core.specs.declared.job.Job.{Job}
 
 abbrev pub same_options : Options → Options → Bool
 same_options a b =
-    same_flag a.repeat b.repeat && (same_flag a.random b.random && (same_single a.single b.single && same_flag a.consume b.consume))
+    same_flag a.repeat b.repeat && (same_flag a.random b.random && (same_single a.single b.single && same_single a.consume b.consume))
 
 abbrev pub same_state : PlayState → PlayState → Bool
 same_state Stop Stop = true

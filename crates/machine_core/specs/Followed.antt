@@ -35,7 +35,7 @@ abbrev pub follows_setting : Setting → MachineState → Following
 follows_setting (Repeat on) m = stays m
 follows_setting (Random on) m = follows_random on m
 follows_setting (Single single) m = stays m
-follows_setting (Consume on) m = stays m
+follows_setting (Consume consume) m = stays m
 
 -- the step of the player as a block of entries leaves the queue, and the entries of dropped songs
 abbrev pub step_as_they_leave : Block → List (List ℕ) → MachineState → Step

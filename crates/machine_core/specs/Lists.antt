@@ -6,11 +6,14 @@ use Rattle.command_text.specs.AnswerNames.{playlist_line}
 use Rattle.command_text.specs.AnswerSongs.{file_line, song_lines}
 use Rattle.command_text.specs.declared.command.lists.ListsCommand.{ListsCommand}
 use Rattle.command_text.specs.declared.command.lists.ListsCommand.TheVariants as commands
+use Rattle.command_text.specs.declared.command.lists.SaveMode.TheVariants.{Create, Append, Replace}
 use Rattle.command_text.specs.declared.range.PositionRange.{PositionRange}
 use Rattle.command_text.specs.declared.refusal.CommandRefusal.{CommandRefusal}
 use Rattle.command_text.specs.declared.refusal.CommandRefusal.TheVariants.{BadPlaylistName, NoSuchPlaylist, NoCurrentSong}
 use Rattle.play_queue.specs.declared.target.Target.{Target}
 use Rattle.song_db.specs.Row.{Row, row_at}
+use Rattle.state_codec.specs.OpsLists.{uris_of}
+use Rattle.state_codec.specs.Replacing.{replace_ops, replaces_nothing}
 use Rattle.state_codec.specs.Steps.{◌>>=◌}
 use Rattle.state_codec.specs.declared.op.Op.TheVariants.{List as Lists}
 use Rattle.state_codec.specs.declared.op.list_op.ListOp.TheVariants.{Save, Add, Remove, Move, Clear, Rename, Drop}
@@ -18,10 +21,11 @@ use Rattle.stored_lists.specs.Lists.{Stored, names_of, songs_of}
 use Rattle.stored_lists.specs.Name.{is_good_name}
 use Rattle.stored_lists.specs.Songs.{Uris}
 use Rattle.machine_core.specs.Adding.{adds, can_count}
-use Rattle.machine_core.specs.Meaning.{Meant, must, says, edits}
+use Rattle.machine_core.specs.Meaning.{Meaning, Meant, must, says, stands, does, edits, unless_refused, refusal_of_all}
 use Rattle.machine_core.specs.Named.{numbers_of, numbers_named}
 use Rattle.machine_core.specs.Spans.{span_in, span_or_all}
 use Rattle.machine_core.specs.State.{MachineState, shown_of}
+use Rattle.machine_core.specs.Told.{told}
 
 -- a name that a playlist may have
 abbrev pub list_name : List ℕ → Result (List ℕ) CommandRefusal
@@ -52,6 +56,20 @@ rows_to_load database songs range to current = do
   span ← span_or_all range (length songs)
   Ok (numbers_of database (slice_range songs span.start span.end))
 
+-- the rows of the songs of the queue; each entry of a saved state has one
+abbrev pub queue_rows : MachineState → List ℕ
+queue_rows m = numbers_of m.saved.songs (uris_of m.saved.queue.entries)
+
+-- A playlist that is there gets the songs of the queue in place of its own: it goes, and is saved anew. What refuses either of the two
+-- ops at its turn refuses the command; where the playlist has just these songs, none is made.
+abbrev pub replaced : List ℕ → MachineState → Meaning
+replaced name m = does [] (replace_ops name) m.player m
+
+abbrev pub replaces : List ℕ → MachineState → Meant
+replaces name m =
+    unless_refused (told (refusal_of_all (replace_ops name) m.saved))
+    (if replaces_nothing name m.saved then stands [] m else replaced name m)
+
 unfoldable pub lists_meaning : ListsCommand → MachineState → Meant
 lists_meaning (commands.Add name path) m = do
   good ← list_name name
@@ -79,9 +97,15 @@ lists_meaning (commands.Rename from to) m = do
   old ← list_name from
   new ← list_name to
   edits (Lists (Rename old new)) [] m
-lists_meaning (commands.Save name) m = do
+lists_meaning (commands.Save name Create) m = do
   good ← list_name name
   edits (Lists (Save good)) [] m
+lists_meaning (commands.Save name Append) m = do
+  songs ← songs_named m.saved.lists name
+  edits (Lists (Add name (queue_rows m))) [] m
+lists_meaning (commands.Save name Replace) m = do
+  good ← list_name name
+  replaces good m
 lists_meaning (commands.Songs name) m = do
   songs ← songs_named m.saved.lists name
   says (flat_map file_line songs) m

@@ -1,12 +1,15 @@
 -- What a command means: the lines that it answers, the ops that it makes, and the machine after it. The saved half after it is the one
 -- that its ops make.
 use Rattle.std.specs.Prelude.{ℕ, List, [], ◌∷◌, ◌++◌, Bool, Option, Some, None, Result, Ok, Err, if◌then◌else◌}
+use Rattle.std.specs.Option.{option_or}
 use Rattle.command_text.specs.declared.refusal.CommandRefusal.{CommandRefusal}
 use Rattle.player_core.specs.Player.{PlayerState}
-use Rattle.state_codec.specs.Applied.{refusal_of, changes_nothing, after_all}
+use Rattle.state_codec.specs.Applied.{refusal_of, changes_nothing, after, after_all}
+use Rattle.state_codec.specs.SavedState.{SavedState}
 use Rattle.state_codec.specs.Steps.{◌>>=◌}
 use Rattle.state_codec.specs.declared.op.Op.{Op}
 use Rattle.state_codec.specs.declared.op.Op.TheVariants.{SetOrder}
+use Rattle.state_codec.specs.declared.refusal.OpRefusal.{OpRefusal}
 use Rattle.machine_core.specs.State.{MachineState}
 use Rattle.machine_core.specs.declared.job.Job.{Job}
 use Rattle.machine_core.specs.Told.{told}
@@ -63,6 +66,11 @@ unless_refused (Some refusal) answer = Err refusal
 
 unfoldable pub edits : Op → List ℕ → MachineState → Result Meaning CommandRefusal
 edits op text m = unless_refused (told (refusal_of op m.saved)) (made op text m)
+
+-- the first refusal of ops one after the other, each at its turn
+abbrev pub refusal_of_all : List Op → SavedState → Option OpRefusal
+refusal_of_all [] s = None
+refusal_of_all (op ∷ ops) s = option_or (refusal_of op s) (refusal_of_all ops (after op s))
 
 -- what is named must be there
 abbrev pub must : Bool → CommandRefusal → Result (Unit {0}) CommandRefusal

@@ -43,7 +43,7 @@ status_of m = record {
 -- `close` and `kill` end the request before they mean anything to the machine
 unfoldable pub settings_meaning : SettingsCommand → MachineState → Meant
 settings_meaning commands.Close m = says [] m
-settings_meaning (commands.Consume on) m = edits (SetOption (Consume on)) [] m
+settings_meaning (commands.Consume consume) m = edits (SetOption (Consume consume)) [] m
 settings_meaning commands.Kill m = says [] m
 settings_meaning commands.Ping m = says [] m
 settings_meaning (commands.Random on) m = edits (SetOption (Random on)) [] m

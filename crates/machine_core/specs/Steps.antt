@@ -19,7 +19,7 @@ use Rattle.song_db.specs.Row.{Row}
 use Rattle.state_codec.specs.declared.op.Op.{Op}
 use Rattle.state_codec.specs.declared.op.Op.TheVariants.{SetOption, Queue}
 use Rattle.state_codec.specs.declared.op.queue_op.QueueOp.TheVariants.{Delete}
-use Rattle.state_codec.specs.declared.op.setting.Setting.TheVariants.{Single}
+use Rattle.state_codec.specs.declared.op.setting.Setting.TheVariants.{Single, Consume}
 use Rattle.machine_core.specs.Followed.{current_row, entry_row}
 use Rattle.machine_core.specs.Meaning.{Meaning, Meant, does, order_ops, turns}
 use Rattle.machine_core.specs.State.{MachineState, settings_of}
@@ -53,9 +53,14 @@ removal_ops (Some at) = Queue (Delete at (at + 1)) ∷ []
 abbrev pub single_ops : Bool → List Op
 single_ops off = if off then SetOption (Single Off) ∷ [] else []
 
--- What a step changes of the saved half: the new random order, the entry that leaves, `single`, in this order.
+-- `consume` turns off
+abbrev pub consume_ops : Bool → List Op
+consume_ops off = if off then SetOption (Consume Off) ∷ [] else []
+
+-- What a step changes of the saved half: the new random order, the entry that leaves, `single`, `consume`, in this order.
 abbrev pub step_ops : Changes → List Op
-step_ops changes = order_ops changes.order ++ (removal_ops changes.removed ++ single_ops changes.single_off)
+step_ops changes =
+    order_ops changes.order ++ (removal_ops changes.removed ++ (single_ops changes.single_off ++ consume_ops changes.consume_off))
 
 -- the entry that leaves stands in the queue
 abbrev pub IsInQueue : Option ℕ → List Entry → Type 0

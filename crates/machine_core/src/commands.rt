@@ -15,6 +15,7 @@ mod finding;
 mod lists;
 mod playing;
 mod queue;
+mod saving;
 mod settings;
 mod status;
 mod sticker;

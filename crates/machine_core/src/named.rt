@@ -5,11 +5,13 @@ ghost use Rattle.std.specs.Option.{option_to_list};
 ghost use Rattle.song_db.specs.Limits.{MAX_ROWS};
 ghost use Rattle.song_db.specs.Query.{number_at};
 ghost use Rattle.state_codec.specs.Numbers.{MAX_COUNT};
+ghost use Rattle.state_codec.specs.OpsLists.{uris_of};
 ghost use Rattle.machine_core.specs.Named.{Finds, numbers_of, numbers_under, numbers_named, song_named};
 
 use crate::machine::Machine;
 use crate::work::Failure;
 use command_text::CommandRefusal;
+use play_queue::Entry;
 use song_db::{Place, SongDb, Uri};
 use state_codec::RowNumbers;
 use std::alloc::{AllocError, Global};
@@ -48,6 +50,37 @@ pub(crate) fn numbers_of(alloc: Global, songs: &SongDb, uris: &[Uri]) -> Result<
         push_number(songs, uri.as_str(), &mut numbers)?;
     }
     Ok(row_numbers(numbers))
+}
+
+// The numbers of the rows of the songs of entries, each looked for first where it was last known to stand.
+pub(crate) fn numbers_of_entries(
+    alloc: Global,
+    songs: &SongDb,
+    entries: &[Entry],
+) -> Result<RowNumbers, Failure>
+    requires { length entries.now ≤ MAX_COUNT }
+    ensures { Finds (Ok (numbers_of songs.now (uris_of entries.now))) result }
+{
+    let mut numbers = Vec::with_capacity(alloc, entries.len())?;
+    for entry in entries {
+        push_entry_number(songs, entry, &mut numbers)?;
+    }
+    Ok(row_numbers(numbers))
+}
+
+// Adds the number of an entry's row, if it has one.
+fn push_entry_number(
+    songs: &SongDb,
+    entry: &Entry,
+    numbers: &mut Vec<u32>,
+) -> Result<(), AllocError>
+    ensures { OnOk result (numbers.new.items ≡ numbers.old.items ++ option_to_list (number_at songs.now entry.now.uri)) }
+{
+    let _limit = songs.len();
+    if let Ok(number) = songs.number_of(&entry.uri) {
+        numbers.push(number as u32)?;
+    }
+    Ok(())
 }
 
 // Adds the number of a song's row, if it has one.

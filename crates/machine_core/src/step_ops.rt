@@ -5,7 +5,7 @@ ghost use Rattle.play_queue.specs.Limits.{MAX_ENTRIES};
 ghost use Rattle.state_codec.specs.Applied.{after_all};
 ghost use Rattle.state_codec.specs.Spelling.{ops_bytes};
 ghost use Rattle.machine_core.specs.Meaning.{order_ops};
-ghost use Rattle.machine_core.specs.Steps.{step_ops, removal_ops, single_ops, IsInQueue};
+ghost use Rattle.machine_core.specs.Steps.{step_ops, removal_ops, single_ops, consume_ops, IsInQueue};
 ghost use Rattle.machine_core.specs.Work.{Admits, AddsOps};
 
 use crate::edit::begin_order;
@@ -33,6 +33,14 @@ fn turn_single_off(saved: &mut Saved, off: bool)
     }
 }
 
+fn turn_consume_off(saved: &mut Saved, off: bool)
+    ensures { saved.new ≡ after_all (consume_ops off) saved.old }
+{
+    if off {
+        saved.set_option(Setting::Consume(Single::Off));
+    }
+}
+
 // Makes what a step changes.
 pub(crate) fn make_changes(saved: &mut Saved, changes: Changes)
     requires { IsInQueue changes.removed saved.old.queue.entries }
@@ -41,6 +49,7 @@ pub(crate) fn make_changes(saved: &mut Saved, changes: Changes)
     begin_order(saved, changes.order);
     take_out(saved, changes.removed);
     turn_single_off(saved, changes.single_off);
+    turn_consume_off(saved, changes.consume_off);
 }
 
 // How many bytes the ops of a step take.
@@ -50,7 +59,8 @@ pub(crate) fn bytes_of(changes: Changes) -> usize
     let order = if changes.order.is_some() { 9 } else { 0 };
     let removal = if changes.removed.is_some() { 9 } else { 0 };
     let single = if changes.single_off { 3 } else { 0 };
-    order + removal + single
+    let consume = if changes.consume_off { 3 } else { 0 };
+    order + removal + single + consume
 }
 
 impl Work {
@@ -85,15 +95,26 @@ impl Work {
         requires { let ops = single_ops off in Admits (length ops) (length (ops_bytes ops)) self.old }
         ensures ops { AddsOps (single_ops off) self.old self.new }
         ensures text { self.new.text ≡ self.old.text }
+        ensures room { vec_capacity self.new.ops ≡ vec_capacity self.old.ops }
     {
         if off {
             self.push(Op::SetOption(Setting::Single(Single::Off)));
         }
     }
 
+    fn push_consume(&mut self, off: bool)
+        requires { let ops = consume_ops off in Admits (length ops) (length (ops_bytes ops)) self.old }
+        ensures ops { AddsOps (consume_ops off) self.old self.new }
+        ensures text { self.new.text ≡ self.old.text }
+    {
+        if off {
+            self.push(Op::SetOption(Setting::Consume(Single::Off)));
+        }
+    }
+
     // Adds the ops of a step of the player, for which there is room.
     pub(crate) fn push_changes(&mut self, changes: Changes)
-        requires room { Admits 3 (length (ops_bytes (step_ops changes))) self.old }
+        requires room { Admits 4 (length (ops_bytes (step_ops changes))) self.old }
         requires within { ForSome changes.removed (λ at. at ≤ MAX_ENTRIES) }
         ensures ops { AddsOps (step_ops changes) self.old self.new }
         ensures text { self.new.text ≡ self.old.text }
@@ -101,5 +122,6 @@ impl Work {
         self.push_order(changes.order);
         self.push_removal(changes.removed);
         self.push_single(changes.single_off);
+        self.push_consume(changes.consume_off);
     }
 }

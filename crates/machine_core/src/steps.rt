@@ -18,7 +18,7 @@ use player_core::{Changes, PlaySettings, Player, PlayerError, Selector, SongLeng
 use std::alloc::Global;
 
 /// The ops of one step take at most so many bytes.
-const LONGEST_STEP: usize = 21;
+const LONGEST_STEP: usize = 24;
 
 /// What the player is to do, where that may change what is saved. Times are in milliseconds.
 #[derive(Clone, Copy, Debug)]
@@ -94,13 +94,13 @@ impl Machine {
     // Takes the room for the ops of a step, where the request may make them.
     fn admit_step(&self, alloc: Global, step: PlayerStep, work: &mut Work) -> Result<(), Failure>
         ensures ok { OnOk result (IfOk (step_in step self.now) (λ made.
-            Admits 3 (length (ops_bytes (step_ops made.changes))) work.new)) }
+            Admits 4 (length (ops_bytes (step_ops made.changes))) work.new)) }
         ensures nothing { AddsNothing work.old work.new }
         ensures same { work.new.text ≡ work.old.text }
         ensures refused { IfErr result (IsRefusalOf (moves (step_in step self.now) self.now) work.old.size) }
     {
         let bytes = self.bytes_for(alloc, step, work.size)?;
-        work.admit(3, bytes)
+        work.admit(4, bytes)
     }
 
     // How many bytes are enough for the ops of a step; exactly how many they take, where the request has no room for more. Then alone the

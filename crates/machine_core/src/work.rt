@@ -8,6 +8,9 @@ use std::alloc::{AllocError, AllocFailed, Global};
 /// The ops of one request take at most so many bytes, as many as a record of the journal holds.
 pub const MAX_REQUEST_BYTES: usize = 2_097_152;
 
+/// No client gets an answer of more bytes: whatever makes it longer is the last that is done of its request.
+const LONGEST_ANSWER: usize = 8_388_608;
+
 /// Room for `list_OK` and the longest `ACK` line of want of memory behind it.
 const COMMAND_ROOM: usize = 72;
 
@@ -94,11 +97,14 @@ impl Work {
         })
     }
 
-    /// Takes the room that a command needs from the start.
-    pub fn make_room(&mut self) -> Result<(), AllocError>
+    /// Takes the room that a command needs from the start. Behind an answer that is longer than any that is sent there is none.
+    pub fn make_room(&mut self) -> Result<(), NoMemory>
         ensures ok { OnOk result (HasRoom command_room self.new) }
         ensures nothing { AddsNothing self.old self.new }
     {
+        if self.text.len() > LONGEST_ANSWER {
+            return Err(NoMemory);
+        }
         self.text.reserve(COMMAND_ROOM)?;
         Ok(())
     }
@@ -155,6 +161,27 @@ impl Work {
             self.push(Op::SetOrder(order));
         }
         self.push(op);
+    }
+
+    // Takes the room for two ops, one after the other.
+    pub(crate) fn admit_both(&mut self, first: &Op, second: &Op) -> Result<(), Failure>
+        ensures ok { OnOk result (let ops = first.now ∷ second.now ∷ [] in Admits (length ops) (length (ops_bytes ops)) self.new) }
+        ensures nothing { AddsNothing self.old self.new }
+        ensures same { self.new.text ≡ self.old.text }
+        ensures refused { IfErr result (IsTooMuch (self.old.size + length (ops_bytes (first.now ∷ second.now ∷ [])))) }
+    {
+        let bytes = first.spelled_len().saturating_add(second.spelled_len());
+        self.admit(2, bytes)
+    }
+
+    // Adds two ops for which there is room.
+    pub(crate) fn push_both(&mut self, first: Op, second: Op)
+        requires { let ops = first ∷ second ∷ [] in Admits (length ops) (length (ops_bytes ops)) self.old }
+        ensures ops { AddsOps (first ∷ second ∷ []) self.old self.new }
+        ensures text { self.new.text ≡ self.old.text }
+    {
+        self.push(first);
+        self.push(second);
     }
 
     // Keeps the text that was written from this place on, with room for what ends a command, or cuts it off.

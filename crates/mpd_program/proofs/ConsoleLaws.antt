@@ -5,7 +5,7 @@ use Rattle.disk_model.specs.Moments.{LeftSince}
 use Rattle.disk_model.proofs.MomentLaws.{counts_now}
 use Rattle.state_codec.specs.SavedState.{SavedState}
 use Rattle.live_stage.specs.declared.refusal.StartError.{StartError}
-use Rattle.live_stage.specs.declared.refusal.StartError.TheVariants.{NotEmpty, NoJournal, Damaged, NoMemory, Broken}
+use Rattle.live_stage.specs.declared.refusal.StartError.TheVariants.{NotEmpty, NoJournal, Damaged, NoMemory, NumbersSpent, Broken}
 use Rattle.live_stage.specs.Errors.{IsRefusalOfOpen, start_number_of}
 use Rattle.mpd_program.specs.Lives.{Moment, HasFailed, AreImages, AllFind, IsFaulted, IsRefused, IsLife, status_of, ending_of, IsConsole}
 use Rattle.mpd_program.specs.declared.console.Ending.{Ending}
@@ -31,11 +31,13 @@ served_is_done Honest status ending first last (inr two) served = absurd (served
 
 -- ---- refused
 
-refused_as : (n : ℕ) (error : StartError) → IsRefusalOfOpen error → error ≢ Broken → n ≡ start_number_of error → (n ≡ 4) ⊎ (n ≡ 5) ⊎ (n ≡ 7)
+refused_as : (n : ℕ) (error : StartError) → IsRefusalOfOpen error → error ≢ Broken → n ≡ start_number_of error
+    → (n ≡ 4) ⊎ (n ≡ 5) ⊎ (n ≡ 7) ⊎ (n ≡ 49)
 refused_as n NotEmpty refusal other is = elim refusal [ ]
 refused_as n NoJournal refusal other is = inl is
 refused_as n (Damaged offset) refusal other is = inr (inl is)
-refused_as n NoMemory refusal other is = inr (inr is)
+refused_as n NoMemory refusal other is = inr (inr (inl is))
+refused_as n NumbersSpent refusal other is = inr (inr (inr is))
 refused_as n Broken refusal other is = absurd (other refl)
 
 -- the number of a life whose status is that of a refused journal
@@ -52,7 +54,7 @@ refusal_of_life Honest c came_to status n first last life same is =
 
 pub refused_numbers : (Honest : Type 0) (status : Status) (ending : Ending) (first last : Moment)
     → IsConsole Honest status ending first last
-    → (n : ℕ) → status ≡ JournalRefused n → (n ≡ 4) ⊎ (n ≡ 5) ⊎ (n ≡ 7)
+    → (n : ℕ) → status ≡ JournalRefused n → (n ≡ 4) ⊎ (n ≡ 5) ⊎ (n ≡ 7) ⊎ (n ≡ 49)
 refused_numbers Honest status ending first last (inl one) n is =
     let r = refusal_of_life Honest 1 one.came_to status n first last one.life one.same_status is in
     refused_as n r.error r.refusal r.not_a_fault r.number
@@ -72,27 +74,33 @@ still_opens : (Honest : Type 0) (c : ℕ) (first between : Moment) → Honest �
 still_opens Honest c first between honest fault all = λ x y at_x at_y. elim fault.place [
   | inl opening ↦ (
       let holds = opening.holds honest in
-      let left_a = subst (λ h. LeftSince h (length first.history_a) x) holds.second.0 (counts_now between.history_a _ x at_x) in
-      let left_b = subst (λ h. LeftSince h (length first.history_b) y) holds.second.1 (counts_now between.history_b _ y at_y) in
-      let from = holds.first x y left_a left_b in
-      subst IsSome (sym from.4) (all from.0 from.1 from.2 from.3))
+      elim holds.second [
+        | inl same ↦ (
+            let left_a = subst (λ h. LeftSince h (length first.history_a) x) same.0 (counts_now between.history_a _ x at_x) in
+            let left_b = subst (λ h. LeftSince h (length first.history_b) y) same.1 (counts_now between.history_b _ y at_y) in
+            let from = holds.first x y left_a left_b in
+            subst IsSome (sym from.4) (all from.0 from.1 from.2 from.3))
+        | inr one ↦ some_is _ _ (one.since x y (counts_now between.history_a _ x at_x) (counts_now between.history_b _ y at_y))
+      ])
   | inr event ↦ (
       let either = event.holds honest in
       elim (either.1 x y at_x at_y) [ inl before ↦ some_is _ _ before | inr after ↦ some_is _ _ after ])
 ]
 
-memory_number : (n : ℕ) (error : StartError) → n ≡ start_number_of error → error ≡ NoMemory → n ≡ 7
-memory_number n error is same = is ∙ ap start_number_of same
+good_number : (n : ℕ) (error : StartError) → n ≡ start_number_of error → (error ≡ NoMemory) ⊎ (error ≡ NumbersSpent)
+    → (n ≡ 7) ⊎ (n ≡ 49)
+good_number n error is (inl memory) = inl (is ∙ ap start_number_of memory)
+good_number n error is (inr spent) = inr (is ∙ ap start_number_of spent)
 
-pub only_memory : (Honest : Type 0) (status : Status) (ending : Ending) (first last : Moment) → IsConsole Honest status ending first last
+pub good_files : (Honest : Type 0) (status : Status) (ending : Ending) (first last : Moment) → IsConsole Honest status ending first last
     → Honest
-    → AllFind (λ f. IsSome f) first → (n : ℕ) → status ≡ JournalRefused n → n ≡ 7
-only_memory Honest status ending first last (inl one) honest all n is =
+    → AllFind (λ f. IsSome f) first → (n : ℕ) → status ≡ JournalRefused n → (n ≡ 7) ⊎ (n ≡ 49)
+good_files Honest status ending first last (inl one) honest all n is =
     let r = refusal_of_life Honest 1 one.came_to status n first last one.life one.same_status is in
-    memory_number n r.error r.number (r.only_memory honest all)
-only_memory Honest status ending first last (inr two) honest all n is =
+    good_number n r.error r.number (r.good_files honest all)
+good_files Honest status ending first last (inr two) honest all n is =
     let r = refusal_of_life Honest 2 two.came_to status n two.between last two.life two.same_status is in
-    memory_number n r.error r.number (r.only_memory honest (still_opens Honest 1 first two.between honest two.fault all))
+    good_number n r.error r.number (r.good_files honest (still_opens Honest 1 first two.between honest two.fault all))
 
 -- ---- faulted
 

@@ -10,7 +10,7 @@ use Rattle.daemon_core.specs.Step.{Stepped}
 use Rattle.daemon_core.specs.Replay.{Entry, stepped, replay}
 use Rattle.daemon_core.proofs.HistoryLaws.{outputs_are_replies}
 use Rattle.live_stage.specs.declared.refusal.StartError.{StartError}
-use Rattle.live_stage.specs.declared.refusal.StartError.TheVariants.{NotEmpty, NoJournal, Damaged, NoMemory, Broken}
+use Rattle.live_stage.specs.declared.refusal.StartError.TheVariants.{NotEmpty, NoJournal, Damaged, NoMemory, NumbersSpent, Broken}
 use Rattle.live_stage.specs.Errors.{IsRefusalOfOpen, IsCause, start_number_of}
 use Rattle.live_stage.specs.Found.{found_state, AllFindNow, KeepsFoundState}
 use Rattle.live_stage.specs.Transcript.{replayed}
@@ -192,7 +192,8 @@ opened_life Honest c first last s t ending begun found p holds failed =
 
 not_a_fault : (Honest : Type 0) (c n : ℕ) (first last : Moment) (error : StartError) → IsRefusalOfOpen error → error ≢ Broken
     → (Honest → IsCause first.content_a first.content_b error)
-    → (Honest → AllFindNow (λ f. IsSome f) first.history_a first.history_b → (error ≡ NoMemory) ⊎ (error ≡ Broken))
+    → (Honest → AllFindNow (λ f. IsSome f) first.history_a first.history_b
+    → (error ≡ NoMemory) ⊎ (error ≡ NumbersSpent) ⊎ (error ≡ Broken))
     → Keeps first.input last.input → Keeps first.output last.output
     → (Honest → KeepsFoundState first.history_a first.history_b last.history_a last.history_b)
     → n ≡ (let number : ℕ = start_number_of error in number) → IsRefused Honest n first last
@@ -202,7 +203,10 @@ not_a_fault Honest c n first last error refusal other cause opens input output h
   not_a_fault = other;
   number = same;
   cause = cause;
-  only_memory = λ honest all. (elim (opens honest all) [ inl memory ↦ memory | inr fault ↦ absurd (other fault) ]);
+  good_files = λ honest all. (elim (opens honest all) [
+    | inl memory ↦ inl memory
+    | inr others ↦ elim others [ inl spent ↦ inr spent | inr fault ↦ absurd (other fault) ]
+  ]);
   input = input;
   output = output;
   holds = holds;
@@ -210,7 +214,8 @@ not_a_fault Honest c n first last error refusal other cause opens input output h
 
 pub refused_life : (Honest : Type 0) (c : ℕ) (first last : Moment) (error : StartError) → IsRefusalOfOpen error
     → (Honest → IsCause first.content_a first.content_b error)
-    → (Honest → AllFindNow (λ f. IsSome f) first.history_a first.history_b → (error ≡ NoMemory) ⊎ (error ≡ Broken))
+    → (Honest → AllFindNow (λ f. IsSome f) first.history_a first.history_b
+    → (error ≡ NoMemory) ⊎ (error ≡ NumbersSpent) ⊎ (error ≡ Broken))
     → Keeps first.input last.input → Keeps first.output last.output
     → (Honest → KeepsFoundState first.history_a first.history_b last.history_a last.history_b)
     → (Honest → error ≡ Broken → HasFailed first last)
@@ -222,6 +227,8 @@ refused_life Honest c first last (Damaged offset) refusal cause opens input outp
     not_a_fault Honest c 5 first last (Damaged offset) refusal (λ is. cc) cause opens input output holds refl
 refused_life Honest c first last NoMemory refusal cause opens input output holds failed =
     not_a_fault Honest c 7 first last NoMemory refusal (λ is. cc) cause opens input output holds refl
+refused_life Honest c first last NumbersSpent refusal cause opens input output holds failed =
+    not_a_fault Honest c 49 first last NumbersSpent refusal (λ is. cc) cause opens input output holds refl
 refused_life Honest c first last Broken refusal cause opens input output holds failed = record {
   place = inl (record { input = input; output = output; holds = holds });
   failed = λ honest. failed honest refl;
@@ -288,7 +295,7 @@ life_under Strong Weak c (Err number) first last given h = record {
   not_a_fault = h.not_a_fault;
   number = h.number;
   cause = λ strong. h.cause (given strong);
-  only_memory = λ strong. h.only_memory (given strong);
+  good_files = λ strong. h.good_files (given strong);
   input = h.input;
   output = h.output;
   holds = λ strong. h.holds (given strong);

@@ -8,7 +8,7 @@ use Rattle.state_codec.specs.SavedState.{SavedState}
 use Rattle.daemon_core.specs.declared.event.Event.{Event}
 use Rattle.daemon_core.specs.Replay.{Entry, replay}
 use Rattle.live_stage.specs.declared.refusal.StartError.{StartError}
-use Rattle.live_stage.specs.declared.refusal.StartError.TheVariants.{NotEmpty, NoJournal, Damaged, NoMemory, Broken}
+use Rattle.live_stage.specs.declared.refusal.StartError.TheVariants.{NotEmpty, NoJournal, Damaged, NoMemory, NumbersSpent, Broken}
 use Rattle.live_stage.specs.Errors.{IsRefusalOfOpen, IsCause, start_number_of}
 use Rattle.live_stage.specs.Found.{found_state, AllFindNow, KeepsFoundState}
 use Rattle.client_session.specs.Requests.{requests_of}
@@ -134,7 +134,7 @@ pub record IsRefused (Honest : Type 0) (n : ℕ) (first last : Moment) : Type 0 
   pub not_a_fault : error ≢ Broken
   pub number : n ≡ start_number_of error
   pub cause : Honest → IsCause first.content_a first.content_b error
-  pub only_memory : Honest → AllFind (λ f. IsSome f) first → error ≡ NoMemory
+  pub good_files : Honest → AllFind (λ f. IsSome f) first → (error ≡ NoMemory) ⊎ (error ≡ NumbersSpent)
   pub input : Keeps first.input last.input
   pub output : Keeps first.output last.output
   pub holds : Honest → KeepsFoundState first.history_a first.history_b last.history_a last.history_b
@@ -152,6 +152,7 @@ refusal_of NotEmpty = Err 3
 refusal_of NoJournal = Err 4
 refusal_of (Damaged offset) = Err 5
 refusal_of NoMemory = Err 7
+refusal_of NumbersSpent = Err 49
 refusal_of Broken = Ok Faulted
 
 -- the status of a console whose last life came to this

@@ -29,7 +29,7 @@ const SECOND_CLIENT: u64 = 2;
 pub enum Status {
     /// The client was served.
     Done,
-    /// The journal was refused, with the number of the refusal: 3 where one is made, 4, 5 or 7.
+    /// The journal was refused, with the number of the refusal: 3 where one is made, 4, 5, 7 or 49.
     JournalRefused(u8),
     /// A second disk fault.
     DiskFault,
@@ -75,6 +75,8 @@ pub enum Ending {
 pub struct ConsoleEnd<D> {
     pub status: Status,
     pub ending: Ending,
+    /// Whether the journal had an old layout, and was brought to the present one: a program of before can't read it then.
+    pub migrated: bool,
     /// The disk of file a.
     pub a: D,
     /// The disk of file b.
@@ -82,9 +84,10 @@ pub struct ConsoleEnd<D> {
 }
 
 // What came of the time from one opening of the journal on: how the client's serving ended, or the number with which the
-// journal was refused; and both disks.
+// journal was refused; whether the journal was brought to the present layout; and both disks.
 struct Life<D> {
     came_to: Result<Ending, u8>,
+    migrated: bool,
     a: D,
     b: D,
 }
@@ -125,12 +128,14 @@ fn serve_life<D: Disk, F: Folder, R: Read, W: Write>(
         Ok(live) => live,
         Err(refused) => return refused_life(refused),
     };
+    let migrated = live.was_migrated();
     let ending = serve_client(alloc, &mut live, client, folder, reader, writer);
     // As long as no disk failed, the files give its state.
     let _broken = live.is_broken();
     let (a, b) = live.into_disks();
     Life {
         came_to: Ok(ending),
+        migrated,
         a,
         b,
     }
@@ -147,14 +152,24 @@ fn refused_life<D>(refused: Refused<D>) -> Life<D>
         StartError::Broken => Ok(Ending::Faulted),
         other => Err(other.number()),
     };
-    Life { came_to, a, b }
+    Life {
+        came_to,
+        migrated: false,
+        a,
+        b,
+    }
 }
 
 // The end of a console whose last life was this one.
-fn ended<D>(ending: Ending, last: Life<D>) -> ConsoleEnd<D>
-    ensures { result ≡ record { status = status_of last.came_to; ending = ending; a = last.a; b = last.b } }
+fn ended<D>(ending: Ending, migrated: bool, last: Life<D>) -> ConsoleEnd<D>
+    ensures { result ≡ record { status = status_of last.came_to; ending = ending; migrated = migrated; a = last.a; b = last.b } }
 {
-    let Life { came_to, a, b } = last;
+    let Life {
+        came_to,
+        migrated: _,
+        a,
+        b,
+    } = last;
     let status = match came_to {
         Ok(Ending::Whole | Ending::Cut) => Status::Done,
         Ok(Ending::Faulted) => Status::DiskFault,
@@ -163,6 +178,7 @@ fn ended<D>(ending: Ending, last: Life<D>) -> ConsoleEnd<D>
     ConsoleEnd {
         status,
         ending,
+        migrated,
         a,
         b,
     }
@@ -195,20 +211,29 @@ pub fn run_console<D: Disk, F: Folder, R: Read, W: Write>(
         → HasFailed D.faults a b result.a result.b
         ⊎ ((number : ℕ) × (result.status ≡ Status.JournalRefused number)) }
     ensures unfailed { result.ending ≢ Ending.Faulted → SameFaults D.faults a b result.a result.b }
-    ensures refused { (number : ℕ) → result.status ≡ Status.JournalRefused number → (number ≡ 4) ⊎ (number ≡ 5) ⊎ (number ≡ 7) }
+    ensures refused { (number : ℕ) → result.status ≡ Status.JournalRefused number
+        → (number ≡ 4) ⊎ (number ≡ 5) ⊎ (number ≡ 7) ⊎ (number ≡ 49) }
 
-    // Where each pair of images that a crash may have left gives a state, the journal is refused for want of memory alone.
+    // Where each pair of images that a crash may have left gives a state, the journal is refused for want of memory alone, or since it
+    // has an old layout and the last generation.
     ensures opens { D.honest a → D.honest b → AllFindNow (λ f. IsSome f) (D.history a) (D.history b)
-        → (number : ℕ) → result.status ≡ Status.JournalRefused number → number ≡ 7 }
+        → (number : ℕ) → result.status ≡ Status.JournalRefused number → (number ≡ 7) ⊎ (number ≡ 49) }
 
     ensures later { AreLater D.honest D.history D.faults a b result.a result.b }
 {
     let first = serve_life(alloc, a, b, FIRST_CLIENT, folder, reader, writer);
     if !first.is_faulted() {
         let ending = first.ending();
-        return ended(ending, first);
+        let migrated = first.migrated;
+        return ended(ending, migrated, first);
     }
-    let Life { came_to: _, a, b } = first;
+    let Life {
+        came_to: _,
+        migrated,
+        a,
+        b,
+    } = first;
     let second = serve_life(alloc, a, b, SECOND_CLIENT, folder, reader, writer);
-    ended(Ending::Faulted, second)
+    let migrated = migrated || second.migrated;
+    ended(Ending::Faulted, migrated, second)
 }

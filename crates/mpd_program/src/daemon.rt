@@ -11,7 +11,7 @@ use crate::output::Output;
 use crate::serve_config::ServeConfig;
 use crate::stop_flag::StopFlag;
 use crate::stopping_folder::StoppingFolder;
-use crate::tasks::{JournalFiles, open_files, tell_fault, tell_refusal, told};
+use crate::tasks::{JournalFiles, open_files, tell_fault, tell_migration, tell_refusal, told};
 use crate::told_listener::ToldListener;
 use disk_model::FileDisk;
 use log::Log;
@@ -223,6 +223,9 @@ fn serve_over<R: Threads + Wait + Clock + Log + Sync>(
         Ok(opened) => opened,
         Err(end) => return ended(rt, config, end),
     };
+    if opened.was_migrated() {
+        tell_migration(rt);
+    }
     let (mut clients, workers) = begin(rt, config, address, output, stop)?;
     let end = mpd_server::serve(threads, rt.alloc(), opened, &mut clients, workers);
     ended(rt, config, end)

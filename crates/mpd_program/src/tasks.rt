@@ -10,7 +10,7 @@ use crate::exit::Exit;
 use crate::file_lock::FileLock;
 use crate::music::Music;
 use disk_model::{Disk, FileDisk, MemDisk};
-use live_stage::{Live, Refused, StartError};
+use live_stage::{LAYOUT, Live, Refused, StartError};
 use log::Log;
 use std::fs::File;
 use std::io::{self, ErrorKind, Read};
@@ -137,6 +137,8 @@ pub(crate) fn tell_refusal(rt: &HostRuntime, a: &str, b: &str, number: u8) {
         3 => "not both are empty; a journal is made of empty or missing files alone",
         4 => "no journal; `mpd_daemon create CONFIG` makes one",
         5 => "damaged, or of a later layout",
+        49 =>
+            "of an old layout, and with the last generation: no checkpoint can bring it to the present layout",
         _ => return,
     };
     let _printed = eprintln!(rt; "{a}, {b}: {advice}");
@@ -175,6 +177,13 @@ pub(crate) fn tell_fault(rt: &HostRuntime, path: &str, disk: &FileDisk<File>) {
     }
 }
 
+/// Says on standard error that the journal has the layout that is written, from now on.
+pub(crate) fn tell_migration(rt: &HostRuntime) {
+    let _printed = eprintln!(rt;
+        "the journal was brought to layout {LAYOUT}: an older program can't read it any more"
+    );
+}
+
 /// Serves one client over a fresh journal in memory, with a key of zeros, and over a folder without songs. Nothing keeps it.
 fn console_in_memory(rt: &HostRuntime) -> Result<(), Exit> {
     let alloc = rt.alloc();
@@ -201,6 +210,9 @@ fn console(rt: &HostRuntime, config: Config) -> Result<(), Exit> {
         locks: _locks,
     } = open_files(rt, journal_a.as_str(), journal_b.as_str())?;
     let end = serve(rt, a, b, &mut Music::new(rt, music));
+    if end.migrated {
+        tell_migration(rt);
+    }
     tell_fault(rt, journal_a.as_str(), &end.a);
     tell_fault(rt, journal_b.as_str(), &end.b);
     if let Status::JournalRefused(number) = end.status {

@@ -1,7 +1,7 @@
 -- How a daemon's lives end.
 use Rattle.std.specs.Prelude.{◌≡◌, ◌⊎◌, Bool, true, false}
 use Rattle.live_stage.specs.declared.refusal.StartError.{StartError}
-use Rattle.live_stage.specs.declared.refusal.StartError.TheVariants.{NotEmpty, NoJournal, Damaged, NoMemory, Broken}
+use Rattle.live_stage.specs.declared.refusal.StartError.TheVariants.{NotEmpty, NoJournal, Damaged, NoMemory, NumbersSpent, Broken}
 use Rattle.live_stage.specs.Errors.{start_number_of}
 use Rattle.mpd_server.specs.declared.ending.ServeStatus.{ServeStatus}
 use Rattle.mpd_server.specs.declared.ending.ServeStatus.TheVariants.{JournalRefused, DiskFault}
@@ -15,6 +15,7 @@ refusal_of NotEmpty = Ended (JournalRefused (start_number_of NotEmpty))
 refusal_of NoJournal = Ended (JournalRefused (start_number_of NoJournal))
 refusal_of (Damaged offset) = Ended (JournalRefused (start_number_of (Damaged offset)))
 refusal_of NoMemory = Ended (JournalRefused (start_number_of NoMemory))
+refusal_of NumbersSpent = Ended (JournalRefused (start_number_of NumbersSpent))
 
 -- how a life ends whose stage came back, and that would else have ended so
 abbrev pub ending_of : Bool → ServeStatus → LifeEnding
@@ -29,4 +30,5 @@ status_of (Ended status) = status
 -- what a journal that is not opened ends the daemon with
 abbrev pub IsRefusalOfStart : ServeStatus → Type 0
 IsRefusalOfStart status =
-    (status ≡ JournalRefused 4) ⊎ (status ≡ JournalRefused 5) ⊎ (status ≡ JournalRefused 7) ⊎ (status ≡ DiskFault)
+    (status ≡ JournalRefused 4) ⊎ (status ≡ JournalRefused 5) ⊎ (status ≡ JournalRefused 7) ⊎ (status ≡ JournalRefused 49)
+    ⊎ (status ≡ DiskFault)

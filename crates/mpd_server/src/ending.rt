@@ -10,7 +10,7 @@ use live_stage::{Live, Refused, StartError};
 pub enum ServeStatus {
     /// A client asked for its end.
     Killed,
-    /// The journal was refused, with the number of the refusal: 4, 5 or 7.
+    /// The journal was refused, with the number of the refusal: 4, 5, 7 or 49.
     JournalRefused(u8),
     /// A thread could not be made.
     NoThread,

@@ -14,9 +14,18 @@ pub struct Opened<D: Disk> {
     pub(crate) is_second: bool,
 }
 
+impl<D: Disk> Opened<D> {
+    /// Whether the journal had an older layout, and was brought to the present one.
+    pub fn was_migrated(&self) -> bool
+        ensures { result ≡ self.now.live.was_migrated }
+    {
+        self.live.was_migrated()
+    }
+}
+
 /// Opens the journal on the disks of files a and b, and after a disk fault once more.
 ///
-/// The journal's refusal hands both disks back: 4, 5 or 7, or a disk fault where both openings met one.
+/// The journal's refusal hands both disks back: 4, 5, 7 or 49, or a disk fault where both openings met one.
 pub fn open_journal<D: Disk>(alloc: Global, a: D, b: D) -> Result<Opened<D>, ServeEnd<D>>
     ensures first { IfOk result (λ opened. opened.live.numbers.event ≡ 0) }
     ensures ended { IfErr result (λ e. IsRefusalOfStart e.status) }

@@ -14,7 +14,7 @@ use Rattle.play_journal.proofs.FileLaws.{open_at-file}
 use Rattle.play_journal.proofs.InUseLaws.{content-file, laid_file, laid_in_use, laid_content}
 use Rattle.play_journal.proofs.PairLaws.{found_first, found_second}
 
-module _ (here there : List ℕ) (end generation base count : ℕ) (used : IsInUse here there end generation base count)
+module _ (here there : List ℕ) (end layout generation base count : ℕ) (used : IsInUse here there end layout generation base count)
     (new snapshot : List ℕ) (is_new : new ≡ open_gate ∷ head present_layout (generation + 1) (base + count) (length snapshot)
     ++ snapshot ++ 0 ∷ [])
     (next : generation + 1 < 2 ^ 64) (numbers : base + count < 2 ^ 64) (short : length snapshot < 2 ^ 32) where
@@ -85,7 +85,7 @@ module _ (here there : List ℕ) (end generation base count : ℕ) (used : IsInU
 
   -- and then it is in use
   pub next_kept : (h o : List Change) (to : ℕ) → to ≡ 32 + length snapshot → window h ≡ settled here → window o ≡ settled new
-      → IsKept new here o h to (generation + 1) (base + count) 0
+      → IsKept new here o h to present_layout (generation + 1) (base + count) 0
   next_kept h o to is_end here_settled new_settled = record {
     here_settled = new_settled;
     there_settled = here_settled;

@@ -5,12 +5,12 @@ use Rattle.std.specs.Prelude.{flat_map, slice_range}
 use Rattle.std.specs.Int.{w32, w64}
 use Rattle.std.proofs.lemmas.Bool.{ltb-false, le-ltb}
 use Rattle.std.proofs.lemmas.List.{take_at, drop_at, take-append-drop, length-take-le, drop-drop, nil_from_length}
-use Rattle.play_journal.specs.Content.{Content, present_layout}
+use Rattle.play_journal.specs.Content.{Content}
 use Rattle.play_journal.specs.File.{open_gate, head, gated, spelling, IsFile, IsOpenAt}
 use Rattle.play_journal.specs.Reading.{Open, number_at, records_at, with_records, before_records, front, read}
 use Rattle.play_journal.proofs.RecordLaws.{at_number, IsBytes, IsBytes-drop, guard_ok, records_at-gated, records_at-inverse}
 use Rattle.play_journal.proofs.HeadLaws.{length-head, spelled_rest, spelled_layout, spelled_generation, spelled_base, spelled_size}
-use Rattle.play_journal.proofs.HeadLaws.{front-open, passed, spelled_head, head_number_8, head_number_4}
+use Rattle.play_journal.proofs.HeadLaws.{front-open, passed, known_fits, spelled_head, head_number_8, head_number_4}
 
 -- a file and what follows it, from the snapshot on
 pub spelling_parts : (file : Content) (tail : List ℕ) → spelling file
@@ -57,7 +57,7 @@ read-file bytes file is =
     let spelled : bytes ≡ open_gate ∷ head file.layout file.generation file.base size ++ (file.snapshot ++ tail) = is.spelled
     ∙ spelling_parts file (is.gate ∷ is.free) in
     let layout_is : number_at w32 8 bytes ≡ file.layout = ap (λ (l : List ℕ). number_at w32 8 l) spelled
-    ∙ spelled_layout file.layout file.generation file.base size (file.snapshot ++ tail) (omega (arith, is.fits.layout)) in
+    ∙ spelled_layout file.layout file.generation file.base size (file.snapshot ++ tail) (known_fits file.layout is.fits.layout) in
     let generation_is : number_at w64 12 bytes ≡ file.generation = ap (λ (l : List ℕ). number_at w64 12 l) spelled
     ∙ spelled_generation file.layout file.generation file.base size (file.snapshot ++ tail) is.fits.generation in
     let base_is : number_at w64 20 bytes ≡ file.base = ap (λ (l : List ℕ). number_at w64 20 l) spelled
@@ -131,6 +131,7 @@ pub read-inverse : (bytes : List ℕ) (generation : ℕ) (content : Content) →
     → read bytes ≡ Ok content → ReadAs bytes generation content
 unfolding read
 read-inverse bytes generation content fits opened is =
+    let layout : ℕ = number_at w32 8 bytes in
     let base : ℕ = number_at w64 20 bytes in
     let size : ℕ = number_at w32 28 bytes in
     let tests = passed bytes generation opened in
@@ -149,16 +150,16 @@ read-inverse bytes generation content fits opened is =
     let rest : drop (32 + size) bytes ≡ tail = stands.parts ∙ ap (λ (l : List ℕ). l ++ tail) none in
     let behind : drop 32 bytes ≡ snapshot ++ tail = sym (take-append-drop size (drop 32 bytes))
     ∙ ap (λ (l : List ℕ). snapshot ++ l) (drop-drop size 32 bytes ∙ rest) in
-    let made : Content = record { layout = present_layout; generation = generation; base = base; snapshot = snapshot; records = parts.0 } in
+    let made : Content = record { layout = layout; generation = generation; base = base; snapshot = snapshot; records = parts.0 } in
     let spelled : bytes ≡ spelling made ++ stands.gate ∷ stands.free =
-    spelled_head bytes generation fits tests ∙ ap (λ (l : List ℕ). open_gate ∷ head present_layout generation base size ++ l) behind
-    ∙ ap (λ (n : ℕ). open_gate ∷ head present_layout generation base n ++ (snapshot ++ tail)) (sym long)
+    spelled_head bytes generation fits tests ∙ ap (λ (l : List ℕ). open_gate ∷ head layout generation base size ++ l) behind
+    ∙ ap (λ (n : ℕ). open_gate ∷ head layout generation base n ++ (snapshot ++ tail)) (sym long)
     ∙ sym (spelling_parts made (stands.gate ∷ stands.free)) in
     record {
       file = made;
       is_file = record {
         fits = record {
-          layout = refl;
+          layout = tests.layout;
           generation = subst (λ (n : ℕ). n < 2 ^ 64) tests.numbered (head_number_8 12 bytes fits);
           numbers = stands.numbers;
           snapshot = subst (λ (n : ℕ). n < 2 ^ 32) (sym long) (head_number_4 28 bytes fits);
@@ -171,19 +172,12 @@ read-inverse bytes generation content fits opened is =
       };
       generation_is = refl;
       says = ap (λ (n : ℕ). record {
-        layout = n;
-        generation = generation;
+        layout = layout;
+        generation = n;
         base = base;
         snapshot = snapshot;
         records = parts.0;
-      }) (sym tests.layout)
-          ∙ ap (λ (n : ℕ). record {
-            layout = number_at w32 8 bytes;
-            generation = n;
-            base = base;
-            snapshot = snapshot;
-            records = parts.0;
-          }) (sym tests.numbered)
+      }) (sym tests.numbered)
           ∙ ap (λ (l : List ℕ). record {
             layout = number_at w32 8 bytes;
             generation = number_at w64 12 bytes;

@@ -4,13 +4,13 @@ use Rattle.std.proofs.Common.{length, length-append, length-drop, length-take, t
 use Rattle.std.specs.Prelude.{slice_index, slice_range, bytes_eq}
 use Rattle.std.specs.Int.{w32, w64, from_le_bytes, to_le_bytes}
 use Rattle.std.proofs.lemmas.Bool.{cases_lt, and_parts, and_left, and_right, both_ways, not-true, not-false, ltb-false, le-ltb, lt-ltb}
-use Rattle.std.proofs.lemmas.Bool.{eqb-true, eq-eqb, ne_eqb}
+use Rattle.std.proofs.lemmas.Bool.{eqb-true, eq-eqb, ne_eqb, cases_eq}
 use Rattle.std.proofs.lemmas.List.{take-append-drop, length-take-le, get_or-take, take-take, drop-take, drop-drop, drop_more}
 use Rattle.std.proofs.lemmas.Nat.{le_bytes_4, le_bytes_8, from_le_bytes-to_le_bytes_4, from_le_bytes-to_le_bytes_8}
 use Rattle.std.proofs.lemmas.Slice.Eq.{bytes_eq-Decides}
-use Rattle.play_journal.specs.Content.{present_layout, IsKnownLayout}
+use Rattle.play_journal.specs.Content.{present_layout, old_layout, IsKnownLayout}
 use Rattle.play_journal.specs.File.{open_gate, name, head, IsShut, IsOpenAt}
-use Rattle.play_journal.specs.Reading.{Front, Closed, Bad, Open, number_at, is_open, front}
+use Rattle.play_journal.specs.Reading.{Front, Closed, Bad, Open, number_at, is_open, is_known_layout, front}
 use Rattle.play_journal.proofs.RecordLaws.{IsBytes, IsBytes-drop, IsBytes-take, number_below_4}
 
 number_below_8 : (bytes : List ℕ) → IsBytes bytes → from_le_bytes w64 bytes < 2 ^ 64
@@ -54,25 +54,38 @@ pub spelled_size : (layout generation base size : ℕ) (rest : List ℕ) → siz
 unfolding head
 spelled_size layout generation base size rest fits = from_le_bytes-to_le_bytes_4 size fits
 
-spelled_front : (generation base size : ℕ) (rest : List ℕ) → ltb (length (open_gate ∷ head present_layout generation base size
+spelled_old : (generation base size : ℕ) (rest : List ℕ) → ltb (length (open_gate ∷ head old_layout generation base size
+    ++ rest)) 32 ≡ false
+    → front (open_gate ∷ head old_layout generation base size ++ rest) ≡ Open (from_le_bytes w64 (to_le_bytes w64 generation))
+unfolding front head
+spelled_old generation base size rest long = rw long refl
+
+spelled_present : (generation base size : ℕ) (rest : List ℕ) → ltb (length (open_gate ∷ head present_layout generation base size
     ++ rest)) 32 ≡ false
     → front (open_gate ∷ head present_layout generation base size ++ rest) ≡ Open (from_le_bytes w64 (to_le_bytes w64 generation))
 unfolding front head
-spelled_front generation base size rest long = rw long refl
+spelled_present generation base size rest long = rw long refl
+
+head_long : (layout generation base size : ℕ) (rest : List ℕ) → ltb (length (open_gate ∷ head layout generation base size
+    ++ rest)) 32 ≡ false
+head_long layout generation base size rest =
+    le-ltb (length (open_gate ∷ head layout generation base size ++ rest)) 32 (omega (
+      arith,
+      length-append (head layout generation base size) rest,
+      length-head layout generation base size,
+    ))
+
+spelled_front : (layout generation base size : ℕ) (rest : List ℕ) → IsKnownLayout layout
+    → front (open_gate ∷ head layout generation base size ++ rest) ≡ Open (from_le_bytes w64 (to_le_bytes w64 generation))
+spelled_front layout generation base size rest (inl is) = ap (λ (n : ℕ). front (open_gate ∷ head n generation base size ++ rest)) is
+    ∙ spelled_old generation base size rest (head_long old_layout generation base size rest)
+spelled_front layout generation base size rest (inr is) = ap (λ (n : ℕ). front (open_gate ∷ head n generation base size ++ rest)) is
+    ∙ spelled_present generation base size rest (head_long present_layout generation base size rest)
 
 pub front-open : (layout generation base size : ℕ) (rest : List ℕ) → IsKnownLayout layout → generation < 2 ^ 64
     → front (open_gate ∷ head layout generation base size ++ rest) ≡ Open generation
 front-open layout generation base size rest known fits =
-    let long : ltb (length (open_gate ∷ head present_layout generation base size ++ rest)) 32 ≡ false =
-    le-ltb (length (open_gate ∷ head present_layout generation base size
-    ++ rest)) 32 (omega (
-      arith,
-      length-append (head present_layout generation base size) rest,
-      length-head present_layout generation
-          base size,
-    )) in
-    ap (λ (n : ℕ). front (open_gate ∷ head n generation base size ++ rest)) known
-    ∙ spelled_front generation base size rest long ∙ ap Open (from_le_bytes-to_le_bytes_8 generation fits)
+    spelled_front layout generation base size rest known ∙ ap Open (from_le_bytes-to_le_bytes_8 generation fits)
 
 pub front-open_at : (bytes : List ℕ) (generation : ℕ) → IsOpenAt bytes generation → front bytes ≡ Open generation
 front-open_at bytes generation opened =
@@ -90,12 +103,22 @@ front-shut bytes shut = rw (is_open-shut bytes shut) refl
 
 -- ---- what is read
 
+known_layout : (layout : ℕ) → is_known_layout layout ≡ true → IsKnownLayout layout
+known_layout layout is = elim (cases_eq layout old_layout) [
+  | inl old ↦ inl old
+  | inr other ↦ inr (eqb-true layout present_layout (rw (ne_eqb layout old_layout other) at is))
+]
+
+pub known_fits : (layout : ℕ) → IsKnownLayout layout → layout < 2 ^ 32
+known_fits layout (inl old) = omega (arith, old)
+known_fits layout (inr present) = omega (arith, present)
+
 -- which tests a file passes before it counts as open
 pub record Passed (bytes : List ℕ) (generation : ℕ) : Type 0 where
   pub long : 32 ≤ length bytes
   pub gate : slice_index bytes 0 ≡ open_gate
   pub named : slice_range bytes 1 8 ≡ name
-  pub layout : number_at w32 8 bytes ≡ 1
+  pub layout : IsKnownLayout (number_at w32 8 bytes)
   pub numbered : number_at w64 12 bytes ≡ generation
 
 chosen_when : (b : Bool) (x y z : Front) → cond b x y ≡ z → ((b ≡ true) × (x ≡ z)) ⊎ ((b ≡ false) × (y ≡ z))
@@ -118,7 +141,7 @@ passed bytes generation is = elim (chosen_when (not (is_open bytes)) _ _ _ is) [
   | inl shut ↦ absurd (not_closed generation shut.1)
   | inr opened ↦ elim (chosen_when (not (bytes_eq (slice_range bytes 1 8) name)) _ _ _ opened.1) [
     | inl unnamed ↦ absurd (not_bad 1 generation unnamed.1)
-    | inr has_name ↦ elim (chosen_when (not (eqb (number_at w32 8 bytes) 1)) _ _ _ has_name.1) [
+    | inr has_name ↦ elim (chosen_when (not (is_known_layout (number_at w32 8 bytes))) _ _ _ has_name.1) [
       | inl other ↦ absurd (not_bad 8 generation other.1)
       | inr known ↦
           let both = and_parts (not (ltb (length bytes) 32)) (eqb (slice_index bytes 0) open_gate) (not-false (is_open bytes) opened.0) in
@@ -126,7 +149,7 @@ passed bytes generation is = elim (chosen_when (not (is_open bytes)) _ _ _ is) [
             long = ltb-false (length bytes) 32 (not-true (ltb (length bytes) 32) both.0);
             gate = eqb-true (slice_index bytes 0) open_gate both.1;
             named = (bytes_eq-Decides (slice_range bytes 1 8) name).0 (not-false (bytes_eq (slice_range bytes 1 8) name) has_name.0);
-            layout = eqb-true (number_at w32 8 bytes) 1 (not-false (eqb (number_at w32 8 bytes) 1) known.0);
+            layout = known_layout (number_at w32 8 bytes) (not-false (is_known_layout (number_at w32 8 bytes)) known.0);
             numbered = same_generation (number_at w64 12 bytes) generation known.1;
           }
     ]
@@ -139,7 +162,7 @@ part from count bytes = sym (take-append-drop count (drop from bytes))
     ∙ ap (λ (l : List ℕ). take count (drop from bytes) ++ l) (drop-drop count from bytes)
 
 pub spelled_head : (bytes : List ℕ) (generation : ℕ) → IsBytes bytes → Passed bytes generation
-    → bytes ≡ open_gate ∷ head present_layout generation (number_at w64 20 bytes) (number_at w32 28 bytes) ++ drop 32 bytes
+    → bytes ≡ open_gate ∷ head (number_at w32 8 bytes) generation (number_at w64 20 bytes) (number_at w32 28 bytes) ++ drop 32 bytes
 unfolding head
 spelled_head bytes generation fits passed =
     let base : ℕ = number_at w64 20 bytes in
@@ -147,9 +170,10 @@ spelled_head bytes generation fits passed =
     let first : bytes ≡ open_gate ∷ drop 1 bytes = drop_more bytes 0 0 (omega (arith, passed.long))
     ∙ ap (λ (n : ℕ). n ∷ drop 1 bytes) passed.gate in
     let named : drop 1 bytes ≡ name ++ drop 8 bytes = part 1 7 bytes ∙ ap (λ (l : List ℕ). l ++ drop 8 bytes) passed.named in
-    let layout : take 4 (drop 8 bytes) ≡ to_le_bytes w32 1 =
-    sym (le_bytes_4 (take 4 (drop 8 bytes)) 1 (length-take-le 4 (drop 8 bytes) (omega (arith, length-drop 8 bytes, passed.long)))
-    (IsBytes-take 4 (drop 8 bytes) (IsBytes-drop 8 bytes fits)) (sym passed.layout)) in
+    let layout : ℕ = number_at w32 8 bytes in
+    let layout_field : take 4 (drop 8 bytes) ≡ to_le_bytes w32 layout =
+    sym (le_bytes_4 (take 4 (drop 8 bytes)) layout (length-take-le 4 (drop 8 bytes) (omega (arith, length-drop 8 bytes, passed.long)))
+    (IsBytes-take 4 (drop 8 bytes) (IsBytes-drop 8 bytes fits)) refl) in
     let generation_field : take 8 (drop 12 bytes) ≡ to_le_bytes w64 generation =
     sym (le_bytes_8 (take 8 (drop 12 bytes)) generation (length-take-le 8 (drop 12 bytes) (omega
     (arith, length-drop 12 bytes, passed.long))) (IsBytes-take 8 (drop 12 bytes) (IsBytes-drop 12 bytes fits))
@@ -166,20 +190,21 @@ spelled_head bytes generation fits passed =
     ∙ ap (λ (l : List ℕ). l ++ drop 28 bytes) base_field in
     let from_12 : drop 12 bytes ≡ to_le_bytes w64 generation ++ drop 20 bytes = part 12 8 bytes
     ∙ ap (λ (l : List ℕ). l ++ drop 20 bytes) generation_field in
-    let from_8 : drop 8 bytes ≡ to_le_bytes w32 1 ++ drop 12 bytes = part 8 4 bytes ∙ ap (λ (l : List ℕ). l ++ drop 12 bytes) layout in
+    let from_8 : drop 8 bytes ≡ to_le_bytes w32 layout ++ drop 12 bytes = part 8 4 bytes
+    ∙ ap (λ (l : List ℕ). l ++ drop 12 bytes) layout_field in
     first ∙ ap (λ (l : List ℕ). open_gate ∷ l) (named ∙ ap (λ (l : List ℕ). name ++ l) (from_8
-    ∙ ap (λ (l : List ℕ). to_le_bytes w32 1 ++ l) (from_12 ∙ ap (λ (l : List ℕ). to_le_bytes w64 generation ++ l) (from_20
+    ∙ ap (λ (l : List ℕ). to_le_bytes w32 layout ++ l) (from_12 ∙ ap (λ (l : List ℕ). to_le_bytes w64 generation ++ l) (from_20
     ∙ ap (λ (l : List ℕ). to_le_bytes w64 base ++ l) from_28))))
 
 pub open_at-front : (bytes : List ℕ) (generation : ℕ) → IsBytes bytes → front bytes ≡ Open generation → IsOpenAt bytes generation
 open_at-front bytes generation fits is =
     let tests = passed bytes generation is in
     record {
-      layout = present_layout;
+      layout = number_at w32 8 bytes;
       base = number_at w64 20 bytes;
       size = number_at w32 28 bytes;
       rest = drop 32 bytes;
-      known = refl;
+      known = tests.layout;
       generation_fits = subst (λ (n : ℕ). n < 2 ^ 64) tests.numbered (head_number_8 12 bytes fits);
       base_fits = head_number_8 20 bytes fits;
       size_fits = head_number_4 28 bytes fits;
@@ -203,7 +228,7 @@ shut-front bytes is = elim (chosen_when (not (is_open bytes)) _ _ _ is) [
   ]
   | inr opened ↦ elim (chosen_when (not (bytes_eq (slice_range bytes 1 8) name)) _ _ _ opened.1) [
     | inl unnamed ↦ absurd (not_bad_closed 1 unnamed.1)
-    | inr has_name ↦ elim (chosen_when (not (eqb (number_at w32 8 bytes) 1)) _ _ _ has_name.1) [
+    | inr has_name ↦ elim (chosen_when (not (is_known_layout (number_at w32 8 bytes))) _ _ _ has_name.1) [
       | inl other ↦ absurd (not_bad_closed 8 other.1)
       | inr known ↦ absurd (not_open (number_at w64 12 bytes) known.1)
     ]

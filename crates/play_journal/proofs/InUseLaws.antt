@@ -28,7 +28,7 @@ longer file body = record file { records = file.records ++ body ∷ [] }
 pub content-file : (bytes : List ℕ) (file : Content) → IsFile bytes file → content_in bytes ≡ file
 content-file bytes file is = ap (λ r. unwrap_or (result_ok r) no_content) (read-file bytes file is)
 
-module _ (here there : List ℕ) (end generation base count : ℕ) (used : IsInUse here there end generation base count) where
+module _ (here there : List ℕ) (end layout generation base count : ℕ) (used : IsInUse here there end layout generation base count) where
   -- nothing stands behind the closing gate
   pub none_free : used.is_file.free ≡ []
   none_free = nil_from_length used.is_file.free (omega (
@@ -102,7 +102,7 @@ module _ (here there : List ℕ) (end generation base count : ℕ) (used : IsInU
 
     -- the file in use after the last sync
     pub longer_in_use : (x : List ℕ) → x ≡ take end here ++ open_gate ∷ added
-        → IsInUse x there (end + 5 + length body) generation base (count + 1)
+        → IsInUse x there (end + 5 + length body) layout generation base (count + 1)
     longer_in_use x is =
         let spelled : x ≡ spelling used.file ++ open_gate ∷ added = is ∙ ap (λ (l : List ℕ). l ++ open_gate ∷ added) front_is in
         let size : length added ≡ 4 + length body + 1 = ap (λ (l : List ℕ). length l) is_added
@@ -119,6 +119,7 @@ module _ (here there : List ℕ) (end generation base count : ℕ) (used : IsInU
             used.gate,
           );
           gate = omega (arith, ap (λ (l : List ℕ). length l) longer_spelling, length-append (spelling used.file) (gated body), used.gate);
+          laid = used.laid;
           numbered = used.numbered;
           before = used.before;
           counted = omega (arith, length-append used.file.records (body ∷ []), used.counted);
@@ -183,7 +184,7 @@ pub laid_file : (here snapshot : List ℕ) (generation base : ℕ) → here ≡ 
     → IsFile here (record { layout = present_layout; generation = generation; base = base; snapshot = snapshot; records = [] })
 laid_file here snapshot generation base is generation_fits base_fits short = record {
   fits = record {
-    layout = refl;
+    layout = inr refl;
     generation = generation_fits;
     numbers = omega arith;
     snapshot = short;
@@ -199,7 +200,8 @@ laid_file here snapshot generation base is generation_fits base_fits short = rec
 -- it is in use beside a file that doesn't count
 pub laid_in_use : (here there snapshot : List ℕ) (end generation base : ℕ)
     → here ≡ open_gate ∷ head present_layout generation base (length snapshot) ++ snapshot ++ 0 ∷ [] → end ≡ 32 + length snapshot
-    → generation < 2 ^ 64 → base < 2 ^ 64 → length snapshot < 2 ^ 32 → IsBelow generation there → IsInUse here there end generation base 0
+    → generation < 2 ^ 64 → base < 2 ^ 64 → length snapshot < 2 ^ 32 → IsBelow generation there
+    → IsInUse here there end present_layout generation base 0
 laid_in_use here there snapshot end generation base is is_end generation_fits base_fits short below =
     let file : Content = record { layout = present_layout; generation = generation; base = base; snapshot = snapshot; records = [] } in
     let is_file = laid_file here snapshot generation base is generation_fits base_fits short in
@@ -211,6 +213,7 @@ laid_in_use here there snapshot end generation base is is_end generation_fits ba
       is_file = is_file;
       ends = omega (arith, ap (λ (l : List ℕ). length l) spelled, length-append (spelling file) (0 ∷ []), long);
       gate = long;
+      laid = refl;
       numbered = refl;
       before = refl;
       counted = refl;
@@ -233,7 +236,7 @@ laid_content here snapshot generation base is generation_fits base_fits short =
 pub fresh_kept : (here there snapshot : List ℕ) (h o : List Change) (end : ℕ)
     → here ≡ open_gate ∷ head present_layout 1 0 (length snapshot) ++ snapshot ++ 0 ∷ [] → there ≡ [] → end ≡ 32 + length snapshot
     → length snapshot < 2 ^ 32
-    → window h ≡ settled here → window o ≡ settled there → IsKept here there h o end 1 0 0
+    → window h ≡ settled here → window o ≡ settled there → IsKept here there h o end present_layout 1 0 0
 fresh_kept here there snapshot h o end is empty is_end short here_settled there_settled = record {
   here_settled = here_settled;
   there_settled = there_settled;

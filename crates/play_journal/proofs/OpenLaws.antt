@@ -83,12 +83,13 @@ module _ (bytes : List ℕ) (generation : ℕ) (content : Content) (fits : IsByt
 
   -- the file is in use beside one of a lower generation
   pub cut_in_use : (here there : List ℕ) (end len : ℕ) → here ≡ take len bytes → len ≡ end + 1 → end ≡ gate_of content
-      → IsBelow generation there → IsInUse here there end content.generation content.base (length content.records)
+      → IsBelow generation there → IsInUse here there end content.layout content.generation content.base (length content.records)
   cut_in_use here there end len is_cut is_len is_end below = record {
     file = own.file;
     is_file = cut_exact here len is_cut (omega arith);
     ends = ap (λ (l : List ℕ). length l) is_cut ∙ length-take-le len bytes (omega (arith, gate_within)) ∙ is_len;
     gate = own_gate ∙ sym is_end;
+    laid = ap (λ (c : Content). c.layout) own.says;
     numbered = ap (λ (c : Content). c.generation) own.says;
     before = ap (λ (c : Content). c.base) own.says;
     counted = ap (λ (c : Content). length c.records) own.says;

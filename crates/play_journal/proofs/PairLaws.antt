@@ -12,7 +12,7 @@ use Rattle.disk_model.proofs.MomentLaws.{all_begin, all_step_or, all_join}
 use Rattle.disk_model.proofs.WindowLaws.{settled_all}
 use Rattle.play_journal.specs.declared.refusal.JournalError.{JournalError}
 use Rattle.play_journal.specs.declared.refusal.JournalError.TheVariants.{NotEmpty, NoJournal, Damaged, DiskFault, NoMemory, TooLong}
-use Rattle.play_journal.specs.declared.refusal.JournalError.TheVariants.{NumbersSpent}
+use Rattle.play_journal.specs.declared.refusal.JournalError.TheVariants.{NumbersSpent, OldLayout}
 use Rattle.play_journal.specs.Content.{Content}
 use Rattle.play_journal.specs.File.{IsFile}
 use Rattle.play_journal.specs.Opening.{ReadsSame, KeepsFile, IsCause}
@@ -185,6 +185,7 @@ opens r DiskFault some cause = inr refl
 opens r NoMemory some cause = inl refl
 opens r TooLong some cause = absurd cause
 opens r NumbersSpent some cause = absurd cause
+opens r OldLayout some cause = absurd cause
 
 pub pair_opens : (a b : List ℕ) (e : JournalError) → IsSome (found a b) → IsCause (reading a b) e → (e ≡ NoMemory) ⊎ (e ≡ DiskFault)
 unfolding found

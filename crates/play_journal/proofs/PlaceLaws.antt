@@ -1,11 +1,11 @@
 -- The two disks of a journal, whichever of them is in use.
-use Rattle.std.proofs.Common.{◌≡◌, inl, ℕ, Bool, true, false, List, length, Option, Some, refl, ap, ◌∙◌}
+use Rattle.std.proofs.Common.{◌≡◌, inl, ℕ, Bool, true, false, List, length, Option, Some, refl, ap, subst, ◌∙◌}
 use Rattle.disk_model.specs.History.{Change}
 use Rattle.std.specs.Prelude.{not}
 use Rattle.disk_model.specs.Later.{IsLater, AreLater}
 use Rattle.disk_model.proofs.LaterLaws.{later_begin}
 use Rattle.disk_model.proofs.MomentLaws.{now_only}
-use Rattle.play_journal.specs.Content.{Content, present_layout, IsBeforeOrAfter, IsOldOrNew}
+use Rattle.play_journal.specs.Content.{Content, IsKnownLayout, IsBeforeOrAfter, IsOldOrNew}
 use Rattle.play_journal.specs.JournalState.{at_place, content_in, IsKept}
 use Rattle.play_journal.specs.Pair.{AllPairsNow, AllPairsSince}
 use Rattle.play_journal.proofs.InUseLaws.{all_first, all_second, content-file}
@@ -16,35 +16,39 @@ honest_both honest true here there a b = (b, a)
 honest_both honest false here there a b = (a, b)
 
 pub kept_now : {D : Type 0} (content : D → List ℕ) (history : D → List Change) (swapped : Bool) (here there : D)
-    (end generation base count : ℕ) → IsKept (content here) (content there) (history here) (history there) end generation base count
+    (end layout generation base count : ℕ) → IsKept (content here) (content there) (history here) (history there) end layout generation base count
     → AllPairsNow (λ f. f ≡ Some (content_in (content here))) (history (at_place swapped here there)) (history
     (at_place swapped there here))
-kept_now content history true here there end generation base count kept =
-    all_second (content here) (content there) end generation base count kept.in_use (history here)
+kept_now content history true here there end layout generation base count kept =
+    all_second (content here) (content there) end layout generation base count kept.in_use (history here)
     (history there) kept.here_settled kept.there_settled
-kept_now content history false here there end generation base count kept =
-    all_first (content here) (content there) end generation base count kept.in_use (history here)
+kept_now content history false here there end layout generation base count kept =
+    all_first (content here) (content there) end layout generation base count kept.in_use (history here)
     (history there) kept.here_settled kept.there_settled
 
-pub kept_base : (here there : List ℕ) (h o : List Change) (end generation base count : ℕ)
-    → IsKept here there h o end generation base count → (content_in here).base ≡ base
-kept_base here there h o end generation base count kept = ap (λ (c : Content). c.base)
+pub kept_base : (here there : List ℕ) (h o : List Change) (end layout generation base count : ℕ)
+    → IsKept here there h o end layout generation base count → (content_in here).base ≡ base
+kept_base here there h o end layout generation base count kept = ap (λ (c : Content). c.base)
     (content-file here kept.in_use.file kept.in_use.is_file) ∙ kept.in_use.before
 
-pub kept_count : (here there : List ℕ) (h o : List Change) (end generation base count : ℕ)
-    → IsKept here there h o end generation base count → length (content_in here).records ≡ count
-kept_count here there h o end generation base count kept = ap (λ (c : Content). length c.records)
+pub kept_count : (here there : List ℕ) (h o : List Change) (end layout generation base count : ℕ)
+    → IsKept here there h o end layout generation base count → length (content_in here).records ≡ count
+kept_count here there h o end layout generation base count kept = ap (λ (c : Content). length c.records)
     (content-file here kept.in_use.file kept.in_use.is_file) ∙ kept.in_use.counted
 
-pub kept_generation : (here there : List ℕ) (h o : List Change) (end generation base count : ℕ)
-    → IsKept here there h o end generation base count → (content_in here).generation ≡ generation
-kept_generation here there h o end generation base count kept = ap (λ (c : Content). c.generation)
+pub kept_generation : (here there : List ℕ) (h o : List Change) (end layout generation base count : ℕ)
+    → IsKept here there h o end layout generation base count → (content_in here).generation ≡ generation
+kept_generation here there h o end layout generation base count kept = ap (λ (c : Content). c.generation)
     (content-file here kept.in_use.file kept.in_use.is_file) ∙ kept.in_use.numbered
 
-pub kept_layout : (here there : List ℕ) (h o : List Change) (end generation base count : ℕ)
-    → IsKept here there h o end generation base count → (content_in here).layout ≡ present_layout
-kept_layout here there h o end generation base count kept = ap (λ (c : Content). c.layout)
-    (content-file here kept.in_use.file kept.in_use.is_file) ∙ kept.in_use.is_file.fits.layout
+pub kept_layout : (here there : List ℕ) (h o : List Change) (end layout generation base count : ℕ)
+    → IsKept here there h o end layout generation base count → (content_in here).layout ≡ layout
+kept_layout here there h o end layout generation base count kept = ap (λ (c : Content). c.layout)
+    (content-file here kept.in_use.file kept.in_use.is_file) ∙ kept.in_use.laid
+
+pub kept_known : (here there : List ℕ) (h o : List Change) (end layout generation base count : ℕ)
+    → IsKept here there h o end layout generation base count → IsKnownLayout layout
+kept_known here there h o end layout generation base count kept = subst IsKnownLayout kept.in_use.laid kept.in_use.is_file.fits.layout
 
 -- what stands at the place of the file in use stands where it was
 pub placed_back : {D : Type 0} (swapped : Bool) (a b : D) → at_place swapped (at_place swapped a b) (at_place swapped b a) ≡ a
@@ -68,14 +72,14 @@ pub before_or_after : (content : Content) (body : List ℕ) (f : Option Content)
 before_or_after content body f is = inl is
 
 -- the same, of files a and b
-pub placed_now : {D : Type 0} (content : D → List ℕ) (history : D → List Change) (swapped : Bool) (a b : D) (end generation base count : ℕ)
+pub placed_now : {D : Type 0} (content : D → List ℕ) (history : D → List Change) (swapped : Bool) (a b : D) (end layout generation base count : ℕ)
     → IsKept (content (at_place swapped a b)) (content (at_place swapped b a)) (history (at_place swapped a b)) (history
-    (at_place swapped b a)) end generation base count
+    (at_place swapped b a)) end layout generation base count
     → AllPairsNow (λ f. f ≡ Some (content_in (content (at_place swapped a b)))) (history a) (history b)
-placed_now content history true a b end generation base count kept = all_second (content b)
-    (content a) end generation base count kept.in_use (history b) (history a) kept.here_settled kept.there_settled
-placed_now content history false a b end generation base count kept = all_first (content a)
-    (content b) end generation base count kept.in_use (history a) (history b) kept.here_settled kept.there_settled
+placed_now content history true a b end layout generation base count kept = all_second (content b)
+    (content a) end layout generation base count kept.in_use (history b) (history a) kept.here_settled kept.there_settled
+placed_now content history false a b end layout generation base count kept = all_first (content a)
+    (content b) end layout generation base count kept.in_use (history a) (history b) kept.here_settled kept.there_settled
 
 -- something was done to the file that isn't in use
 pub other_since : {D : Type 0} (history : D → List Change) (P : Option Content → Type 0) (swapped : Bool) (here there new : D)

@@ -3,8 +3,9 @@ use Rattle.std.specs.Prelude.{◌≡◌, ◌≢◌, ◌↔◌, ℕ, ◌+◌, ◌
 use Rattle.std.specs.Prelude.{MatchBool, OnErr}
 use Rattle.disk_model.specs.History.{Change}
 use Rattle.play_journal.specs.declared.refusal.JournalError.{JournalError}
-use Rattle.play_journal.specs.declared.refusal.JournalError.TheVariants.{DiskFault, TooLong, NumbersSpent}
-use Rattle.play_journal.specs.Content.{Content, present_layout}
+use Rattle.play_journal.specs.declared.refusal.JournalError.TheVariants.{DiskFault, TooLong, NumbersSpent, OldLayout}
+use Rattle.play_journal.specs.Content.{Content, present_layout, IsKnownLayout}
+use Rattle.play_journal.specs.File.{longest_body}
 use Rattle.play_journal.specs.JournalState.{JournalState}
 use Rattle.play_journal.specs.Pair.{AllPairsNow}
 use Rattle.play_journal.specs.Stored.{StoredParts}
@@ -16,7 +17,8 @@ pub record Holds {D : Type 0} (history : D → List Change) (journal : JournalSt
 
 -- the numbers of a journal are those of its content
 pub record AreItsNumbers {D : Type 0} (journal : JournalState D) : Type 0 where
-  pub layout : journal.content.layout ≡ present_layout
+  pub layout : journal.content.layout ≡ journal.layout
+  pub known : IsKnownLayout journal.layout
   pub generation : journal.content.generation ≡ journal.generation
   pub base : journal.content.base ≡ journal.base
   pub count : length journal.content.records ≡ journal.count
@@ -29,6 +31,7 @@ pub record SameFaults {D : Type 0} (faults : D → ℕ) (old_a old_b new_a new_b
 
 -- a journal that was just made: its first file is in use
 pub record IsNew {D : Type 0} (journal : JournalState D) : Type 0 where
+  pub layout : journal.layout ≡ present_layout
   pub generation : journal.generation ≡ 1
   pub base : journal.base ≡ 0
   pub count : journal.count ≡ 0
@@ -41,6 +44,7 @@ pub record IsOpened {D : Type 0} (Honest : Type 0) (content : D → List ℕ) (f
     (stored : StoredParts) : Type 0 where
   pub same_snapshot : Honest → stored.snapshot ≡ journal.content.snapshot
   pub same_records : Honest → stored.records ≡ journal.content.records
+  pub layout : Honest → journal.content.layout ≡ journal.layout
   pub generation : Honest → journal.content.generation ≡ journal.generation
   pub base : Honest → journal.content.base ≡ journal.base
   pub count : length stored.records ≡ journal.count
@@ -56,13 +60,15 @@ pub record IsNextRecord {D : Type 0} (old new : JournalState D) (number : ℕ) :
 
 -- the file in use stays in use, and the other isn't touched
 pub record StaysInFile {D : Type 0} (old new : JournalState D) : Type 0 where
+  pub layout : new.layout ≡ old.layout
   pub generation : new.generation ≡ old.generation
   pub base : new.base ≡ old.base
   pub same_file : new.is_in_b ≡ old.is_in_b
   pub other_file : MatchBool old.is_in_b (new.a ≡ old.a) (new.b ≡ old.b)
 
--- the next generation: its base counts all records from before, and records go to the other file
+-- the next generation, in the layout that is written: its base counts all records from before, and records go to the other file
 pub record IsNextGeneration {D : Type 0} (old new : JournalState D) : Type 0 where
+  pub layout : new.layout ≡ present_layout
   pub generation : new.generation ≡ old.generation + 1
   pub base : new.base ≡ old.base + old.count
   pub count : new.count ≡ 0
@@ -77,4 +83,12 @@ pub record RefusesInOrder {D T : Type 0} (old new : JournalState D) (longest siz
   pub too_long : old.is_spent ≡ false → ((result ≡ Err TooLong) ↔ (longest < size))
   pub numbers_spent : old.is_spent ≡ false → size ≤ longest → ((result ≡ Err NumbersSpent) ↔ (last ≡ 2 ^ 64 - 1))
   pub spends : result ≡ Err DiskFault → new.is_spent ≡ true
+  pub stays : OnErr result (result ≢ Err DiskFault → new ≡ old)
+
+-- A record is refused in this order: the journal is spent, it has an old layout, to which nothing is added, the record is longer
+-- than the longest, or the last number is spent.
+pub record RefusesRecord {D : Type 0} (old new : JournalState D) (size : ℕ) (result : Result ℕ JournalError) : Type 0 where
+  pub spent : old.is_spent ≡ true → (result ≡ Err DiskFault) × (new ≡ old)
+  pub old_layout : old.is_spent ≡ false → ((result ≡ Err OldLayout) ↔ (old.layout ≢ present_layout))
+  pub in_order : old.layout ≡ present_layout → RefusesInOrder old new longest_body size (old.base + old.count) result
   pub stays : OnErr result (result ≢ Err DiskFault → new ≡ old)

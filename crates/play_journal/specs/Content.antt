@@ -12,11 +12,15 @@ pub record Content : Type 0 where
 
 -- the layout that is written
 abbrev pub present_layout : ℕ
-present_layout = 1
+present_layout = 2
+
+-- the layout of before: it is read, and no record is added to it
+abbrev pub old_layout : ℕ
+old_layout = 1
 
 -- a layout that is read
 abbrev pub IsKnownLayout : ℕ → Type 0
-IsKnownLayout layout = layout ≡ present_layout
+IsKnownLayout layout = (layout ≡ old_layout) ⊎ (layout ≡ present_layout)
 
 -- a new journal
 abbrev pub fresh : List ℕ → Content
@@ -30,7 +34,7 @@ last_record content = content.base + length content.records
 abbrev pub with_record : Content → List ℕ → Content
 with_record content body = record content { records = content.records ++ body ∷ [] }
 
--- the next generation: this snapshot in place of the snapshot before and its records
+-- the next generation: this snapshot in place of the snapshot before and its records, in the layout that is written
 abbrev pub with_snapshot : Content → List ℕ → Content
 with_snapshot content snapshot =
     record { layout = present_layout; generation = content.generation + 1; base = last_record content; snapshot = snapshot; records = [] }

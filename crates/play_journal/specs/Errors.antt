@@ -2,7 +2,7 @@
 use Rattle.std.specs.Prelude.{ℕ}
 use Rattle.play_journal.specs.declared.refusal.JournalError.{JournalError}
 use Rattle.play_journal.specs.declared.refusal.JournalError.TheVariants.{NotEmpty, NoJournal, Damaged, DiskFault, NoMemory, TooLong}
-use Rattle.play_journal.specs.declared.refusal.JournalError.TheVariants.{NumbersSpent}
+use Rattle.play_journal.specs.declared.refusal.JournalError.TheVariants.{NumbersSpent, OldLayout}
 
 abbrev pub number_of : JournalError → ℕ
 number_of NotEmpty = 3
@@ -12,6 +12,7 @@ number_of DiskFault = 6
 number_of NoMemory = 7
 number_of TooLong = 8
 number_of NumbersSpent = 49
+number_of OldLayout = 50
 
 -- what each call refuses with
 abbrev pub IsRefusalOfCreate : JournalError → Type 0
@@ -22,6 +23,7 @@ IsRefusalOfCreate DiskFault = Unit {0}
 IsRefusalOfCreate NoMemory = Unit {0}
 IsRefusalOfCreate TooLong = Unit {0}
 IsRefusalOfCreate NumbersSpent = ⊥
+IsRefusalOfCreate OldLayout = ⊥
 
 abbrev pub IsRefusalOfOpen : JournalError → Type 0
 IsRefusalOfOpen NotEmpty = ⊥
@@ -31,6 +33,7 @@ IsRefusalOfOpen DiskFault = Unit {0}
 IsRefusalOfOpen NoMemory = Unit {0}
 IsRefusalOfOpen TooLong = ⊥
 IsRefusalOfOpen NumbersSpent = ⊥
+IsRefusalOfOpen OldLayout = ⊥
 
 abbrev pub IsRefusalOfAppend : JournalError → Type 0
 IsRefusalOfAppend NotEmpty = ⊥
@@ -40,6 +43,7 @@ IsRefusalOfAppend DiskFault = Unit {0}
 IsRefusalOfAppend NoMemory = ⊥
 IsRefusalOfAppend TooLong = Unit {0}
 IsRefusalOfAppend NumbersSpent = Unit {0}
+IsRefusalOfAppend OldLayout = Unit {0}
 
 abbrev pub IsRefusalOfCheckpoint : JournalError → Type 0
 IsRefusalOfCheckpoint NotEmpty = ⊥
@@ -49,3 +53,4 @@ IsRefusalOfCheckpoint DiskFault = Unit {0}
 IsRefusalOfCheckpoint NoMemory = Unit {0}
 IsRefusalOfCheckpoint TooLong = Unit {0}
 IsRefusalOfCheckpoint NumbersSpent = Unit {0}
+IsRefusalOfCheckpoint OldLayout = ⊥

@@ -8,11 +8,12 @@ use Rattle.play_journal.specs.File.{IsFile, spelling}
 use Rattle.play_journal.specs.Pair.{IsBelow}
 use Rattle.play_journal.specs.Reading.{read}
 
--- The two disks; the generation of the file in use, its base and the count of records since; what the files say, as long as
--- the disks are honest and the journal isn't spent; whether it is spent; and whether file b is the one in use.
+-- The two disks; the layout and the generation of the file in use, its base and the count of records since; what the files say,
+-- as long as the disks are honest and the journal isn't spent; whether it is spent; and whether file b is the one in use.
 pub record JournalState (D : Type 0) : Type 0 where
   pub a : D
   pub b : D
+  pub layout : ℕ
   pub generation : ℕ
   pub base : ℕ
   pub count : ℕ
@@ -32,17 +33,18 @@ abbrev pub at_place : {D : Type 0} → Bool → D → D → D
 at_place swapped here there = if swapped then there else here
 
 -- The file in use is settled and ends with its closing gate, which stands at this offset; the other doesn't count beside it.
-pub record IsInUse (here there : List ℕ) (end generation base count : ℕ) : Type 0 where
+pub record IsInUse (here there : List ℕ) (end layout generation base count : ℕ) : Type 0 where
   pub file : Content
   pub is_file : IsFile here file
   pub ends : length here ≡ end + 1
   pub gate : length (spelling file) ≡ end
+  pub laid : file.layout ≡ layout
   pub numbered : file.generation ≡ generation
   pub before : file.base ≡ base
   pub counted : length file.records ≡ count
   pub other : IsBelow file.generation there
 
-pub record IsKept (here there : List ℕ) (here_done there_done : List Change) (end generation base count : ℕ) : Type 0 where
+pub record IsKept (here there : List ℕ) (here_done there_done : List Change) (end layout generation base count : ℕ) : Type 0 where
   pub here_settled : window here_done ≡ settled here
   pub there_settled : window there_done ≡ settled there
-  pub in_use : IsInUse here there end generation base count
+  pub in_use : IsInUse here there end layout generation base count

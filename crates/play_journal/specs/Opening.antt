@@ -6,7 +6,7 @@ use Rattle.disk_model.specs.Images.{window, IsImage}
 use Rattle.disk_model.specs.Moments.{LeftSince}
 use Rattle.play_journal.specs.declared.refusal.JournalError.{JournalError}
 use Rattle.play_journal.specs.declared.refusal.JournalError.TheVariants.{NotEmpty, NoJournal, Damaged, DiskFault, NoMemory, TooLong}
-use Rattle.play_journal.specs.declared.refusal.JournalError.TheVariants.{NumbersSpent}
+use Rattle.play_journal.specs.declared.refusal.JournalError.TheVariants.{NumbersSpent, OldLayout}
 use Rattle.play_journal.specs.Reading.{Front, Closed, Bad, Open, front, read}
 
 -- how a file begins, as the code tells it
@@ -55,3 +55,4 @@ IsCause read DiskFault = Unit {0}
 IsCause read NoMemory = Unit {0}
 IsCause read TooLong = ⊥
 IsCause read NumbersSpent = ⊥
+IsCause read OldLayout = ⊥

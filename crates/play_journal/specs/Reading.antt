@@ -2,7 +2,7 @@
 use Rattle.std.specs.Prelude.{ℕ, zero, suc, ◌+◌, ◌-◌, ◌^◌, Bool, not, ◌&&◌, ◌||◌, List, [], ◌∷◌, length, drop, slice_index, slice_range}
 use Rattle.std.specs.Prelude.{Result, Ok, Err, nat_lt, nat_le, ◌==◌, if◌then◌else◌, bytes_eq}
 use Rattle.std.specs.Int.{Width, w32, w64, byte_len, from_le_bytes}
-use Rattle.play_journal.specs.Content.{Content}
+use Rattle.play_journal.specs.Content.{Content, old_layout, present_layout}
 use Rattle.play_journal.specs.File.{open_gate, name, longest_body}
 
 -- the number in the bytes at an offset
@@ -19,11 +19,14 @@ pub data Front : Type 0 where
 abbrev pub is_open : List ℕ → Bool
 is_open bytes = not (nat_lt (length bytes) 32) && (slice_index bytes 0 == open_gate)
 
+abbrev pub is_known_layout : ℕ → Bool
+is_known_layout layout = layout == old_layout || layout == present_layout
+
 unfoldable pub front : List ℕ → Front
 front bytes =
     if not (is_open bytes) then Closed
     else if not (bytes_eq (slice_range bytes 1 8) name) then Bad 1
-    else if not (number_at w32 8 bytes == 1) then Bad 8
+    else if not (is_known_layout (number_at w32 8 bytes)) then Bad 8
     else Open (number_at w64 12 bytes)
 
 -- after so many records, what stands behind an open gate is none: it passes the end, the longest body or the last number

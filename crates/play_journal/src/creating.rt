@@ -5,6 +5,7 @@ ghost use Rattle.disk_model.specs.Faults.{HasGrown};
 ghost use Rattle.disk_model.specs.Images.{window, settled};
 ghost use Rattle.disk_model.specs.Later.{AreLater, HasFailed};
 ghost use Rattle.play_journal.specs.Calls.{SameFaults};
+ghost use Rattle.play_journal.specs.Content.{present_layout};
 ghost use Rattle.play_journal.specs.Errors.{IsRefusalOfCreate};
 ghost use Rattle.play_journal.specs.File.{open_gate, head};
 ghost use Rattle.play_journal.specs.Room.{room};
@@ -26,8 +27,8 @@ pub(crate) fn fresh_journal<D: Disk>(
     b: &mut D,
     snapshot: &[u8],
 ) -> Result<(Vec<u8>, u64), JournalError>
-    ensures written { D.honest a.old → OnOk result (D.content a.new ≡ open_gate ∷ head 1 1 0 (length snapshot.now) ++ snapshot.now
-        ++ 0 ∷ []) }
+    ensures written { D.honest a.old → OnOk result (D.content a.new ≡ open_gate ∷ head present_layout 1 0 (length snapshot.now)
+        ++ snapshot.now ++ 0 ∷ []) }
     ensures settled_a { D.honest a.old → OnOk result (window (D.history a.new) ≡ settled (D.content a.new)) }
     ensures settled_b { D.honest b.old → OnOk result (window (D.history b.new) ≡ settled (D.content b.new)) }
     ensures content_b { D.honest b.old → OnOk result (D.content b.new ≡ D.content b.old) }

@@ -3,8 +3,8 @@ ghost use Rattle.std.specs.Prelude.{◌≡◌, ◌≢◌, ◌⊎◌, ◌↔◌, 
 ghost use Rattle.std.specs.Prelude.{Err, Some, None, IsTrue, IsSome, IfOk, IfErr, OnOk, OnErr, IsOk, IsErrAnd, MatchResult, MatchBool, Ok};
 ghost use Rattle.disk_model.specs.Later.{AreLater, HasFailed};
 ghost use Rattle.play_journal.specs.Calls.{Holds, IsNew, IsOpened, IsNextRecord, StaysInFile, IsNextGeneration, RefusesInOrder, SameFaults};
-ghost use Rattle.play_journal.specs.Calls.{AreItsNumbers};
-ghost use Rattle.play_journal.specs.Content.{present_layout, fresh, with_record, with_snapshot, IsBeforeOrAfter, IsOldOrNew};
+ghost use Rattle.play_journal.specs.Calls.{AreItsNumbers, RefusesRecord};
+ghost use Rattle.play_journal.specs.Content.{fresh, with_record, with_snapshot, IsBeforeOrAfter, IsOldOrNew};
 ghost use Rattle.play_journal.specs.Errors.{IsRefusalOfCreate, IsRefusalOfOpen, IsRefusalOfAppend, IsRefusalOfCheckpoint};
 ghost use Rattle.play_journal.specs.FileRead.{content_read};
 ghost use Rattle.play_journal.specs.JournalState.{at_place, content_in, IsKept};
@@ -32,6 +32,7 @@ pub struct Journal<D: Disk> {
     there: D,
     swapped: bool,
     end: u64,
+    layout: u32,
     generation: u64,
     base: u64,
     count: u64,
@@ -49,6 +50,7 @@ impl<D: Disk> Model for Journal<D> {
     ghost view = { λ j. record {
       a = at_place j.swapped j.here j.there;
       b = at_place j.swapped j.there j.here;
+      layout = j.layout;
       generation = j.generation;
       base = j.base;
       count = j.count;
@@ -59,7 +61,7 @@ impl<D: Disk> Model for Journal<D> {
 
     ghost invariant = { λ j. (room ≤ vec_capacity j.buffer) × (j.base + j.count < 2 ^ 64)
         × (j.spent ≡ false → D.honest j.here → D.honest j.there → IsKept (D.content j.here) (D.content j.there) (D.history j.here)
-        (D.history j.there) j.end j.generation j.base j.count) };
+        (D.history j.there) j.end j.layout j.generation j.base j.count) };
 }
 
 impl<D: Disk> Journal<D> {
@@ -101,6 +103,7 @@ impl<D: Disk> Journal<D> {
                 there: b,
                 swapped: false,
                 end,
+                layout: LAYOUT,
                 generation: 1,
                 base: 0,
                 count: 0,
@@ -149,6 +152,9 @@ impl<D: Disk> Journal<D> {
 
     /// Adds a record, and answers its number. A record is at most 2,097,152 bytes long.
     ///
+    /// It refuses in the order `DiskFault` (spent), `OldLayout`, `TooLong`, `NumbersSpent` (the last record has the number 2^64 - 1),
+    /// `DiskFault` (now).
+    ///
     /// After `DiskFault` the journal is spent, and the record may be there or not: open the files again.
     pub fn append(&mut self, body: &[u8]) -> Result<u64, JournalError>
         // Stopped at any moment, the files give what they gave before, or this with the new record, which they give from `Ok` on.
@@ -159,7 +165,7 @@ impl<D: Disk> Journal<D> {
             → OnOk result (Holds D.history self.new (with_record self.old.content body.now)) }
         ensures number { IfOk result (λ number. IsNextRecord self.old self.new number) }
 
-        ensures refuses { RefusesInOrder self.old self.new 2097152 (length body.now) (self.old.base + self.old.count) result }
+        ensures refuses { RefusesRecord self.old self.new (length body.now) result }
         ensures nothing_else { IfErr result IsRefusalOfAppend }
         ensures met_none { OnOk result (SameFaults D.faults self.old.a self.old.b self.new.a self.new.b) }
         ensures fault { D.honest self.old.a → D.honest self.old.b → self.old.is_spent ≡ false → result ≡ Err JournalError.DiskFault
@@ -174,6 +180,9 @@ impl<D: Disk> Journal<D> {
     {
         if self.spent {
             return Err(JournalError::DiskFault);
+        }
+        if self.layout != LAYOUT {
+            return Err(JournalError::OldLayout);
         }
         let len = body.len();
         if len > LONGEST_BODY {
@@ -197,8 +206,8 @@ impl<D: Disk> Journal<D> {
         }
     }
 
-    /// Makes a new snapshot: it is laid down in the other file, to which records go from then on. The file from before isn't
-    /// touched. A snapshot is at most 4,294,967,295 bytes long.
+    /// Makes a new snapshot: it is laid down in the other file in the layout `LAYOUT`, to which records go from then on. The file from
+    /// before isn't touched. A snapshot is at most 4,294,967,295 bytes long.
     ///
     /// It refuses in the order `DiskFault` (spent), `TooLong`, `NumbersSpent` (the last generation is 2^64 - 1), `NoMemory`,
     /// `DiskFault` (now). After the last the journal is spent, and the snapshot may be there or not: open the files again.
@@ -247,6 +256,7 @@ impl<D: Disk> Journal<D> {
         mem::swap(&mut self.here, &mut self.there);
         self.swapped = !self.swapped;
         self.end = (HEAD_LEN + snapshot.len()) as u64;
+        self.layout = LAYOUT;
         self.generation += 1;
         self.base += self.count;
         self.count = 0;
@@ -261,11 +271,12 @@ impl<D: Disk> Journal<D> {
         self.base
     }
 
-    /// The layout of the file in use: there is one that is read and written, 1.
+    /// The layout of the file in use: `LAYOUT`, or 1 in a journal of before, to which a checkpoint must be made before a record is added.
     pub fn layout(&self) -> u32
-        ensures { result ≡ present_layout }
+        ensures value { result ≡ self.now.layout }
+        ensures content { D.honest self.now.a → D.honest self.now.b → self.now.is_spent ≡ false → self.now.content.layout ≡ result }
     {
-        LAYOUT
+        self.layout
     }
 
     /// The generation of the file in use. A checkpoint makes the next one, unless it is 2^64 - 1.
@@ -303,6 +314,7 @@ impl<D: Disk> Journal<D> {
             there,
             swapped,
             end: _,
+            layout: _,
             generation: _,
             base: _,
             count: _,
@@ -329,10 +341,11 @@ fn opened_journal<D: Disk>(opened: Opened, swapped: bool, a: D, b: D) -> (Journa
     requires room { room ≤ vec_capacity opened.buffer }
     requires numbers { opened.file.base + length opened.file.stored.records < 2 ^ 64 }
     requires in_use { D.honest a → D.honest b → IsKept (D.content (at_place swapped a b)) (D.content (at_place swapped b a))
-        (D.history (at_place swapped a b)) (D.history (at_place swapped b a)) opened.file.end opened.file.generation opened.file.base
-        (length opened.file.stored.records) }
+        (D.history (at_place swapped a b)) (D.history (at_place swapped b a)) opened.file.end opened.file.layout opened.file.generation
+        opened.file.base (length opened.file.stored.records) }
     ensures a { result.0.a ≡ a }
     ensures b { result.0.b ≡ b }
+    ensures layout { result.0.layout ≡ opened.file.layout }
     ensures generation { result.0.generation ≡ opened.file.generation }
     ensures base { result.0.base ≡ opened.file.base }
     ensures count { result.0.count ≡ length opened.file.stored.records }
@@ -343,7 +356,7 @@ fn opened_journal<D: Disk>(opened: Opened, swapped: bool, a: D, b: D) -> (Journa
 {
     let Opened { file, buffer } = opened;
     let FileRead {
-        layout: _,
+        layout,
         generation,
         base,
         stored,
@@ -355,6 +368,7 @@ fn opened_journal<D: Disk>(opened: Opened, swapped: bool, a: D, b: D) -> (Journa
         there,
         swapped,
         end: end as u64,
+        layout,
         generation,
         base,
         count: stored.record_count() as u64,

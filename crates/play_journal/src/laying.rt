@@ -7,6 +7,7 @@ ghost use Rattle.disk_model.specs.Images.{window, settled};
 ghost use Rattle.disk_model.specs.Later.{IsLater};
 ghost use Rattle.disk_model.specs.Moments.{AllSince};
 ghost use Rattle.disk_model.specs.Torn.{Torn};
+ghost use Rattle.play_journal.specs.Content.{present_layout};
 ghost use Rattle.play_journal.specs.File.{open_gate, head, IsClosed, IsShut};
 ghost use Rattle.play_journal.specs.Laying.{IsSameOrShut, IsLaidDown};
 
@@ -24,7 +25,7 @@ pub(crate) fn head_bytes(
     size: usize,
 ) -> Result<Vec<u8>, AllocError>
     requires { size < 2 ^ 32 }
-    ensures { IfOk result (λ v. v.items ≡ head 1 generation base size) }
+    ensures { IfOk result (λ v. v.items ≡ head present_layout generation base size) }
 {
     let mut bytes = Vec::with_capacity(alloc, HEAD_LEN)?;
     bytes.extend_from_slice(&NAME)?;

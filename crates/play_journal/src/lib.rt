@@ -12,5 +12,6 @@ mod refusal;
 mod stored;
 
 pub use journal::Journal;
+pub use reading::LAYOUT;
 pub use refusal::{JournalError, Refused};
 pub use stored::Stored;

@@ -161,8 +161,8 @@ pub(crate) fn open_files<D: Disk>(
         (at_place r.0 a.new b.new)) ≡ content_read r.1.file) }
     ensures in_use { D.honest a.old → D.honest b.old → IfOk result (λ r. IsKept (D.content (at_place r.0 a.new b.new)) (D.content
         (at_place r.0 b.new a.new))
-        (D.history (at_place r.0 a.new b.new)) (D.history (at_place r.0 b.new a.new)) r.1.file.end r.1.file.generation r.1.file.base
-        (length r.1.file.stored.records)) }
+        (D.history (at_place r.0 a.new b.new)) (D.history (at_place r.0 b.new a.new)) r.1.file.end r.1.file.layout r.1.file.generation
+        r.1.file.base (length r.1.file.stored.records)) }
     ensures cause { D.honest a.old → D.honest b.old → IfErr result (IsCause (reading (D.content a.old) (D.content b.old))) }
     ensures refusal { IfErr result IsRefusalOfOpen }
     ensures uncut_a { D.honest a.old → IfErr result (λ e. e ≢ JournalError.DiskFault → D.content a.new ≡ D.content a.old) }

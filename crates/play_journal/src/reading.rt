@@ -19,7 +19,11 @@ pub(crate) const CLOSED: u8 = 0;
 
 pub(crate) const NAME: [u8; 7] = *b"MPDJRNL";
 
-pub(crate) const LAYOUT: u32 = 1;
+/// The layout that is written.
+pub const LAYOUT: u32 = 2;
+
+/// The layout of before: it is read, and no record is added to it.
+pub(crate) const OLD_LAYOUT: u32 = 1;
 
 /// The length of a file's head with its gate, in bytes.
 pub(crate) const HEAD_LEN: usize = 32;
@@ -56,7 +60,7 @@ pub(crate) fn generation_of(bytes: &[u8]) -> Result<Option<u64>, JournalError>
     if bytes[1..8] != NAME[..] {
         return Err(JournalError::Damaged(1));
     }
-    if u32_at(bytes, 8) != LAYOUT {
+    if !matches!(u32_at(bytes, 8), OLD_LAYOUT | LAYOUT) {
         return Err(JournalError::Damaged(8));
     }
     Ok(Some(u64_at(bytes, 12)))

@@ -30,6 +30,10 @@ pub enum JournalError {
     /// The last record has the number 2^64 - 1, or, where a checkpoint is made, the file the generation 2^64 - 1. Nothing was written.
     #[error("record numbers are spent")]
     NumbersSpent,
+    /// The file in use has an old layout, to which no record is added: a checkpoint brings the journal to the present one. Nothing
+    /// was written.
+    #[error("old layout")]
+    OldLayout,
 }
 
 impl JournalError {
@@ -47,6 +51,7 @@ impl JournalError {
             JournalError::NoMemory => 7,
             JournalError::TooLong => 8,
             JournalError::NumbersSpent => 49,
+            JournalError::OldLayout => 50,
         }
     }
 }

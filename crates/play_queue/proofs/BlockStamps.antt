@@ -11,43 +11,44 @@ use Rattle.std.proofs.lemmas.Nat.{div-mul-add}
 use Rattle.std.proofs.lemmas.Slice.{between_is}
 use Rattle.std.proofs.lemmas.List.Elements.{filter-append}
 use Rattle.play_queue.specs.declared.entry.Entry.{Entry}
+use Rattle.play_queue.specs.Limits.{BLOCKS, SPAN}
 use Rattle.play_queue.specs.Latest.{latest_at, AreLatest, AreRaised, Between, later_than}
 use Rattle.play_queue.specs.Queue.{QueueState, IsQueue, changed_since}
 
 -- blocks that have come to a stamp, from a position on up to a block
 pub record RaisedTo (first latest : List ℕ) (start block stamp : ℕ) : Type 0 where
-  pub long : length latest ≡ 128
+  pub long : length latest ≡ BLOCKS
   pub grown : (k : ℕ) → latest_at first k ≤ latest_at latest k
-  pub raised : (k : ℕ) → start ≤ k → k / 128 < block → stamp ≤ latest_at latest k
+  pub raised : (k : ℕ) → start ≤ k → k / SPAN < block → stamp ≤ latest_at latest k
 
 -- one more block
-pub raised_more : (first latest : List ℕ) (start block stamp x : ℕ) → block < 128 → get_or latest block 0 ≤ x → stamp ≤ x
+pub raised_more : (first latest : List ℕ) (start block stamp x : ℕ) → block < BLOCKS → get_or latest block 0 ≤ x → stamp ≤ x
     → RaisedTo first latest start block stamp → RaisedTo first (set latest block x) start (block + 1) stamp
 raised_more first latest start block stamp x within grows comes before = record {
   long = length-set latest block x ∙ before.long;
-  grown = λ k. grown k (cases_eq (k / 128) block);
-  raised = λ k from below. raised k from below (cases_eq (k / 128) block);
+  grown = λ k. grown k (cases_eq (k / SPAN) block);
+  raised = λ k from below. raised k from below (cases_eq (k / SPAN) block);
 }
   where
     here : get_or (set latest block x) block 0 ≡ x
     here = get_or-set_same latest block x 0 (omega (arith, before.long))
 
-    grown : (k : ℕ) → (k / 128 ≡ block) ⊎ (k / 128 ≢ block) → latest_at first k ≤ latest_at (set latest block x) k
+    grown : (k : ℕ) → (k / SPAN ≡ block) ⊎ (k / SPAN ≢ block) → latest_at first k ≤ latest_at (set latest block x) k
     grown k (inl same) =
         let was : latest_at latest k ≡ get_or latest block 0 = ap (λ b. get_or latest b 0) same in
         let is : latest_at (set latest block x) k ≡ x = ap (λ b. get_or (set latest block x) b 0) same ∙ here in
         omega (arith, before.grown k)
     grown k (inr other) =
-        let is : latest_at (set latest block x) k ≡ latest_at latest k = get_or-set_other latest block (k / 128) x 0 other in
+        let is : latest_at (set latest block x) k ≡ latest_at latest k = get_or-set_other latest block (k / SPAN) x 0 other in
         omega (arith, before.grown k)
 
-    raised : (k : ℕ) → start ≤ k → k / 128 < block + 1 → (k / 128 ≡ block) ⊎ (k / 128 ≢ block)
+    raised : (k : ℕ) → start ≤ k → k / SPAN < block + 1 → (k / SPAN ≡ block) ⊎ (k / SPAN ≢ block)
         → stamp ≤ latest_at (set latest block x) k
     raised k from below (inl same) =
         let is : latest_at (set latest block x) k ≡ x = ap (λ b. get_or (set latest block x) b 0) same ∙ here in
         omega arith
     raised k from below (inr other) =
-        let is : latest_at (set latest block x) k ≡ latest_at latest k = get_or-set_other latest block (k / 128) x 0 other in
+        let is : latest_at (set latest block x) k ≡ latest_at latest k = get_or-set_other latest block (k / SPAN) x 0 other in
         omega (arith, before.raised k from (omega arith))
 
 -- one more entry
@@ -127,16 +128,16 @@ later-step version start at entries before now entry from within is so_far =
         ∙ ap (λ l. before ++ l) (sym (positions ∙ append-nil (later_than version start (slice_range entries start at))))
 
 -- one more block
-pub later-block : (version block end : ℕ) (entries : List Entry) → block * 128 < length entries
-    → end ≡ min (block * 128 + 128) (length entries) → later_than version 0 (take ((block + 1) * 128) entries)
-    ≡ later_than version 0 (take (block * 128) entries) ++ later_than version (block * 128) (slice_range entries (block * 128) end)
+pub later-block : (version block end : ℕ) (entries : List Entry) → block * SPAN < length entries
+    → end ≡ min (block * SPAN + SPAN) (length entries) → later_than version 0 (take ((block + 1) * SPAN) entries)
+    ≡ later_than version 0 (take (block * SPAN) entries) ++ later_than version (block * SPAN) (slice_range entries (block * SPAN) end)
 later-block version block end entries within is =
-    let start : ℕ = block * 128 in
+    let start : ℕ = block * SPAN in
     let front : List Entry = take start entries in
     let long : length front ≡ start = length-take-le start entries (omega arith) in
     let place : 0 + length front ≡ start = omega (arith, long) in
-    let cut : take ((block + 1) * 128) entries ≡ take end entries =
-    ap (λ n. take n entries) (omega arith) ∙ sym (take_min (start + 128) entries) ∙ ap (λ n. take n entries) (sym is) in
+    let cut : take ((block + 1) * SPAN) entries ≡ take end entries =
+    ap (λ n. take n entries) (omega arith) ∙ sym (take_min (start + SPAN) entries) ∙ ap (λ n. take n entries) (sym is) in
     let parts : take end entries ≡ front ++ slice_range entries start end =
     sym (take-append-drop start (take end entries)) ∙ ap (λ l. l ++ drop start (take end entries)) (take-take start end entries (omega arith))
     ∙ ap (λ l. front ++ l) (sym (between_is entries start end)) in
@@ -145,17 +146,17 @@ later-block version block end entries within is =
 
 -- a block without a later stamp
 pub later-skipped : (version block end : ℕ) (entries : List Entry) (latest : List ℕ) → AreLatest latest entries → end ≤ length entries
-    → block * 128 ≤ end → end ≤ block * 128 + 128 → get_or latest block 0 ≤ version
-    → later_than version (block * 128) (slice_range entries (block * 128) end) ≡ []
+    → block * SPAN ≤ end → end ≤ block * SPAN + SPAN → get_or latest block 0 ≤ version
+    → later_than version (block * SPAN) (slice_range entries (block * SPAN) end) ≡ []
 later-skipped version block end entries latest bounds within from to low =
-    later-none version (block * 128) (slice_range entries (block * 128) end)
+    later-none version (block * SPAN) (slice_range entries (block * SPAN) end)
     (λ k d inside.
-    let long : length (slice_range entries (block * 128) end) ≡ end - block * 128 = length-between entries (block * 128) end within in
-    let read : get_or (slice_range entries (block * 128) end) k d ≡ get_or entries (block * 128 + k) d =
-    get_or-between entries (block * 128) end k d (omega arith) in
-    let number : (block * 128 + k) / 128 ≡ block = div-mul-add block 128 k (omega arith) in
-    let bound : (get_or entries (block * 128 + k) d).stamp ≤ get_or latest block 0 =
-    rw number at (bounds (block * 128 + k) d (omega arith)) in
+    let long : length (slice_range entries (block * SPAN) end) ≡ end - block * SPAN = length-between entries (block * SPAN) end within in
+    let read : get_or (slice_range entries (block * SPAN) end) k d ≡ get_or entries (block * SPAN + k) d =
+    get_or-between entries (block * SPAN) end k d (omega arith) in
+    let number : (block * SPAN + k) / SPAN ≡ block = div-mul-add block SPAN k (omega arith) in
+    let bound : (get_or entries (block * SPAN + k) d).stamp ≤ get_or latest block 0 =
+    rw number at (bounds (block * SPAN + k) d (omega arith)) in
     rw read (omega arith))
 
 -- all positions, where each stamp is at least 1

@@ -12,7 +12,7 @@ use Rattle.std.proofs.lemmas.List.Filters.{length-filter_both}
 use Rattle.std.proofs.lemmas.List.Sorted.{length_permutation}
 use Rattle.std.proofs.lemmas.Nat.{div_below}
 use Rattle.play_queue.specs.declared.entry.Entry.{Entry}
-use Rattle.play_queue.specs.Limits.{MAX_VERSION}
+use Rattle.play_queue.specs.Limits.{BLOCKS, MAX_ENTRIES, MAX_VERSION, SPAN}
 use Rattle.play_queue.specs.Entries.{Uris, is_among, is_in_some, deleted, added, new_entries, kept}
 use Rattle.play_queue.specs.Latest.{latest_at, AreLatest, AreRaised, AreRestamped, Between, Either}
 use Rattle.play_queue.specs.Queue.{HaveOwnIds, ids_of, with_stamp}
@@ -41,19 +41,19 @@ latest-follow latest later Raised stamp befores afters before raises follow k d 
     by_cases (inr old) = omega (arith, old.1, before k d old.0, raises.grown k)
 
 -- all stamps are 1
-pub latest-begun : (later : List ℕ) (entries : List Entry) → later ≡ replicate 128 1 → length entries ≤ 16384
+pub latest-begun : (later : List ℕ) (entries : List Entry) → later ≡ replicate BLOCKS 1 → length entries ≤ MAX_ENTRIES
     → AreLatest later (map (with_stamp 1) entries)
 latest-begun later entries begun few k d within =
     let inside : k < length entries = omega (arith, length-map entries (with_stamp 1)) in
     let stamp : (get_or (map (with_stamp 1) entries) k d).stamp ≡ 1 =
     ap (λ (e : Entry). e.stamp) (get_or-map (with_stamp 1) entries k d d inside) in
     let bound : latest_at later k ≡ 1 =
-    ap (λ l. get_or l (k / 128) 0) begun ∙ get_or-replicate 128 (k / 128) 1 0 (div_below k 128 128 (omega arith) (omega arith)) in
+    ap (λ l. get_or l (k / SPAN) 0) begun ∙ get_or-replicate BLOCKS (k / SPAN) 1 0 (div_below k BLOCKS SPAN (omega arith) (omega arith)) in
     omega arith
 
 -- the stamps that follow a version
 pub latest-restamped : (latest later : List ℕ) (Raised : ℕ → Type 0) (version : ℕ) (befores entries afters : List Entry)
-    → AreLatest latest befores → AreRestamped latest later Raised version → length entries ≤ 16384
+    → AreLatest latest befores → AreRestamped latest later Raised version → length entries ≤ MAX_ENTRIES
     → Follow Raised (version + 1) befores afters
     → AreLatest later (cond (version == MAX_VERSION) (map (with_stamp 1) entries) afters)
 latest-restamped latest later Raised version befores entries afters before stamps few follow = of (version == MAX_VERSION) refl
@@ -434,9 +434,9 @@ follow-shuffled stamp start end words entries own forward within drawn =
 
 -- what the list of a queue keeps, after each edit
 pub list-restamped : (latest later : List ℕ) (version start end : ℕ) (befores entries : List Entry) → AreLatest latest befores
-    → AreRestamped latest later (Between start end) version → start ≤ end → end ≤ length entries → length entries ≤ 16384
+    → AreRestamped latest later (Between start end) version → start ≤ end → end ≤ length entries → length entries ≤ MAX_ENTRIES
     → SameBut start end befores entries
-    → (length (restamped version start end entries) ≤ 16384) × AreLatest later (restamped version start end entries)
+    → (length (restamped version start end entries) ≤ MAX_ENTRIES) × AreLatest later (restamped version start end entries)
 list-restamped latest later version start end befores entries before stamps forward within few same = (
   long (version == MAX_VERSION),
   latest-restamped latest later (Between start end) version befores entries
@@ -445,7 +445,7 @@ list-restamped latest later version start end befores entries before stamps forw
 )
   where
     long : (b : Bool) → length (cond b (map (with_stamp 1) entries)
-        (take start entries ++ (map (with_stamp (version + 1)) (slice_range entries start end) ++ drop end entries))) ≤ 16384
+        (take start entries ++ (map (with_stamp (version + 1)) (slice_range entries start end) ++ drop end entries))) ≤ MAX_ENTRIES
     long true = omega (arith, length-map entries (with_stamp 1))
     long false =
         omega (
@@ -455,9 +455,9 @@ list-restamped latest later version start end befores entries before stamps forw
         )
 
 pub list-deleted : (latest later : List ℕ) (version start end : ℕ) (entries : List Entry) → start ≤ end → end ≤ length entries
-    → (length entries ≤ 16384) × AreLatest latest entries
+    → (length entries ≤ MAX_ENTRIES) × AreLatest latest entries
     → AreRestamped latest later (Between start (length (deleted entries start end))) version
-    → (length (restamped version start (length (deleted entries start end)) (deleted entries start end)) ≤ 16384)
+    → (length (restamped version start (length (deleted entries start end)) (deleted entries start end)) ≤ MAX_ENTRIES)
     × AreLatest later (restamped version start (length (deleted entries start end)) (deleted entries start end))
 list-deleted latest later version start end entries forward within before stamps =
     let long : length (deleted entries start end) ≡ start + (length entries - end) =
@@ -471,9 +471,9 @@ list-deleted latest later version start end entries forward within before stamps
     (omega arith) (omega arith) (omega (arith, before.0)) (same-deleted entries start end forward within)
 
 pub list-exchanged : (latest later : List ℕ) (version low middle high : ℕ) (entries : List Entry) → low ≤ middle → middle ≤ high
-    → high ≤ length entries → (length entries ≤ 16384) × AreLatest latest entries
+    → high ≤ length entries → (length entries ≤ MAX_ENTRIES) × AreLatest latest entries
     → AreRestamped latest later (Between low high) version
-    → (length (restamped version low high (exchanged entries low middle high)) ≤ 16384)
+    → (length (restamped version low high (exchanged entries low middle high)) ≤ MAX_ENTRIES)
     × AreLatest later (restamped version low high (exchanged entries low middle high))
 list-exchanged latest later version low middle high entries below above within before stamps =
     let long : length (exchanged entries low middle high) ≡ length entries =
@@ -494,10 +494,10 @@ length-added entries at first uris within =
     )
 
 pub list-added : (latest later : List ℕ) (version at first : ℕ) (uris : Uris) (entries : List Entry) → at ≤ length entries
-    → length entries + length uris ≤ 16384 → AreLatest latest entries
+    → length entries + length uris ≤ MAX_ENTRIES → AreLatest latest entries
     → AreRestamped latest later (Between at (length (added entries at (new_entries first uris)))) version
     → (length (restamped version at (length (added entries at (new_entries first uris))) (added entries at (new_entries first uris)))
-    ≤ 16384)
+    ≤ MAX_ENTRIES)
     × AreLatest later
     (restamped version at (length (added entries at (new_entries first uris))) (added entries at (new_entries first uris)))
 list-added latest later version at first uris entries within few before stamps =
@@ -507,8 +507,8 @@ list-added latest later version at first uris entries within few before stamps =
     (same-added entries (new_entries first uris) at within)
 
 pub list-swapped : (latest later : List ℕ) (version i j : ℕ) (entries : List Entry) → i < length entries → j < length entries
-    → (length entries ≤ 16384) × AreLatest latest entries → AreRestamped latest later (Either i j) version
-    → (length (restamped_pair version i j (swap entries i j)) ≤ 16384)
+    → (length entries ≤ MAX_ENTRIES) × AreLatest latest entries → AreRestamped latest later (Either i j) version
+    → (length (restamped_pair version i j (swap entries i j)) ≤ MAX_ENTRIES)
     × AreLatest later (restamped_pair version i j (swap entries i j))
 list-swapped latest later version i j entries in_i in_j before stamps = (
   long (version == MAX_VERSION),
@@ -518,7 +518,7 @@ list-swapped latest later version i j entries in_i in_j before stamps = (
 )
   where
     long : (b : Bool) → length (cond b (map (with_stamp 1) (swap entries i j))
-        (stamped_where (λ at. at == i || at == j) (version + 1) (swap entries i j))) ≤ 16384
+        (stamped_where (λ at. at == i || at == j) (version + 1) (swap entries i j))) ≤ MAX_ENTRIES
     long true = omega (arith, before.0, length-swap entries i j, length-map (swap entries i j) (with_stamp 1))
     long false =
         omega (
@@ -541,9 +541,9 @@ short-batch first entries dropped within =
     )
 
 pub list-batch : (latest later : List ℕ) (version first : ℕ) (entries : List Entry) (dropped changed : Uris) → first ≤ length entries
-    → (length entries ≤ 16384) × AreLatest latest entries
+    → (length entries ≤ MAX_ENTRIES) × AreLatest latest entries
     → AreRestamped latest later (Between 0 (length (take first entries ++ kept (drop first entries) dropped))) version
-    → (length (restamped_batch version first changed (take first entries ++ kept (drop first entries) dropped)) ≤ 16384)
+    → (length (restamped_batch version first changed (take first entries ++ kept (drop first entries) dropped)) ≤ MAX_ENTRIES)
     × AreLatest later (restamped_batch version first changed (take first entries ++ kept (drop first entries) dropped))
 list-batch latest later version first entries dropped changed within before stamps = (
   long (version == MAX_VERSION),
@@ -555,11 +555,11 @@ list-batch latest later version first entries dropped changed within before stam
     left : List Entry
     left = take first entries ++ kept (drop first entries) dropped
 
-    few : length left ≤ 16384
+    few : length left ≤ MAX_ENTRIES
     few = omega (arith, before.0, short-batch first entries dropped within)
 
     long : (b : Bool) → length (cond b (map (with_stamp 1) left)
-        (marked changed (version + 1) (take first left) ++ map (with_stamp (version + 1)) (drop first left))) ≤ 16384
+        (marked changed (version + 1) (take first left) ++ map (with_stamp (version + 1)) (drop first left))) ≤ MAX_ENTRIES
     long true = omega (arith, few, length-map left (with_stamp 1))
     long false =
         let mark = λ (e : Entry). cond (is_among changed e.uri) (with_stamp (version + 1) e) e in
@@ -574,16 +574,16 @@ list-batch latest later version first entries dropped changed within before stam
         )
 
 pub list-prioritized : (later : List ℕ) (version priority : ℕ) (ranges : List (ℕ × ℕ)) (entries : List Entry)
-    → length entries ≤ 16384 → (version ≡ MAX_VERSION → later ≡ replicate 128 1)
+    → length entries ≤ MAX_ENTRIES → (version ≡ MAX_VERSION → later ≡ replicate BLOCKS 1)
     → (version ≢ MAX_VERSION → AreLatest later (reprioritized version ranges priority entries))
-    → (length (reprioritized version ranges priority entries) ≤ 16384) × AreLatest later (reprioritized version ranges priority entries)
+    → (length (reprioritized version ranges priority entries) ≤ MAX_ENTRIES) × AreLatest later (reprioritized version ranges priority entries)
 list-prioritized later version priority ranges entries few begun raises = of (version == MAX_VERSION) refl raises
   where
     of : (b : Bool) → (version == MAX_VERSION) ≡ b
         → (version ≢ MAX_VERSION → AreLatest later (cond b (map (with_stamp 1) (raised_in ranges priority 1 entries))
         (raised_in ranges priority (version + 1) entries)))
         → (length (cond b (map (with_stamp 1) (raised_in ranges priority 1 entries)) (raised_in ranges priority (version + 1) entries))
-        ≤ 16384)
+        ≤ MAX_ENTRIES)
         × AreLatest later
         (cond b (map (with_stamp 1) (raised_in ranges priority 1 entries)) (raised_in ranges priority (version + 1) entries))
     of true is raises =
@@ -598,9 +598,9 @@ list-prioritized later version priority ranges entries few begun raises = of (ve
         (omega arith, raises (eqb-false version MAX_VERSION is))
 
 pub list-shuffled : (latest later : List ℕ) (version start end : ℕ) (words : List ℕ) (entries : List Entry) → HaveOwnIds entries
-    → start ≤ end → end ≤ length entries → length words ≡ end - start → (length entries ≤ 16384) × AreLatest latest entries
+    → start ≤ end → end ≤ length entries → length words ≡ end - start → (length entries ≤ MAX_ENTRIES) × AreLatest latest entries
     → AreRestamped latest later (Between start end) version
-    → (length (restamped_moved version start end (ids_of (slice_range entries start end)) (shuffled entries start end words)) ≤ 16384)
+    → (length (restamped_moved version start end (ids_of (slice_range entries start end)) (shuffled entries start end words)) ≤ MAX_ENTRIES)
     × AreLatest later (restamped_moved version start end (ids_of (slice_range entries start end)) (shuffled entries start end words))
 list-shuffled latest later version start end words entries own forward within drawn before stamps = (
   long (version == MAX_VERSION),
@@ -625,7 +625,7 @@ list-shuffled latest later version start end words entries own forward within dr
     long_ids = length-map (slice_range entries start end) (λ entry. entry.id) ∙ length-between entries start end within ∙ sym long_part_of
 
     long : (b : Bool) → length (cond b (map (with_stamp 1) news)
-        (take start news ++ (stamped_moved ids (version + 1) (slice_range news start end) ++ drop end news))) ≤ 16384
+        (take start news ++ (stamped_moved ids (version + 1) (slice_range news start end) ++ drop end news))) ≤ MAX_ENTRIES
     long true = omega (arith, before.0, long_news, length-map news (with_stamp 1))
     long false =
         omega (

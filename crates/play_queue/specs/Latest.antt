@@ -2,11 +2,11 @@
 use Rattle.std.specs.Prelude.{◌≡◌, ◌≢◌, ℕ, ◌+◌, ◌/◌, ◌<◌, ◌≤◌, ◌⊎◌, nat_lt, List, length, map, filter, replicate, slice_index_or}
 use Rattle.std.specs.List.{enumerate_from}
 use Rattle.play_queue.specs.declared.entry.Entry.{Entry}
-use Rattle.play_queue.specs.Limits.{MAX_VERSION}
+use Rattle.play_queue.specs.Limits.{BLOCKS, MAX_ENTRIES, MAX_VERSION, SPAN}
 
 -- the latest stamp of a position's block
 abbrev pub latest_at : List ℕ → ℕ → ℕ
-latest_at latest at = slice_index_or latest (at / 128) 0
+latest_at latest at = slice_index_or latest (at / SPAN) 0
 
 -- no entry has a later stamp than its block
 abbrev pub AreLatest : List ℕ → List Entry → Type 0
@@ -14,7 +14,7 @@ AreLatest latest entries = (k : ℕ) (d : Entry) → k < length entries → (sli
 
 -- what the entries of a queue and the stamps of their blocks keep
 abbrev pub AreKept : List ℕ → List Entry → Type 0
-AreKept latest entries = (length entries ≤ 16384) × AreLatest latest entries
+AreKept latest entries = (length entries ≤ MAX_ENTRIES) × AreLatest latest entries
 
 -- a position of a range
 abbrev pub Between : ℕ → ℕ → ℕ → Type 0
@@ -31,7 +31,7 @@ pub record AreRaised (latest later : List ℕ) (Raised : ℕ → Type 0) (stamp 
 
 -- the same for the stamp that follows a version; past the greatest version all are 1
 pub record AreRestamped (latest later : List ℕ) (Raised : ℕ → Type 0) (version : ℕ) : Type 0 where
-  pub begun : version ≡ MAX_VERSION → later ≡ replicate 128 1
+  pub begun : version ≡ MAX_VERSION → later ≡ replicate BLOCKS 1
   pub raised : version ≢ MAX_VERSION → AreRaised latest later Raised (version + 1)
 
 -- the positions of entries with a stamp later than a version, where the first one's position is this

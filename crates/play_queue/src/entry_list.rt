@@ -22,7 +22,7 @@ use std::alloc::{AllocError, Global};
 use std::fmt;
 use std::marker::Model;
 
-/// The entries of a queue in order, at most 16,384. Beside them stand the latest stamps of blocks of positions, so that
+/// The entries of a queue in order, at most 65,536. Beside them stand the latest stamps of blocks of positions, so that
 /// what has changed is found without a look at what hasn't, and hints to where the entry with an id stands.
 ///
 /// Each edit takes the queue's version, stamps what has changed, and answers the new version.
@@ -65,7 +65,7 @@ impl EntryList {
 
     // These entries, with the memory of these hints.
     pub(crate) fn from_parts(entries: Vec<Entry>, mut hints: Hints) -> EntryList
-        requires { length entries.items ≤ 16384 }
+        requires { length entries.items ≤ MAX_ENTRIES }
         ensures { result ≡ entries.items }
     {
         hints.note(&entries, 0, entries.len());
@@ -79,7 +79,7 @@ impl EntryList {
 
     pub(crate) fn len(&self) -> usize
         ensures len { result ≡ length self.now }
-        ensures few { result ≤ 16384 }
+        ensures few { result ≤ MAX_ENTRIES }
     {
         self.entries.len()
     }

@@ -2,10 +2,11 @@
 ghost use Rattle.std.specs.Prelude.{◌≤◌, length};
 
 use crate::entry::Entry;
+use crate::limits::MAX_ENTRIES;
 use std::alloc::{AllocError, Global};
 
 /// How many ids have a place of their own: as many ids that follow each other as there may be entries.
-const PLACES: usize = 16_384;
+const PLACES: usize = MAX_ENTRIES;
 
 /// How far entries may have slid since they were seen, before all are looked at anew.
 const REACH: usize = 128;
@@ -36,7 +37,7 @@ impl Hints {
 
     // Notes where the entries of a range stand.
     pub(crate) fn note(&mut self, entries: &[Entry], start: usize, end: usize)
-        requires few { length entries.now ≤ 16384 }
+        requires few { length entries.now ≤ MAX_ENTRIES }
         requires in_range { end ≤ length entries.now }
     {
         for at in start..end {
@@ -48,7 +49,7 @@ impl Hints {
 
     // The entries of a range have slid by so many positions at most, but for those that were noted where they stand.
     pub(crate) fn slide(&mut self, entries: &[Entry], start: usize, end: usize, by: usize)
-        requires few { length entries.now ≤ 16384 }
+        requires few { length entries.now ≤ MAX_ENTRIES }
         requires in_range { end ≤ length entries.now }
     {
         if REACH < by {
@@ -64,7 +65,7 @@ impl Hints {
 
     // The entries of a range have been added.
     pub(crate) fn add(&mut self, entries: &[Entry], start: usize, end: usize)
-        requires few { length entries.now ≤ 16384 }
+        requires few { length entries.now ≤ MAX_ENTRIES }
         requires forward { start ≤ end }
         requires in_range { end ≤ length entries.now }
     {
@@ -76,7 +77,7 @@ impl Hints {
 
     // Those that stood in a range have been taken out.
     pub(crate) fn delete(&mut self, entries: &[Entry], start: usize, end: usize)
-        requires few { length entries.now ≤ 16384 }
+        requires few { length entries.now ≤ MAX_ENTRIES }
         requires forward { start ≤ end }
     {
         if start < entries.len() {
@@ -86,7 +87,7 @@ impl Hints {
 
     // Two blocks have changed places; they meet at `middle` now.
     pub(crate) fn exchange(&mut self, entries: &[Entry], low: usize, middle: usize, high: usize)
-        requires few { length entries.now ≤ 16384 }
+        requires few { length entries.now ≤ MAX_ENTRIES }
         requires low_block { low ≤ middle }
         requires high_block { middle ≤ high }
         requires in_range { high ≤ length entries.now }

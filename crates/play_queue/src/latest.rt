@@ -3,17 +3,18 @@ ghost use Rattle.std.specs.Prelude.{◌≡◌, ◌≤◌, ◌++◌, length, slic
 ghost use Rattle.play_queue.specs.Latest.{AreLatest, AreRaised, Between, later_than};
 
 use crate::entry::Entry;
+use crate::limits::MAX_ENTRIES;
 use std::alloc::{AllocError, Global};
 
 /// How many positions a block has.
-const SPAN: usize = 128;
+pub(crate) const SPAN: usize = 256;
 
-/// How many blocks there are: they have room for 16,384 entries.
-pub(crate) const BLOCKS: usize = 128;
+/// How many blocks there are: they have room for all entries that there may be.
+pub(crate) const BLOCKS: usize = 256;
 
 // Raises the blocks of a range of positions to a stamp.
 pub(crate) fn raise_latest(latest: &mut [u32; BLOCKS], start: usize, end: usize, stamp: u32)
-    requires { end ≤ 16384 }
+    requires { end ≤ MAX_ENTRIES }
     ensures { AreRaised latest.old latest.new (Between start end) stamp }
 {
     if start < end {
@@ -25,7 +26,7 @@ pub(crate) fn raise_latest(latest: &mut [u32; BLOCKS], start: usize, end: usize,
 
 // The latest stamps of the blocks of these entries.
 pub(crate) fn latest_of(entries: &[Entry]) -> [u32; BLOCKS]
-    requires { length entries.now ≤ 16384 }
+    requires { length entries.now ≤ MAX_ENTRIES }
     ensures { AreLatest result entries.now }
 {
     let mut latest = [0; BLOCKS];
@@ -42,7 +43,7 @@ pub(crate) fn later_than(
     latest: &[u32; BLOCKS],
     version: u32,
 ) -> Result<Vec<usize>, AllocError>
-    requires few { length entries.now ≤ 16384 }
+    requires few { length entries.now ≤ MAX_ENTRIES }
     requires latest { AreLatest latest.now entries.now }
     ensures { IfOk result (λ positions. positions.items ≡ later_than version 0 entries.now) }
 {

@@ -1,5 +1,5 @@
 /// How many entries the queue may have.
-pub const MAX_ENTRIES: usize = 16_384;
+pub const MAX_ENTRIES: usize = 65_536;
 
 /// The greatest id of an entry. The next id is one above it once all ids are spent.
 pub const MAX_ID: u32 = 2_147_483_647;

@@ -8,7 +8,7 @@ ghost use Rattle.play_queue.specs.declared.entry.Entry.{Entry};
 
 use crate::entry::Entry;
 use crate::latest::{BLOCKS, raise_latest};
-use crate::limits::MAX_VERSION;
+use crate::limits::{MAX_ENTRIES, MAX_VERSION};
 use crate::stamping::stamp_all;
 
 // Whether a range ends before it begins, or past the end of so many entries.
@@ -60,10 +60,10 @@ pub(crate) fn prioritize(
 ) -> u32
     requires ranges { AreRanges ranges.now (length entries.old.items) }
     requires within { version ≤ MAX_VERSION }
-    requires few { length entries.old.items ≤ 16384 }
+    requires few { length entries.old.items ≤ MAX_ENTRIES }
     ensures version { result ≡ next_version version }
     ensures entries { entries.new.items ≡ reprioritized version ranges.now priority entries.old.items }
-    ensures begun { version ≡ MAX_VERSION → latest.new ≡ replicate 128 1 }
+    ensures begun { version ≡ MAX_VERSION → latest.new ≡ replicate BLOCKS 1 }
     ensures raised { version ≢ MAX_VERSION → AreLatest latest.old entries.old.items → AreLatest latest.new entries.new.items }
 {
     if version == MAX_VERSION {
@@ -84,7 +84,7 @@ fn raise_in(
     stamp: u32,
 )
     requires ranges { AreRanges ranges.now (length entries.old) }
-    requires few { length entries.old ≤ 16384 }
+    requires few { length entries.old ≤ MAX_ENTRIES }
     ensures entries { entries.new ≡ raised_in ranges.now priority stamp entries.old }
     ensures latest { AreLatest latest.old entries.old → AreLatest latest.new entries.new }
 {

@@ -65,7 +65,7 @@ impl Queue {
     }
 
     /// The queue of these entries, version and next id, as they were saved; `None` where they break what a queue
-    /// keeps: at most 16,384 entries, a version from 1 to 2147483647, a next id from 1 to 2147483648, ids that differ,
+    /// keeps: at most 65,536 entries, a version from 1 to 2147483647, a next id from 1 to 2147483648, ids that differ,
     /// from 1 and below the next id, and stamps from 1 to the version.
     ///
     /// For the test of the ids it takes memory, 4 bytes an entry, which it gives back. What it keeps for look-ups by id is
@@ -191,7 +191,7 @@ impl Queue {
     /// length. Answers the first one's id; the others' ids follow it. No URI adds nothing, and answers the id that the
     /// next entry gets.
     ///
-    /// Refused by `BadIndex` where `at` is past the end, by `QueueFull` where there would be more than 16,384 entries,
+    /// Refused by `BadIndex` where `at` is past the end, by `QueueFull` where there would be more than 65,536 entries,
     /// then by `IdsSpent` where an id would pass 2147483647, and by `NoMemory`.
     pub fn add_at(&mut self, at: usize, uris: Vec<RowUri>) -> Result<u32, QueueError>
         ensures first { IfOk result (λ id. id ≡ self.old.next_id) }

@@ -7,7 +7,7 @@ ghost use Rattle.play_queue.specs.Restamp.{marked, restamped_batch, next_version
 
 use crate::entry::Entry;
 use crate::latest::{BLOCKS, raise_latest};
-use crate::limits::MAX_VERSION;
+use crate::limits::{MAX_ENTRIES, MAX_VERSION};
 use crate::stamping::stamp_all;
 use crate::uris::SortedUris;
 
@@ -90,7 +90,7 @@ pub(crate) fn restamp_batch(
 ) -> u32
     requires in_range { first ≤ length entries.old.items }
     requires within { version ≤ MAX_VERSION }
-    requires few { length entries.old.items ≤ 16384 }
+    requires few { length entries.old.items ≤ MAX_ENTRIES }
     ensures version { result ≡ next_version version }
     ensures entries { entries.new.items ≡ restamped_batch version first changed.now entries.old.items }
     ensures latest { AreRestamped latest.old latest.new (Between 0 (length entries.old.items)) version }

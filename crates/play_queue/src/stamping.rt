@@ -7,7 +7,7 @@ ghost use Rattle.play_queue.specs.Shuffle.{stamped_if_moved, stamped_moved, rest
 
 use crate::entry::Entry;
 use crate::latest::{BLOCKS, raise_latest};
-use crate::limits::MAX_VERSION;
+use crate::limits::{MAX_ENTRIES, MAX_VERSION};
 
 // Gives each entry the stamp.
 pub(crate) fn stamp_all(entries: &mut [Entry], stamp: u32)
@@ -39,7 +39,7 @@ pub(crate) fn restamp(
     requires forward { start ≤ end }
     requires in_range { end ≤ length entries.old.items }
     requires within { version ≤ MAX_VERSION }
-    requires few { end ≤ 16384 }
+    requires few { end ≤ MAX_ENTRIES }
     ensures version { result ≡ next_version version }
     ensures entries { entries.new.items ≡ restamped version start end entries.old.items }
     ensures latest { AreRestamped latest.old latest.new (Between start end) version }
@@ -65,7 +65,7 @@ pub(crate) fn restamp_pair(
     requires one_in_range { one < length entries.old.items }
     requires other_in_range { other < length entries.old.items }
     requires within { version ≤ MAX_VERSION }
-    requires few { length entries.old.items ≤ 16384 }
+    requires few { length entries.old.items ≤ MAX_ENTRIES }
     ensures version { result ≡ next_version version }
     ensures entries { entries.new.items ≡ restamped_pair version one other entries.old.items }
     ensures latest { AreRestamped latest.old latest.new (Either one other) version }
@@ -128,7 +128,7 @@ pub(crate) fn restamp_moved(
     requires in_range { end ≤ length entries.old.items }
     requires ids { length ids.now ≡ end - start }
     requires within { version ≤ MAX_VERSION }
-    requires few { end ≤ 16384 }
+    requires few { end ≤ MAX_ENTRIES }
     ensures version { result ≡ next_version version }
     ensures entries { entries.new.items ≡ restamped_moved version start end ids.now entries.old.items }
     ensures latest { AreRestamped latest.old latest.new (Between start end) version }

@@ -11,6 +11,17 @@ use Rattle.player_core.specs.declared.settings.PlaySettings.{PlaySettings}
 use Rattle.player_core.specs.Choice.{chosen, nothing, this_round, placed}
 use Rattle.player_core.specs.Player.{PlayerState, Step, unchanged, stopped, gone_on, left_out}
 
+-- an option that is on, or on once
+abbrev pub is_on : Single → Bool
+is_on Off = false
+is_on On = true
+is_on Oneshot = true
+
+abbrev pub is_oneshot : Single → Bool
+is_oneshot Off = false
+is_oneshot On = false
+is_oneshot Oneshot = true
+
 -- under consume the ended entry leaves the queue
 abbrev pub consumed : Bool → ℕ → Block
 consumed true at = record { start = at; end = at + 1 }
@@ -27,9 +38,9 @@ after_single false false current = None
 -- the song stays current
 abbrev pub followed_by : PlaySettings → Single → List Entry → List ℕ → ℕ → ℕ → Option Choice
 followed_by settings Off entries played at current = Some (chosen settings entries
-    (consumed settings.options.consume at) [] played at current)
-followed_by settings On entries played at current = after_single settings.options.consume settings.options.repeat current
-followed_by settings Oneshot entries played at current = after_single settings.options.consume settings.options.repeat current
+    (consumed (is_on settings.options.consume) at) [] played at current)
+followed_by settings On entries played at current = after_single (is_on settings.options.consume) settings.options.repeat current
+followed_by settings Oneshot entries played at current = after_single (is_on settings.options.consume) settings.options.repeat current
 
 abbrev pub gone_on_or_stopped : Bool → PlayerState → Option Choice → PlayerState
 gone_on_or_stopped random player None = stopped player
@@ -39,23 +50,20 @@ abbrev pub order_of : Option Choice → Option ℕ
 order_of None = None
 order_of (Some choice) = choice.order
 
-abbrev pub is_oneshot : Single → Bool
-is_oneshot Off = false
-is_oneshot On = false
-is_oneshot Oneshot = true
-
--- The song at a position is over: what follows is found before the entry leaves the queue under consume;
--- `oneshot` is then off.
+-- The song at a position is over: what follows is found before the entry leaves the queue under consume. `oneshot` of single is then
+-- off, and that of consume, which has removed its one entry.
 abbrev pub over_at : List Entry → PlaySettings → Single → PlayerState → Option (ℕ × ℕ) → Step
 over_at entries settings single player None = unchanged player
 over_at entries settings single player (Some place) =
     let next = followed_by settings single entries player.played place.0 place.1 in
     record {
-      player = gone_on_or_stopped settings.options.random (left_out (consumed settings.options.consume place.0) [] entries player) next;
+      player = gone_on_or_stopped settings.options.random
+          (left_out (consumed (is_on settings.options.consume) place.0) [] entries player) next;
       changes = record {
         order = order_of next;
-        removed = if settings.options.consume then Some place.0 else None;
+        removed = if is_on settings.options.consume then Some place.0 else None;
         single_off = is_oneshot single;
+        consume_off = is_oneshot settings.options.consume;
       };
     }
 

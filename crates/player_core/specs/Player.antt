@@ -38,7 +38,7 @@ player_of playing played = record {
 }
 
 abbrev pub no_changes : Changes
-no_changes = record { order = None; removed = None; single_off = false }
+no_changes = record { order = None; removed = None; single_off = false; consume_off = false }
 
 abbrev pub unchanged : PlayerState → Step
 unchanged player = record { player = player; changes = no_changes }

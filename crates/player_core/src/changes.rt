@@ -7,6 +7,8 @@ pub struct Changes {
     pub removed: Option<usize>,
     /// The option `single` goes from `oneshot` to off.
     pub single_off: bool,
+    /// The option `consume` goes from `oneshot` to off: it has taken an entry out.
+    pub consume_off: bool,
 }
 
 impl Changes {
@@ -15,5 +17,6 @@ impl Changes {
         order: None,
         removed: None,
         single_off: false,
+        consume_off: false,
     };
 }

@@ -1,7 +1,7 @@
 // What follows a song that is over.
 ghost use Rattle.std.specs.Prelude.{◌≡◌, ◌<◌, length, IsTrue};
 ghost use Rattle.indexmap.specs.IndexSet.{spare};
-ghost use Rattle.player_core.specs.Ending.{consumed, after_single, followed_by, gone_on_or_stopped, order_of, is_oneshot};
+ghost use Rattle.player_core.specs.Ending.{is_on, is_oneshot, consumed, after_single, followed_by, gone_on_or_stopped, order_of};
 ghost use Rattle.player_core.specs.Player.{player_of};
 
 use crate::block::Block;
@@ -59,10 +59,12 @@ pub(crate) fn followed_by(
     let options = settings.options;
     match single {
         Single::Off => {
-            let block = consumed(options.consume, at);
+            let block = consumed(is_on(options.consume), at);
             Some(choose(entries, settings, block, &[], played, at, current))
         }
-        Single::On | Single::Oneshot => after_single(options.consume, options.repeat, current),
+        Single::On | Single::Oneshot => {
+            after_single(is_on(options.consume), options.repeat, current)
+        }
     }
 }
 
@@ -93,10 +95,19 @@ pub(crate) fn order_of(next: Option<Choice>) -> Option<u64>
     }
 }
 
-pub(crate) fn is_oneshot(single: Single) -> bool
-    ensures { result ≡ is_oneshot single }
+pub(crate) fn is_on(option: Single) -> bool
+    ensures { result ≡ is_on option }
 {
-    match single {
+    match option {
+        Single::On | Single::Oneshot => true,
+        Single::Off => false,
+    }
+}
+
+pub(crate) fn is_oneshot(option: Single) -> bool
+    ensures { result ≡ is_oneshot option }
+{
+    match option {
         Single::Oneshot => true,
         Single::Off | Single::On => false,
     }

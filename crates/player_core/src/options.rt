@@ -1,13 +1,11 @@
-/// What the player does after the current song, as `single` of the MPD protocol reference 0.23 ("Playback
-/// options") sets it.
+/// The value of `single` and of `consume`, two options of the MPD protocol reference 0.23 ("Playback options"); `oneshot` of `consume` is
+/// past 0.23.
 #[derive(Clone, Copy, Debug, PartialEq, Eq, Default)]
 pub enum Single {
-    /// It goes on with the next song.
     #[default]
     Off,
-    /// It stops, or under `repeat` plays the same song again.
     On,
-    /// As `On`, once: the option is then off.
+    /// As `On`, for one song: then the option is off.
     Oneshot,
 }
 
@@ -18,7 +16,8 @@ pub struct Options {
     pub repeat: bool,
     /// Songs are played in a random order.
     pub random: bool,
+    /// After a song the player stops, or under `repeat` plays the same song again. Off, it goes on with the next song.
     pub single: Single,
-    /// A song that was played leaves the queue.
-    pub consume: bool,
+    /// A song that was played leaves the queue; `oneshot` is off once one has left it.
+    pub consume: Single,
 }

@@ -270,3 +270,24 @@ fn disks_that_fail(rt: HostRuntime) -> Result<(), Fail> {
     same_bytes(&rt, &written, b"");
     Ok(())
 }
+
+// Whether a console of one line says that the journal was brought to the present layout, and its disks.
+fn is_told(alloc: Global, disks: (MemDisk, MemDisk)) -> (bool, (MemDisk, MemDisk)) {
+    let mut reader: &[u8] = b"ping\n";
+    let mut written = Vec::new(alloc);
+    let mut none = MemFolder::new(alloc);
+    let end = run(alloc, disks, &mut none, &mut reader, &mut written);
+    (end.migrated, (end.a, end.b))
+}
+
+#[test]
+fn old_layout_is_told_once(rt: HostRuntime) -> Result<(), Fail> {
+    let (fresh, _) = is_told(rt.alloc(), fresh_disks(rt.alloc())?);
+    let (mut a, b) = fresh_disks(rt.alloc())?;
+    // The layout in the head of file a.
+    a.write_at(8, &[1])?;
+    let (first, disks) = is_told(rt.alloc(), (a, b));
+    let (second, _) = is_told(rt.alloc(), disks);
+    equal(&rt, (fresh, first, second), (false, true, false));
+    Ok(())
+}

@@ -3,6 +3,7 @@ use crate::fault::Fault;
 use crate::given::read_bytes;
 use crate::printer::Printer;
 use crate::words::{byte, first_word, number};
+use play_journal::LAYOUT;
 use state_codec::Saved;
 use std::alloc::Global;
 
@@ -14,16 +15,19 @@ mod snapshots;
 #[derive(Drop)]
 pub struct Codec {
     alloc: Global,
+    /// The layout of the journal in which bytes are read.
+    layout: u32,
     state: Saved,
     /// The bytes that were given last.
     given: Vec<u8>,
 }
 
 impl Codec {
-    /// A new state under a key of zeros, and no bytes.
+    /// A new state under a key of zeros, and no bytes; they are read in the layout that is written.
     pub fn new(alloc: Global) -> Self {
         Codec {
             alloc,
+            layout: LAYOUT,
             state: Saved::fresh(alloc, [0; 32]),
             given: Vec::new(alloc),
         }
@@ -35,6 +39,7 @@ impl Codec {
             "fresh" => self.renew(rest),
             "bytes" => self.give(rest),
             "more" => self.give_more(rest),
+            "layout" => self.set_layout(rest),
             "changed" => self.take_changed(printer, rest),
             "often" => self.take_often(rest),
             "ops" | "cut_ops" | "snapshot" | "cut_snapshot" | "body" | "apply" => {
@@ -48,10 +53,10 @@ impl Codec {
     // Does what a line asks for of the bytes that were given last.
     fn take_given(&mut self, printer: &mut Printer, word: &str) -> Result<(), Fault> {
         match word {
-            "ops" => return ops::tell_ops(printer, &self.given),
-            "cut_ops" => snapshots::tell_fronts(printer, &self.given, true),
+            "ops" => return ops::tell_ops(printer, self.layout, &self.given),
+            "cut_ops" => self.tell_fronts(printer, true),
             "snapshot" => self.read_snapshot(printer),
-            "cut_snapshot" => snapshots::tell_fronts(printer, &self.given, false),
+            "cut_snapshot" => self.tell_fronts(printer, false),
             "body" => self.apply_body(printer),
             _ => return self.apply_given(printer),
         }
@@ -77,6 +82,11 @@ impl Codec {
         } else {
             self.give(text)
         }
+    }
+
+    fn set_layout(&mut self, text: &str) -> Result<(), Fault> {
+        self.layout = u32::from(byte(text)?);
+        Ok(())
     }
 
     fn renew(&mut self, text: &str) -> Result<(), Fault> {

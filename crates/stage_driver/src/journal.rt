@@ -112,6 +112,7 @@ fn checkpoint(journal: &mut TestJournal, printer: &mut Printer, words: &str) -> 
 fn tell(journal: &TestJournal, printer: &mut Printer) {
     printer.count("base", journal.base());
     printer.count("records", journal.records_since_checkpoint());
+    printer.count("layout", u64::from(journal.layout()));
     if journal.is_spent() {
         printer.line("spent");
     }

@@ -14,12 +14,11 @@ use Rattle.state_codec.specs.declared.refusal.BodyError.{BodyError}
 use Rattle.state_codec.specs.declared.refusal.BodyError.TheVariants.{BadOp, DoesNotApply}
 use Rattle.state_codec.specs.declared.refusal.OpRefusal.{OpRefusal}
 use Rattle.state_codec.specs.Applied.{refusal_of, after, applied, applied_from, unless_refused}
-use Rattle.state_codec.specs.Body.{told, told_place, body_from, body_applied, body_applied_in, GivesBody, bad_op, not_applied}
+use Rattle.state_codec.specs.Body.{told, told_place, body_from, body_applied_in, GivesBody, bad_op, not_applied}
 use Rattle.state_codec.specs.Editing.{AnswersApply}
 use Rattle.state_codec.specs.Fields.{Field}
 use Rattle.state_codec.specs.Given.{Fails}
-use Rattle.state_codec.specs.Layout.{layout_1}
-use Rattle.state_codec.specs.Reading.{in_bytes, ops_reading}
+use Rattle.state_codec.specs.Reading.{in_bytes, ops_reading_in}
 use Rattle.state_codec.specs.ReadingOps.{op_at, ops_at}
 use Rattle.state_codec.specs.SavedState.{SavedState, IsBytes}
 use Rattle.state_codec.specs.SpellingOps.{op_bytes}
@@ -155,19 +154,21 @@ whole : (bytes : List ℕ) (r : Result (List Op) ℕ) (ops : List Op) → in_byt
 whole bytes (Ok x) ops f = f
 whole bytes (Err left) ops f = absurd cc
 
-of_body : (b : Bool) (bytes : List ℕ) (s : SavedState) (ops : List Op) → eqb (length bytes) 0 ≡ b → ops_reading bytes ≡ Ok ops
-    → body_applied bytes s ≡ told_place (applied_from 0 ops s)
-of_body true bytes s ops none e =
-    let h : ops_reading bytes ≡ Err 0 = ap (λ (b : Bool). cond b (Err 0) (in_bytes bytes (ops_at layout_1 (length bytes) bytes))) none in
+of_body : (layout : Layout) (b : Bool) (bytes : List ℕ) (s : SavedState) (ops : List Op) → eqb (length bytes) 0 ≡ b
+    → ops_reading_in layout bytes ≡ Ok ops
+    → body_applied_in layout bytes s ≡ told_place (applied_from 0 ops s)
+of_body layout true bytes s ops none e =
+    let h : ops_reading_in layout bytes ≡ Err 0 =
+    ap (λ (b : Bool). cond b (Err 0) (in_bytes bytes (ops_at layout (length bytes) bytes))) none in
     absurd (let clash : Err 0 ≡ Ok ops = sym h ∙ e in cc)
-of_body false bytes s ops some e =
-    let h : ops_reading bytes ≡ in_bytes bytes (ops_at layout_1 (length bytes) bytes) =
-    ap (λ (b : Bool). cond b (Err 0) (in_bytes bytes (ops_at layout_1 (length bytes) bytes))) some in
-    let k : body_applied bytes s ≡ body_from layout_1 (length bytes) (length bytes) 0 bytes s =
-    ap (λ (b : Bool). cond b (Err (BadOp 0)) (body_from layout_1 (length bytes) (length bytes) 0 bytes s)) some in
-    k ∙ reads layout_1 (length bytes) (length bytes) 0 bytes s ops (whole bytes (ops_at layout_1 (length bytes) bytes) ops (sym h ∙ e))
+of_body layout false bytes s ops some e =
+    let h : ops_reading_in layout bytes ≡ in_bytes bytes (ops_at layout (length bytes) bytes) =
+    ap (λ (b : Bool). cond b (Err 0) (in_bytes bytes (ops_at layout (length bytes) bytes))) some in
+    let k : body_applied_in layout bytes s ≡ body_from layout (length bytes) (length bytes) 0 bytes s =
+    ap (λ (b : Bool). cond b (Err (BadOp 0)) (body_from layout (length bytes) (length bytes) 0 bytes s)) some in
+    k ∙ reads layout (length bytes) (length bytes) 0 bytes s ops (whole bytes (ops_at layout (length bytes) bytes) ops (sym h ∙ e))
 
 -- a body that spells ops does what they do in turn
-pub spelled : (bytes : List ℕ) (s : SavedState) (ops : List Op) → ops_reading bytes ≡ Ok ops
-    → body_applied bytes s ≡ told_place (applied_from 0 ops s)
-spelled bytes s ops e = of_body (eqb (length bytes) 0) bytes s ops refl e
+pub spelled : (layout : Layout) (bytes : List ℕ) (s : SavedState) (ops : List Op) → ops_reading_in layout bytes ≡ Ok ops
+    → body_applied_in layout bytes s ≡ told_place (applied_from 0 ops s)
+spelled layout bytes s ops e = of_body layout (eqb (length bytes) 0) bytes s ops refl e

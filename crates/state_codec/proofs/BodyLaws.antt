@@ -18,14 +18,14 @@ use Rattle.state_codec.specs.Ops.{IsOp, AreOps}
 use Rattle.state_codec.specs.Steps.{◌>>=◌}
 use Rattle.state_codec.specs.Spelling.{ops_bytes}
 use Rattle.state_codec.specs.SpellingOps.{op_bytes}
-use Rattle.state_codec.specs.Layout.{layout_1, IsSettingIn, IsOpIn}
+use Rattle.state_codec.specs.Layout.{layout_2, written_layout, IsSettingIn, IsOpIn, AreOpsIn}
 use Rattle.state_codec.specs.Reading.{in_bytes, ops_reading, ops_reading_in}
 use Rattle.state_codec.specs.ReadingOps.{op_at, ops_at}
 use Rattle.state_codec.specs.Answers.{GivesOps, op_error}
 use Rattle.state_codec.specs.Given.{Fails}
 use Rattle.state_codec.specs.declared.fields.ReadError.{ReadError}
 use Rattle.state_codec.specs.declared.fields.ReadError.TheVariants.{Fault, NoMemory}
-use Rattle.state_codec.proofs.FieldLaws.{bind_ok, ok_is, consume_1, Takes}
+use Rattle.state_codec.proofs.FieldLaws.{bind_ok, ok_is, consume_2, Takes}
 use Rattle.state_codec.proofs.OpLaws.{op_takes, op_again, op_spelled}
 use Rattle.state_codec.proofs.Rising.{all_weaker}
 
@@ -35,9 +35,10 @@ chosen true x y z e = inl (refl, e)
 chosen false x y z e = inr (refl, e)
 
 ops_take : (layout : Layout) (n : ℕ) (bytes : List ℕ) (ops : List Op) → IsBytes bytes → ops_at layout n bytes ≡ Ok ops
-    → (bytes ≡ ops_bytes ops) × AllByRecursion IsOp ops
+    → (bytes ≡ ops_bytes ops) × (AllByRecursion IsOp ops × AreOpsIn layout ops)
 unfolding ops_at
-ops_take layout n [] ops fits e = subst (λ (x : List Op). ([] ≡ ops_bytes x) × AllByRecursion IsOp x) (ok_is [] ops e) (refl, tt)
+ops_take layout n [] ops fits e =
+    subst (λ (x : List Op). ([] ≡ ops_bytes x) × (AllByRecursion IsOp x × AreOpsIn layout x)) (ok_is [] ops e) (refl, (tt, tt))
 ops_take layout zero (b ∷ rest) ops fits e = absurd cc
 ops_take layout (suc n) (b ∷ rest) ops fits e =
     let first = bind_ok (op_at layout (b ∷ rest)) _ ops e in
@@ -46,10 +47,8 @@ ops_take layout (suc n) (b ∷ rest) ops fits e =
     let more = ops_take layout n first.0.1 others.0 one.0.rest_fits others.1 in
     let whole : b ∷ rest ≡ ops_bytes (first.0.0 ∷ others.0) = one.0.parts ∙ ap (λ (x : List ℕ). op_bytes first.0.0 ++ x) more.0
     ∙ sym (flat_map-cons op_bytes first.0.0 others.0) in
-    subst (λ (x : List Op). (b ∷ rest ≡ ops_bytes x) × AllByRecursion IsOp x) (ok_is (first.0.0 ∷ others.0) ops others.2) (
-      whole,
-      (one.1.0, more.1),
-    )
+    subst (λ (x : List Op). (b ∷ rest ≡ ops_bytes x) × (AllByRecursion IsOp x × AreOpsIn layout x))
+    (ok_is (first.0.0 ∷ others.0) ops others.2) (whole, ((one.1.0, more.1.0), (one.1.1, more.1.1)))
 
 -- reading goes on at bytes that are not at their end
 ops_step : (layout : Layout) (n : ℕ) (bytes : List ℕ) → 0 < length bytes
@@ -86,15 +85,24 @@ some_ops : (bytes : List ℕ) (ops : List Op) → eqb (length bytes) 0 ≡ false
 some_ops bytes [] some e = let none : length bytes ≡ 0 = ap length e in absurd (let h : eqb (length bytes) 0 ≡ true = rw none refl in cc)
 some_ops bytes (op ∷ ops) some e = omega arith
 
-pub body_takes : (layout : Layout) (bytes : List ℕ) (ops : List Op) → IsBytes bytes → ops_reading_in layout bytes ≡ Ok ops
-    → AreOps ops × (bytes ≡ ops_bytes ops)
-body_takes layout bytes ops fits e =
+body_read : (layout : Layout) (bytes : List ℕ) (ops : List Op) → IsBytes bytes → ops_reading_in layout bytes ≡ Ok ops
+    → (AreOps ops × AreOpsIn layout ops) × (bytes ≡ ops_bytes ops)
+body_read layout bytes ops fits e =
     elim (chosen (eqb (length bytes) 0) _ _ (Ok ops) e) [
       | inl none ↦ let h = none.1 in absurd cc
       | inr some ↦
           let t = ops_take layout (length bytes) bytes ops fits (in_bytes_ok bytes (ops_at layout (length bytes) bytes) ops some.1) in
-          ((some_ops bytes ops some.0 t.0, t.1), t.0)
+          (((some_ops bytes ops some.0 t.0, t.1.0), t.1.1), t.0)
     ]
+
+pub body_takes : (layout : Layout) (bytes : List ℕ) (ops : List Op) → IsBytes bytes → ops_reading_in layout bytes ≡ Ok ops
+    → AreOps ops × (bytes ≡ ops_bytes ops)
+body_takes layout bytes ops fits e = let read = body_read layout bytes ops fits e in (read.0.0, read.1)
+
+-- the layout has their values
+pub body_within : (layout : Layout) (bytes : List ℕ) (ops : List Op) → IsBytes bytes → ops_reading_in layout bytes ≡ Ok ops
+    → AreOpsIn layout ops
+body_within layout bytes ops fits e = (body_read layout bytes ops fits e).0.1
 
 some_bytes : (ops : List Op) → 0 < length ops → eqb (length (ops_bytes ops)) 0 ≡ false
 some_bytes [] some = absurd (omega arith)
@@ -105,29 +113,29 @@ some_bytes (op ∷ ops) some =
       length-append (op_bytes op) (ops_bytes ops),
     ))
 
-pub body_again_in : (layout : Layout) (ops : List Op) → AreOps ops → AllByRecursion (IsOpIn layout) ops
+pub body_again_in : (layout : Layout) (ops : List Op) → AreOps ops → AreOpsIn layout ops
     → ops_reading_in layout (ops_bytes ops) ≡ Ok ops
 body_again_in layout ops fits in_layout =
     rw (some_bytes ops fits.0, ops_again layout ops (length (ops_bytes ops)) fits.1 in_layout (omega arith)) refl
 
--- layout 1 has the values of every op
-setting_1 : (value : Setting) → IsSettingIn layout_1 value
-setting_1 (settings.Repeat on) = tt
-setting_1 (settings.Random on) = tt
-setting_1 (settings.Single value) = tt
-setting_1 (settings.Consume on) = consume_1 on
+-- the layout that is written has the values of every op
+setting_2 : (value : Setting) → IsSettingIn layout_2 value
+setting_2 (settings.Repeat on) = tt
+setting_2 (settings.Random on) = tt
+setting_2 (settings.Single value) = tt
+setting_2 (settings.Consume value) = consume_2 value
 
-in_layout_1 : (op : Op) → IsOpIn layout_1 op
-in_layout_1 (SetOption value) = setting_1 value
-in_layout_1 (SetVolume volume) = tt
-in_layout_1 (SetOrder order) = tt
-in_layout_1 (Queue op) = tt
-in_layout_1 (OfList op) = tt
-in_layout_1 (Sticker op) = tt
-in_layout_1 (Batch changes) = tt
+in_layout_2 : (op : Op) → IsOpIn layout_2 op
+in_layout_2 (SetOption value) = setting_2 value
+in_layout_2 (SetVolume volume) = tt
+in_layout_2 (SetOrder order) = tt
+in_layout_2 (Queue op) = tt
+in_layout_2 (OfList op) = tt
+in_layout_2 (Sticker op) = tt
+in_layout_2 (Batch changes) = tt
 
-pub body_again : (ops : List Op) → AreOps ops → ops_reading (ops_bytes ops) ≡ Ok ops
-body_again ops fits = body_again_in layout_1 ops fits (all_weaker IsOp (IsOpIn layout_1) (λ op good. in_layout_1 op) ops fits.1)
+pub body_again : (ops : List Op) → AreOps ops → ops_reading written_layout (ops_bytes ops) ≡ Ok ops
+body_again ops fits = body_again_in layout_2 ops fits (all_weaker IsOp (IsOpIn layout_2) (λ op good. in_layout_2 op) ops fits.1)
 
 pub body_found : (layout : Layout) (bytes : List ℕ) (r : Result (Vec Op) CodecError) → IsBytes bytes
     → GivesOps r (ops_reading_in layout bytes)
@@ -135,9 +143,15 @@ pub body_found : (layout : Layout) (bytes : List ℕ) (r : Result (Vec Op) Codec
 body_found layout bytes (Ok ops) fits given = body_takes layout bytes ops.items fits given
 body_found layout bytes (Err e) fits given = tt
 
-pub body_only : (bytes : List ℕ) (r : Result (Vec Op) CodecError) (ops : List Op) → AreOps ops → bytes ≡ ops_bytes ops
-    → GivesOps r (ops_reading bytes) → GivesOps r (Ok ops)
-body_only bytes r ops fits e given = subst (GivesOps r) (ap ops_reading e ∙ body_again ops fits) given
+pub body_in : (layout : Layout) (bytes : List ℕ) (r : Result (Vec Op) CodecError) → IsBytes bytes
+    → GivesOps r (ops_reading_in layout bytes) → IfOk r (λ ops. AreOpsIn layout ops.items)
+body_in layout bytes (Ok ops) fits given = body_within layout bytes ops.items fits given
+body_in layout bytes (Err e) fits given = tt
+
+pub body_only : (layout : Layout) (bytes : List ℕ) (r : Result (Vec Op) CodecError) (ops : List Op) → AreOps ops → AreOpsIn layout ops
+    → bytes ≡ ops_bytes ops → GivesOps r (ops_reading_in layout bytes) → GivesOps r (Ok ops)
+body_only layout bytes r ops fits within e given =
+    subst (GivesOps r) (ap (ops_reading_in layout) e ∙ body_again_in layout ops fits within) given
 
 -- ---- one op after the other, as a loop reads
 

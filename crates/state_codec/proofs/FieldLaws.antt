@@ -11,7 +11,7 @@ use Rattle.std.proofs.lemmas.Nat.{from_le_bytes-to_le_bytes_8}
 use Rattle.player_core.specs.declared.options.Single.{Single}
 use Rattle.player_core.specs.declared.options.Single.TheVariants.{Off, On, Oneshot}
 use Rattle.state_codec.specs.declared.layout.Layout.{Layout}
-use Rattle.state_codec.specs.Layout.{layout_1, is_consume}
+use Rattle.state_codec.specs.Layout.{layout_2, is_consume}
 use Rattle.state_codec.specs.SavedState.{IsBytes, key_len}
 use Rattle.state_codec.specs.Text.{is_text}
 use Rattle.state_codec.specs.Steps.{◌>>=◌}
@@ -261,17 +261,6 @@ flag_again true rest any = refl
 pub flag_is : IsField (λ bytes. flag_at bytes) flag_bytes (λ on. Any on)
 flag_is = record { takes = flag_takes; again = flag_again }
 
-abbrev pub IsConsume : Layout → Bool → Type 0
-IsConsume layout on = Any on × (is_consume layout on ≡ true)
-
-pub consume_is : (layout : Layout) → IsField (λ bytes. consume_at layout bytes) flag_bytes (IsConsume layout)
-consume_is layout = such_is (is_consume layout) (λ bytes. flag_at bytes) flag_bytes (λ on. Any on) flag_is
-
--- layout 1 has both values
-pub consume_1 : (on : Bool) → is_consume layout_1 on ≡ true
-consume_1 false = refl
-consume_1 true = refl
-
 single_takes : (bytes : List ℕ) (x : Single × List ℕ) → IsBytes bytes → single_at bytes ≡ Ok x
     → Takes bytes (single_bytes x.0) x.1 × Any x.0
 unfolding single_at
@@ -292,6 +281,18 @@ single_again Oneshot rest any = refl
 
 pub single_is : IsField (λ bytes. single_at bytes) single_bytes (λ value. Any value)
 single_is = record { takes = single_takes; again = single_again }
+
+abbrev pub IsConsume : Layout → Single → Type 0
+IsConsume layout value = Any value × (is_consume layout value ≡ true)
+
+pub consume_is : (layout : Layout) → IsField (λ bytes. consume_at layout bytes) single_bytes (IsConsume layout)
+consume_is layout = such_is (is_consume layout) (λ bytes. single_at bytes) single_bytes (λ value. Any value) single_is
+
+-- layout 2 has all three values
+pub consume_2 : (value : Single) → is_consume layout_2 value ≡ true
+consume_2 Off = refl
+consume_2 On = refl
+consume_2 Oneshot = refl
 
 pub volume_is : IsField (λ bytes. volume_at bytes) (λ n. byte_bytes n) (λ n. n ≤ 100)
 volume_is =

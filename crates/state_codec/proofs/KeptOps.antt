@@ -178,7 +178,7 @@ new_within all n none =
 utf8_of : (name : List ℕ) → IsTrue (is_text name) → IsTrue (is_utf8 name)
 utf8_of name form = (and_true (is_utf8 name) _ form).0
 
-with_lists : (s : SavedState) (all : Stored) → IsSavedState s → AreSavedLists all → IsSavedState (record s { lists = all })
+pub with_lists : (s : SavedState) (all : Stored) → IsSavedState s → AreSavedLists all → IsSavedState (record s { lists = all })
 with_lists s all saved kept = record {
   key_len = saved.key_len;
   key_bytes = saved.key_bytes;

@@ -144,13 +144,13 @@ options_len : (o : Options) → length (options_bytes o) ≡ 4
 options_len o =
     omega (
       arith,
-      length-append (flag_bytes o.repeat) (flag_bytes o.random ++ (single_bytes o.single ++ flag_bytes o.consume)),
-      length-append (flag_bytes o.random) (single_bytes o.single ++ flag_bytes o.consume),
-      length-append (single_bytes o.single) (flag_bytes o.consume),
+      length-append (flag_bytes o.repeat) (flag_bytes o.random ++ (single_bytes o.single ++ single_bytes o.consume)),
+      length-append (flag_bytes o.random) (single_bytes o.single ++ single_bytes o.consume),
+      length-append (single_bytes o.single) (single_bytes o.consume),
       flag_len o.repeat,
       flag_len o.random,
       single_len o.single,
-      flag_len o.consume,
+      single_len o.consume,
     )
 
 pub head_len : (s : SavedState) → IsSavedState s → length (head_bytes s) ≡ 53
@@ -189,8 +189,8 @@ snapshot_len s good =
     flat_short sticker_bytes longest_sticker s.stickers
     (all_weaker IsSticker (λ t. length (sticker_bytes t) ≤ longest_sticker) sticker_len s.stickers good.stickers.within.good) in
     let row_count : length s.songs ≤ 65536 = good.songs.database.few in
-    let entry_count : length s.queue.entries ≤ 16384 = good.queue.queue.few in
-    let list_count : length s.lists ≤ 256 = good.lists.within.few_lists in
+    let entry_count : length s.queue.entries ≤ 65536 = good.queue.queue.few in
+    let list_count : length s.lists ≤ 1024 = good.lists.within.few_lists in
     let song_count : total s.lists ≤ 65536 = good.lists.within.few_entries in
     let sticker_count : length s.stickers ≤ 65536 = good.stickers.within.few in
     omega (

@@ -29,6 +29,7 @@ pub mod KeptQueue
 pub mod KeptRows
 pub mod KeptStickers
 pub mod Named
+pub mod ReplaceLaws
 pub mod Unchanged
 pub mod ListsUnchanged
 pub mod OpsUnchanged

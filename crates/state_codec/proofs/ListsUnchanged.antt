@@ -72,7 +72,7 @@ found_with_list (list ∷ lists) name songs = of (slice_cmp nat_cmp name list.0)
         rw apart rest
 
 -- without a playlist that is there
-length-without_list : (lists : Stored) (name : List ℕ) (songs : Uris) → songs_of lists name ≡ Some songs
+pub length-without_list : (lists : Stored) (name : List ℕ) (songs : Uris) → songs_of lists name ≡ Some songs
     → length (without_list lists name) + 1 ≡ length lists
 length-without_list [] name songs found = absurd (cc)
 length-without_list (list ∷ lists) name songs found = of (bytes_eq name list.0) found (length-without_list lists name songs)
@@ -84,7 +84,7 @@ length-without_list (list ∷ lists) name songs found = of (bytes_eq name list.0
     of false found rest = let shorter : length (without_list lists name) + 1 ≡ length lists = rest found in omega arith
 
 -- other songs under a name that is there
-songs_stay : (lists : Stored) (name : List ℕ) (old new : Uris) → songs_of lists name ≡ Some old → with_songs lists name new ≡ lists
+pub songs_stay : (lists : Stored) (name : List ℕ) (old new : Uris) → songs_of lists name ≡ Some old → with_songs lists name new ≡ lists
     → new ≡ old
 songs_stay lists name old new found same =
     let is : Some new ≡ Some old = sym (found_with_songs lists name old new found) ∙ ap (λ l. songs_of l name) same ∙ found in

@@ -163,7 +163,7 @@ setting_takes layout bytes y fits e =
           | inl h ↦ option settings.Single single_bytes (λ a. Any a) 3 k bytes rest (single_at rest) y front h.0
               (λ x r. single_is.takes rest x front.rest_fits r) (λ a. refl) (λ a g. tt) h.1
           | inr n3 ↦ elim (chosen (eqb k 4) _ _ (Ok y) n3.1) [
-            | inl h ↦ option settings.Consume flag_bytes (IsConsume layout) 4 k bytes rest (consume_at layout rest) y front h.0
+            | inl h ↦ option settings.Consume single_bytes (IsConsume layout) 4 k bytes rest (consume_at layout rest) y front h.0
                 (λ x r. (consume_is layout).takes rest x front.rest_fits r) (λ a. refl) (λ a g. g.1) h.1
             | inr n4 ↦ let h = n4.1 in absurd cc
           ]
@@ -190,7 +190,7 @@ unfolding setting_at
 setting_again layout (settings.Repeat on) rest any = ap (made settings.Repeat) (flag_is.again on rest tt)
 setting_again layout (settings.Random on) rest any = ap (made settings.Random) (flag_is.again on rest tt)
 setting_again layout (settings.Single value) rest any = ap (made settings.Single) (single_is.again value rest tt)
-setting_again layout (settings.Consume on) rest any = ap (made settings.Consume) ((consume_is layout).again on rest (tt, any))
+setting_again layout (settings.Consume value) rest any = ap (made settings.Consume) ((consume_is layout).again value rest (tt, any))
 
 setting_is : (layout : Layout) → IsField (λ bytes. setting_at layout bytes) setting_bytes (IsSettingIn layout)
 setting_is layout = record { takes = setting_takes layout; again = setting_again layout }

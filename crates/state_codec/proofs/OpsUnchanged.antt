@@ -59,14 +59,16 @@ setting_stays : (setting : Setting) (options : Options) → is_set setting optio
 setting_stays (Repeat on) options same = ap (λ (b : Bool). record options { repeat = b }) (sym (flag_is on options.repeat same))
 setting_stays (Random on) options same = ap (λ (b : Bool). record options { random = b }) (sym (flag_is on options.random same))
 setting_stays (Single mode) options same = ap (λ (m : SingleMode). record options { single = m }) (sym (single_is mode options.single same))
-setting_stays (Consume on) options same = ap (λ (b : Bool). record options { consume = b }) (sym (flag_is on options.consume same))
+setting_stays (Consume mode) options same =
+    ap (λ (m : SingleMode). record options { consume = m }) (sym (single_is mode options.consume same))
 
 setting_only : (setting : Setting) (options : Options) → with_setting setting options ≡ options → is_set setting options ≡ true
 setting_only (Repeat on) options same = flag_itself on options.repeat (sym (ap (λ (o : Options). o.repeat) same))
 setting_only (Random on) options same = flag_itself on options.random (sym (ap (λ (o : Options). o.random) same))
 setting_only (Single mode) options same =
     ap (same_single mode) (sym (ap (λ (o : Options). o.single) same)) ∙ single_itself mode
-setting_only (Consume on) options same = flag_itself on options.consume (sym (ap (λ (o : Options). o.consume) same))
+setting_only (Consume mode) options same =
+    ap (same_single mode) (sym (ap (λ (o : Options). o.consume) same)) ∙ single_itself mode
 
 pub op_stays : (op : Op) (s : SavedState) → IsSavedState s → refusal_of op s ≡ None → changes_nothing op s ≡ true → after op s ≡ s
 op_stays (SetOption setting) s saved none same =

@@ -1,5 +1,5 @@
 -- A snapshot that is read is spelled so, and what is spelled so is read.
-use Rattle.std.proofs.Common.{◌≡◌, ℕ, ◌+◌, ◌^◌, ◌<◌, ◌≤◌, true, eqb, List, [], ◌++◌, length, Result, Ok, Err, refl, sym, ap, subst, ◌∙◌}
+use Rattle.std.proofs.Common.{◌≡◌, ℕ, ◌+◌, ◌^◌, ◌<◌, ◌≤◌, Bool, true, false, cond, eqb, List, [], ◌++◌, length, Result, Ok, Err, refl, sym, ap, subst, ◌∙◌}
 use Rattle.std.proofs.Common.{append_assoc, arith}
 use Rattle.std.specs.Prelude.{IfOk}
 use Rattle.std.proofs.lemmas.Bool.{eqb-true}
@@ -11,7 +11,7 @@ use Rattle.state_codec.specs.declared.refusal.CodecError.{CodecError}
 use Rattle.state_codec.specs.declared.reading.saved.Header.{Header}
 use Rattle.state_codec.specs.Answers.{GivesSaved}
 use Rattle.state_codec.specs.Fields.{u64_at, number_within, volume_at, flag_at, consume_at, single_at, key_at}
-use Rattle.state_codec.specs.Layout.{layout_1, is_consume, IsLayout, IsStateIn}
+use Rattle.state_codec.specs.Layout.{layout_1, layout_2, layout_of, written_layout, is_consume, IsLayout, IsStateIn}
 use Rattle.state_codec.specs.Reading.{alone, in_bytes, saved_reading, saved_reading_in}
 use Rattle.state_codec.specs.ReadingSaved.{options_at, songs_at, entries_at, lists_at, stickers_at, header_at, parts_at, saved_at}
 use Rattle.state_codec.specs.SavedState.{SavedState, IsSavedState, IsBytes, key_len}
@@ -19,7 +19,7 @@ use Rattle.state_codec.specs.Spelling.{options_bytes, entry_bytes, playlist_byte
 use Rattle.state_codec.specs.SpellingFields.{byte_bytes, u32_bytes, u64_bytes, flag_bytes, single_bytes, list_bytes}
 use Rattle.state_codec.specs.SpellingRows.{row_bytes}
 use Rattle.state_codec.proofs.FieldLaws.{bind_ok, ok_is, passed_ok, Takes, Takes-then, u64_is, within_is, flag_is, single_is, volume_is}
-use Rattle.state_codec.proofs.FieldLaws.{key_is, consume_is, consume_1}
+use Rattle.state_codec.proofs.FieldLaws.{key_is, consume_is, consume_2}
 use Rattle.state_codec.proofs.SongsLaws.{songs_is}
 use Rattle.state_codec.proofs.EntriesLaws.{entries_is}
 use Rattle.state_codec.proofs.PlaylistsLaws.{lists_is}
@@ -40,9 +40,9 @@ options_take layout bytes x fits e =
     let tc = (single_is.takes b.0.1 c.0 tb.rest_fits c.1).0 in
     let read = (consume_is layout).takes c.0.1 d.0 tc.rest_fits d.1 in
     let td = read.0 in
-    let tcd = Takes-then b.0.1 (single_bytes c.0.0) c.0.1 (flag_bytes d.0.0) d.0.1 tc td in
-    let tbd = Takes-then a.0.1 (flag_bytes b.0.0) b.0.1 (single_bytes c.0.0 ++ flag_bytes d.0.0) d.0.1 tb tcd in
-    let tad = Takes-then bytes (flag_bytes a.0.0) a.0.1 (flag_bytes b.0.0 ++ (single_bytes c.0.0 ++ flag_bytes d.0.0)) d.0.1 ta tbd in
+    let tcd = Takes-then b.0.1 (single_bytes c.0.0) c.0.1 (single_bytes d.0.0) d.0.1 tc td in
+    let tbd = Takes-then a.0.1 (flag_bytes b.0.0) b.0.1 (single_bytes c.0.0 ++ single_bytes d.0.0) d.0.1 tb tcd in
+    let tad = Takes-then bytes (flag_bytes a.0.0) a.0.1 (flag_bytes b.0.0 ++ (single_bytes c.0.0 ++ single_bytes d.0.0)) d.0.1 ta tbd in
     let made : Options × List ℕ = (record { repeat = a.0.0; random = b.0.0; single = c.0.0; consume = d.0.0 }, d.0.1) in
     subst (λ (y : Options × List ℕ). Takes bytes (options_bytes y.0) y.1 × (is_consume layout y.0.consume ≡ true)) {x = made}
     (ok_is made x d.2) (tad, read.1.1)
@@ -52,12 +52,12 @@ options_again : (layout : Layout) (options : Options) (rest : List ℕ) → is_c
 unfolding options_at
 options_again layout o rest in_layout =
     let regrouped : options_bytes o ++ rest ≡ flag_bytes o.repeat
-    ++ (flag_bytes o.random ++ (single_bytes o.single ++ (flag_bytes o.consume ++ rest))) = simp append_assoc in
+    ++ (flag_bytes o.random ++ (single_bytes o.single ++ (single_bytes o.consume ++ rest))) = simp append_assoc in
     ap (options_at layout) regrouped
     ∙ rw (
-      flag_is.again o.repeat (flag_bytes o.random ++ (single_bytes o.single ++ (flag_bytes o.consume ++ rest))) tt,
-      flag_is.again o.random (single_bytes o.single ++ (flag_bytes o.consume ++ rest)) tt,
-      single_is.again o.single (flag_bytes o.consume ++ rest) tt,
+      flag_is.again o.repeat (flag_bytes o.random ++ (single_bytes o.single ++ (single_bytes o.consume ++ rest))) tt,
+      flag_is.again o.random (single_bytes o.single ++ (single_bytes o.consume ++ rest)) tt,
+      single_is.again o.single (single_bytes o.consume ++ rest) tt,
       (consume_is layout).again o.consume rest (tt, in_layout),
     )
     refl
@@ -276,17 +276,27 @@ in_bytes_ok : {A : Type 0} (bytes : List ℕ) (r : Result A ℕ) (x : A) → in_
 in_bytes_ok bytes (Ok y) x e = e
 in_bytes_ok bytes (Err d) x e = absurd cc
 
-pub snapshot_takes : (layout : Layout) → IsLayout layout → (bytes : List ℕ) (s : SavedState) → IsBytes bytes
+snapshot_read : (layout : Layout) → IsLayout layout → (bytes : List ℕ) (s : SavedState) → IsBytes bytes
     → saved_reading_in layout bytes ≡ Ok s
-    → IsSavedState s × (bytes ≡ saved_bytes s)
-snapshot_takes layout form bytes s fits e =
+    → (IsSavedState s × IsStateIn layout s) × (bytes ≡ saved_bytes s)
+snapshot_read layout form bytes s fits e =
     let b = bind_ok (saved_at layout bytes) _ s (in_bytes_ok bytes (alone (saved_at layout bytes)) s e) in
     let g = passed_ok (eqb (length b.0.1) 0) (length b.0.1) b.0.0 s b.2 in
     let t = saved_takes layout form bytes b.0 fits b.1 in
     let nothing : b.0.1 ≡ [] = nil_from_length b.0.1 (eqb-true _ _ g.0) in
     let whole : bytes ≡ saved_bytes b.0.0 = t.0.parts ∙ ap (λ (r : List ℕ). saved_bytes b.0.0 ++ r) nothing
     ∙ append-nil (saved_bytes b.0.0) in
-    subst (λ (y : SavedState). IsSavedState y × (bytes ≡ saved_bytes y)) g.1 (t.1.0, whole)
+    subst (λ (y : SavedState). (IsSavedState y × IsStateIn layout y) × (bytes ≡ saved_bytes y)) g.1 (t.1, whole)
+
+pub snapshot_takes : (layout : Layout) → IsLayout layout → (bytes : List ℕ) (s : SavedState) → IsBytes bytes
+    → saved_reading_in layout bytes ≡ Ok s
+    → IsSavedState s × (bytes ≡ saved_bytes s)
+snapshot_takes layout form bytes s fits e = let read = snapshot_read layout form bytes s fits e in (read.0.0, read.1)
+
+-- the layout has its values
+pub snapshot_within : (layout : Layout) → IsLayout layout → (bytes : List ℕ) (s : SavedState) → IsBytes bytes
+    → saved_reading_in layout bytes ≡ Ok s → IsStateIn layout s
+snapshot_within layout form bytes s fits e = (snapshot_read layout form bytes s fits e).0.1
 
 pub snapshot_again_in : (layout : Layout) → IsLayout layout → (s : SavedState) → IsSavedState s → IsStateIn layout s
     → saved_reading_in layout (saved_bytes s) ≡ Ok s
@@ -295,15 +305,26 @@ snapshot_again_in layout form s fits within =
     ap (saved_at layout) (sym (append-nil (saved_bytes s))) ∙ saved_again layout form s [] fits within in
     rw read refl
 
--- layout 1 has the ranges of every state
-pub form_1 : IsLayout layout_1
+form_1 : IsLayout layout_1
 form_1 = record { queue_limit = omega arith; list_limit = omega arith }
 
-within_1 : (s : SavedState) → IsSavedState s → IsStateIn layout_1 s
-within_1 s fits = record { consume = consume_1 s.options.consume; queue = fits.queue.queue.few; lists = fits.lists.within.few_lists }
+form_2 : IsLayout layout_2
+form_2 = record { queue_limit = omega arith; list_limit = omega arith }
 
-pub snapshot_again : (s : SavedState) → IsSavedState s → saved_reading (saved_bytes s) ≡ Ok s
-snapshot_again s fits = snapshot_again_in layout_1 form_1 s fits (within_1 s fits)
+one_of : (is_first : Bool) → IsLayout (cond is_first layout_1 layout_2)
+one_of true = form_1
+one_of false = form_2
+
+-- a layout of any number allows no more than the program can hold
+pub form_of : (number : ℕ) → IsLayout (layout_of number)
+form_of number = one_of (eqb number 1)
+
+-- the layout that is written has the ranges of every state
+within_2 : (s : SavedState) → IsSavedState s → IsStateIn layout_2 s
+within_2 s fits = record { consume = consume_2 s.options.consume; queue = fits.queue.queue.few; lists = fits.lists.within.few_lists }
+
+pub snapshot_again : (s : SavedState) → IsSavedState s → saved_reading written_layout (saved_bytes s) ≡ Ok s
+snapshot_again s fits = snapshot_again_in layout_2 form_2 s fits (within_2 s fits)
 
 pub snapshot_found : (layout : Layout) → IsLayout layout → (bytes : List ℕ) (r : Result SavedState CodecError) → IsBytes bytes
     → GivesSaved r (saved_reading_in layout bytes)
@@ -311,7 +332,14 @@ pub snapshot_found : (layout : Layout) → IsLayout layout → (bytes : List ℕ
 snapshot_found layout form bytes (Ok s) fits given = snapshot_takes layout form bytes s fits given
 snapshot_found layout form bytes (Err e) fits given = tt
 
+pub snapshot_in : (layout : Layout) → IsLayout layout → (bytes : List ℕ) (r : Result SavedState CodecError) → IsBytes bytes
+    → GivesSaved r (saved_reading_in layout bytes) → IfOk r (λ s. IsStateIn layout s)
+snapshot_in layout form bytes (Ok s) fits given = snapshot_within layout form bytes s fits given
+snapshot_in layout form bytes (Err e) fits given = tt
+
 -- a state that is spelled is answered, unless memory runs out
-pub snapshot_only : (bytes : List ℕ) (r : Result SavedState CodecError) (s : SavedState) → IsSavedState s → bytes ≡ saved_bytes s
-    → GivesSaved r (saved_reading bytes) → GivesSaved r (Ok s)
-snapshot_only bytes r s fits e given = subst (GivesSaved r) (ap saved_reading e ∙ snapshot_again s fits) given
+pub snapshot_only : (layout : Layout) → IsLayout layout → (bytes : List ℕ) (r : Result SavedState CodecError) (s : SavedState)
+    → IsSavedState s → IsStateIn layout s → bytes ≡ saved_bytes s
+    → GivesSaved r (saved_reading_in layout bytes) → GivesSaved r (Ok s)
+snapshot_only layout form bytes r s fits within e given =
+    subst (GivesSaved r) (ap (saved_reading_in layout) e ∙ snapshot_again_in layout form s fits within) given

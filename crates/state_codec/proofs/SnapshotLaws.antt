@@ -48,7 +48,7 @@ short_lists lists within = short_in lists within.few_entries within.good_lists
 
 pub lists_bound : (lists : Stored) → AreLists lists → length (flat_map playlist_bytes lists) < 2 ^ 40
 lists_bound lists within =
-    let count : length lists ≤ 256 = within.few_lists in
+    let count : length lists ≤ 1024 = within.few_lists in
     let songs : total lists ≤ 65536 = within.few_entries in
     omega (arith, lists_len lists within.good_lists, count, songs)
 

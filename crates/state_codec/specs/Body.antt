@@ -9,7 +9,7 @@ use Rattle.state_codec.specs.declared.refusal.ApplyError.TheVariants.{NoMemory a
 use Rattle.state_codec.specs.declared.refusal.BodyError.{BodyError}
 use Rattle.state_codec.specs.declared.refusal.BodyError.TheVariants.{NoMemory, BadOp, DoesNotApply}
 use Rattle.state_codec.specs.Applied.{applied}
-use Rattle.state_codec.specs.Layout.{layout_1}
+use Rattle.state_codec.specs.Layout.{layout_of}
 use Rattle.state_codec.specs.ReadingOps.{op_at}
 use Rattle.state_codec.specs.SavedState.{SavedState}
 use Rattle.state_codec.specs.Steps.{◌>>=◌}
@@ -33,9 +33,9 @@ body_from layout total (suc n) i (b ∷ rest) s = do
 abbrev pub body_applied_in : Layout → List ℕ → SavedState → Result SavedState BodyError
 body_applied_in layout body s = if length body == 0 then Err (BadOp 0) else body_from layout (length body) (length body) 0 body s
 
--- the same in the layout that is read today
-abbrev pub body_applied : List ℕ → SavedState → Result SavedState BodyError
-body_applied body s = body_applied_in layout_1 body s
+-- the same in the layout of a number
+abbrev pub body_applied : ℕ → List ℕ → SavedState → Result SavedState BodyError
+body_applied number body s = body_applied_in (layout_of number) body s
 
 -- the state or the fault, unless memory ran out
 abbrev pub GivesBody : Result (Unit {0}) BodyError → SavedState → Result SavedState BodyError → Type 0

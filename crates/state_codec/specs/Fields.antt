@@ -67,16 +67,16 @@ flag_at (zero ∷ rest) = Ok (false, rest)
 flag_at (suc zero ∷ rest) = Ok (true, rest)
 flag_at bytes = Err (length bytes)
 
--- the consume option, of the values that a layout has
-abbrev pub consume_at : Layout → List ℕ → Field Bool
-consume_at layout bytes = such (is_consume layout) flag_at bytes
-
 -- off, on or oneshot
 unfoldable pub single_at : List ℕ → Field Single
 single_at (zero ∷ rest) = Ok (Off, rest)
 single_at (suc zero ∷ rest) = Ok (On, rest)
 single_at (suc (suc zero) ∷ rest) = Ok (Oneshot, rest)
 single_at bytes = Err (length bytes)
+
+-- the consume option, of the values that a layout has
+abbrev pub consume_at : Layout → List ℕ → Field Single
+consume_at layout bytes = such (is_consume layout) single_at bytes
 
 -- a key
 unfoldable pub key_at : List ℕ → Field (List ℕ)

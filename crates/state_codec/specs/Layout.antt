@@ -1,6 +1,9 @@
 -- The ranges that a layout of the journal sets for ops and snapshots.
-use Rattle.std.specs.Prelude.{ℕ, ◌≤◌, ⊤, Bool, true, false, nat_le, length, IsTrue}
+use Rattle.std.specs.Prelude.{ℕ, ◌≤◌, ⊤, Bool, nat_le, List, length, IsTrue, ◌==◌, if◌then◌else◌}
+use Rattle.std.specs.List.{AllByRecursion}
 use Rattle.play_queue.specs.Limits.{MAX_ENTRIES as QUEUE_LIMIT}
+use Rattle.player_core.specs.declared.options.Single.{Single as SingleMode}
+use Rattle.player_core.specs.declared.options.Single.TheVariants.{Off, On, Oneshot}
 use Rattle.stored_lists.specs.Limits.{MAX_LISTS}
 use Rattle.state_codec.specs.declared.layout.Layout.{Layout}
 use Rattle.state_codec.specs.declared.op.Op.{Op}
@@ -13,25 +16,38 @@ use Rattle.state_codec.specs.SavedState.{SavedState}
 abbrev pub layout_1 : Layout
 layout_1 = record { greatest_consume = 1; queue_limit = 16384; list_limit = 256 }
 
+-- layout 2: consume is off, on or oneshot; 65,536 entries of the queue, 1,024 playlists
+abbrev pub layout_2 : Layout
+layout_2 = record { greatest_consume = 2; queue_limit = 65536; list_limit = 1024 }
+
+-- the number of the layout that is written
+abbrev pub written_layout : ℕ
+written_layout = 2
+
+-- The layout of a number. A journal has layout 1 or 2; of any other number it is the layout that is written.
+abbrev pub layout_of : ℕ → Layout
+layout_of number = if number == 1 then layout_1 else layout_2
+
 -- no layout allows more than the program can hold
 pub record IsLayout (layout : Layout) : Type 0 where
   pub queue_limit : layout.queue_limit ≤ QUEUE_LIMIT
   pub list_limit : layout.list_limit ≤ MAX_LISTS
 
 -- the number that spells the consume option
-abbrev pub consume_number : Bool → ℕ
-consume_number false = 0
-consume_number true = 1
+abbrev pub consume_number : SingleMode → ℕ
+consume_number Off = 0
+consume_number On = 1
+consume_number Oneshot = 2
 
-abbrev pub is_consume : Layout → Bool → Bool
-is_consume layout on = nat_le (consume_number on) layout.greatest_consume
+abbrev pub is_consume : Layout → SingleMode → Bool
+is_consume layout value = nat_le (consume_number value) layout.greatest_consume
 
 -- a setting whose value the layout has
 abbrev pub IsSettingIn : Layout → Setting → Type 0
 IsSettingIn layout (Repeat on) = ⊤
 IsSettingIn layout (Random on) = ⊤
 IsSettingIn layout (Single value) = ⊤
-IsSettingIn layout (Consume on) = IsTrue (is_consume layout on)
+IsSettingIn layout (Consume value) = IsTrue (is_consume layout value)
 
 -- an op whose values the layout has
 abbrev pub IsOpIn : Layout → Op → Type 0
@@ -42,6 +58,10 @@ IsOpIn layout (Queue op) = ⊤
 IsOpIn layout (OfList op) = ⊤
 IsOpIn layout (Sticker op) = ⊤
 IsOpIn layout (Batch changes) = ⊤
+
+-- ops whose values the layout has
+abbrev pub AreOpsIn : Layout → List Op → Type 0
+AreOpsIn layout ops = AllByRecursion (IsOpIn layout) ops
 
 -- a state within the ranges of the layout
 pub record IsStateIn (layout : Layout) (s : SavedState) : Type 0 where

@@ -10,6 +10,7 @@ pub mod OpsSettings
 pub mod OpsSongs
 pub mod OpsStickers
 pub mod Refusal
+pub mod Replacing
 pub mod RowSteps
 pub mod SavedState
 pub mod Steps

@@ -33,7 +33,7 @@ longest_head = 32 + 8 + 4 + 4 + 1 + 4
 abbrev pub longest_lists : ℕ
 longest_lists = MAX_LISTS * longest_list + LISTS_LIMIT * longest_text MAX_URI_BYTES
 
--- the head and the four parts, each behind its number: 691,357,253 bytes
+-- the head and the four parts, each behind its number: 692,197,445 bytes
 abbrev pub longest_snapshot : ℕ
 longest_snapshot =
     longest_head + (4 + MAX_ROWS * longest_row) + (4 + QUEUE_LIMIT * longest_entry) + (4 + longest_lists)

@@ -10,7 +10,7 @@ abbrev pub with_setting : Setting → Options → Options
 with_setting (Repeat on) options = record options { repeat = on }
 with_setting (Random on) options = record options { random = on }
 with_setting (Single single) options = record options { single = single }
-with_setting (Consume on) options = record options { consume = on }
+with_setting (Consume value) options = record options { consume = value }
 
 abbrev pub same_flag : Bool → Bool → Bool
 same_flag true other = other
@@ -32,4 +32,4 @@ abbrev pub is_set : Setting → Options → Bool
 is_set (Repeat on) options = same_flag on options.repeat
 is_set (Random on) options = same_flag on options.random
 is_set (Single single) options = same_single single options.single
-is_set (Consume on) options = same_flag on options.consume
+is_set (Consume value) options = same_single value options.consume

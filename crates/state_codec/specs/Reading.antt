@@ -2,7 +2,7 @@
 use Rattle.std.specs.Prelude.{ℕ, ◌-◌, List, length, Result, Ok, Err, ◌==◌, if◌then◌else◌}
 use Rattle.state_codec.specs.declared.layout.Layout.{Layout}
 use Rattle.state_codec.specs.declared.op.Op.{Op}
-use Rattle.state_codec.specs.Layout.{layout_1}
+use Rattle.state_codec.specs.Layout.{layout_of}
 use Rattle.state_codec.specs.Fields.{Field}
 use Rattle.state_codec.specs.ReadingOps.{ops_at}
 use Rattle.state_codec.specs.ReadingSaved.{saved_at}
@@ -28,9 +28,9 @@ ops_reading_in layout bytes = if length bytes == 0 then Err 0 else in_bytes byte
 abbrev pub saved_reading_in : Layout → List ℕ → Result SavedState ℕ
 saved_reading_in layout bytes = in_bytes bytes (alone (saved_at layout bytes))
 
--- the same in the layout that is read today
-abbrev pub ops_reading : List ℕ → Result (List Op) ℕ
-ops_reading bytes = ops_reading_in layout_1 bytes
+-- the same in the layout of a number
+abbrev pub ops_reading : ℕ → List ℕ → Result (List Op) ℕ
+ops_reading number bytes = ops_reading_in (layout_of number) bytes
 
-abbrev pub saved_reading : List ℕ → Result SavedState ℕ
-saved_reading bytes = saved_reading_in layout_1 bytes
+abbrev pub saved_reading : ℕ → List ℕ → Result SavedState ℕ
+saved_reading number bytes = saved_reading_in (layout_of number) bytes

@@ -79,7 +79,7 @@ fresh key =
       key = key;
       order = 0;
       volume = 100;
-      options = record { repeat = false; random = false; single = Off; consume = false };
+      options = record { repeat = false; random = false; single = Off; consume = Off };
       songs = [];
       queue = record { entries = []; version = 1; next_id = 1 };
       lists = [];

@@ -18,7 +18,7 @@ ops_bytes ops = flat_map op_bytes ops
 
 abbrev pub options_bytes : Options → List ℕ
 options_bytes options =
-    flag_bytes options.repeat ++ (flag_bytes options.random ++ (single_bytes options.single ++ flag_bytes options.consume))
+    flag_bytes options.repeat ++ (flag_bytes options.random ++ (single_bytes options.single ++ single_bytes options.consume))
 
 -- an entry of the queue: its id, the number of its song's row, its priority and its stamp
 abbrev pub entry_bytes : List Row → Entry → List ℕ

@@ -18,7 +18,7 @@ abbrev pub setting_bytes : Setting → List ℕ
 setting_bytes (settings.Repeat on) = 1 ∷ flag_bytes on
 setting_bytes (settings.Random on) = 2 ∷ flag_bytes on
 setting_bytes (settings.Single value) = 3 ∷ single_bytes value
-setting_bytes (settings.Consume on) = 4 ∷ flag_bytes on
+setting_bytes (settings.Consume value) = 4 ∷ single_bytes value
 
 abbrev pub row_numbers_bytes : List ℕ → List ℕ
 row_numbers_bytes numbers = list_bytes u32_bytes numbers

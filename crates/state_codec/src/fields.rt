@@ -135,19 +135,6 @@ impl<'a> Reader<'a> {
         Ok(on)
     }
 
-    /// The consume option, of the values that the layout has.
-    #[tactic(auto, unfolding(crate::specs::Fields::such))]
-    pub(crate) fn consume(&mut self, layout: Layout) -> Result<bool, ReadError>
-        ensures { Gives result self.new.rest.now (consume_at layout self.old.rest.now) }
-    {
-        let fault = self.fault();
-        let on = self.flag()?;
-        if layout.greatest_consume < consume_number(on) {
-            return Err(fault);
-        }
-        Ok(on)
-    }
-
     #[tactic(auto, unfolding(crate::specs::Fields::such))]
     pub fn volume(&mut self) -> Result<Volume, ReadError>
         ensures { Gives result self.new.rest.now (volume_at self.old.rest.now) }
@@ -169,6 +156,19 @@ impl<'a> Reader<'a> {
         };
         self.rest = rest;
         Ok(single)
+    }
+
+    /// The consume option, of the values that the layout has.
+    #[tactic(auto, unfolding(crate::specs::Fields::such))]
+    pub(crate) fn consume(&mut self, layout: Layout) -> Result<Single, ReadError>
+        ensures { Gives result self.new.rest.now (consume_at layout self.old.rest.now) }
+    {
+        let fault = self.fault();
+        let value = self.single()?;
+        if layout.greatest_consume < consume_number(value) {
+            return Err(fault);
+        }
+        Ok(value)
     }
 
     #[tactic(auto, unfolding(crate::specs::Fields::key_at))]
@@ -213,10 +213,14 @@ pub fn are_bytes(bytes: &[u8])
 }
 
 // The number that spells the consume option.
-fn consume_number(on: bool) -> u8
-    ensures { result ≡ consume_number on }
+fn consume_number(value: Single) -> u8
+    ensures { result ≡ consume_number value }
 {
-    u8::from(on)
+    match value {
+        Single::Off => 0,
+        Single::On => 1,
+        Single::Oneshot => 2,
+    }
 }
 
 // The text that the bytes are in UTF-8.

@@ -3,12 +3,12 @@ ghost use Rattle.state_codec.specs.Ops.{AreOps};
 ghost use Rattle.state_codec.specs.SavedState.{SavedState, IsSavedState};
 ghost use Rattle.state_codec.specs.Spelling.{ops_bytes, saved_bytes};
 ghost use Rattle.state_codec.specs.Reading.{ops_reading, saved_reading, ops_reading_in, saved_reading_in};
-ghost use Rattle.state_codec.specs.Layout.{IsLayout};
+ghost use Rattle.state_codec.specs.Layout.{IsLayout, layout_of, AreOpsIn, IsStateIn};
 ghost use Rattle.state_codec.specs.Answers.{GivesOps, GivesSaved, op_error, snapshot_error};
 ghost use Rattle.state_codec.specs.declared.op.Op.{Op as AnOp};
 
 use crate::fields::{ReadError, Reader};
-use crate::layout::{Layout, layout_1};
+use crate::layout::{Layout, layout_of};
 use crate::op::Op;
 use crate::refusal::CodecError;
 use crate::saved::Saved;
@@ -59,16 +59,20 @@ fn all_ops(alloc: Global, layout: Layout, bytes: &[u8]) -> Result<Vec<Op>, Codec
     Ok(ops)
 }
 
-/// The ops that the body of a record spells, all of its bytes. Refused by `BadOp` and `NoMemory`.
-pub fn take_ops(alloc: Global, bytes: &[u8]) -> Result<Vec<Op>, CodecError>
+/// The ops that the body of a record spells, all of its bytes, in a layout of the journal: 1 or 2, and any other number is
+/// taken for 2. Refused by `BadOp` and `NoMemory`.
+pub fn take_ops(alloc: Global, layout: u32, bytes: &[u8]) -> Result<Vec<Op>, CodecError>
     // What is read is spelled so.
     ensures found { IfOk result (λ ops. AreOps ops.items × (bytes.now ≡ ops_bytes ops.items)) }
+    // The layout has its values.
+    ensures within { IfOk result (λ ops. AreOpsIn (layout_of layout) ops.items) }
     // What is spelled so is read, unless memory runs out.
-    ensures only { (ops : List AnOp) → AreOps ops → bytes.now ≡ ops_bytes ops → GivesOps result (Ok ops) }
+    ensures only { (ops : List AnOp) → AreOps ops → AreOpsIn (layout_of layout) ops → bytes.now ≡ ops_bytes ops
+        → GivesOps result (Ok ops) }
     // Else the fault is that of the first field from the left.
-    ensures exact { GivesOps result (ops_reading bytes.now) }
+    ensures exact { GivesOps result (ops_reading layout bytes.now) }
 {
-    all_ops(alloc, layout_1(), bytes)
+    all_ops(alloc, layout_of(layout), bytes)
 }
 
 fn only_saved(alloc: Global, layout: Layout, bytes: &[u8]) -> Result<Saved, CodecError>
@@ -83,15 +87,18 @@ fn only_saved(alloc: Global, layout: Layout, bytes: &[u8]) -> Result<Saved, Code
     }
 }
 
-/// The state that a snapshot spells, all of its bytes, made in linear time but for the look-ups of URIs. Refused by
-/// `BadSnapshot` and `NoMemory`.
-pub fn take_saved(alloc: Global, bytes: &[u8]) -> Result<Saved, CodecError>
+/// The state that a snapshot spells, all of its bytes, in a layout of the journal: 1 or 2, and any other number is taken
+/// for 2. It is made in linear time but for the look-ups of URIs. Refused by `BadSnapshot` and `NoMemory`.
+pub fn take_saved(alloc: Global, layout: u32, bytes: &[u8]) -> Result<Saved, CodecError>
     // What is read is spelled so.
     ensures found { IfOk result (λ saved. IsSavedState saved × (bytes.now ≡ saved_bytes saved)) }
+    // The layout has its values.
+    ensures within { IfOk result (λ saved. IsStateIn (layout_of layout) saved) }
     // What is spelled so is read, unless memory runs out.
-    ensures only { (saved : SavedState) → IsSavedState saved → bytes.now ≡ saved_bytes saved → GivesSaved result (Ok saved) }
+    ensures only { (saved : SavedState) → IsSavedState saved → IsStateIn (layout_of layout) saved
+        → bytes.now ≡ saved_bytes saved → GivesSaved result (Ok saved) }
     // Else the fault is that of the first field from the left.
-    ensures exact { GivesSaved result (saved_reading bytes.now) }
+    ensures exact { GivesSaved result (saved_reading layout bytes.now) }
 {
-    only_saved(alloc, layout_1(), bytes)
+    only_saved(alloc, layout_of(layout), bytes)
 }

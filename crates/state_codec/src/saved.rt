@@ -17,6 +17,7 @@ mod checking;
 mod list_edits;
 mod parts;
 mod queue_edits;
+mod replacing;
 mod row_edits;
 mod sticker_edits;
 mod telling;

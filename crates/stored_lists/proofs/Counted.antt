@@ -148,6 +148,12 @@ counted_without lists n name songs counted found =
       };
     }
 
+-- the entries of the other playlists
+pub total_without : (lists : Stored) (n : ℕ) (name : List ℕ) (songs : Uris) → IsCounted lists n → songs_of lists name ≡ Some songs
+    → total (without_list lists name) + length songs ≡ n
+total_without lists n name songs counted found =
+    omega (arith, (counts_without lists name songs counted.within.good_lists found).sum, counted.counted)
+
 pub counted_with_songs : (lists : Stored) (n m : ℕ) (name : List ℕ) (songs new : Uris) → IsCounted lists n → AreUris new
     → songs_of lists name ≡ Some songs → m + length songs ≡ n + length new → m ≤ MAX_ENTRIES → IsCounted (with_songs lists name new) m
 counted_with_songs lists n m name songs new counted uris found same few =

@@ -3,4 +3,5 @@ mod ByName
 pub mod Counted
 mod Last
 pub mod Renamed
+pub mod Replaced
 mod Turned

@@ -18,10 +18,10 @@ same_bytes : (name : List ℕ) → bytes_eq name name ≡ true
 same_bytes name = (bytes_eq-Decides name name).1 refl
 
 -- the name is below all of them
-abbrev IsBefore : List ℕ → Stored → Type 0
+abbrev pub IsBefore : List ℕ → Stored → Type 0
 IsBefore name lists = AllByRecursion (λ other. slice_cmp nat_cmp name other ≡ Less) (keys_of lists)
 
-before_front : (lists : Stored) (name : List ℕ) (songs : Uris) → IsBefore name lists → with_list lists name songs ≡ (name, songs) ∷ lists
+pub before_front : (lists : Stored) (name : List ℕ) (songs : Uris) → IsBefore name lists → with_list lists name songs ≡ (name, songs) ∷ lists
 before_front [] name songs before = refl
 before_front (list ∷ lists) name songs before = rw before.0 refl
 
@@ -34,7 +34,7 @@ before_without (list ∷ lists) name other before = by_cases (bytes_eq other lis
     by_cases false rest = (before.0, rest)
 
 -- a name that is below another is below all that this is below
-before_trans : (lists : Stored) (name other : List ℕ) → slice_cmp nat_cmp name other ≡ Less → IsBefore other lists → IsBefore name lists
+pub before_trans : (lists : Stored) (name other : List ℕ) → slice_cmp nat_cmp name other ≡ Less → IsBefore other lists → IsBefore name lists
 before_trans [] name other less before = tt
 before_trans (list ∷ lists) name other less before =
     (nat_list_cmp_total.trans name other list.0 less before.0, before_trans lists name other less before.1)

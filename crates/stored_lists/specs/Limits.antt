@@ -7,7 +7,7 @@ MAX_NAME_BYTES = 256
 
 -- how many playlists there may be
 abbrev pub MAX_LISTS : ℕ
-MAX_LISTS = 256
+MAX_LISTS = 1024
 
 -- how many entries they may have together
 abbrev pub MAX_ENTRIES : ℕ

@@ -101,6 +101,14 @@ add_refusal lists name n =
     else if is_some (songs_of lists name) then (if is_full_for lists n then Some ListsFull else None)
     else new_list_refusal lists n
 
+-- with so many entries in place of those of the playlist, all together would pass the limit
+abbrev pub replace_refusal : Stored → List ℕ → ℕ → Option ListsError
+replace_refusal lists name n =
+    if not (is_good_name name) then Some BadName
+    else if not (is_some (songs_of lists name)) then Some NoSuchList
+    else if is_full_for (without_list lists name) n then Some ListsFull
+    else None
+
 -- the range ends before it begins, or past the end of the playlist
 abbrev pub remove_refusal : Stored → List ℕ → ℕ → ℕ → Option ListsError
 remove_refusal lists name start end =

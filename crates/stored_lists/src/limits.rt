@@ -1,5 +1,5 @@
 /// How many playlists there may be.
-pub const MAX_LISTS: usize = 256;
+pub const MAX_LISTS: usize = 1_024;
 
 /// How many entries all playlists may have together.
 pub const MAX_ENTRIES: usize = 65_536;

@@ -4,7 +4,7 @@ ghost use Rattle.stored_lists.specs.Songs.{without_range, moved};
 ghost use Rattle.stored_lists.specs.Fits.{HasRoom};
 ghost use Rattle.stored_lists.specs.Lists.{names_of, songs_of, songs_or_none, total, IsRising, IsWithinLimits};
 ghost use Rattle.stored_lists.specs.Lists.{with_list, without_list, with_songs, added, renamed};
-ghost use Rattle.stored_lists.specs.Lists.{name_refusal, save_refusal, add_refusal, remove_refusal};
+ghost use Rattle.stored_lists.specs.Lists.{name_refusal, save_refusal, add_refusal, replace_refusal, remove_refusal};
 ghost use Rattle.stored_lists.specs.Lists.{move_refusal, rename_refusal};
 ghost use Rattle.stored_lists.specs.Part.{part_refusal};
 
@@ -20,7 +20,7 @@ mod iter;
 
 pub use iter::{Iter, Names};
 
-/// The stored playlists by the bytes of their names: at most 256, with at most 65,536 entries together.
+/// The stored playlists by the bytes of their names: at most 1,024, with at most 65,536 entries together.
 ///
 /// A call first tests the names, then whether the playlist is there, then positions, then whether a new name is free,
 /// then the limits; it takes memory last. A refused call leaves everything as it was.
@@ -128,6 +128,24 @@ impl Lists {
         } else {
             self.insert_new(alloc, name, songs)?;
         }
+        Ok(())
+    }
+
+    /// Gives a playlist these songs in place of those that it has: what taking the playlist out and saving it anew would
+    /// make of it. It takes no memory. Refused by `BadName`, `NoSuchList`, and by `ListsFull` where all playlists would
+    /// have too many entries then; those that give way don't count.
+    pub fn replace(&mut self, name: &str, songs: Songs) -> Result<(), ListsError>
+        ensures ok { OnOk result (self.new ≡ with_songs self.old name.now songs) }
+        ensures anew { OnOk result (self.new ≡ with_list (without_list self.old name.now) name.now songs) }
+        ensures err { OnErr result (self.new ≡ self.old) }
+        ensures answer { Answers (replace_refusal self.old name.now (length songs)) result }
+    {
+        let count = songs.len();
+        self.check_replace(name, count)?;
+        let old = self.get(name)?.len();
+        let _rising = self.lists.len();
+        self.lists.replace(name, songs);
+        self.entries = self.entries - old + count;
         Ok(())
     }
 

@@ -166,7 +166,8 @@ impl NamedSongs {
         Ok(())
     }
 
-    fn replace(&mut self, name: &str, songs: Songs)
+    // Gives a playlist that is there other songs.
+    pub(crate) fn replace(&mut self, name: &str, songs: Songs)
         ensures { self.new ≡ with_songs self.old name.now songs }
     {
         if let Some(list) = self.map.get_mut(name) {

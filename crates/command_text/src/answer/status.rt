@@ -74,7 +74,7 @@ fn write_settings(out: &mut Vec<u8>, volume: Volume, options: Options) -> Result
     write_pair(out, "repeat", switch_text(options.repeat))?;
     write_pair(out, "random", switch_text(options.random))?;
     write_pair(out, "single", single_text(options.single))?;
-    write_pair(out, "consume", switch_text(options.consume))
+    write_pair(out, "consume", single_text(options.consume))
 }
 
 fn write_current(out: &mut Vec<u8>, current: &Option<CurrentSong<'_>>) -> Result<(), NoMemory>

@@ -1,8 +1,9 @@
 ghost use Rattle.std.specs.Prelude.{◌≡◌};
 ghost use Rattle.command_text.specs.Lists.{lists_of, one_name, load_of, rename_of, list_add_of, list_delete_of, list_move_of};
+ghost use Rattle.command_text.specs.Lists.{save_mode_of, save_of};
 
 use crate::argument::{argument, number, optional_range, optional_target, range, text};
-use crate::counts::{no_argument, one, one_to_three, three, two};
+use crate::counts::{no_argument, one, one_or_two, one_to_three, three, two};
 use crate::named::playlist_name;
 use crate::range::PositionRange;
 use crate::refusal::CommandRefusal;
@@ -26,12 +27,23 @@ pub enum ListsCommand<'w> {
     Names,
     Remove(Text<'w>),
     Rename(Text<'w>, Text<'w>),
-    /// Saves the queue.
-    Save(Text<'w>),
+    /// Saves the queue, as the mode says.
+    Save(Text<'w>, SaveMode),
     /// Lists its URIs.
     Songs(Text<'w>),
     /// Lists its songs.
     SongsInfo(Text<'w>),
+}
+
+/// What `save` does with the queue; its word is past the MPD protocol reference 0.23, and without one it is `Create`.
+#[derive(Clone, Copy, Debug, PartialEq, Eq)]
+pub enum SaveMode {
+    /// Makes a playlist, whose name may not be taken.
+    Create,
+    /// Adds the queue to a playlist that is there.
+    Append,
+    /// Gives the queue to a playlist that is there, in place of its songs.
+    Replace,
 }
 
 /// The command of this name with these arguments.
@@ -53,7 +65,7 @@ pub(crate) fn read<'w>(
         ListsName::PlaylistMove => move_entry(words),
         ListsName::Remove => Ok(ListsCommand::Remove(one_name(words)?)),
         ListsName::Rename => rename(words),
-        ListsName::Save => Ok(ListsCommand::Save(one_name(words)?)),
+        ListsName::Save => save(words),
     }
 }
 
@@ -108,4 +120,32 @@ fn move_entry<'w>(words: &'w [LineWord<'_>]) -> Result<ListsCommand<'w>, Command
     let name = playlist_name(name)?;
     let from = argument(2, number(from))?;
     Ok(ListsCommand::Move(name, from, argument(3, number(to))?))
+}
+
+/// `create`, `append` or `replace`.
+#[tactic(auto, unfolding(crate::specs::Lists::save_mode_of))]
+fn save_mode(word: &[u8]) -> Option<SaveMode>
+    ensures { result ≡ save_mode_of word.now }
+{
+    if word == b"create".as_slice() {
+        Some(SaveMode::Create)
+    } else if word == b"append".as_slice() {
+        Some(SaveMode::Append)
+    } else if word == b"replace".as_slice() {
+        Some(SaveMode::Replace)
+    } else {
+        None
+    }
+}
+
+#[tactic(auto, unfolding(crate::specs::Lists::save_of))]
+fn save<'w>(words: &'w [LineWord<'_>]) -> Result<ListsCommand<'w>, CommandRefusal>
+    ensures { result ≡ save_of words.now }
+{
+    let (name, mode) = one_or_two(words)?;
+    let name = playlist_name(name)?;
+    match mode {
+        None => Ok(ListsCommand::Save(name, SaveMode::Create)),
+        Some(word) => Ok(ListsCommand::Save(name, argument(2, save_mode(word))?)),
+    }
 }

@@ -1,5 +1,5 @@
 ghost use Rattle.std.specs.Prelude.{◌≡◌};
-ghost use Rattle.command_text.specs.Settings.{settings_of, one_switch};
+ghost use Rattle.command_text.specs.Settings.{settings_of, one_single, one_switch};
 ghost use Rattle.command_text.specs.Arguments.{number_to};
 
 use crate::argument::{argument, number_to, single, switch};
@@ -14,7 +14,8 @@ use player_core::{Single, Volume};
 pub enum SettingsCommand {
     /// Closes the connection.
     Close,
-    Consume(bool),
+    /// `oneshot` is past the MPD protocol reference 0.23.
+    Consume(Single),
     /// Ends the daemon.
     Kill,
     /// Does nothing.
@@ -36,7 +37,7 @@ pub(crate) fn read(
 {
     match name {
         SettingsName::Close => no_argument(SettingsCommand::Close, words),
-        SettingsName::Consume => Ok(SettingsCommand::Consume(one_switch(words)?)),
+        SettingsName::Consume => Ok(SettingsCommand::Consume(one_single(words)?)),
         SettingsName::Kill => no_argument(SettingsCommand::Kill, words),
         SettingsName::Ping => no_argument(SettingsCommand::Ping, words),
         SettingsName::Random => Ok(SettingsCommand::Random(one_switch(words)?)),
@@ -45,7 +46,7 @@ pub(crate) fn read(
             let volume = argument(1, volume(one(words)?))?;
             Ok(SettingsCommand::SetVolume(volume))
         }
-        SettingsName::Single => Ok(SettingsCommand::Single(argument(1, single(one(words)?))?)),
+        SettingsName::Single => Ok(SettingsCommand::Single(one_single(words)?)),
         SettingsName::Status => no_argument(SettingsCommand::Status, words),
     }
 }
@@ -54,6 +55,12 @@ fn one_switch(words: &[LineWord<'_>]) -> Result<bool, CommandRefusal>
     ensures { result ≡ one_switch words.now }
 {
     argument(1, switch(one(words)?))
+}
+
+fn one_single(words: &[LineWord<'_>]) -> Result<Single, CommandRefusal>
+    ensures { result ≡ one_single words.now }
+{
+    argument(1, single(one(words)?))
 }
 
 /// A volume of at most 100.

@@ -49,7 +49,7 @@ impl Machine {
             ListsCommand::Rename(from, to) => {
                 self.rename_list(alloc, from.as_str(), to.as_str(), work)
             }
-            ListsCommand::Save(name) => self.save_list(alloc, name.as_str(), work),
+            ListsCommand::Save(name, mode) => self.save_queue(alloc, name.as_str(), mode, work),
             ListsCommand::Songs(name) => self.list_uris(name.as_str(), work),
             ListsCommand::SongsInfo(name) => self.list_songs(name.as_str(), work),
         }
@@ -156,15 +156,6 @@ impl Machine {
         self.edit(alloc, Op::List(ListOp::Rename { from, to }), work)
     }
 
-    // `save`: the songs of the queue as a new playlist.
-    fn save_list(&mut self, alloc: Global, name: &str, work: &mut Work) -> Result<(), Failure>
-        requires { HasRoom command_room work.old }
-        ensures { Performs (lists_meaning (commands.Save name.now) self.old) self.old self.new work.old work.new result }
-    {
-        let name = list_name(alloc, name)?;
-        self.edit(alloc, Op::List(ListOp::Save { name }), work)
-    }
-
     // `listplaylists`: the names.
     fn list_names(&self, work: &mut Work) -> Result<(), Failure>
         ensures { Performs (lists_meaning commands.Names self.now) self.now self.now work.old work.new result }
@@ -209,7 +200,7 @@ pub(super) fn list_name(alloc: Global, name: &str) -> Result<Text, Failure>
 }
 
 // The songs of a playlist.
-fn songs_named<'a>(lists: &'a Lists, name: &str) -> Result<&'a Songs, Failure>
+pub(super) fn songs_named<'a>(lists: &'a Lists, name: &str) -> Result<&'a Songs, Failure>
     ensures songs { IfOk result (λ songs. songs_named lists.now name.now ≡ Ok songs.now) }
     ensures few { IfOk result (λ songs. length songs.now ≤ MAX_ENTRIES) }
     ensures refused { IfErr result (IsNotFound (songs_named lists.now name.now)) }

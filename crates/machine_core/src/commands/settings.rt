@@ -21,7 +21,9 @@ impl Machine {
     {
         match command {
             SettingsCommand::Close => Ok(()),
-            SettingsCommand::Consume(on) => self.set_option(alloc, Setting::Consume(on), work),
+            SettingsCommand::Consume(consume) => {
+                self.set_option(alloc, Setting::Consume(consume), work)
+            }
             SettingsCommand::Kill => Ok(()),
             SettingsCommand::Ping => Ok(()),
             SettingsCommand::Random(on) => self.set_option(alloc, Setting::Random(on), work),

@@ -60,7 +60,7 @@ impl QueueBuilder {
         })
     }
 
-    /// The next entry. Refused by `QueueFull` past 16,384 entries, by `BadId` where the id is 0, isn't below the next
+    /// The next entry. Refused by `QueueFull` past 65,536 entries, by `BadId` where the id is 0, isn't below the next
     /// id or belongs to an entry before this one, by `BadStamp` where the stamp isn't from 1 to the version, and by
     /// `NoMemory`.
     pub fn push(&mut self, entry: Entry) -> Result<(), PartError>

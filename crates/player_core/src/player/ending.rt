@@ -7,7 +7,7 @@ ghost use Rattle.player_core.specs.Refusal.{AnswersIfMemory, refusal_of};
 
 use super::Player;
 use crate::changes::Changes;
-use crate::followed::{consumed, followed_by, go_on_or_stop, is_oneshot, order_of};
+use crate::followed::{consumed, followed_by, go_on_or_stop, is_on, is_oneshot, order_of};
 use crate::options::Single;
 use crate::placing::placed;
 use crate::played::{leave, make_room};
@@ -34,7 +34,7 @@ impl Player {
         self.finish(entries, settings, settings.options.single)
     }
 
-    /// `next`: what the end of the song does in play, with `single` taken as off, and left alone. In pause it
+    /// `next`: what the end of the song does in play, `consume` too, with `single` taken as off, and left alone. In pause it
     /// does the same, and what it starts plays. Refused by `NotPlaying` in stop.
     pub fn next(
         &mut self,
@@ -66,19 +66,16 @@ impl Player {
             return Ok(Changes::NONE);
         };
         let options = settings.options;
+        let consumes = is_on(options.consume);
         let next = followed_by(entries, settings, single, &self.played, at, current);
         make_room(&mut self.played, options.random)?;
-        leave(
-            &mut self.played,
-            entries,
-            consumed(options.consume, at),
-            &[],
-        );
+        leave(&mut self.played, entries, consumed(consumes, at), &[]);
         go_on_or_stop(&mut self.playing, &mut self.played, options.random, next);
         Ok(Changes {
             order: order_of(next),
-            removed: if options.consume { Some(at) } else { None },
+            removed: if consumes { Some(at) } else { None },
             single_off: is_oneshot(single),
+            consume_off: is_oneshot(options.consume),
         })
     }
 }

@@ -9,8 +9,8 @@ use std::alloc::Global;
 
 // The next functions have no contract: the prover then reads the long ones here alone.
 
-fn apply_body(state: &mut Saved, alloc: Global, body: &[u8]) -> Result<(), BodyError> {
-    state.apply_body(alloc, body)
+fn apply_body(state: &mut Saved, alloc: Global, layout: u32, body: &[u8]) -> Result<(), BodyError> {
+    state.apply_body(alloc, layout, body)
 }
 
 fn check(state: &Saved, op: &Op) -> Result<(), OpRefusal> {
@@ -21,8 +21,8 @@ fn apply(state: &mut Saved, alloc: Global, op: Op) -> Result<(), ApplyError> {
     state.apply(alloc, op)
 }
 
-fn apply_all(state: &mut Saved, alloc: Global, bytes: &[u8]) -> Result<(), Fault> {
-    for op in read(alloc, bytes)? {
+fn apply_all(state: &mut Saved, alloc: Global, layout: u32, bytes: &[u8]) -> Result<(), Fault> {
+    for op in read(alloc, layout, bytes)? {
         apply(state, alloc, op)?;
     }
     Ok(())
@@ -31,7 +31,7 @@ fn apply_all(state: &mut Saved, alloc: Global, bytes: &[u8]) -> Result<(), Fault
 impl Codec {
     /// The bytes are the body of a record, which is applied.
     pub(super) fn apply_body(&mut self, printer: &mut Printer) {
-        match apply_body(&mut self.state, self.alloc, &self.given) {
+        match apply_body(&mut self.state, self.alloc, self.layout, &self.given) {
             Ok(()) => printer.line("applied"),
             Err(error) => printer.refused(error.number(), error),
         }
@@ -39,7 +39,7 @@ impl Codec {
 
     /// The ops that the bytes spell are checked and applied one by one.
     pub(super) fn apply_given(&mut self, printer: &mut Printer) -> Result<(), Fault> {
-        for op in read(self.alloc, &self.given)? {
+        for op in read(self.alloc, self.layout, &self.given)? {
             self.apply_op(printer, op);
         }
         Ok(())
@@ -60,7 +60,7 @@ impl Codec {
         let mut first = 0;
         for _ in 0..count {
             let (bytes, next) = numbered(self.alloc, text, first)?;
-            apply_all(&mut self.state, self.alloc, &bytes)?;
+            apply_all(&mut self.state, self.alloc, self.layout, &bytes)?;
             first = next;
         }
         Ok(())

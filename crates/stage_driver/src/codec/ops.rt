@@ -7,8 +7,8 @@ use std::alloc::{AllocError, Global};
 
 // The next functions have no contract: the prover then reads the long ones here alone.
 
-fn taken(alloc: Global, bytes: &[u8]) -> Result<Vec<Op>, CodecError> {
-    take_ops(alloc, bytes)
+fn taken(alloc: Global, layout: u32, bytes: &[u8]) -> Result<Vec<Op>, CodecError> {
+    take_ops(alloc, layout, bytes)
 }
 
 fn put(out: &mut Vec<u8>, op: &Op) -> Result<(), NoMemory> {
@@ -19,14 +19,14 @@ fn copy_of(alloc: Global, op: &Op) -> Result<Op, AllocError> {
     op.try_clone(alloc)
 }
 
-/// The ops that bytes spell, where they spell some.
-pub fn read(alloc: Global, bytes: &[u8]) -> Result<Vec<Op>, Fault> {
-    Ok(taken(alloc, bytes)?)
+/// The ops that bytes spell in a layout, where they spell some.
+pub fn read(alloc: Global, layout: u32, bytes: &[u8]) -> Result<Vec<Op>, Fault> {
+    Ok(taken(alloc, layout, bytes)?)
 }
 
 /// What is wrong with ops, if anything is.
-pub fn fault_of(alloc: Global, bytes: &[u8]) -> Option<CodecError> {
-    taken(alloc, bytes).err()
+pub fn fault_of(alloc: Global, layout: u32, bytes: &[u8]) -> Option<CodecError> {
+    taken(alloc, layout, bytes).err()
 }
 
 /// Whether there was room for the bytes of an op.
@@ -83,9 +83,9 @@ fn tell_all(printer: &mut Printer, ops: &[Op], room: usize) -> Result<(), Fault>
     Ok(())
 }
 
-/// Prints the ops that the bytes spell: each of them and what it is spelled to, and then copies of them all.
-pub fn tell_ops(printer: &mut Printer, bytes: &[u8]) -> Result<(), Fault> {
-    match taken(printer.alloc, bytes) {
+/// Prints the ops that the bytes spell in a layout: each of them and what it is spelled to, and then copies of them all.
+pub fn tell_ops(printer: &mut Printer, layout: u32, bytes: &[u8]) -> Result<(), Fault> {
+    match taken(printer.alloc, layout, bytes) {
         Ok(ops) => tell_all(printer, &ops, bytes.len()),
         Err(error) => {
             printer.refused(error.number(), error);

@@ -8,8 +8,8 @@ use std::alloc::Global;
 
 // The next functions have no contract: the prover then reads the long ones here alone.
 
-fn read(alloc: Global, bytes: &[u8]) -> Result<Saved, CodecError> {
-    take_saved(alloc, bytes)
+fn read(alloc: Global, layout: u32, bytes: &[u8]) -> Result<Saved, CodecError> {
+    take_saved(alloc, layout, bytes)
 }
 
 fn put(alloc: Global, saved: &Saved) -> Result<Vec<u8>, NoMemory> {
@@ -20,18 +20,12 @@ fn spelled(alloc: Global, saved: &Saved) -> Result<Vec<u8>, Fault> {
     Ok(put(alloc, saved)?)
 }
 
-/// What is read of the bytes, spelled again.
-fn again(alloc: Global, bytes: &[u8]) -> Result<Vec<u8>, Fault> {
-    spelled(alloc, &read(alloc, bytes)?)
-}
-
-/// What is wrong with the first bytes, so many, as ops or as a snapshot.
-fn fault_of_front(alloc: Global, bytes: &[u8], len: usize, as_ops: bool) -> Option<CodecError> {
-    let front = bytes.get(..len).unwrap_or(bytes);
+/// What is wrong with bytes in a layout, as ops or as a snapshot.
+fn fault_of(alloc: Global, layout: u32, bytes: &[u8], as_ops: bool) -> Option<CodecError> {
     if as_ops {
-        ops::fault_of(alloc, front)
+        ops::fault_of(alloc, layout, bytes)
     } else {
-        read(alloc, front).err()
+        read(alloc, layout, bytes).err()
     }
 }
 
@@ -56,16 +50,6 @@ fn tell_same(printer: &mut Printer, bytes: &[u8], again: &[u8]) {
     printer.text(format!(in printer.alloc; "again {len} {is_same}\n").ok());
 }
 
-/// Prints the fault of each front of the bytes, read as ops or as a snapshot.
-pub fn tell_fronts(printer: &mut Printer, bytes: &[u8], as_ops: bool) {
-    for len in 0..bytes.len() {
-        printer.number(len as u64);
-        printer.add(b" ");
-        let fault = fault_of_front(printer.alloc, bytes, len, as_ops);
-        tell_fault(printer, fault);
-    }
-}
-
 /// Prints the refusals that no bytes show.
 pub fn tell_refusals(printer: &mut Printer) {
     printer.refused(CodecError::NoMemory.number(), CodecError::NoMemory);
@@ -74,9 +58,19 @@ pub fn tell_refusals(printer: &mut Printer) {
 }
 
 impl Codec {
+    /// Prints the fault of each front of the bytes, read as ops or as a snapshot.
+    pub(super) fn tell_fronts(&self, printer: &mut Printer, as_ops: bool) {
+        for len in 0..self.given.len() {
+            printer.number(len as u64);
+            printer.add(b" ");
+            let front = self.given.get(..len).unwrap_or(&self.given);
+            tell_fault(printer, fault_of(self.alloc, self.layout, front, as_ops));
+        }
+    }
+
     /// The state is the one that the bytes spell.
     pub(super) fn read_snapshot(&mut self, printer: &mut Printer) {
-        match read(self.alloc, &self.given) {
+        match read(self.alloc, self.layout, &self.given) {
             Ok(saved) => {
                 self.state = saved;
                 printer.line("read");
@@ -93,8 +87,13 @@ impl Codec {
         byte: u8,
     ) -> Result<(), Fault> {
         let bytes = changed(self.alloc, &self.given, place, byte)?;
-        match read(self.alloc, &bytes) {
-            Ok(saved) => tell_same(printer, &bytes, &spelled(self.alloc, &saved)?),
+        self.tell_read(printer, &bytes)
+    }
+
+    /// Prints what is wrong with bytes as a snapshot, or what they are spelled to again.
+    fn tell_read(&self, printer: &mut Printer, bytes: &[u8]) -> Result<(), Fault> {
+        match read(self.alloc, self.layout, bytes) {
+            Ok(saved) => tell_same(printer, bytes, &spelled(self.alloc, &saved)?),
             Err(error) => printer.refused(error.number(), error),
         }
         Ok(())
@@ -107,11 +106,9 @@ impl Codec {
         Ok(())
     }
 
-    /// Prints how long the snapshot of the state is, and whether what is read of it is spelled so again.
+    /// Prints how long the snapshot of the state is, and whether what is read of it is spelled so again; or what is wrong with it.
     pub(super) fn tell_again(&self, printer: &mut Printer) -> Result<(), Fault> {
         let bytes = spelled(self.alloc, &self.state)?;
-        let again = again(self.alloc, &bytes)?;
-        tell_same(printer, &bytes, &again);
-        Ok(())
+        self.tell_read(printer, &bytes)
     }
 }

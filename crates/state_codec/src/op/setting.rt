@@ -6,5 +6,5 @@ pub enum Setting {
     Repeat(bool),
     Random(bool),
     Single(Single),
-    Consume(bool),
+    Consume(Single),
 }

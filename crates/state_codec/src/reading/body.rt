@@ -6,7 +6,7 @@ ghost use Rattle.state_codec.specs.Reading.{ops_reading};
 ghost use Rattle.state_codec.specs.declared.op.Op.{Op as AnOp};
 
 use crate::fields::{ReadError, Reader};
-use crate::layout::{Layout, layout_1};
+use crate::layout::{Layout, layout_of};
 use crate::refusal::{ApplyError, BodyError};
 use crate::saved::Saved;
 use std::alloc::Global;
@@ -32,16 +32,16 @@ fn not_applied(place: usize, error: ApplyError) -> BodyError
 }
 
 impl Saved {
-    /// Applies the ops that the body of a record spells: each is read, applied in place, and then the next. Refused by
-    /// `BadOp`, `DoesNotApply` and `NoMemory`; the state is then to be given up, since ops before the one at fault were
-    /// applied.
-    pub fn apply_body(&mut self, alloc: Global, body: &[u8]) -> Result<(), BodyError>
-        ensures exact { GivesBody result self.new (body_applied body.now self.old) }
+    /// Applies the ops that the body of a record spells in a layout of the journal (1 or 2, and any other number is taken
+    /// for 2): each is read, applied in place, and then the next. Refused by `BadOp`, `DoesNotApply` and `NoMemory`; the
+    /// state is then to be given up, since ops before the one at fault were applied.
+    pub fn apply_body(&mut self, alloc: Global, layout: u32, body: &[u8]) -> Result<(), BodyError>
+        ensures exact { GivesBody result self.new (body_applied layout body.now self.old) }
         // Of a body that spells ops: the state after all of them, or the first that doesn't apply.
-        ensures ops { (ops : List AnOp) → ops_reading body.now ≡ Ok ops
+        ensures ops { (ops : List AnOp) → ops_reading layout body.now ≡ Ok ops
             → GivesBody result self.new (told_place (applied_from 0 ops self.old)) }
     {
-        self.apply_all(alloc, layout_1(), body)
+        self.apply_all(alloc, layout_of(layout), body)
     }
 
     fn apply_all(&mut self, alloc: Global, layout: Layout, body: &[u8]) -> Result<(), BodyError>

@@ -80,6 +80,6 @@ fn set_option(options: &mut Options, setting: Setting)
         Setting::Repeat(on) => options.repeat = on,
         Setting::Random(on) => options.random = on,
         Setting::Single(single) => options.single = single,
-        Setting::Consume(on) => options.consume = on,
+        Setting::Consume(consume) => options.consume = consume,
     }
 }

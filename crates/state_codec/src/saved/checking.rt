@@ -142,7 +142,7 @@ fn of_queue(answer: Result<(), QueueError>) -> Result<(), OpRefusal>
     }
 }
 
-fn of_lists(answer: Result<(), ListsError>) -> Result<(), OpRefusal>
+pub(super) fn of_lists(answer: Result<(), ListsError>) -> Result<(), OpRefusal>
     ensures { (refusal : Option ListsRefusal) → AnswersLists refusal answer → AnswersCheck (option_map Lists refusal) result }
 {
     match answer {

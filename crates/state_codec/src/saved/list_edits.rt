@@ -1,9 +1,11 @@
 // Ops of the stored playlists.
 ghost use Rattle.std.specs.Prelude.{◌≡◌, ◌++◌, IfOk, OnOk, IsOkUnless};
 ghost use Rattle.std.specs.Option.{option_to_list};
+ghost use Rattle.state_codec.specs.Applied.{after_all};
 ghost use Rattle.state_codec.specs.Editing.{IsEdit, ListsEdit};
 ghost use Rattle.state_codec.specs.OpsLists.{list_refusal, after_list, uris_of};
 ghost use Rattle.state_codec.specs.OpsSongs.{uri_at, uris_at};
+ghost use Rattle.state_codec.specs.Replacing.{replace_ops, replace_refusal};
 ghost use Rattle.state_codec.specs.Stored.{state_of};
 ghost use Rattle.state_codec.specs.declared.op.list_op.ListOp.TheVariants.{Save, Add, Rename};
 
@@ -56,6 +58,17 @@ impl SavedParts {
         self.lists.check_save(name, self.queue.len())?;
         let songs = songs_of(alloc, self.queue.entries())?;
         self.lists.save(alloc, name, songs)?;
+        Ok(())
+    }
+
+    // Gives a playlist the songs of the queue in place of its own. Their memory is taken before the old ones go.
+    pub(super) fn replace_list(&mut self, alloc: Global, name: &str) -> Result<(), ApplyError>
+        ensures { IsEdit (replace_refusal name.now (state_of self.old)) (after_all (replace_ops name.now) (state_of self.old))
+            (state_of self.old) (state_of self.new) result }
+    {
+        self.lists.check_replace(name, self.queue.len())?;
+        let songs = songs_of(alloc, self.queue.entries())?;
+        self.lists.replace(name, songs)?;
         Ok(())
     }
 

@@ -48,7 +48,7 @@ fn is_set(setting: Setting, options: Options) -> bool
         Setting::Repeat(on) => on == options.repeat,
         Setting::Random(on) => on == options.random,
         Setting::Single(single) => single == options.single,
-        Setting::Consume(on) => on == options.consume,
+        Setting::Consume(consume) => consume == options.consume,
     }
 }
 

@@ -38,7 +38,7 @@ fn put_setting(out: &mut Vec<u8>, value: Setting)
         Setting::Repeat(on) => (1, flag_byte(on)),
         Setting::Random(on) => (2, flag_byte(on)),
         Setting::Single(value) => (3, single_byte(value)),
-        Setting::Consume(on) => (4, flag_byte(on)),
+        Setting::Consume(value) => (4, single_byte(value)),
     };
     put_byte(out, kind);
     put_byte(out, byte);

@@ -27,7 +27,7 @@ fn put_options(out: &mut Vec<u8>, options: Options)
     put_byte(out, flag_byte(options.repeat));
     put_byte(out, flag_byte(options.random));
     put_byte(out, single_byte(options.single));
-    put_byte(out, flag_byte(options.consume));
+    put_byte(out, single_byte(options.consume));
 }
 
 /// Appends what stands in front of the parts: 53 bytes.

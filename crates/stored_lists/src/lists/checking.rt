@@ -1,9 +1,9 @@
 // What edits are refused for, and whether they would change anything. No call takes memory.
 ghost use Rattle.std.specs.Prelude.{◌≡◌, ◌≢◌, length, None, IsTrue, OnOk};
 ghost use Rattle.std.specs.Bool.{OnTrue, OnFalse};
-ghost use Rattle.stored_lists.specs.Fits.{HasRoom, IsRangeOf, ArePlacesOf, CanRename};
+ghost use Rattle.stored_lists.specs.Fits.{HasRoom, CanReplace, IsRangeOf, ArePlacesOf, CanRename};
 ghost use Rattle.stored_lists.specs.Lists.{songs_of, songs_or_none};
-ghost use Rattle.stored_lists.specs.Lists.{name_refusal, save_refusal, add_refusal, remove_refusal};
+ghost use Rattle.stored_lists.specs.Lists.{name_refusal, save_refusal, add_refusal, replace_refusal, remove_refusal};
 ghost use Rattle.stored_lists.specs.Lists.{move_refusal, rename_refusal};
 ghost use Rattle.stored_lists.specs.Part.{is_last, part_refusal};
 ghost use Rattle.stored_lists.specs.Refusal.{Answers};
@@ -54,6 +54,18 @@ impl Lists {
         }
         let room = MAX_ENTRIES - self.entries;
         if room < count {
+            return Err(ListsError::ListsFull);
+        }
+        Ok(())
+    }
+
+    /// What `replace` by so many songs would be refused for.
+    pub fn check_replace(&self, name: &str, count: usize) -> Result<(), ListsError>
+        ensures answer { Answers (replace_refusal self.now name.now count) result }
+        ensures fits { OnOk result (CanReplace self.now name.now count) }
+    {
+        let old = self.get(name)?.len();
+        if MAX_ENTRIES - (self.entries - old) < count {
             return Err(ListsError::ListsFull);
         }
         Ok(())

@@ -3,9 +3,9 @@ use Rattle.live_stage.proofs.decoding.take_state.Goals as goal
 
 pub returns-in-Err : goal.returns-in-Err
 returns-in-Err c = rw c.bad_snapshot.ensures
-    (refused_snapshot _ _ c.in-Err.error (rw c.snapshot-snapshot.ensures at c.in-Err.ensures.exact))
+    (refused_snapshot _ _ _ c.in-Err.error (rw c.snapshot-snapshot.ensures at c.in-Err.ensures.exact))
 
 pub loop-place-init : goal.loop-place-init
-loop-place-init c = begins c.args.stored.now.snapshot c.args.stored.now.records c.in-Ok.saved c.saturating_add-gate.result
+loop-place-init c = begins c.args.layout c.args.stored.now.snapshot c.args.stored.now.records c.in-Ok.saved c.saturating_add-gate.result
     (rw c.snapshot-snapshot.ensures at c.in-Ok.ensures.exact)
     (rw c.snapshot-snapshot.ensures at c.saturating_add-gate.ensures)

@@ -4,4 +4,5 @@ use Rattle.live_stage.proofs.DecodingLaws.{IsReadTo}
 use Rattle.live_stage.proofs.decoding.take_state.Given as goal
 
 abbrev pub invariant-loop-place : goal.invariant-loop-place
-invariant-loop-place l = IsReadTo l.gate l.saved (drop l.place l.stored.records) (stored_reading l.stored.snapshot l.stored.records)
+invariant-loop-place l = IsReadTo l.layout l.gate l.saved (drop l.place l.stored.records)
+    (stored_reading l.layout l.stored.snapshot l.stored.records)

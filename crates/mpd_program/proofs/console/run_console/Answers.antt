@@ -1,7 +1,7 @@
 use Rattle.disk_model.proofs.LaterLaws.{pair_on}
 use Rattle.std.proofs.Common.{refl}
 use Rattle.mpd_program.specs.Lives.{moment_of}
-use Rattle.mpd_program.proofs.ConsoleLaws.{two_lives, only_memory}
+use Rattle.mpd_program.proofs.ConsoleLaws.{two_lives, good_files}
 use Rattle.mpd_program.proofs.console.run_console.Goals as goal
 
 pub returns-clause-transcript : goal.returns-clause-transcript
@@ -26,7 +26,7 @@ returns-clause-transcript g c =
     second.life second.later.a.counted second.later.b.counted refl refl)
 
 pub returns-clause-opens : goal.returns-clause-opens
-returns-clause-opens g c = λ ha hb all number is. only_memory _ _ _ _ _ (returns-clause-transcript g c) (ha, hb) all number is
+returns-clause-opens g c = λ ha hb all number is. good_files _ _ _ _ _ (returns-clause-transcript g c) (ha, hb) all number is
 
 pub returns-clause-later : goal.returns-clause-later
 returns-clause-later g c = rw c.ended-2.ensures (pair_on c.serve_life-first.ensures.later c.serve_life-second.ensures.later)

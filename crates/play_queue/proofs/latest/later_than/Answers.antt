@@ -1,4 +1,5 @@
 use Rattle.std.proofs.Common.{◌*◌, take, sym, ◌∙◌, append-nil, arith}
+use Rattle.play_queue.specs.Limits.{SPAN}
 use Rattle.play_queue.specs.Latest.{later_than}
 use Rattle.play_queue.proofs.BlockStamps.{later-block, later-skipped}
 use Rattle.play_queue.proofs.latest.later_than.Goals as goal
@@ -10,7 +11,7 @@ loop-block-preserved c =
     let version = c.args.version in
     let block = c.loop-block.block in
     let entries = c.args.entries.now in
-    let front = later_than version 0 (take (block * 128) entries) in
+    let front = later_than version 0 (take (block * SPAN) entries) in
     let step = later-block version block c.min-end.result entries (omega arith) (omega arith) in
     elim c.if-version-latest.branch [
       | then-version-latest+in_ok-push_later w ↦

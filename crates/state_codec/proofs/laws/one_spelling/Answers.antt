@@ -1,4 +1,5 @@
 use Rattle.std.proofs.Common.{sym, ap, ◌∙◌}
+use Rattle.state_codec.specs.Layout.{written_layout}
 use Rattle.state_codec.specs.Reading.{ops_reading, saved_reading}
 use Rattle.state_codec.proofs.FieldLaws.{ok_is}
 use Rattle.state_codec.proofs.BodyLaws.{body_again}
@@ -6,7 +7,9 @@ use Rattle.state_codec.proofs.SavedLaws.{snapshot_again}
 use Rattle.state_codec.proofs.laws.one_spelling.Goals as goal
 
 pub returns-clause-ops : goal.returns-clause-ops
-returns-clause-ops c = λ a b fits_a fits_b e. ok_is a b (sym (body_again a fits_a) ∙ ap ops_reading e ∙ body_again b fits_b)
+returns-clause-ops c =
+    λ a b fits_a fits_b e. ok_is a b (sym (body_again a fits_a) ∙ ap (ops_reading written_layout) e ∙ body_again b fits_b)
 
 pub returns-clause-saved : goal.returns-clause-saved
-returns-clause-saved c = λ a b fits_a fits_b e. ok_is a b (sym (snapshot_again a fits_a) ∙ ap saved_reading e ∙ snapshot_again b fits_b)
+returns-clause-saved c =
+    λ a b fits_a fits_b e. ok_is a b (sym (snapshot_again a fits_a) ∙ ap (saved_reading written_layout) e ∙ snapshot_again b fits_b)

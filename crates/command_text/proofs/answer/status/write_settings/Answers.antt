@@ -9,7 +9,7 @@ pub returns-in_err-write_number : goal.returns-in_err-write_number
 returns-in_err-write_number c =
     adds_stop (number_pair (codes "volume") c.args.volume)
     (concat ((pair (codes "repeat") (switch_text c.args.options.repeat)) ∷ (pair (codes "random") (switch_text c.args.options.random))
-    ∷ (pair (codes "single") (single_text c.args.options.single)) ∷ (pair (codes "consume") (switch_text c.args.options.consume)) ∷ []))
+    ∷ (pair (codes "single") (single_text c.args.options.single)) ∷ (pair (codes "consume") (single_text c.args.options.consume)) ∷ []))
     _ _ _ _ (adds_same _ _ _ _ _ c.in_err-write_number.ensures (ap (λ n. number_pair (codes "volume") n) c.percent.ensures.value))
     c.from_residual.ensures.0
 
@@ -17,11 +17,11 @@ pub returns-in_err-write_pair : goal.returns-in_err-write_pair
 returns-in_err-write_pair c =
     adds_then (number_pair (codes "volume") c.args.volume)
     (concat ((pair (codes "repeat") (switch_text c.args.options.repeat)) ∷ (pair (codes "random") (switch_text c.args.options.random))
-    ∷ (pair (codes "single") (single_text c.args.options.single)) ∷ (pair (codes "consume") (switch_text c.args.options.consume)) ∷ []))
+    ∷ (pair (codes "single") (single_text c.args.options.single)) ∷ (pair (codes "consume") (single_text c.args.options.consume)) ∷ []))
     _ _ _ _ _ (adds_same _ _ _ _ _ c.in_ok-write_number.ensures (ap (λ n. number_pair (codes "volume") n) c.percent.ensures.value))
     (adds_stop (pair (codes "repeat") (switch_text c.args.options.repeat))
     (concat ((pair (codes "random") (switch_text c.args.options.random)) ∷ (pair (codes "single") (single_text c.args.options.single))
-    ∷ (pair (codes "consume") (switch_text c.args.options.consume)) ∷ [])) _ _ _ _
+    ∷ (pair (codes "consume") (single_text c.args.options.consume)) ∷ [])) _ _ _ _
     (adds_same _ _ _ _ _ c.in_err-write_pair.ensures (ap (λ t. pair (codes "repeat") t) c.switch_text.ensures))
     c.from_residual-in_err-write_pair.ensures.0)
 
@@ -29,14 +29,14 @@ pub returns-in_err-write_pair-2 : goal.returns-in_err-write_pair-2
 returns-in_err-write_pair-2 c =
     adds_then (number_pair (codes "volume") c.args.volume)
     (concat ((pair (codes "repeat") (switch_text c.args.options.repeat)) ∷ (pair (codes "random") (switch_text c.args.options.random))
-    ∷ (pair (codes "single") (single_text c.args.options.single)) ∷ (pair (codes "consume") (switch_text c.args.options.consume)) ∷ []))
+    ∷ (pair (codes "single") (single_text c.args.options.single)) ∷ (pair (codes "consume") (single_text c.args.options.consume)) ∷ []))
     _ _ _ _ _ (adds_same _ _ _ _ _ c.in_ok-write_number.ensures (ap (λ n. number_pair (codes "volume") n) c.percent.ensures.value))
     (adds_then (pair (codes "repeat") (switch_text c.args.options.repeat))
     (concat ((pair (codes "random") (switch_text c.args.options.random)) ∷ (pair (codes "single") (single_text c.args.options.single))
-    ∷ (pair (codes "consume") (switch_text c.args.options.consume)) ∷ [])) _ _ _ _ _
+    ∷ (pair (codes "consume") (single_text c.args.options.consume)) ∷ [])) _ _ _ _ _
     (adds_same _ _ _ _ _ c.in_ok-write_pair.ensures (ap (λ t. pair (codes "repeat") t) c.switch_text.ensures))
     (adds_stop (pair (codes "random") (switch_text c.args.options.random))
-    (concat ((pair (codes "single") (single_text c.args.options.single)) ∷ (pair (codes "consume") (switch_text c.args.options.consume))
+    (concat ((pair (codes "single") (single_text c.args.options.single)) ∷ (pair (codes "consume") (single_text c.args.options.consume))
     ∷ [])) _ _ _ _ (adds_same _ _ _ _ _ c.in_err-write_pair-2.ensures (ap (λ t. pair (codes "random") t) c.switch_text-2.ensures))
     c.from_residual-in_err-write_pair-2.ensures.0))
 
@@ -44,17 +44,17 @@ pub returns-in_err-write_pair-3 : goal.returns-in_err-write_pair-3
 returns-in_err-write_pair-3 c =
     adds_then (number_pair (codes "volume") c.args.volume)
     (concat ((pair (codes "repeat") (switch_text c.args.options.repeat)) ∷ (pair (codes "random") (switch_text c.args.options.random))
-    ∷ (pair (codes "single") (single_text c.args.options.single)) ∷ (pair (codes "consume") (switch_text c.args.options.consume)) ∷ []))
+    ∷ (pair (codes "single") (single_text c.args.options.single)) ∷ (pair (codes "consume") (single_text c.args.options.consume)) ∷ []))
     _ _ _ _ _ (adds_same _ _ _ _ _ c.in_ok-write_number.ensures (ap (λ n. number_pair (codes "volume") n) c.percent.ensures.value))
     (adds_then (pair (codes "repeat") (switch_text c.args.options.repeat))
     (concat ((pair (codes "random") (switch_text c.args.options.random)) ∷ (pair (codes "single") (single_text c.args.options.single))
-    ∷ (pair (codes "consume") (switch_text c.args.options.consume)) ∷ [])) _ _ _ _ _
+    ∷ (pair (codes "consume") (single_text c.args.options.consume)) ∷ [])) _ _ _ _ _
     (adds_same _ _ _ _ _ c.in_ok-write_pair.ensures (ap (λ t. pair (codes "repeat") t) c.switch_text.ensures))
     (adds_then (pair (codes "random") (switch_text c.args.options.random))
-    (concat ((pair (codes "single") (single_text c.args.options.single)) ∷ (pair (codes "consume") (switch_text c.args.options.consume))
+    (concat ((pair (codes "single") (single_text c.args.options.single)) ∷ (pair (codes "consume") (single_text c.args.options.consume))
     ∷ [])) _ _ _ _ _ (adds_same _ _ _ _ _ c.in_ok-write_pair-2.ensures (ap (λ t. pair (codes "random") t) c.switch_text-2.ensures))
     (adds_stop (pair (codes "single") (single_text c.args.options.single))
-    (concat ((pair (codes "consume") (switch_text c.args.options.consume)) ∷ [])) _ _ _ _
+    (concat ((pair (codes "consume") (single_text c.args.options.consume)) ∷ [])) _ _ _ _
     (adds_same _ _ _ _ _ c.in_err-write_pair-3.ensures (ap (λ t. pair (codes "single") t) c.single_text.ensures))
     c.from_residual-in_err-write_pair-3.ensures.0)))
 
@@ -62,17 +62,17 @@ pub returns : goal.returns
 returns c =
     adds_then (number_pair (codes "volume") c.args.volume)
     (concat ((pair (codes "repeat") (switch_text c.args.options.repeat)) ∷ (pair (codes "random") (switch_text c.args.options.random))
-    ∷ (pair (codes "single") (single_text c.args.options.single)) ∷ (pair (codes "consume") (switch_text c.args.options.consume)) ∷ []))
+    ∷ (pair (codes "single") (single_text c.args.options.single)) ∷ (pair (codes "consume") (single_text c.args.options.consume)) ∷ []))
     _ _ _ _ _ (adds_same _ _ _ _ _ c.in_ok-write_number.ensures (ap (λ n. number_pair (codes "volume") n) c.percent.ensures.value))
     (adds_then (pair (codes "repeat") (switch_text c.args.options.repeat))
     (concat ((pair (codes "random") (switch_text c.args.options.random)) ∷ (pair (codes "single") (single_text c.args.options.single))
-    ∷ (pair (codes "consume") (switch_text c.args.options.consume)) ∷ [])) _ _ _ _ _
+    ∷ (pair (codes "consume") (single_text c.args.options.consume)) ∷ [])) _ _ _ _ _
     (adds_same _ _ _ _ _ c.in_ok-write_pair.ensures (ap (λ t. pair (codes "repeat") t) c.switch_text.ensures))
     (adds_then (pair (codes "random") (switch_text c.args.options.random))
-    (concat ((pair (codes "single") (single_text c.args.options.single)) ∷ (pair (codes "consume") (switch_text c.args.options.consume))
+    (concat ((pair (codes "single") (single_text c.args.options.single)) ∷ (pair (codes "consume") (single_text c.args.options.consume))
     ∷ [])) _ _ _ _ _ (adds_same _ _ _ _ _ c.in_ok-write_pair-2.ensures (ap (λ t. pair (codes "random") t) c.switch_text-2.ensures))
     (adds_then (pair (codes "single") (single_text c.args.options.single))
-    (concat ((pair (codes "consume") (switch_text c.args.options.consume)) ∷ [])) _ _ _ _ _
+    (concat ((pair (codes "consume") (single_text c.args.options.consume)) ∷ [])) _ _ _ _ _
     (adds_same _ _ _ _ _ c.in_ok-write_pair-3.ensures (ap (λ t. pair (codes "single") t) c.single_text.ensures))
-    (adds_last (pair (codes "consume") (switch_text c.args.options.consume)) _ _ _
-    (adds_same _ _ _ _ _ c.write_pair-4.ensures (ap (λ t. pair (codes "consume") t) c.switch_text-3.ensures))))))
+    (adds_last (pair (codes "consume") (single_text c.args.options.consume)) _ _ _
+    (adds_same _ _ _ _ _ c.write_pair-4.ensures (ap (λ t. pair (codes "consume") t) c.single_text-2.ensures))))))

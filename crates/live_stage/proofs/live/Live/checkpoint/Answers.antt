@@ -19,7 +19,7 @@ returns-then-generation-clause-any_moment g c = rw (← c.self.view_is) (λ ha h
 pub returns-then-generation-clause-same_state : goal.returns-then-generation-clause-same_state
 returns-then-generation-clause-same_state g c = rw (← c.self.view_is) (λ ha hb usable.
     find_since _ _ c.self.inside.journal.content c.self.inside.core.machine.saved (c.is_spent.ensures.kept ha hb usable)
-    (c.self.invariant.1 usable ha hb))
+    (c.self.invariant.2 usable ha hb))
 
 pub returns-in_err-write_snapshot-clause-any_moment : goal.returns-in_err-write_snapshot-clause-any_moment
 returns-in_err-write_snapshot-clause-any_moment g c = rw (← c.self.view_is) (λ ha hb usable. record {
@@ -33,12 +33,13 @@ returns-in_err-write_snapshot-clause-any_moment g c = rw (← c.self.view_is) (�
 pub returns-in_err-write_snapshot-clause-same_state : goal.returns-in_err-write_snapshot-clause-same_state
 returns-in_err-write_snapshot-clause-same_state g c = rw (← c.self.view_is, ← c.as_saved.ensures) (λ ha hb usable.
     find_same _ _ _ _ c.self.inside.journal.content c.as_saved.result.now
-    (c.self.invariant.1 usable ha hb ∙ ap Some (sym c.as_saved.ensures)) c.write_snapshot.ensures.in_range
+    (c.self.invariant.2 usable ha hb ∙ ap Some (sym c.as_saved.ensures)) c.write_snapshot.ensures.in_range
     (c.write_snapshot.ensures.any_moment ha hb))
 
 pub invariant_of-self-2 : goal.invariant_of-self-2
 invariant_of-self-2 g c = (
   c.self.invariant.0,
+  λ unspent. c.in_ok-write_snapshot.ensures.next.layout,
   λ unspent ha' hb'.
       let ha = c.write_snapshot.ensures.later.a.honesty.1 ha' in
       let hb = c.write_snapshot.ensures.later.b.honesty.1 hb' in
@@ -60,5 +61,5 @@ returns-clause-any_moment g c = rw (← c.self.view_is) (λ ha hb usable. record
 pub returns-clause-same_state : goal.returns-clause-same_state
 returns-clause-same_state g c = rw (← c.self.view_is, ← c.as_saved.ensures) (λ ha hb usable.
     find_same _ _ _ _ c.self.inside.journal.content c.as_saved.result.now
-    (c.self.invariant.1 usable ha hb ∙ ap Some (sym c.as_saved.ensures)) c.write_snapshot.ensures.in_range
+    (c.self.invariant.2 usable ha hb ∙ ap Some (sym c.as_saved.ensures)) c.write_snapshot.ensures.in_range
     (c.write_snapshot.ensures.any_moment ha hb))

@@ -7,6 +7,7 @@ use Rattle.live_stage.proofs.live.Live.create.Goals as goal
 pub invariant_of-result : goal.invariant_of-result
 invariant_of-result g c = (
   c.in-Ok.ensures.room,
+  λ usable. c.in-Ok-create.ensures.new.layout,
   λ usable ha' hb'.
       let ha = c.in-Ok-create.ensures.later.a.honesty.1 ha' in
       let hb = c.in-Ok-create.ensures.later.b.honesty.1 hb' in

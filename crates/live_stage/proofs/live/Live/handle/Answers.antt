@@ -15,7 +15,7 @@ returns-in-Err-clause-any_moment g c = rw (← c.self.view_is) (λ ha hb usable.
   None,
   tt,
   find_still _ _ c.self.inside.journal.content c.self.inside.core.machine.saved _ (c.is_spent-spent.ensures.kept ha hb usable)
-      (c.self.invariant.1 usable ha hb),
+      (c.self.invariant.2 usable ha hb),
 ))
 
 pub returns-in_err-number-clause-any_moment : goal.returns-in_err-number-clause-any_moment
@@ -28,7 +28,8 @@ returns-in_err-number-clause-any_moment g c =
       c.in-Ok.outcome.refused_at,
       search rules,
       find_either _ _ _ _ c.self.inside.journal.content c.deref.result.now c.self.inside.core.machine.saved asked.after.machine.saved
-          (c.is_spent-spent.ensures.kept ha hb usable) (c.self.invariant.1 usable ha hb) valid applies
+          (c.is_spent-spent.ensures.kept ha hb usable) (c.self.invariant.2 usable ha hb)
+          ((c.is_spent-spent.ensures.numbers ha hb usable).layout ∙ c.self.invariant.1 usable) valid applies
           (λ e. (
             ap (λ j. g.D.Disk.history j.a) (c.record_ops.ensures.none e).1,
             ap (λ j. g.D.Disk.history j.b) (c.record_ops.ensures.none e).1,
@@ -44,12 +45,14 @@ invariant_of-self-2 g c =
     rw c.deref.ensures.value c.in-Ok.ensures.rebuilt in
     let room = c.self.invariant.0 in (
       omega (arith, c.record_ops.ensures.capacity, room),
-      λ spent ha' hb'.
+      λ unspent. c.record_ops.ensures.file.layout ∙ c.self.invariant.1 usable,
+      λ unspent ha' hb'.
           let ha = c.record_ops.ensures.later.a.honesty.1 ha' in
           let hb = c.record_ops.ensures.later.b.honesty.1 hb' in
           content_after c.self.inside.journal.content c.record_ops.new.journal.content c.deref.result.now c.self.inside.core.machine.saved
           c.step.new.self.machine.saved
-          (c.self.invariant.1 usable ha hb) valid applies
+          (c.self.invariant.2 usable ha hb)
+          ((c.is_spent-spent.ensures.numbers ha hb usable).layout ∙ c.self.invariant.1 usable) valid applies
           (λ e. ap (λ j. j.content) (c.record_ops.ensures.none e).1)
           (λ some. let held = c.in_ok-number.ensures.kept some ha hb in held.says),
     )
@@ -64,7 +67,8 @@ returns-clause-any_moment g c =
       c.in-Ok.outcome.refused_at,
       ap (λ t. t.refused_at) c.new.ensures,
       find_either _ _ _ _ c.self.inside.journal.content c.deref.result.now c.self.inside.core.machine.saved asked.after.machine.saved
-          (c.is_spent-spent.ensures.kept ha hb usable) (c.self.invariant.1 usable ha hb) valid applies
+          (c.is_spent-spent.ensures.kept ha hb usable) (c.self.invariant.2 usable ha hb)
+          ((c.is_spent-spent.ensures.numbers ha hb usable).layout ∙ c.self.invariant.1 usable) valid applies
           (λ e. (
             ap (λ j. g.D.Disk.history j.a) (c.record_ops.ensures.none e).1,
             ap (λ j. g.D.Disk.history j.b) (c.record_ops.ensures.none e).1,
@@ -81,7 +85,8 @@ returns-clause-kept g c =
     rw (← c.self.view_is) (λ ha hb unbroken.
     find_after _ _ _ _ c.self.inside.journal.content c.record_ops.new.journal.content c.deref.result.now c.self.inside.core.machine.saved
     c.step.new.self.machine.saved
-    (c.is_spent-spent.ensures.kept ha hb usable) (c.self.invariant.1 usable ha hb) valid applies
+    (c.is_spent-spent.ensures.kept ha hb usable) (c.self.invariant.2 usable ha hb)
+    ((c.is_spent-spent.ensures.numbers ha hb usable).layout ∙ c.self.invariant.1 usable) valid applies
     (λ e. (ap (λ j. g.D.Disk.history j.a) (c.record_ops.ensures.none e).1, ap (λ j. g.D.Disk.history j.b) (c.record_ops.ensures.none e).1))
     (λ some. let held = c.in_ok-number.ensures.kept some ha hb in held.says)
     (λ some. let held = c.in_ok-number.ensures.kept some ha hb in held.kept))
@@ -91,7 +96,7 @@ returns-in-Err-clause-kept g c =
     let same = c.in-Err.ensures.err in
     rw (← c.self.view_is, same) (λ ha hb usable.
     find_now (g.D.Disk.history c.self.inside.journal.a) (g.D.Disk.history c.self.inside.journal.b) c.self.inside.journal.content
-    c.self.inside.core.machine.saved (c.is_spent-spent.ensures.kept ha hb usable) (c.self.invariant.1 usable ha hb))
+    c.self.inside.core.machine.saved (c.is_spent-spent.ensures.kept ha hb usable) (c.self.invariant.2 usable ha hb))
 
 pub returns-in-Err-clause-file : goal.returns-in-Err-clause-file
 returns-in-Err-clause-file g c = rw (← c.self.view_is, c.in-Err.ensures.err) (still_in_file _)

@@ -6,13 +6,21 @@ use Rattle.play_journal.proofs.InUseLaws.{first_since, second_since, longer_in_u
 use Rattle.play_journal.proofs.PlaceLaws.{honest_both, kept_now, added_since, still_since, before_or_after, later_here}
 use Rattle.play_journal.proofs.journal.Journal.append.Goals as goal
 
+pub returns-then-self-ne-LAYOUT-clause-any_moment : goal.returns-then-self-ne-LAYOUT-clause-any_moment
+returns-then-self-ne-LAYOUT-clause-any_moment g c = rw (← c.self.view_is) (λ a b usable x y left right.
+    let j = c.self.inside in
+    let honest = honest_both g.D.Disk.honest j.swapped j.here j.there a b in
+    let kept = c.self.invariant.2 usable honest.0 honest.1 in
+    before_or_after _ c.args.body.now _ (still_since (λ f. f ≡ Some (content_in (g.D.Disk.content j.here))) _ _
+    (kept_now g.D.Disk.content g.D.Disk.history j.swapped j.here j.there j.end j.layout j.generation j.base j.count kept) x y left right))
+
 pub returns-then-len-gt-LONGEST_BODY-clause-any_moment : goal.returns-then-len-gt-LONGEST_BODY-clause-any_moment
 returns-then-len-gt-LONGEST_BODY-clause-any_moment g c = rw (← c.self.view_is) (λ a b usable x y left right.
     let j = c.self.inside in
     let honest = honest_both g.D.Disk.honest j.swapped j.here j.there a b in
     let kept = c.self.invariant.2 usable honest.0 honest.1 in
     before_or_after _ c.args.body.now _ (still_since (λ f. f ≡ Some (content_in (g.D.Disk.content j.here))) _ _
-    (kept_now g.D.Disk.content g.D.Disk.history j.swapped j.here j.there j.end j.generation j.base j.count kept) x y left right))
+    (kept_now g.D.Disk.content g.D.Disk.history j.swapped j.here j.there j.end j.layout j.generation j.base j.count kept) x y left right))
 
 pub returns-then-number-clause-any_moment : goal.returns-then-number-clause-any_moment
 returns-then-number-clause-any_moment g c = rw (← c.self.view_is) (λ a b usable x y left right.
@@ -20,7 +28,7 @@ returns-then-number-clause-any_moment g c = rw (← c.self.view_is) (λ a b usab
     let honest = honest_both g.D.Disk.honest j.swapped j.here j.there a b in
     let kept = c.self.invariant.2 usable honest.0 honest.1 in
     before_or_after _ c.args.body.now _ (still_since (λ f. f ≡ Some (content_in (g.D.Disk.content j.here))) _ _
-    (kept_now g.D.Disk.content g.D.Disk.history j.swapped j.here j.there j.end j.generation j.base j.count kept) x y left right))
+    (kept_now g.D.Disk.content g.D.Disk.history j.swapped j.here j.there j.end j.layout j.generation j.base j.count kept) x y left right))
 
 pub returns-in-Ok-clause-any_moment : goal.returns-in-Ok-clause-any_moment
 returns-in-Ok-clause-any_moment g c = rw (← c.self.view_is) (λ a b usable.
@@ -36,9 +44,9 @@ returns-in-Ok-clause-any_moment g c = rw (← c.self.view_is) (λ a b usable.
     let number : j.base + j.count + 1 < 2 ^ 64 = omega (arith, c.self.invariant.1) in
     let since = c.in-Ok.ensures.any_moment honest.0 kept.here_settled kept.in_use.ends in
     added_since g.D.Disk.history (IsBeforeOrAfter (content_in here) body) j.swapped j.here c.append_at.new.disk j.there
-    (first_since here there j.end j.generation j.base j.count kept.in_use body added is_added short number (g.D.Disk.history j.here)
+    (first_since here there j.end j.layout j.generation j.base j.count kept.in_use body added is_added short number (g.D.Disk.history j.here)
     (g.D.Disk.history c.append_at.new.disk) (g.D.Disk.history j.there) kept.there_settled since)
-    (second_since here there j.end j.generation j.base j.count kept.in_use body added is_added short number (g.D.Disk.history j.here)
+    (second_since here there j.end j.layout j.generation j.base j.count kept.in_use body added is_added short number (g.D.Disk.history j.here)
     (g.D.Disk.history c.append_at.new.disk) (g.D.Disk.history j.there) kept.there_settled since))
 
 pub returns-in-Err-clause-any_moment : goal.returns-in-Err-clause-any_moment
@@ -55,14 +63,14 @@ returns-in-Err-clause-any_moment g c = rw (← c.self.view_is) (λ a b usable.
     let number : j.base + j.count + 1 < 2 ^ 64 = omega (arith, c.self.invariant.1) in
     let since = c.in-Err.ensures.any_moment honest.0 kept.here_settled kept.in_use.ends in
     added_since g.D.Disk.history (IsBeforeOrAfter (content_in here) body) j.swapped j.here c.append_at.new.disk j.there
-    (first_since here there j.end j.generation j.base j.count kept.in_use body added is_added short number (g.D.Disk.history j.here)
+    (first_since here there j.end j.layout j.generation j.base j.count kept.in_use body added is_added short number (g.D.Disk.history j.here)
     (g.D.Disk.history c.append_at.new.disk) (g.D.Disk.history j.there) kept.there_settled since)
-    (second_since here there j.end j.generation j.base j.count kept.in_use body added is_added short number (g.D.Disk.history j.here)
+    (second_since here there j.end j.layout j.generation j.base j.count kept.in_use body added is_added short number (g.D.Disk.history j.here)
     (g.D.Disk.history c.append_at.new.disk) (g.D.Disk.history j.there) kept.there_settled since))
 
 after : (g : _) (c : goal.After-self-in-Ok-1 g) → g.D.Disk.honest c.self.inside.here → g.D.Disk.honest c.self.inside.there
     → IsKept (g.D.Disk.content c.append_at.new.disk) (g.D.Disk.content c.self.inside.there) (g.D.Disk.history c.append_at.new.disk)
-    (g.D.Disk.history c.self.inside.there) c.saturating_add-self-inside.result c.self.inside.generation c.self.inside.base
+    (g.D.Disk.history c.self.inside.there) c.saturating_add-self-inside.result c.self.inside.layout c.self.inside.generation c.self.inside.base
     (c.self.inside.count + 1)
     × (content_in (g.D.Disk.content c.append_at.new.disk) ≡ with_record (content_in (g.D.Disk.content c.self.inside.here)) c.args.body.now)
 after g c first second =
@@ -76,7 +84,7 @@ after g c first second =
     let short : length body ≤ 2097152 = omega arith in
     let number : j.base + j.count + 1 < 2 ^ 64 = omega (arith, c.self.invariant.1) in
     let written = c.in-Ok.ensures.written first kept.in_use.ends in
-    let used = longer_in_use here there j.end j.generation j.base j.count kept.in_use body added is_added short number
+    let used = longer_in_use here there j.end j.layout j.generation j.base j.count kept.in_use body added is_added short number
     (g.D.Disk.content c.append_at.new.disk) written in
     let small = g.met.D.Disk.length_fits c.append_at.new.disk (c.append_at.ensures.later.honesty.0 first) in
     let end : c.saturating_add-self-inside.result ≡ j.end + 5 + length body =
@@ -84,10 +92,10 @@ after g c first second =
       record {
         here_settled = c.in-Ok.ensures.settled first kept.in_use.ends;
         there_settled = kept.there_settled;
-        in_use = subst (λ (n : ℕ). IsInUse (g.D.Disk.content c.append_at.new.disk) there n j.generation j.base (j.count + 1))
+        in_use = subst (λ (n : ℕ). IsInUse (g.D.Disk.content c.append_at.new.disk) there n j.layout j.generation j.base (j.count + 1))
             (sym end) used;
       },
-      longer_content here there j.end j.generation j.base j.count kept.in_use body added is_added short number
+      longer_content here there j.end j.layout j.generation j.base j.count kept.in_use body added is_added short number
           (g.D.Disk.content c.append_at.new.disk) written,
     )
 
@@ -107,7 +115,7 @@ returns-in-Ok-clause-kept g c = rw (← c.self.view_is) (λ a b.
     record {
       says = done.1;
       kept = kept_now g.D.Disk.content g.D.Disk.history j.swapped c.append_at.new.disk j.there c.saturating_add-self-inside.result
-          j.generation j.base (j.count + 1) done.0;
+          j.layout j.generation j.base (j.count + 1) done.0;
     })
 
 pub returns-in-Ok-clause-later : goal.returns-in-Ok-clause-later

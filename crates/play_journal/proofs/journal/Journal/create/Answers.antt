@@ -1,7 +1,7 @@
 use Rattle.std.proofs.Common.{◌≡◌, ◌∙◌, ◌<◌, ◌^◌, [], length, arith, rules, inl, inr, lit<}
 use Rattle.std.specs.Prelude.{IsTrue, false}
 use Rattle.std.proofs.lemmas.Bool.{cases_lt}
-use Rattle.play_journal.specs.Content.{fresh}
+use Rattle.play_journal.specs.Content.{fresh, present_layout}
 use Rattle.play_journal.specs.JournalState.{content_in, IsKept}
 use Rattle.play_journal.proofs.InUseLaws.{laid_content, fresh_kept}
 use Rattle.play_journal.proofs.PlaceLaws.{kept_now}
@@ -20,7 +20,7 @@ empty g c b =
 
 written : (g : _) (c : goal.In-Ok g) → g.D.Disk.honest c.args.a → g.D.Disk.honest c.args.b
     → IsKept (g.D.Disk.content c.fresh_journal.new.a) (g.D.Disk.content c.fresh_journal.new.b) (g.D.Disk.history c.fresh_journal.new.a)
-    (g.D.Disk.history c.fresh_journal.new.b) c.in-Ok.end 1 0 0
+    (g.D.Disk.history c.fresh_journal.new.b) c.in-Ok.end present_layout 1 0 0
     × (content_in (g.D.Disk.content c.fresh_journal.new.a) ≡ fresh c.args.snapshot.now)
 written g c a b =
     let here = c.in-Ok.ensures.written a in (
@@ -41,7 +41,7 @@ invariant_of-result g c = (
 pub returns-in-Ok-clause-kept : goal.returns-in-Ok-clause-kept
 returns-in-Ok-clause-kept g c = λ a b. record {
   says = (written g c a b).1;
-  kept = kept_now g.D.Disk.content g.D.Disk.history false c.fresh_journal.new.a c.fresh_journal.new.b c.in-Ok.end 1 0 0 (written g c a b).0;
+  kept = kept_now g.D.Disk.content g.D.Disk.history false c.fresh_journal.new.a c.fresh_journal.new.b c.in-Ok.end present_layout 1 0 0 (written g c a b).0;
 }
 
 pub returns-in-Ok-clause-empty : goal.returns-in-Ok-clause-empty

@@ -5,7 +5,7 @@ use Rattle.machine_core.specs.Lists.{list_name, lists_meaning}
 use Rattle.machine_core.specs.Meaning.{edits}
 use Rattle.machine_core.proofs.Answering.{also}
 use Rattle.machine_core.proofs.LookUps.{found, not_found}
-use Rattle.machine_core.proofs.machine.Machine.save_list.Goals as goal
+use Rattle.machine_core.proofs.machine.Machine.create_list.Goals as goal
 
 pub returns-in_err-name : goal.returns-in_err-name
 unfolding lists_meaning

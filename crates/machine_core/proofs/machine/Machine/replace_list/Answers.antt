@@ -1,0 +1,18 @@
+use Rattle.machine_core.specs.Lists.{list_name, lists_meaning, replaces}
+use Rattle.machine_core.proofs.Answering.{also}
+use Rattle.machine_core.proofs.LookUps.{found, not_found}
+use Rattle.machine_core.proofs.machine.Machine.replace_list.Goals as goal
+
+pub returns-in_err-name : goal.returns-in_err-name
+unfolding lists_meaning
+returns-in_err-name c =
+    let m = c.args.self.now in
+    not_found (list_name c.args.name.now) (λ good. replaces good m) m c.args.work.now c.in_err-name.field-0.0 c.from_residual.result
+    c.in_err-name.ensures c.from_residual.ensures.1
+
+pub returns : goal.returns
+unfolding lists_meaning
+returns c =
+    let m = c.args.self.now in
+    also _ _ _ _ _ _ _ (found (list_name c.args.name.now) (λ good. replaces good m) c.in_ok-name.name c.in_ok-name.ensures)
+    c.replace_songs.ensures

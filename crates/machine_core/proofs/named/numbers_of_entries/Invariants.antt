@@ -1,0 +1,7 @@
+use Rattle.std.proofs.Common.{◌≡◌, take}
+use Rattle.state_codec.specs.OpsLists.{uris_of}
+use Rattle.machine_core.specs.Named.{numbers_of}
+use Rattle.machine_core.proofs.named.numbers_of_entries.Given as goal
+
+abbrev pub invariant-loop-entry : goal.invariant-loop-entry
+invariant-loop-entry l = l.numbers.items ≡ numbers_of l.songs (uris_of (take l.entry-index l.entries))
