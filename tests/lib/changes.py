@@ -71,8 +71,10 @@ def deleting(state, draw):
 def listing(state, draw):
     """A change of which playlists there are."""
     names, free = [*state.playlists], [it for it in PLAYLISTS if it not in state.playlists]
-    ways = [["save", draw.choice(free)], ["playlistadd", draw.choice(free), draw.choice([*state.songs, ""])]] if free else []
-    ways += [["rm", draw.choice(names)]] if names else []
+    ways = [["save", draw.choice(free), *draw.choice([[], ["create"]])], ["playlistadd", draw.choice(free), draw.choice([*state.songs, ""])]] if free else []
+    ways += [["rm", draw.choice(names)], ["save", draw.choice(names), "replace"]] if names else []
+    grown = [it for it in names if len(state.playlists[it]) < MOST_ENTRIES]
+    ways += [["save", draw.choice(grown), "append"]] if grown else []
     ways += [["rename", draw.choice(names), draw.choice(free)]] if names and free else []
     return draw.choice(ways)
 

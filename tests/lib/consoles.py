@@ -10,6 +10,9 @@ from scripts import configuration
 GREETING = b"OK MPD 0.23.0\n"
 # A checkpoint is made before the next event where so many records stand in the journal's file.
 RECORDS = 4096
+# Where a file has its layout; and what a program says on standard error that brought a journal of layout 1 to layout 2.
+LAYOUT_AT = 8
+MIGRATED = b"the journal was brought to layout 2: an older program can't read it any more\n"
 
 
 class Console:
@@ -165,6 +168,17 @@ class Journal:
 
     def other(self):
         return min(self.paths, key=self.generation)
+
+    def is_old(self):
+        """Whether it has layout 1."""
+        with open(self.in_use(), "rb") as file:
+            return file.read(LAYOUT_AT + 1)[LAYOUT_AT] == 1
+
+    def make_old(self):
+        """Gives the file in use layout 1, as an older build would have written it, where it has no value that layout 1 hasn't."""
+        with open(self.in_use(), "r+b") as file:
+            file.seek(LAYOUT_AT)
+            file.write(b"\x01")
 
     def records(self):
         """How many records stand since the last checkpoint."""

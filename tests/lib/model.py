@@ -15,7 +15,7 @@ SETTINGS = {
     "repeat": ["0", "1"],
     "random": ["0", "1"],
     "single": ["0", "1", "oneshot"],
-    "consume": ["0", "1"],
+    "consume": ["0", "1", "oneshot"],
 }
 
 
@@ -283,8 +283,9 @@ class State:
 
     # Playlists.
 
-    def save(self, name):
-        self.playlists[name] = tuple(it.uri for it in self.queue)
+    def save(self, name, mode="create"):
+        kept = self.playlists[name] if mode == "append" else ()
+        self.playlists[name] = kept + tuple(it.uri for it in self.queue)
 
     def rm(self, name):
         del self.playlists[name]

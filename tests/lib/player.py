@@ -30,7 +30,7 @@ class Player(readings.Readable):
     # What comes next.
 
     def is_on(self, name):
-        return self.settings[name] == "1"
+        return self.settings[name] != "0"
 
     def place(self, number):
         return next((at for at, it in enumerate(self.queue) if it.id == number), None)
@@ -77,12 +77,17 @@ class Player(readings.Readable):
         """The next song is found before the one that is left goes, under consume."""
         left, (number, is_round) = self.current, self.next_song({self.current} if self.is_on("consume") else ())
         if self.is_on("consume"):
-            self.take_out({left})
+            self.consume_one(left)
         if number is None:
             self.halt()
         else:
             self.current = left
             self.start(number, 0, is_round)
+
+    def consume_one(self, number):
+        self.take_out({number})
+        if self.settings["consume"] == "oneshot":
+            self.settings["consume"] = "0"
 
     def take_out(self, gone, songs=None):
         """Entries leave the queue, and the songs become these."""
@@ -117,7 +122,7 @@ class Player(readings.Readable):
         elif number is not None:
             self.start(number)
         elif self.is_on("consume"):
-            self.take_out({self.current})
+            self.consume_one(self.current)
             self.halt()
         else:
             self.halt(self.current)

@@ -106,6 +106,7 @@ BAD_NAMES = ("a/b", BAD_PLAYLIST), ('""', BAD_PLAYLIST), ("n" * 257, BAD_PLAYLIS
 LISTED = words("old", *BAD_NAMES, ("gone", NO_PLAYLIST))
 GIVEN = words("fresh", *BAD_NAMES)
 NEW = words("fresh", *BAD_NAMES, ("old", TAKEN), ("other", TAKEN))
+MODE = words("create", ("keep", BAD), ("Append", BAD), ('""', BAD))
 BAD_STICKERS = ("x=y", BAD_STICKER), ('""', BAD_STICKER), ("n" * 257, BAD_STICKER)
 TAG = words("title", ("foo", unknown_tag("foo")), ("any", unknown_tag("any")))
 BAD_EXPRESSIONS = ("(title", BAD_FILTER), ('"(file contains \'a\')"', BAD_FILTER), ("(foo", unknown_tag("foo")), ("(" * 33, DEEP)
@@ -141,9 +142,10 @@ def commands(situation):
 def settings():
     for name in ("ping", "close", "kill", "status", "commands", "notcommands", "tagtypes", "stats", "noidle"):
         yield Command(name, [], None, [["x"]])
-    for name in ("repeat", "random", "consume"):
+    for name in ("repeat", "random"):
         yield Command(name, [SWITCH], None, [[], ["x", "x"]])
-    yield Command("single", [words("1", ("2", BAD), ("Oneshot", BAD), ('""', BAD))], None, [[], ["x", "x"]])
+    for name in ("single", "consume"):
+        yield Command(name, [words("1", ("2", BAD), ("Oneshot", BAD), ('""', BAD))], None, [[], ["x", "x"]])
     yield Command("setvol", [numbers("7", ("101", BAD), ("7.0", BAD))], None, [[], ["x", "x"]])
     names = words("mixer", ("x", BAD), ("Mixer", BAD), ('""', BAD))
     yield Command("idle", [optional(names), optional(names)])
@@ -214,7 +216,8 @@ def playlists(to, queue_full, lists_full):
     for name in ("listplaylist", "listplaylistinfo", "rm", "playlistclear"):
         yield Command(name, [LISTED], None, [[], ["a/b", "x"]])
     yield Command("load", [LISTED, optional(RANGE), optional(to)], queue_full, [[], ["a/b", "x", "x", "x"]])
-    yield Command("save", [NEW], lists_full, [[], ["a/b", "x"]])
+    yield Command("save", [NEW, optional(MODE)], lists_full, [[], ["a/b", "x", "x"]])
+    yield Command("save", [LISTED, [Word("append"), Word("replace")]], lists_full)
     yield Command("rename", [LISTED, NEW], None, [[], ["a/b"], ["a/b", "a/b", "x"]])
     yield Command("playlistadd", [GIVEN, PLACE], lists_full, [[], ["a/b"], ["a/b", "zzz", "x"]])
     yield Command("playlistdelete", [LISTED, RANGE], None, [[], ["a/b"], ["a/b", "x", "x"]])

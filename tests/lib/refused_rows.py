@@ -6,6 +6,7 @@ import re
 import shutil
 import subprocess
 
+import consoles
 import preload
 import refusals
 import scripts
@@ -36,10 +37,12 @@ LOOKS = ["saved", "connect 4", "4> status", "4> idle", "order", "scan_order"]
 # ---- lines of stage_driver
 
 # A file with a fresh state, whose key is of zeros, and records behind it that set the volume to 40.
-FRESH = f"a54d50444a524e4c 01000000 0100000000000000 0000000000000000 45000000 {'00' * 40} 01000000 01000000 64 {'00' * 20}"
+FRESH = f"a54d50444a524e4c 02000000 0100000000000000 0000000000000000 45000000 {'00' * 40} 01000000 01000000 64 {'00' * 20}"
 RECORDS = 3
 FEW, FULL = (f"a has {FRESH} a5 {'02000000 0228 a5' * (count - 1)} 02000000 0228 00" for count in (RECORDS, 4_096))
 BYTES = ["a bytes", "b bytes"]
+# One in layout 1, to which no record is added.
+OLD = f"a has {FRESH.replace('02000000', '01000000', 1)} a5 02000000 0228 00"
 DISK_FAULTS = ["refused 6 disk fault"], ["refused 42 broken by a disk fault"]
 # What goes before it, the line, and whether a journal or a stage stands over the files even where it is refused.
 CALLS = [
@@ -54,6 +57,9 @@ CALLS = [
     ([FEW, "b has -", "open_stage", "connect 1"], "line 1 setvol 41", True),
     ([FEW, "b has -", "open_stage", "connect 1"], "list 1 setvol 41 ; repeat 1 ; status", True),
     ([FULL, "b has -", "open_stage"], "connect 1", True),
+    ([OLD, "b has -"], "open_journal", False),
+    ([OLD, "b has -"], "open_stage", False),
+    ([OLD, "b has -", "open_stage"], "connect 1", True),
 ]
 
 # ---- what the program is given, over a journal with one song in the queue and a folder with two more
@@ -211,11 +217,13 @@ class Call(Line):
 
 
 class Program:
-    """A whole run of the program, which makes a journal or serves a line. What is there is what the next run answers."""
+    """A whole run of the program, which makes a journal or serves a line, over a journal of layout 1 where that is said. What is there is what
+    the next run answers."""
 
-    def __init__(self, program, given):
-        self.program, self.given = program, given
+    def __init__(self, program, given, is_old=False):
+        self.program, self.given, self.is_old = program, given, is_old
         self.name, self.words = ("program: create", ["create"]) if given is None else (f"program: {given}", ["console"])
+        self.name += ", from layout 1 on" * is_old
         self.files = self.wanted = self.states = None
 
     def run(self, place, words, given, refused=0):
@@ -229,8 +237,11 @@ class Program:
             self.run(place, ["console"], 'update\nadd ""\nsave other\n')
         for name in "d/b", "d/c":
             scripts.write(f"{place.folder}/music/{name}.wav", scripts.wave(200, ["IART=Anna"]))
+        if self.is_old:
+            consoles.Journal(*(f"{place.folder}/{it}" for it in FILES)).make_old()
         self.files = {it: read(f"{place.folder}/{it}") for it in FILES}
         before = self.looked(place)
+        self.put_back(place)
         done, count, _ = self.run(place, self.words, f"{self.given or ''}\n")
         self.wanted = done.returncode, done.stdout.decode(), done.stderr.decode()
         self.states = {"before": before, "after": self.looked(place)}
@@ -242,19 +253,29 @@ class Program:
             return self.run(place, ["create"], "")[0].returncode
         return self.run(place, ["console"], LOOKED)[0].stdout
 
-    def fault(self, place, number):
+    def put_back(self, place):
+        """The files as they were."""
         for name, content in self.files.items():
             scripts.write(f"{place.folder}/{name}", content) if content is not None else remove(f"{place.folder}/{name}")
+
+    def fault(self, place, number):
+        self.put_back(place)
         done, _, was_refused = self.run(place, self.words, f"{self.given or ''}\n", number)
         # Of a file that could not be opened or read for want of memory a line says so first.
         found = done.returncode, done.stdout.decode(), done.stderr.decode().replace("c.toml: out of memory\njournal", "journal")
         if not was_refused:
             return "it made fewer allocations", False
-        left = [state for answer, state in [(self.wanted, "after"), *self.refused()] if answer == found]
+        left = [state for answer, state in [(self.wanted, "after"), *self.refused()] if found in self.told(answer)]
         if not left:
             return f"it ended with {found}", False
         looked = self.looked(place)
         return None if any(looked == self.states[it] for it in left) else f"it ended with {found}, and then there is {looked}", False
+
+    def told(self, answer):
+        """The answer, also with the line that the journal was brought to layout 2 in front on standard error, and without."""
+        status, out, told = answer
+        line = consoles.MIGRATED.decode()
+        return [answer, (status, out, line + told), (status, out, told.removeprefix(line))] if self.is_old else [answer]
 
     def refused(self):
         yield (2, "", "journal refused: 7\n"), "before"
@@ -298,8 +319,7 @@ def rows(event_driver, stage_driver, program):
     for call in CALLS:
         row = Call(stage_driver, *call)
         found[row.name] = row
-    for given in [None, *GIVEN]:
-        row = Program(program, given)
+    for row in [*(Program(program, it) for it in [None, *GIVEN]), *(Program(program, it, True) for it in GIVEN[:3])]:
         found[row.name] = row
     return found
 

@@ -8,14 +8,17 @@ import time
 
 from scripts import wave
 
-SONGS, FEW, FULL = 20_000, 100, 16_384
+SONGS, FEW, QUARTER, FULL = 20_000, 100, 16_384, 65_536
+# What fills a queue to these lengths.
+ADDING = {FEW: ["add few"], QUARTER: ["add few", "add many"], FULL: ["add few", "add many"] * 4}
 # How long a song's file is, of silence: with its tags it has less than 4 KiB.
 FRAMES = 1_000
 
 
 def uri(number):
-    """The URI of a song: ten songs an album, four albums an artist. The folders few and many have as many songs as a full queue."""
-    top = "few" if number < FEW else "many" if number < FULL else "rest"
+    """The URI of a song: ten songs an album, four albums an artist. The folders few and many have a quarter of the songs of
+    a full queue."""
+    top = "few" if number < FEW else "many" if number < QUARTER else "rest"
     return f"{top}/artist {number // 40:03}/album {number // 10:04}/{number:05}.wav"
 
 
