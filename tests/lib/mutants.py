@@ -210,7 +210,10 @@ class Trial:
         batch = Batch(self.code)
         batch.leave({changed[at * len(changed) // count] for at in range(count)})
         said = self.said_of(batch, batch.hollow()) if count else None
-        return all(said and said.holds(it) for it in batch.controls)
+        lost = sorted(it for it in batch.controls if not (said and said.holds(it)))
+        if lost:
+            self.say(f"not proved as they are: {', '.join(lost)}")
+        return not lost
 
     def line(self, edit, why):
         return f"mutant {self.crate.name}/{os.path.basename(edit.path)}: refused: {why[:160]}"
