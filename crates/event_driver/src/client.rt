@@ -1,36 +1,39 @@
 //! A client: its session, and the stream that it is sent to.
-use crate::directive::Takes;
 use crate::stream::Stream;
 use client_session::{Requests, Session, SessionError};
-use daemon_core::NoMemory;
 use idle_masks::ClientId;
+use script_lines::Printer;
 use std::alloc::Global;
 use std::io::ErrorKind;
 
 #[derive(Drop)]
 pub struct Client {
+    number: ClientId,
     session: Session,
     stream: Stream,
+    /// Whether the last line that it got has no end yet.
+    is_inside: bool,
 }
 
-/// Sends what the stream takes of the queued bytes.
-fn send_all(session: &mut Session, stream: &mut Stream) -> Result<(), NoMemory> {
+/// Sends what the stream takes of the queued bytes; whether it had memory for them.
+fn send_all(session: &mut Session, stream: &mut Stream) -> bool {
     for _turn in 0..u64::MAX {
         match session.send_some(stream) {
-            Ok(0) => return Ok(()),
+            Ok(0) => break,
             Ok(_) => {}
-            Err(error) if error.kind() == ErrorKind::WouldBlock => return Ok(()),
-            Err(_) => return Err(NoMemory),
+            Err(error) => return error.kind() == ErrorKind::WouldBlock,
         }
     }
-    Ok(())
+    true
 }
 
 impl Client {
-    pub fn new(alloc: Global, number: ClientId, takes: Takes) -> Self {
+    pub fn new(alloc: Global, number: ClientId, takes: Option<usize>) -> Self {
         Client {
+            number,
             session: Session::new(alloc),
-            stream: Stream::new(alloc, number, takes),
+            stream: Stream::new(alloc, takes),
+            is_inside: false,
         }
     }
 
@@ -49,15 +52,16 @@ impl Client {
     }
 
     /// From now on its stream takes so much with each write.
-    pub fn set_takes(&mut self, takes: Takes) {
+    pub fn set_takes(&mut self, takes: Option<usize>) {
         self.stream.set_takes(takes);
     }
 
-    /// Sends what its stream takes, and adds what is printed of it.
-    pub fn send(&mut self, printed: &mut Vec<u8>) -> Result<(), NoMemory> {
-        send_all(&mut self.session, &mut self.stream)?;
-        printed.extend_from_slice(self.stream.printed())?;
+    /// Sends what its stream takes, and prints it.
+    pub fn send(&mut self, printer: &mut Printer) {
+        if !send_all(&mut self.session, &mut self.stream) {
+            printer.lack();
+        }
+        self.is_inside = printer.sent(self.number, self.stream.taken(), self.is_inside);
         self.stream.clear();
-        Ok(())
     }
 }

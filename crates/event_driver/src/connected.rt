@@ -1,10 +1,8 @@
 //! The clients that are connected.
 use crate::client::Client;
-use crate::directive::Takes;
-use crate::printed::Printed;
 use client_session::{Requests, SessionError};
-use daemon_core::NoMemory;
 use idle_masks::ClientId;
+use script_lines::{Fault, Printer};
 use std::alloc::Global;
 use std::collections::BTreeMap;
 
@@ -15,8 +13,8 @@ pub fn add(
     clients: &mut Connected,
     alloc: Global,
     number: ClientId,
-    takes: Takes,
-) -> Result<(), NoMemory> {
+    takes: Option<usize>,
+) -> Result<(), Fault> {
     if !clients.contains_key(&number) {
         let _none = clients.insert(number, Client::new(alloc, number, takes))?;
     }
@@ -42,18 +40,10 @@ pub fn fed(
 }
 
 /// Queues bytes for a client, and sends what its stream takes; its session may refuse them.
-fn give(
-    client: &mut Client,
-    bytes: &[u8],
-    printed: &mut Vec<u8>,
-) -> Result<Option<SessionError>, NoMemory> {
-    match client.queue(bytes) {
-        Ok(()) => {
-            client.send(printed)?;
-            Ok(None)
-        }
-        Err(refusal) => Ok(Some(refusal)),
-    }
+fn give(client: &mut Client, bytes: &[u8], printer: &mut Printer) -> Result<(), SessionError> {
+    client.queue(bytes)?;
+    client.send(printer);
+    Ok(())
 }
 
 /// Gives bytes to a client, which its session may refuse.
@@ -61,31 +51,24 @@ pub fn give_to(
     clients: &mut Connected,
     number: ClientId,
     bytes: &[u8],
-    printed: &mut Printed,
-) -> Result<Option<SessionError>, NoMemory> {
+    printer: &mut Printer,
+) -> Result<(), SessionError> {
     match clients.get_mut(&number) {
-        Some(client) => give(client, bytes, &mut printed.bytes),
+        Some(client) => give(client, bytes, printer),
         None => {
-            printed.number(
-                "an output for client ",
-                number,
-                ", which is not connected\n",
-            )?;
-            Ok(None)
+            printer.add(b"an output for client ");
+            printer.number(number);
+            printer.line(", which is not connected");
+            Ok(())
         }
     }
 }
 
 /// A connection ends, and that is printed.
-pub fn close(
-    clients: &mut Connected,
-    number: ClientId,
-    printed: &mut Printed,
-) -> Result<(), NoMemory> {
+pub fn close(clients: &mut Connected, number: ClientId, printer: &mut Printer) {
     if remove(clients, number) {
-        printed.number("", number, " closed\n")?;
+        printer.closed(number);
     }
-    Ok(())
 }
 
 /// A client's session refused it: its connection ends.
@@ -93,24 +76,19 @@ pub fn refuse(
     clients: &mut Connected,
     number: ClientId,
     refusal: SessionError,
-    printed: &mut Printed,
-) -> Result<(), NoMemory> {
-    printed.number("", number, " refused ")?;
-    printed.number("", u64::from(refusal.number()), "\n")?;
-    close(clients, number, printed)
+    printer: &mut Printer,
+) {
+    printer.number(number);
+    printer.count(" refused", u64::from(refusal.number()));
+    close(clients, number, printer);
 }
 
 /// Each stream takes so much from now on, and is sent what waits for it.
-pub fn set_takes(
-    clients: &mut Connected,
-    takes: Takes,
-    printed: &mut Printed,
-) -> Result<(), NoMemory> {
+pub fn set_takes(clients: &mut Connected, takes: Option<usize>, printer: &mut Printer) {
     for client in clients.values_mut() {
         client.set_takes(takes);
-        client.send(&mut printed.bytes)?;
+        client.send(printer);
     }
-    Ok(())
 }
 
 /// How many bytes wait to be sent to all of them.

@@ -2,16 +2,16 @@
 //!
 //! Functions below take the few parts that they need, and not the whole driver: the prover would go over all of it in each.
 use crate::connected::{Connected, add, remove, set_takes};
-use crate::directive::{Directive, Report, Takes};
-use crate::events::handle;
+use crate::events::{Printed, handle};
 use crate::looks::look;
-use crate::printed::Printed;
 use crate::recover::recover;
-use crate::rows::{batch, drop_row, put};
-use crate::sends::{request, send_often};
-use anyhow::{Result, bail};
-use daemon_core::{Core, Event, NoMemory};
+use crate::reports::{batch, report_of};
+use crate::sends::{request, send_often, sending_of};
+use daemon_core::{Core, Event};
 use idle_masks::ClientId;
+use script_lines::rows::{drop_row, put};
+use script_lines::words::{first_word, number};
+use script_lines::{Fault, Printer};
 use song_db::RowChange;
 use state_codec::Saved;
 use std::alloc::Global;
@@ -22,9 +22,10 @@ use std::collections::BTreeMap;
 pub struct Settings {
     /// How many bytes a piece has; 0 leaves each send whole.
     pieces: usize,
-    takes: Takes,
+    /// How many bytes each stream takes with a write at most; none where it blocks.
+    takes: Option<usize>,
     /// How often the next line is done, if that was said.
-    turns: Option<u32>,
+    turns: Option<u64>,
 }
 
 #[derive(Drop)]
@@ -42,27 +43,23 @@ fn connect(
     clients: &mut Connected,
     printed: &mut Printed,
     number: ClientId,
-    takes: Takes,
-) -> Result<(), NoMemory> {
-    add(clients, printed.alloc, number, takes)?;
-    handle(core, clients, printed, Event::Connect(number))
+    takes: Option<usize>,
+) -> Result<(), Fault> {
+    add(clients, printed.printer.alloc, number, takes)?;
+    handle(core, clients, printed, Event::Connect(number));
+    Ok(())
 }
 
-fn leave(
-    core: &mut Core,
-    clients: &mut Connected,
-    printed: &mut Printed,
-    number: ClientId,
-) -> Result<(), NoMemory> {
+fn leave(core: &mut Core, clients: &mut Connected, printed: &mut Printed, number: ClientId) {
     let _was_there = remove(clients, number);
-    handle(core, clients, printed, Event::Gone(number))
+    handle(core, clients, printed, Event::Gone(number));
 }
 
-fn event_of(report: Report) -> Event {
-    match report {
-        Report::Fed(ticket, frames) => Event::Fed { ticket, frames },
-        Report::Ended(ticket) => Event::Ended { ticket },
-        Report::Broken(ticket, cause) => Event::Broken { ticket, cause },
+fn takes_of(text: &str) -> Result<Option<usize>, Fault> {
+    match text {
+        "none" => Ok(None),
+        "0" => Ok(Some(usize::MAX)),
+        _ => Ok(Some(number(text)?)),
     }
 }
 
@@ -71,52 +68,56 @@ fn happen(
     core: &mut Core,
     clients: &mut Connected,
     printed: &mut Printed,
-    takes: Takes,
-    directive: Directive<'_>,
-) -> Result<()> {
-    match directive {
-        Directive::Connect(client) => connect(core, clients, printed, client, takes)?,
-        Directive::Gone(client) => leave(core, clients, printed, client)?,
-        Directive::Report(report) => handle(core, clients, printed, event_of(report))?,
-        Directive::Scanned(job) => handle(core, clients, printed, Event::ScanDone { job })?,
-        Directive::Request(client, line) => request(core, clients, printed, client, line)?,
-        Directive::Recover(text) => recover(core, clients, printed, text)?,
-        Directive::Look(asked) => look(core, clients, printed, asked)?,
-        _ => {}
+    word: &str,
+    rest: &str,
+) -> Result<(), Fault> {
+    match word {
+        "gone" => leave(core, clients, printed, number(rest)?),
+        "fed" | "ended" | "broken" => handle(core, clients, printed, report_of(word, rest)?),
+        "scanned" => {
+            let job = number(rest)?;
+            handle(core, clients, printed, Event::ScanDone { job });
+        }
+        "request" => return request(core, clients, printed, rest),
+        "recover" => return recover(core, clients, &mut printed.printer, rest),
+        _ => return look(core, clients, printed, word),
     }
     Ok(())
 }
 
-/// Does what a line asks for.
+/// Does what a line asks for that is no send.
 fn take(
     core: &mut Core,
     clients: &mut Connected,
     printed: &mut Printed,
     collected: &mut Vec<RowChange>,
     settings: &mut Settings,
-    directive: Directive<'_>,
-) -> Result<()> {
-    let turns = settings.turns.take();
-    if let Directive::Send(sending) = directive {
-        let turns = turns.unwrap_or(1);
-        return send_often(core, clients, printed, sending, settings.pieces, turns);
-    }
-    if turns.is_some() {
-        bail!("what is done again is no send");
-    }
-    match directive {
-        Directive::Put(row) => put(collected, printed.alloc, row)?,
-        Directive::Drop(uri) => drop_row(collected, printed.alloc, uri)?,
-        Directive::Batch(job) => batch(core, clients, printed, collected, job)?,
-        Directive::Pieces(pieces) => settings.pieces = pieces,
-        Directive::Again(turns) => settings.turns = Some(turns),
-        Directive::Takes(takes) => {
-            settings.takes = takes;
-            set_takes(clients, takes, printed)?;
+    line: &str,
+) -> Result<(), Fault> {
+    let (word, rest) = first_word(line);
+    match word {
+        "connect" => return connect(core, clients, printed, number(rest)?, settings.takes),
+        "put" => return put(collected, printed.printer.alloc, rest),
+        "drop" => return drop_row(collected, printed.printer.alloc, rest),
+        "batch" => return batch(core, clients, printed, collected, number(rest)?),
+        "pieces" => settings.pieces = number(rest)?,
+        "again" => settings.turns = Some(number(rest)?),
+        "takes" => {
+            settings.takes = takes_of(rest)?;
+            set_takes(clients, settings.takes, &mut printed.printer);
         }
-        _ => happen(core, clients, printed, settings.takes, directive)?,
+        _ => return happen(core, clients, printed, word, rest),
     }
     Ok(())
+}
+
+/// The two parts of a send.
+fn parts_of_send<'a>(line: &'a str) -> Option<(&'a str, &'a str)> {
+    if line.starts_with(|letter: char| letter.is_ascii_digit()) {
+        line.split_once('>')
+    } else {
+        None
+    }
 }
 
 impl Driver {
@@ -125,36 +126,35 @@ impl Driver {
         Driver {
             core: Core::new(alloc, Saved::fresh(alloc, [0; 32])),
             clients: BTreeMap::new(alloc),
-            printed: Printed::new(alloc),
+            printed: Printed {
+                printer: Printer::new(alloc),
+                spells: false,
+            },
             collected: Vec::new(alloc),
             settings: Settings {
                 pieces: 0,
-                takes: Takes::All,
+                takes: Some(usize::MAX),
                 turns: None,
             },
         }
     }
 
     /// What the lines since it was cleared printed.
-    pub fn printed(&self) -> &[u8] {
-        self.printed.bytes.as_slice()
+    pub fn printer(&mut self) -> &mut Printer {
+        &mut self.printed.printer
     }
 
-    pub fn clear(&mut self) {
-        self.printed.bytes.clear();
-    }
-
-    /// Does what a line asks for, and prints a point behind what that gave.
-    pub fn take(&mut self, line: &str) -> Result<()> {
-        let directive = Directive::read(line)?;
-        take(
-            &mut self.core,
-            &mut self.clients,
-            &mut self.printed,
-            &mut self.collected,
-            &mut self.settings,
-            directive,
-        )?;
-        Ok(self.printed.text(".\n")?)
+    /// Does what a line asks for.
+    pub fn take(&mut self, line: &str) -> Result<(), Fault> {
+        let (core, clients) = (&mut self.core, &mut self.clients);
+        let (printed, settings) = (&mut self.printed, &mut self.settings);
+        match (parts_of_send(line), settings.turns.take()) {
+            (Some((sender, rest)), turns) => {
+                let (sending, turns) = (sending_of(sender, rest)?, turns.unwrap_or(1));
+                send_often(core, clients, printed, sending, settings.pieces, turns)
+            }
+            (None, Some(_)) => Err(Fault::NoDirective),
+            (None, None) => take(core, clients, printed, &mut self.collected, settings, line),
+        }
     }
 }

@@ -1,39 +1,37 @@
 //! One event of the core, and what it gives out.
 use crate::connected::{Connected, close, give_to, refuse};
-use crate::printed::Printed;
 use daemon_core::{Core, Event, NoMemory, Outcome, Output};
 use idle_masks::ClientId;
+use script_lines::Printer;
 use state_codec::{Op, put_op};
+use std::alloc::Global;
+
+/// What a line of the input prints.
+#[derive(Drop)]
+pub struct Printed {
+    pub printer: Printer,
+    /// Whether each op is printed by its bytes.
+    pub spells: bool,
+}
 
 // The prover reads the long contract of a step here alone.
-fn stepped(core: &mut Core, printed: &Printed, event: Event) -> Result<Outcome, NoMemory> {
-    core.step(printed.alloc, event)
+fn stepped(core: &mut Core, alloc: Global, event: Event) -> Result<Outcome, NoMemory> {
+    core.step(alloc, event)
 }
 
 /// Lets an event happen, and then the end of the connections that their session refused in it.
-pub fn handle(
-    core: &mut Core,
-    clients: &mut Connected,
-    printed: &mut Printed,
-    event: Event,
-) -> Result<(), NoMemory> {
-    let mut refused = Vec::new(printed.alloc);
-    happen(core, clients, printed, &mut refused, event)?;
+pub fn handle(core: &mut Core, clients: &mut Connected, printed: &mut Printed, event: Event) {
+    let mut refused = Vec::new(printed.printer.alloc);
+    happen(core, clients, printed, &mut refused, event);
     for number in &refused {
-        forget(core, clients, printed, *number)?;
+        forget(core, clients, printed, *number);
     }
-    Ok(())
 }
 
 /// The core is told that a connection has ended. That tells no client anything.
-fn forget(
-    core: &mut Core,
-    clients: &mut Connected,
-    printed: &mut Printed,
-    number: ClientId,
-) -> Result<(), NoMemory> {
-    let mut refused = Vec::new(printed.alloc);
-    happen(core, clients, printed, &mut refused, Event::Gone(number))
+fn forget(core: &mut Core, clients: &mut Connected, printed: &mut Printed, number: ClientId) {
+    let mut refused = Vec::new(printed.printer.alloc);
+    happen(core, clients, printed, &mut refused, Event::Gone(number));
 }
 
 fn happen(
@@ -42,10 +40,10 @@ fn happen(
     printed: &mut Printed,
     refused: &mut Vec<ClientId>,
     event: Event,
-) -> Result<(), NoMemory> {
-    match stepped(core, printed, event) {
+) {
+    match stepped(core, printed.printer.alloc, event) {
         Ok(outcome) => give_out(clients, printed, refused, &outcome),
-        Err(NoMemory) => printed.text("no memory\n"),
+        Err(NoMemory) => printed.printer.line("no memory"),
     }
 }
 
@@ -54,64 +52,62 @@ fn give_out(
     printed: &mut Printed,
     refused: &mut Vec<ClientId>,
     outcome: &Outcome,
-) -> Result<(), NoMemory> {
+) {
+    let printer = &mut printed.printer;
     for output in &outcome.outputs {
-        deliver(clients, printed, refused, output)?;
+        deliver(clients, printer, refused, output);
     }
     for number in &outcome.closes {
-        close(clients, *number, printed)?;
+        close(clients, *number, printer);
     }
-    print_ops(printed, outcome.ops.as_slice())?;
-    print_end(printed, outcome.refused_at, outcome.ended)
+    print_ops(printer, printed.spells, &outcome.ops);
+    print_end(printer, outcome);
 }
 
 fn deliver(
     clients: &mut Connected,
-    printed: &mut Printed,
+    printer: &mut Printer,
     refused: &mut Vec<ClientId>,
     output: &Output,
-) -> Result<(), NoMemory> {
+) {
     let number = output.client;
-    match give_to(clients, number, output.bytes.as_slice(), printed)? {
-        Some(refusal) => {
-            refuse(clients, number, refusal, printed)?;
-            Ok(refused.push(number)?)
+    if let Err(refusal) = give_to(clients, number, output.bytes.as_slice(), printer) {
+        refuse(clients, number, refusal, printer);
+        if refused.push(number).is_err() {
+            printer.lack();
         }
-        None => Ok(()),
     }
 }
 
-fn print_ops(printed: &mut Printed, ops: &[Op]) -> Result<(), NoMemory> {
-    if ops.is_empty() {
-        return Ok(());
+fn print_ops(printer: &mut Printer, spells: bool, ops: &[Op]) {
+    if spells {
+        for op in ops {
+            spell(printer, op);
+        }
+    } else if !ops.is_empty() {
+        printer.count("ops", ops.len() as u64);
     }
-    if !printed.spells {
-        return printed.number("ops ", ops.len() as u64, "\n");
-    }
-    for op in ops {
-        spell(printed, op)?;
-    }
-    Ok(())
 }
 
 /// Prints an op by its bytes.
-fn spell(printed: &mut Printed, op: &Op) -> Result<(), NoMemory> {
-    let mut bytes = Vec::with_capacity(printed.alloc, op.spelled_len())?;
-    put_op(&mut bytes, op)?;
-    printed.digits("op ", bytes.as_slice())
+fn spell(printer: &mut Printer, op: &Op) {
+    match spelled(printer.alloc, op) {
+        Ok(bytes) => printer.hex("op", &bytes),
+        Err(NoMemory) => printer.lack(),
+    }
 }
 
-fn print_end(
-    printed: &mut Printed,
-    refused_at: Option<u32>,
-    is_ended: bool,
-) -> Result<(), NoMemory> {
-    if let Some(place) = refused_at {
-        printed.number("no memory at ", u64::from(place), "\n")?;
+fn spelled(alloc: Global, op: &Op) -> Result<Vec<u8>, NoMemory> {
+    let mut bytes = Vec::with_capacity(alloc, op.spelled_len())?;
+    put_op(&mut bytes, op)?;
+    Ok(bytes)
+}
+
+fn print_end(printer: &mut Printer, outcome: &Outcome) {
+    if let Some(place) = outcome.refused_at {
+        printer.count("no memory at", u64::from(place));
     }
-    if is_ended {
-        printed.text("killed\n")
-    } else {
-        Ok(())
+    if outcome.ended {
+        printer.line("killed");
     }
 }

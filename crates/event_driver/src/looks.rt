@@ -1,14 +1,12 @@
 //! What is printed without an event.
 use crate::connected::{Connected, queued_len};
-use crate::directive::Look;
-use crate::printed::Printed;
-use anyhow::Result;
+use crate::events::Printed;
 use daemon_core::{Core, NoMemory, RecoverError};
 use player_core::Order;
+use script_lines::{Fault, Printer};
 use song_db::ScanOrder;
 use state_codec::{Saved, put_saved};
 use std::alloc::Global;
-use std::error::Error;
 
 // The prover reads the contracts of these calls here alone.
 
@@ -28,80 +26,81 @@ fn bytes_of(saved: &Saved, alloc: Global) -> Result<Vec<u8>, NoMemory> {
     put_saved(alloc, saved)
 }
 
-/// Prints what is asked for.
+/// Prints what a word asks for.
 pub fn look(
     core: &Core,
     clients: &Connected,
     printed: &mut Printed,
-    look: Look,
-) -> Result<(), NoMemory> {
-    match look {
-        Look::Order => print_order(core, printed),
-        Look::ScanOrder => print_scan_order(core, printed),
-        Look::Holds => {
-            printed.number("holds ", queued_len(clients) as u64, " ")?;
-            printed.number("", clients.len() as u64, "\n")
-        }
-        Look::Spell => {
-            printed.spells = true;
-            Ok(())
-        }
-        Look::Saved => print_saved(core.as_saved(), printed),
-        Look::Copy => print_copy(core, printed),
-        Look::Refusals => print_refusals(printed),
-    }
-}
-
-fn print_order(core: &Core, printed: &mut Printed) -> Result<(), NoMemory> {
-    match order_of(core, printed.alloc)? {
-        Order::Wait => printed.text("wait\n"),
-        Order::Play(order) => {
-            printed.number("play ", order.ticket, " ")?;
-            printed.number("", order.first_frame, " ")?;
-            printed.text(order.uri.as_str())?;
-            printed.text("\n")
-        }
-    }
-}
-
-fn print_scan_order(core: &Core, printed: &mut Printed) -> Result<(), NoMemory> {
-    match scan_order_of(core, printed.alloc)? {
-        None => printed.text("no scan\n"),
-        Some(order) => {
-            printed.number("scan ", u64::from(order.job()), " ")?;
-            match order.uri() {
-                Some(uri) => printed.text(uri.as_str())?,
-                None => printed.text("/")?,
-            }
-            printed.text("\n")
-        }
-    }
-}
-
-fn print_saved(saved: &Saved, printed: &mut Printed) -> Result<(), NoMemory> {
-    let bytes = bytes_of(saved, printed.alloc)?;
-    printed.digits("saved ", bytes.as_slice())
-}
-
-fn print_copy(core: &Core, printed: &mut Printed) -> Result<(), NoMemory> {
-    let saved = saved_of(core, printed.alloc)?;
-    print_saved(&saved, printed)
-}
-
-/// Prints the number and the text of a refusal.
-pub fn print_refusal(
-    printed: &mut Printed,
-    number: u8,
-    refusal: impl Error + Copy,
-) -> Result<(), NoMemory> {
-    let text = format!(in printed.alloc; "refused {number} {refusal}\n")?;
-    printed.text(text.as_str())
-}
-
-fn print_refusals(printed: &mut Printed) -> Result<(), NoMemory> {
-    print_refusal(printed, NoMemory.number(), NoMemory)?;
-    for refusal in [RecoverError::NoMemory, RecoverError::BadOp(3)] {
-        print_refusal(printed, refusal.number(), refusal)?;
+    word: &str,
+) -> Result<(), Fault> {
+    let printer = &mut printed.printer;
+    match word {
+        "order" => print_order(core, printer),
+        "scan_order" => print_scan_order(core, printer),
+        "holds" => print_holds(clients, printer),
+        "spell" => printed.spells = true,
+        "saved" => print_saved(core.as_saved(), printer),
+        "copy" => print_copy(core, printer),
+        "refusals" => print_refusals(printer),
+        _ => return Err(Fault::NoDirective),
     }
     Ok(())
+}
+
+fn print_order(core: &Core, printer: &mut Printer) {
+    match order_of(core, printer.alloc) {
+        Ok(Order::Wait) => printer.line("wait"),
+        Ok(Order::Play(order)) => {
+            printer.add(b"play");
+            printer.next(order.ticket);
+            printer.next(order.first_frame);
+            printer.add(b" ");
+            printer.line(order.uri.as_str());
+        }
+        Err(NoMemory) => printer.lack(),
+    }
+}
+
+fn print_scan_order(core: &Core, printer: &mut Printer) {
+    match scan_order_of(core, printer.alloc) {
+        Ok(None) => printer.line("no scan"),
+        Ok(Some(order)) => {
+            printer.add(b"scan");
+            printer.next(u64::from(order.job()));
+            printer.add(b" ");
+            printer.line(match order.uri() {
+                Some(uri) => uri.as_str(),
+                None => "/",
+            });
+        }
+        Err(NoMemory) => printer.lack(),
+    }
+}
+
+fn print_holds(clients: &Connected, printer: &mut Printer) {
+    printer.add(b"holds");
+    printer.next(queued_len(clients) as u64);
+    printer.next(clients.len() as u64);
+    printer.add(b"\n");
+}
+
+fn print_saved(saved: &Saved, printer: &mut Printer) {
+    match bytes_of(saved, printer.alloc) {
+        Ok(bytes) => printer.hex("saved", &bytes),
+        Err(NoMemory) => printer.lack(),
+    }
+}
+
+fn print_copy(core: &Core, printer: &mut Printer) {
+    match saved_of(core, printer.alloc) {
+        Ok(saved) => print_saved(&saved, printer),
+        Err(NoMemory) => printer.lack(),
+    }
+}
+
+fn print_refusals(printer: &mut Printer) {
+    printer.refused(NoMemory.number(), NoMemory);
+    for refusal in [RecoverError::NoMemory, RecoverError::BadOp(3)] {
+        printer.refused(refusal.number(), refusal);
+    }
 }

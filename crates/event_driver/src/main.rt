@@ -3,44 +3,43 @@
 
 mod client;
 mod connected;
-mod directive;
 mod driver;
 mod events;
 mod looks;
-mod printed;
 mod recover;
-mod rows;
+mod reports;
 mod sends;
-mod signs;
 mod stream;
 
-use anyhow::{Result, bail};
 use driver::Driver;
-use std::io::{self, BufRead, BufReader, Write};
-
-/// Does what a line asks for, and prints what that gave.
-fn take_line<W: Write>(driver: &mut Driver, line: &str, writer: &mut W) -> Result<()> {
-    driver.take(line)?;
-    writer.write_all(driver.printed())?;
-    driver.clear();
-    Ok(())
-}
+use script_lines::{Fault, Lines, write_out};
+use std::io::{self, BufRead, BufReader};
 
 /// Does what each line of the input asks for.
-fn take_lines(driver: &mut Driver, rt: &HostRuntime) -> Result<()> {
-    let alloc = rt.alloc();
-    let mut writer = io::writer(rt);
-    for (place, line) in BufReader::new(alloc, rt.reader())?.lines(alloc).enumerate() {
-        let line = line?;
-        if let Err(error) = take_line(driver, line.as_str(), &mut writer) {
-            bail!("line {}: {error}", place.saturating_add(1));
+fn serve<B: BufRead>(
+    host: &HostRuntime,
+    driver: &mut Driver,
+    lines: &mut Lines<B>,
+) -> Result<(), Fault> {
+    for _ in 0..u64::MAX {
+        if !lines.next()? {
+            break;
         }
+        driver.take(lines.line())?;
+        write_out(host, driver.printer())?;
     }
     Ok(())
 }
 
 // The core has many parts: this function has one way out, and all others borrow it.
-fn main(rt: HostRuntime) -> Result<()> {
-    let mut driver = Driver::new(rt.alloc());
-    take_lines(&mut driver, &rt)
+fn serve_all<B: BufRead>(host: &HostRuntime, lines: &mut Lines<B>) -> Result<(), Fault> {
+    let mut driver = Driver::new(host.alloc());
+    serve(host, &mut driver, lines)
+}
+
+fn main(rt: HostRuntime) -> io::Result<()> {
+    let reader = BufReader::new(rt.alloc(), rt.reader())?;
+    let mut lines = Lines::new(rt.alloc(), reader);
+    let done = serve_all(&rt, &mut lines);
+    lines.end(&rt, done)
 }

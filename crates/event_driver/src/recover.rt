@@ -1,9 +1,8 @@
 //! A core from what was saved and ops.
 use crate::connected::Connected;
-use crate::looks::print_refusal;
-use crate::printed::Printed;
-use anyhow::Result;
-use daemon_core::{Core, NoMemory, RecoverError};
+use daemon_core::{Core, RecoverError};
+use script_lines::words::{bytes, first_word};
+use script_lines::{Fault, Printer};
 use state_codec::{CodecError, Op, Saved, take_ops, take_saved};
 use std::alloc::Global;
 
@@ -24,51 +23,28 @@ fn core_of(alloc: Global, saved: Saved, ops: &[Op]) -> Result<Core, RecoverError
     Core::recover(alloc, saved, ops)
 }
 
-/// The bytes of hexadecimal digits.
-fn bytes_of(alloc: Global, digits: &str) -> Result<Vec<u8>> {
-    Ok(hex::decode(alloc, digits)?)
-}
-
 /// Puts a core in the place of another, or prints why it can't be made.
-fn replace(
-    core: &mut Core,
-    printed: &mut Printed,
-    saved: Saved,
-    ops: &[Op],
-) -> Result<(), NoMemory> {
-    match core_of(printed.alloc, saved, ops) {
-        Ok(found) => {
-            *core = found;
-            Ok(())
-        }
-        Err(refusal) => print_refusal(printed, refusal.number(), refusal),
+fn replace(core: &mut Core, printer: &mut Printer, saved: Saved, ops: &[Op]) {
+    match core_of(printer.alloc, saved, ops) {
+        Ok(found) => *core = found,
+        Err(refusal) => printer.refused(refusal.number(), refusal),
     }
 }
 
-fn replay(
-    core: &mut Core,
-    printed: &mut Printed,
-    saved: Saved,
-    ops: &[u8],
-) -> Result<(), NoMemory> {
+fn replay(core: &mut Core, printer: &mut Printer, saved: Saved, ops: &[u8]) {
     if ops.is_empty() {
-        return replace(core, printed, saved, &[]);
+        return replace(core, printer, saved, &[]);
     }
-    match ops_of(printed.alloc, ops) {
-        Ok(ops) => replace(core, printed, saved, ops.as_slice()),
-        Err(refusal) => print_refusal(printed, refusal.number(), refusal),
+    match ops_of(printer.alloc, ops) {
+        Ok(ops) => replace(core, printer, saved, &ops),
+        Err(refusal) => printer.refused(refusal.number(), refusal),
     }
 }
 
-fn recover_from(
-    core: &mut Core,
-    printed: &mut Printed,
-    saved: &[u8],
-    ops: &[u8],
-) -> Result<(), NoMemory> {
-    match saved_of(printed.alloc, saved) {
-        Ok(saved) => replay(core, printed, saved, ops),
-        Err(refusal) => print_refusal(printed, refusal.number(), refusal),
+fn recover_from(core: &mut Core, printer: &mut Printer, saved: &[u8], ops: &[u8]) {
+    match saved_of(printer.alloc, saved) {
+        Ok(saved) => replay(core, printer, saved, ops),
+        Err(refusal) => printer.refused(refusal.number(), refusal),
     }
 }
 
@@ -77,12 +53,13 @@ fn recover_from(
 pub fn recover(
     core: &mut Core,
     clients: &mut Connected,
-    printed: &mut Printed,
+    printer: &mut Printer,
     text: &str,
-) -> Result<()> {
+) -> Result<(), Fault> {
     clients.clear();
-    let (saved, ops) = text.split_once(' ').unwrap_or((text, ""));
-    let saved = bytes_of(printed.alloc, saved)?;
-    let ops = bytes_of(printed.alloc, ops)?;
-    Ok(recover_from(core, printed, saved.as_slice(), ops.as_slice())?)
+    let (saved, ops) = first_word(text);
+    let saved = bytes(printer.alloc, saved)?;
+    let ops = bytes(printer.alloc, ops)?;
+    recover_from(core, printer, &saved, &ops);
+    Ok(())
 }

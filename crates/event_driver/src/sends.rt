@@ -1,14 +1,47 @@
 //! What clients send, in pieces.
 use crate::connected::{Connected, fed, refuse};
-use crate::directive::Sending;
-use crate::events::handle;
-use crate::printed::Printed;
-use crate::signs::bytes_of;
-use anyhow::Result;
+use crate::events::{Printed, handle};
 use client_session::Requests;
 use command_text::{Line, Request};
-use daemon_core::{Core, Event, NoMemory};
+use daemon_core::{Core, Event};
 use idle_masks::ClientId;
+use script_lines::Fault;
+use script_lines::signs::bytes_of;
+use script_lines::words::{first_word, number};
+
+/// The bytes that a client sends.
+#[derive(Clone, Copy)]
+pub struct Sending<'a> {
+    client: ClientId,
+    /// Behind how many bytes they are cut into two pieces.
+    cut: usize,
+    /// Whether a newline stands behind them.
+    is_ended: bool,
+    text: &'a str,
+}
+
+/// The client of a send, and where its bytes are cut.
+fn sender_of(text: &str) -> Result<(ClientId, usize), Fault> {
+    match text.split_once('@') {
+        Some((client, cut)) => Ok((number(client)?, number(cut)?)),
+        None => Ok((number(text)?, usize::MAX)),
+    }
+}
+
+/// The send of a line, by what stands before its `>` and behind it.
+pub fn sending_of<'a>(sender: &str, rest: &'a str) -> Result<Sending<'a>, Fault> {
+    let (client, cut) = sender_of(sender)?;
+    let (is_ended, text) = match rest.strip_prefix('-') {
+        Some(text) => (false, text),
+        None => (true, rest),
+    };
+    Ok(Sending {
+        client,
+        cut,
+        is_ended,
+        text: text.strip_prefix(' ').unwrap_or(text),
+    })
+}
 
 /// A client sends bytes so often, each time in pieces of this size.
 pub fn send_often(
@@ -17,11 +50,12 @@ pub fn send_often(
     printed: &mut Printed,
     sending: Sending<'_>,
     pieces: usize,
-    turns: u32,
-) -> Result<()> {
+    turns: u64,
+) -> Result<(), Fault> {
+    let alloc = printed.printer.alloc;
     for turn in 0..turns {
-        let bytes = bytes_of(printed.alloc, sending, turn)?;
-        send(core, clients, printed, sending, pieces, bytes.as_slice())?;
+        let bytes = bytes_of(alloc, sending.text, sending.is_ended, turn)?;
+        send(core, clients, printed, sending, pieces, &bytes);
     }
     Ok(())
 }
@@ -34,12 +68,11 @@ fn send(
     sending: Sending<'_>,
     pieces: usize,
     bytes: &[u8],
-) -> Result<(), NoMemory> {
-    let cut = sending.cut.unwrap_or(bytes.len()).min(bytes.len());
-    let (front, back) = bytes.split_at(cut);
-    feed_pieces(core, clients, printed, sending.client, pieces, front)?;
-    feed_pieces(core, clients, printed, sending.client, pieces, back)?;
-    feed(core, clients, printed, sending.client, &[])
+) {
+    let (front, back) = bytes.split_at(sending.cut.min(bytes.len()));
+    feed_pieces(core, clients, printed, sending.client, pieces, front);
+    feed_pieces(core, clients, printed, sending.client, pieces, back);
+    feed(core, clients, printed, sending.client, &[]);
 }
 
 fn feed_pieces(
@@ -49,14 +82,13 @@ fn feed_pieces(
     number: ClientId,
     size: usize,
     bytes: &[u8],
-) -> Result<(), NoMemory> {
+) {
     if size == 0 {
         return feed(core, clients, printed, number, bytes);
     }
     for piece in bytes.chunks(size) {
-        feed(core, clients, printed, number, piece)?;
+        feed(core, clients, printed, number, piece);
     }
-    Ok(())
 }
 
 // What a client that isn't connected sends is read by nobody.
@@ -66,14 +98,14 @@ fn feed(
     printed: &mut Printed,
     number: ClientId,
     piece: &[u8],
-) -> Result<(), NoMemory> {
-    match fed(clients, printed.alloc, number, piece) {
+) {
+    match fed(clients, printed.printer.alloc, number, piece) {
         Some(Ok(requests)) => serve(core, clients, printed, number, requests),
         Some(Err(refusal)) => {
-            refuse(clients, number, refusal, printed)?;
-            handle(core, clients, printed, Event::Gone(number))
+            refuse(clients, number, refusal, &mut printed.printer);
+            handle(core, clients, printed, Event::Gone(number));
         }
-        None => Ok(()),
+        None => {}
     }
 }
 
@@ -84,29 +116,26 @@ fn serve(
     printed: &mut Printed,
     number: ClientId,
     requests: Requests,
-) -> Result<(), NoMemory> {
+) {
     for request in requests {
         if !clients.contains_key(&number) {
-            return Ok(());
+            break;
         }
-        handle(core, clients, printed, Event::Request(number, request))?;
+        handle(core, clients, printed, Event::Request(number, request));
     }
-    Ok(())
 }
 
-/// The core is given a line of a client past any session.
+/// The core is given the line of a client, behind the client's number, past any session.
 pub fn request(
     core: &mut Core,
     clients: &mut Connected,
     printed: &mut Printed,
-    number: ClientId,
-    line: &str,
-) -> Result<(), NoMemory> {
-    let line = Line::from_bytes(printed.alloc, line.as_bytes())?;
-    handle(
-        core,
-        clients,
-        printed,
-        Event::Request(number, Request::Single(line)),
-    )
+    text: &str,
+) -> Result<(), Fault> {
+    let (client, line) = first_word(text);
+    let client = number(client)?;
+    let line = Line::from_bytes(printed.printer.alloc, line.as_bytes())?;
+    let event = Event::Request(client, Request::Single(line));
+    handle(core, clients, printed, event);
+    Ok(())
 }

@@ -1,7 +1,7 @@
 //! Clients that come to a daemon one after the other, some of them later.
-use crate::fault::Fault;
 use crate::wires::TestStream;
 use mio_clients::Listener;
+use script_lines::Fault;
 use std::alloc::Global;
 use std::collections::VecDeque;
 use std::io::{self, ErrorKind};

@@ -1,7 +1,7 @@
 //! What a line begins: a stage with its loop, or a daemon.
-use crate::fault::Fault;
-use crate::words::{first_word, number};
 use disk_model::Fuse;
+use script_lines::Fault;
+use script_lines::words::{first_word, number};
 
 /// A fuse that nothing meets.
 pub const NEVER: Fuse = Fuse::Stop(u64::MAX);

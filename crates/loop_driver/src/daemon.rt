@@ -5,20 +5,18 @@ use crate::arrivals::Arrivals;
 use crate::beginning::{Fuses, NEVER};
 use crate::calls::TestDisk;
 use crate::desk::Desk;
-use crate::fault::Fault;
-use crate::lines::{Lines, write_done};
-use crate::printer::Printer;
 use crate::wires::TestStream;
-use crate::words::{first_word, number};
 use disk_model::{Disk, FuseDisk, MemDisk};
 use live_stage::Live;
 use log::sink::Discard;
 use log::{Level, Logged};
 use mio_clients::{Clients, MemReady};
 use mpd_server::{NothingWaits, Opened, ServeEnd, ServeStatus, Workers, open_journal};
+use script_lines::words::{first_word, number};
+use script_lines::{Fault, Lines, Printer, write_out};
 use stage_workers::NoWake;
 use std::alloc::{AllocError, Global};
-use std::io::{self, BufRead};
+use std::io::BufRead;
 use std::mem;
 use std::sync::Wait;
 use std::thread::Threads;
@@ -147,16 +145,16 @@ fn prepare<R: BufRead>(
     desk: &mut Desk,
     arrivals: &mut Arrivals,
     lines: &mut Lines<R>,
-) -> io::Result<bool> {
+) -> Result<bool, Fault> {
     for _ in 0..u64::MAX {
         if !lines.next()? {
             return Ok(false);
         }
-        if lines.text() == "serve" {
+        if lines.line() == "serve" {
             break;
         }
-        let done = take_line(desk, arrivals, lines.text());
-        write_done(rt, done, &mut desk.printer, lines.text())?;
+        take_line(desk, arrivals, lines.line())?;
+        write_out(rt, &mut desk.printer)?;
     }
     Ok(true)
 }
@@ -169,7 +167,7 @@ pub fn run_daemon<R: BufRead, W: Threads + Wait + Clock + Sync>(
     fuses: Fuses,
     desk: &mut Desk,
     lines: &mut Lines<R>,
-) -> io::Result<()> {
+) -> Result<(), Fault> {
     let alloc = rt.alloc();
     let mut arrivals = Arrivals::new(alloc);
     if !prepare(rt, desk, &mut arrivals, lines)? {
@@ -178,5 +176,5 @@ pub fn run_daemon<R: BufRead, W: Threads + Wait + Clock + Sync>(
     let end = run(waits, alloc, files.take(alloc, fuses), arrivals)?;
     desk.wires.tell(&mut desk.printer);
     tell_end(&mut desk.printer, files, end);
-    write_done(rt, Ok(()), &mut desk.printer, lines.text())
+    write_out(rt, &mut desk.printer)
 }

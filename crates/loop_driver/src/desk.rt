@@ -1,9 +1,8 @@
 //! What stands beside a stage: the connections, the rows of the next batch, and what is printed.
-use crate::fault::Fault;
-use crate::printer::Printer;
-use crate::rows::{drop_row, put, take_batch};
 use crate::wires::Wires;
-use crate::words::{first_word, number};
+use script_lines::rows::{drop_row, first_batch, put};
+use script_lines::words::number;
+use script_lines::{Fault, Printer};
 use song_db::RowChange;
 use state_codec::Changes;
 use std::alloc::Global;
@@ -26,7 +25,7 @@ impl Desk {
 
     /// What the next batch has.
     pub fn take_batch(&mut self) -> Result<Changes, Fault> {
-        take_batch(&mut self.collected)
+        Changes::new(first_batch(&mut self.collected)?).ok_or(Fault::NoRow)
     }
 
     /// Does what a line asks of a connection, or of the next batch.

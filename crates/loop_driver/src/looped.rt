@@ -2,15 +2,15 @@
 use crate::calls;
 use crate::calls::{TestClients, TestDisk, Turned};
 use crate::desk::Desk;
-use crate::fault::Fault;
-use crate::printer::Printer;
-use crate::words::{first_word, job, number, size};
 use daemon_core::Event;
-use live_stage::{Receipt, Turn};
+use live_stage::{Live, Receipt, Turn};
 use mio_clients::{ClientsError, Part};
 use player_core::BrokenCause;
-use stage_workers::{Kind, Outbox, Pass, SharedStage, StageError};
+use script_lines::words::{first_word, number};
+use script_lines::{Fault, Printer};
+use stage_workers::{Kind, Outbox, Pass, SettleError, SharedStage};
 use std::alloc::Global;
+use std::slice;
 use std::sync::Wait;
 use std::sync::ledger::Ledger;
 
@@ -113,16 +113,25 @@ fn tell_turned(printer: &mut Printer, turned: Turned, receipt: &mut Option<Recei
     }
 }
 
-fn tell_called(printer: &mut Printer, called: Result<(), ClientsError>) {
-    match called {
-        Ok(()) => printer.line("done"),
+// One receipt, or none.
+fn receipts_of<'a>(receipt: &'a Option<Receipt>) -> &'a [Receipt] {
+    match receipt {
+        Some(receipt) => slice::from_ref(receipt),
+        None => &[],
+    }
+}
+
+fn tell_settled(printer: &mut Printer, settled: Result<(), SettleError>, live: &Live<TestDisk>) {
+    match settled {
+        Ok(()) => printer.count("settled", live.last_event()),
         Err(error) => printer.refused(error.number(), error),
     }
 }
 
-fn tell_reported(printer: &mut Printer, reported: Result<(), StageError>) {
-    if let Err(error) = reported {
-        printer.refused(error.number(), error);
+fn tell_called(printer: &mut Printer, called: Result<(), ClientsError>) {
+    match called {
+        Ok(()) => printer.line("done"),
+        Err(error) => printer.refused(error.number(), error),
     }
 }
 
@@ -148,6 +157,16 @@ fn report_of(word: &str, rest: &str) -> Result<Event, Fault> {
     }
 }
 
+// What the scan reports, by its word.
+fn scan_report_of(desk: &mut Desk, word: &str, rest: &str) -> Result<Event, Fault> {
+    let job = number(rest)?;
+    if word == "scanned" {
+        return Ok(Event::ScanDone { job });
+    }
+    let changes = desk.take_batch()?;
+    Ok(Event::Batch { job, changes })
+}
+
 impl<C: Ledger, P: Ledger, S: Ledger> Looped<C, P, S> {
     // Makes a turn of the loop.
     fn turn<R: Wait>(&mut self, rt: &R, desk: &mut Desk) {
@@ -161,24 +180,6 @@ impl<C: Ledger, P: Ledger, S: Ledger> Looped<C, P, S> {
         desk.wires.tell(&mut desk.printer);
     }
 
-    // The scan reports an event.
-    fn report_scan<R: Wait>(&mut self, rt: &R, printer: &mut Printer, event: Event) {
-        if let Some(pass) = self.passes.scan.take() {
-            let (reported, pass) = calls::report(rt, printer.alloc, &self.stage, pass, event);
-            self.passes.scan = Some(pass);
-            tell_reported(printer, reported);
-        }
-    }
-
-    // The player reports an event.
-    fn report_player<R: Wait>(&mut self, rt: &R, printer: &mut Printer, event: Event) {
-        if let Some(pass) = self.passes.player.take() {
-            let (reported, pass) = calls::report(rt, printer.alloc, &self.stage, pass, event);
-            self.passes.player = Some(pass);
-            tell_reported(printer, reported);
-        }
-    }
-
     /// Ends the sharing, with all passes and the receipt that was given out last.
     pub fn settle(self, printer: &mut Printer) {
         let Looped {
@@ -188,13 +189,24 @@ impl<C: Ledger, P: Ledger, S: Ledger> Looped<C, P, S> {
             receipt,
         } = self;
         let passes = passes.into_vec(printer.alloc);
-        let (settled, live) = match receipt {
-            Some(receipt) => calls::settle(stage, passes, &[receipt]),
-            None => calls::settle(stage, passes, &[]),
-        };
-        match settled {
-            Ok(()) => printer.count("settled", live.last_event()),
-            Err(error) => printer.refused(error.number(), error),
+        let (settled, live) = calls::settle(stage, passes, receipts_of(&receipt));
+        tell_settled(printer, settled, &live);
+    }
+}
+
+// Reports an event by this pass, if it is there.
+fn report<R: Wait, C: Ledger, P: Ledger, S: Ledger>(
+    rt: &R,
+    stage: &SharedStage<TestDisk, C, P, S>,
+    pass: &mut Option<Pass<C, P, S>>,
+    printer: &mut Printer,
+    event: Event,
+) {
+    if let Some(taken) = pass.take() {
+        let (reported, back) = calls::report(rt, printer.alloc, stage, taken, event);
+        *pass = Some(back);
+        if let Err(error) = reported {
+            printer.refused(error.number(), error);
         }
     }
 }
@@ -219,8 +231,11 @@ fn call(clients: &mut TestClients, desk: &mut Desk, word: &str, rest: &str) -> R
     match word {
         "connect" => return connect(clients, desk, number(rest)?),
         "accept" => tell_called(&mut desk.printer, calls::accept(clients, alloc)),
-        "read" => tell_called(&mut desk.printer, calls::read(clients, alloc, size(rest)?)),
-        "write" => tell_called(&mut desk.printer, calls::write(clients, size(rest)?)),
+        "read" => tell_called(
+            &mut desk.printer,
+            calls::read(clients, alloc, number(rest)?),
+        ),
+        "write" => tell_called(&mut desk.printer, calls::write(clients, number(rest)?)),
         "close_all" => calls::close_all(clients),
         "clients" => tell_clients(clients, &mut desk.printer),
         _ => return desk.take(word, rest),
@@ -239,21 +254,15 @@ pub fn take_line<R: Wait, C: Ledger, P: Ledger, S: Ledger>(
     let (word, rest) = first_word(line);
     match word {
         "turn" => looped.turn(rt, desk),
-        "batch" => {
-            let changes = desk.take_batch()?;
-            let event = Event::Batch {
-                job: job(rest)?,
-                changes,
-            };
-            looped.report_scan(rt, &mut desk.printer, event);
-        }
-        "scanned" => {
-            let event = Event::ScanDone { job: job(rest)? };
-            looped.report_scan(rt, &mut desk.printer, event);
+        "batch" | "scanned" => {
+            let event = scan_report_of(desk, word, rest)?;
+            let pass = &mut looped.passes.scan;
+            report(rt, &looped.stage, pass, &mut desk.printer, event);
         }
         "fed" | "ended" | "broken" => {
             let event = report_of(word, rest)?;
-            looped.report_player(rt, &mut desk.printer, event);
+            let pass = &mut looped.passes.player;
+            report(rt, &looped.stage, pass, &mut desk.printer, event);
         }
         _ => call(&mut looped.clients, desk, word, rest)?,
     }

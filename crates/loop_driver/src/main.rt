@@ -6,25 +6,18 @@ mod beginning;
 mod calls;
 mod daemon;
 mod desk;
-mod fault;
-mod lines;
 mod looped;
-mod printer;
-mod rows;
-mod signs;
 mod standing;
 mod wire;
 mod wires;
-mod words;
 
-use lines::Lines;
+use script_lines::Lines;
 use standing::serve_all;
 use std::io::{self, BufReader};
 
 fn main(rt: HostRuntime) -> io::Result<()> {
-    let mut lines = Lines {
-        reader: BufReader::new(rt.alloc(), rt.reader())?,
-        line: String::new(rt.alloc()),
-    };
-    serve_all(&rt, &rt, &mut lines)
+    let reader = BufReader::new(rt.alloc(), rt.reader())?;
+    let mut lines = Lines::new(rt.alloc(), reader);
+    let done = serve_all(&rt, &rt, &mut lines);
+    lines.end(&rt, done)
 }

@@ -1,9 +1,8 @@
 //! One connection in memory: what its client sends, and what its stream took.
 ghost use Rattle.std.specs.Io.{ReadsAtMost, WritesAtMost};
 
-use crate::fault::Fault;
-use crate::printer::Printer;
-use crate::words::{first_word, number, size};
+use script_lines::words::{first_word, number};
+use script_lines::{Fault, Printer};
 use std::alloc::{AllocError, Global};
 use std::cell::RefCell;
 use std::io::{self, ErrorKind, Read, Write};
@@ -79,7 +78,7 @@ fn width_of(text: &str) -> Result<usize, Fault> {
     if text == "all" {
         return Ok(usize::MAX);
     }
-    size(text)
+    number(text)
 }
 
 impl Wire {

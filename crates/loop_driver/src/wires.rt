@@ -1,9 +1,8 @@
 //! The connections of all clients, by the numbers that the lines of the input give them.
-use crate::fault::Fault;
-use crate::printer::Printer;
-use crate::signs::bytes_of;
 use crate::wire::{Input, Output, SharedWire, Wire};
 use mio_clients::MemStream;
+use script_lines::signs::bytes_of;
+use script_lines::{Fault, Printer};
 use std::alloc::Global;
 use std::cell::RefCell;
 use std::rc::Rc;
@@ -97,7 +96,7 @@ impl Wires {
 
     /// This client sends the bytes of a text, and a newline behind it if it is ended.
     pub fn send(&self, client: u64, text: &str, is_ended: bool) -> Result<(), Fault> {
-        let bytes = bytes_of(self.alloc, text, is_ended)?;
+        let bytes = bytes_of(self.alloc, text, is_ended, 0)?;
         let wire = self.find(client).ok_or(Fault::NoClient)?;
         match wire.try_borrow_mut() {
             Ok(mut wire) => Ok(wire.send(&bytes)?),

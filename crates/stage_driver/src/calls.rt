@@ -3,13 +3,20 @@ use crate::fault::Fault;
 use crate::given::read_bytes;
 use crate::printer::Printer;
 use crate::words::{first_word, number};
-use disk_model::{Disk, FileDisk};
+use disk_model::{Disk, DiskError, FileDisk};
 use std::os::unix::fs::FileExt;
 use std::rt::Files;
 
+fn tell_done(printer: &mut Printer, answer: Result<(), DiskError>) {
+    match answer {
+        Ok(()) => printer.line("done"),
+        Err(error) => printer.refused(error.number(), error),
+    }
+}
+
 fn read_some<D: Disk>(disk: &mut D, printer: &mut Printer, words: &str) -> Result<(), Fault> {
     let (at, count) = first_word(words);
-    let mut buffer = vec![in printer.alloc; 0u8; number(count)? as usize]?;
+    let mut buffer = vec![in printer.alloc; 0u8; number(count)?]?;
     match disk.read_at(number(at)?, &mut buffer) {
         Ok(()) => printer.hex("bytes", &buffer),
         Err(error) => printer.refused(error.number(), error),
@@ -20,7 +27,7 @@ fn read_some<D: Disk>(disk: &mut D, printer: &mut Printer, words: &str) -> Resul
 fn write_some<D: Disk>(disk: &mut D, printer: &mut Printer, words: &str) -> Result<(), Fault> {
     let (at, words) = first_word(words);
     let bytes = read_bytes(printer.alloc, words)?;
-    printer.done(disk.write_at(number(at)?, &bytes));
+    tell_done(printer, disk.write_at(number(at)?, &bytes));
     Ok(())
 }
 
@@ -36,8 +43,8 @@ fn call<D: Disk>(disk: &mut D, printer: &mut Printer, words: &str) -> Result<(),
     match word {
         "read" => read_some(disk, printer, rest)?,
         "write" => write_some(disk, printer, rest)?,
-        "cut" => printer.done(disk.cut(number(rest)?)),
-        "sync" => printer.done(disk.sync()),
+        "cut" => tell_done(printer, disk.cut(number(rest)?)),
+        "sync" => tell_done(printer, disk.sync()),
         "length" => measure(disk, printer),
         "faults" => printer.count("faults", disk.faults()),
         _ => return Err(Fault::NoDirective),

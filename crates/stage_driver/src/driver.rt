@@ -2,6 +2,7 @@
 use crate::desk::Desk;
 use crate::fault::Fault;
 use crate::journal::{TestJournal, make_journal, open_journal, take_journal_line};
+use crate::printer::Printer;
 use crate::stage::{Stage, make_stage, open_stage, take_stage_line};
 use crate::words::first_word;
 use std::alloc::Global;
@@ -60,8 +61,8 @@ impl Driver {
     }
 
     /// What the last line printed.
-    pub fn printed(&self) -> &[u8] {
-        self.desk.printer.bytes()
+    pub fn printer(&mut self) -> &mut Printer {
+        &mut self.desk.printer
     }
 
     /// Does what a line asks for.
@@ -70,16 +71,13 @@ impl Driver {
         R::File: FileExt,
     {
         let desk = &mut self.desk;
-        desk.printer.clear();
         if line == "close" {
-            close(desk, mem::replace(&mut self.life, Life::None))?;
-        } else {
-            match &mut self.life {
-                Life::Journal(journal) => take_journal_line(journal, &mut desk.printer, line)?,
-                Life::Stage(stage) => take_stage_line(stage, desk, line)?,
-                life => take_line(desk, life, rt, line)?,
-            }
+            return close(desk, mem::replace(&mut self.life, Life::None));
         }
-        self.desk.printer.end()
+        match &mut self.life {
+            Life::Journal(journal) => take_journal_line(journal, &mut desk.printer, line),
+            Life::Stage(stage) => take_stage_line(stage, desk, line),
+            life => take_line(desk, life, rt, line),
+        }
     }
 }

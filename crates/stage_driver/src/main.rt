@@ -11,56 +11,38 @@ mod fault;
 mod file;
 mod given;
 mod journal;
-mod printer;
 mod stage;
-mod words;
 
 use driver::Driver;
-use std::io::{self, BufRead, BufReader, ErrorKind, Write};
+use fault::Fault;
+use script_lines::{Lines, printer, words, write_out};
+use std::io::{self, BufRead, BufReader};
 
-// No value is owned here: the ways out of input and output would each let it go, which is dear to prove.
-
-fn write_out<W: Write>(writer: &mut W, printed: &[u8]) -> io::Result<()> {
-    writer.write_all(printed)?;
-    writer.flush()
-}
-
-/// Does what a line asks for, and writes what it printed.
-fn answer(rt: &HostRuntime, driver: &mut Driver, line: &str) -> io::Result<()> {
-    match driver.take(rt, line) {
-        Ok(()) => write_out(&mut io::writer(rt), driver.printed()),
-        Err(fault) => {
-            eprintln!(rt; "{}: {line}", fault.text())?;
-            Err(ErrorKind::InvalidInput.into())
-        }
-    }
-}
-
-fn serve<R: BufRead>(
-    rt: &HostRuntime,
+/// Does what each line of the input asks for.
+fn serve<B: BufRead>(
+    host: &HostRuntime,
     driver: &mut Driver,
-    reader: &mut R,
-    line: &mut String,
-) -> io::Result<()> {
+    lines: &mut Lines<B>,
+) -> Result<(), Fault> {
     for _ in 0..u64::MAX {
-        line.clear();
-        if reader.read_line(line)? == 0 {
+        if !lines.next()? {
             break;
         }
-        let text = line.as_str();
-        answer(rt, driver, text.strip_suffix('\n').unwrap_or(text))?;
+        driver.take(host, lines.line())?;
+        write_out(host, driver.printer())?;
     }
     Ok(())
 }
 
-/// Serves all lines by a driver of its own.
-fn serve_all<R: BufRead>(rt: &HostRuntime, reader: &mut R, line: &mut String) -> io::Result<()> {
-    let mut driver = Driver::new(rt.alloc());
-    serve(rt, &mut driver, reader, line)
+// The driver has many parts: this function has one way out, and all others borrow it.
+fn serve_all<B: BufRead>(host: &HostRuntime, lines: &mut Lines<B>) -> Result<(), Fault> {
+    let mut driver = Driver::new(host.alloc());
+    serve(host, &mut driver, lines)
 }
 
 fn main(rt: HostRuntime) -> io::Result<()> {
-    let mut reader = BufReader::new(rt.alloc(), rt.reader())?;
-    let mut line = String::new(rt.alloc());
-    serve_all(&rt, &mut reader, &mut line)
+    let reader = BufReader::new(rt.alloc(), rt.reader())?;
+    let mut lines = Lines::new(rt.alloc(), reader);
+    let done = serve_all(&rt, &mut lines);
+    lines.end(&rt, done)
 }

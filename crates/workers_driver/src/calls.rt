@@ -1,15 +1,14 @@
-//! The calls of a shared stage. The prover reads their contracts in these functions alone.
+//! The calls of a shared stage that have long contracts. The prover reads these here alone.
 use crate::songs::{Music, OpenMusic, Output, music};
 use crate::stand::Stand;
 use crossbeam_channel::Receiver;
 use daemon_core::Event;
 use disk_model::{FuseDisk, MemDisk};
-use live_stage::{Live, LiveError, Receipt};
-use player_core::{Order, PlayOrder};
+use live_stage::{Live, Receipt};
+use player_core::PlayOrder;
 use song_db::ScanOrder;
 use stage_workers::{
-    Kind, Outbox, Pass, PassesSpent, Served, SettleError, SharedStage, StageError, Worker, laws,
-    player_worker, scan_worker,
+    Pass, Served, SettleError, SharedStage, StageError, Worker, laws, player_worker, scan_worker,
 };
 use std::alloc::Global;
 use std::sync::Wait;
@@ -23,14 +22,6 @@ pub type Stage<C, P, S> = SharedStage<TestDisk, C, P, S>;
 
 /// What came of an event, and the pass that made it or was refused.
 pub type Answer<A, C, P, S> = (Result<A, StageError>, Pass<C, P, S>);
-
-pub fn pass<C: Ledger, P: Ledger, S: Ledger, R: Wait>(
-    rt: &R,
-    stage: &Stage<C, P, S>,
-    kind: Kind,
-) -> Result<Pass<C, P, S>, PassesSpent> {
-    stage.pass(rt, kind)
-}
 
 pub fn served<C: Ledger, P: Ledger, S: Ledger, R: Wait>(
     rt: &R,
@@ -58,55 +49,18 @@ pub fn reported<C: Ledger, P: Ledger, S: Ledger, R: Wait>(
     }
 }
 
-pub fn collected<C: Ledger, P: Ledger, S: Ledger, R: Wait>(
-    rt: &R,
-    alloc: Global,
-    stage: &Stage<C, P, S>,
-) -> Outbox {
-    stage.collect(rt, alloc)
-}
-
-pub fn ordered<C: Ledger, P: Ledger, S: Ledger, R: Wait>(
-    rt: &R,
-    alloc: Global,
-    stage: &Stage<C, P, S>,
-) -> Result<Order, LiveError> {
-    stage.order(rt, alloc)
-}
-
-pub fn scan_ordered<C: Ledger, P: Ledger, S: Ledger, R: Wait>(
-    rt: &R,
-    alloc: Global,
-    stage: &Stage<C, P, S>,
-) -> Result<Option<ScanOrder>, LiveError> {
-    stage.scan_order(rt, alloc)
-}
-
-pub fn running_job<C: Ledger, P: Ledger, S: Ledger, R: Wait>(
-    rt: &R,
-    stage: &Stage<C, P, S>,
-) -> Result<Option<u32>, LiveError> {
-    stage.running_job(rt)
-}
-
-pub fn close<C: Ledger, P: Ledger, S: Ledger, R: Wait>(rt: &R, stage: &Stage<C, P, S>) {
-    stage.close(rt);
-}
-
-pub fn is_closed<C: Ledger, P: Ledger, S: Ledger, R: Wait>(rt: &R, stage: &Stage<C, P, S>) -> bool {
-    stage.is_closed(rt)
-}
-
 pub fn rewound(seen: u64, found: u64) -> Result<(), StageError> {
     laws::rewound(seen, found)
 }
 
 /// What settling refused, if it did, and the stage.
+pub type Settled = (Option<SettleError>, Live<TestDisk>);
+
 pub fn settled<C: Ledger, P: Ledger, S: Ledger>(
     stage: Stage<C, P, S>,
     passes: Vec<Pass<C, P, S>>,
     receipts: &[Receipt],
-) -> (Option<SettleError>, Live<TestDisk>) {
+) -> Settled {
     match stage.settle(passes, receipts) {
         Ok(live) => (None, live),
         Err((error, live)) => (Some(error), live),

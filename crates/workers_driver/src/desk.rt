@@ -1,10 +1,9 @@
 //! The two files of a stage, and what is done with them between two lives.
 use crate::calls::TestDisk;
-use crate::fault::Fault;
 use crate::files::take_file_line;
-use crate::printer::Printer;
-use crate::words::{bytes, first_word, number};
 use disk_model::{Disk, Fuse, FuseDisk, MemDisk};
+use script_lines::words::{bytes, first_word, number};
+use script_lines::{Fault, Printer};
 use std::alloc::Global;
 use std::mem;
 
@@ -60,6 +59,7 @@ impl File {
 
 #[derive(Drop)]
 pub struct Desk {
+    pub printer: Printer,
     a: File,
     b: File,
 }
@@ -67,6 +67,7 @@ pub struct Desk {
 impl Desk {
     pub fn new(alloc: Global) -> Self {
         Desk {
+            printer: Printer::new(alloc),
             a: File::empty(alloc),
             b: File::empty(alloc),
         }
@@ -84,16 +85,11 @@ impl Desk {
     }
 
     /// Does what a line asks for that begins no life.
-    pub fn take(
-        &mut self,
-        host: &HostRuntime,
-        printer: &mut Printer,
-        line: &str,
-    ) -> Result<(), Fault> {
+    pub fn take(&mut self, host: &HostRuntime, line: &str) -> Result<(), Fault> {
         let (word, rest) = first_word(line);
         match word {
-            "a" => self.a.take_words(printer, rest),
-            "b" => self.b.take_words(printer, rest),
+            "a" => self.a.take_words(&mut self.printer, rest),
+            "b" => self.b.take_words(&mut self.printer, rest),
             _ => take_file_line(host, word, rest),
         }
     }

@@ -1,10 +1,11 @@
 //! The events of a stage, as lines of the input say them.
-use crate::fault::Fault;
-use crate::words::{first_number, first_word, number};
 use command_text::{Line, Lines, Request};
 use daemon_core::Event;
 use player_core::BrokenCause;
-use song_db::{RowChange, Uri};
+use script_lines::Fault;
+use script_lines::rows::uri_of;
+use script_lines::words::{first_number, first_word, number};
+use song_db::RowChange;
 use state_codec::Changes;
 use std::alloc::{AllocError, Global};
 
@@ -28,26 +29,14 @@ fn cause_of(word: &str) -> Result<BrokenCause, Fault> {
     }
 }
 
-pub fn uri_of(alloc: Global, text: &str) -> Result<Uri, Fault> {
-    match Uri::read(alloc, text)? {
-        Some(uri) => Ok(uri),
-        None => Err(Fault::NoDirective),
-    }
-}
-
 /// The changes by which the rows of these URIs go.
 fn drops_of(alloc: Global, text: &str) -> Result<Changes, Fault> {
     let mut changes = Vec::new(alloc);
     for word in text.split(' ') {
         let uri = uri_of(alloc, word)?;
-        if changes.push(RowChange::Drop(uri)).is_err() {
-            return Err(Fault::NoMemory);
-        }
+        changes.push(RowChange::Drop(uri))?;
     }
-    match Changes::new(changes) {
-        Some(changes) => Ok(changes),
-        None => Err(Fault::NoDirective),
-    }
+    Changes::new(changes).ok_or(Fault::NoRow)
 }
 
 fn job_of(number: u64) -> u32 {

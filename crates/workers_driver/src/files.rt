@@ -1,6 +1,6 @@
 //! Files of the present folder.
-use crate::fault::Fault;
-use crate::words::{bytes, first_word, number};
+use script_lines::Fault;
+use script_lines::words::{bytes, first_word, number};
 use std::fs::{self, OpenOptions};
 
 fn shorten(host: &HostRuntime, name: &str, len: u64) -> Result<(), Fault> {

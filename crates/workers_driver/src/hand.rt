@@ -1,16 +1,12 @@
 //! What a script does with a worker: it holds its stand, and ends its thread.
-use crate::fault::Fault;
 use crate::passes::Passes;
-use crate::printer::Printer;
 use crate::stand::{Passage, Place, Stand};
-use crate::words::{first_word, number};
+use script_lines::words::{first_word, number};
+use script_lines::{Fault, Printer};
 use stage_workers::Pass;
 use std::sync::Wait;
 use std::sync::ledger::Ledger;
 use std::thread::{JoinHandle, Threads};
-
-/// A worker's thread.
-pub type Started<C, P, S> = Result<JoinHandle<Pass<C, P, S>>, Fault>;
 
 #[derive(Drop)]
 pub struct Hand<'s, C: Ledger, P: Ledger, S: Ledger, R> {
@@ -28,7 +24,11 @@ impl<'s, C: Ledger, P: Ledger, S: Ledger, R: Wait> Hand<'s, C, P, S, R> {
     }
 
     /// The thread was started with the pass of a place, if it could be.
-    pub fn keep(&mut self, place: u64, started: Started<C, P, S>) -> Result<(), Fault> {
+    pub fn keep(
+        &mut self,
+        place: u64,
+        started: Result<JoinHandle<Pass<C, P, S>>, Fault>,
+    ) -> Result<(), Fault> {
         match started {
             Ok(thread) => {
                 self.thread = Some((place, thread));
@@ -58,44 +58,6 @@ fn plan<R: Wait>(stand: &Stand<'_, R>, words: &str, passage: Passage) -> Result<
     Ok(())
 }
 
-fn wait_passed<R: Wait>(stand: &Stand<'_, R>, words: &str) -> Result<(), Fault> {
-    let (place, number) = place_and_number(words)?;
-    stand.wait_passed(place, number);
-    Ok(())
-}
-
-fn tell_count<R: Wait>(
-    stand: &Stand<'_, R>,
-    printer: &mut Printer,
-    word: &str,
-) -> Result<(), Fault> {
-    let place = Place::named(word)?;
-    printer.count("count", stand.count(place));
-    Ok(())
-}
-
-fn set_width<R: Wait>(stand: &Stand<'_, R>, word: &str) -> Result<(), Fault> {
-    stand.set_width(number(word)? as usize);
-    Ok(())
-}
-
-fn tell_written<R: Wait>(stand: &Stand<'_, R>, printer: &mut Printer) -> Result<(), Fault> {
-    let written = stand.take_written()?;
-    printer.hex("written", &written);
-    Ok(())
-}
-
-/// Lets a worker go on, or waits for it; whether the word says so.
-fn take_wait<R: Wait>(stand: &Stand<'_, R>, word: &str) -> bool {
-    match word {
-        "free" => stand.free(),
-        "held" => stand.wait_standing(),
-        "go" => stand.go(),
-        _ => return false,
-    }
-    true
-}
-
 /// Does what a line asks of a worker's stand.
 pub fn take_stand<R: Wait>(
     stand: &Stand<'_, R>,
@@ -104,14 +66,20 @@ pub fn take_stand<R: Wait>(
     rest: &str,
 ) -> Result<(), Fault> {
     match word {
-        "hold" => plan(stand, rest, Passage::Stands),
-        "fail" => plan(stand, rest, Passage::Fails),
-        "empty" => plan(stand, rest, Passage::Empty),
-        "passed" => wait_passed(stand, rest),
-        "count" => tell_count(stand, printer, rest),
-        "takes" => set_width(stand, rest),
-        "written" => tell_written(stand, printer),
-        _ if take_wait(stand, word) => Ok(()),
-        _ => Err(Fault::NoDirective),
+        "hold" => plan(stand, rest, Passage::Stands)?,
+        "fail" => plan(stand, rest, Passage::Fails)?,
+        "empty" => plan(stand, rest, Passage::Empty)?,
+        "passed" => {
+            let (place, number) = place_and_number(rest)?;
+            stand.wait_passed(place, number);
+        }
+        "count" => printer.count("count", stand.count(Place::named(rest)?)),
+        "takes" => stand.set_width(number(rest)?),
+        "written" => printer.hex("written", &stand.take_written()?),
+        "free" => stand.free(),
+        "held" => stand.wait_standing(),
+        "go" => stand.go(),
+        _ => return Err(Fault::NoDirective),
     }
+    Ok(())
 }

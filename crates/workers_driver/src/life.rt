@@ -2,39 +2,27 @@
 ghost use Rattle.std.specs.Prelude.{◌≡◌, IfOk};
 ghost use Rattle.std.specs.Thread.{IsSend, IsSync};
 
-use crate::calls::{Stage, TestDisk, settled};
+use crate::calls::{Settled, Stage, TestDisk, settled};
 use crate::desk::Desk;
-use crate::fault::Fault;
-use crate::input::Input;
 use crate::passes::Passes;
-use crate::printer::Printer;
-use crate::session::{Session, take_line};
+use crate::session::Session;
 use crate::shown::tell_settled;
 use crate::stand::Stand;
-use crate::words::number;
 use live_stage::{Live, Receipt, Refused};
-use stage_workers::{Blanks, Pass, SettleError};
+use script_lines::words::number;
+use script_lines::{Fault, Lines, write_out};
+use stage_workers::{Blanks, Pass};
 use std::alloc::Global;
-use std::io::{self, BufRead, Write};
+use std::io::BufRead;
 use std::marker::Brand;
 use std::sync::Wait;
 use std::sync::ledger::{Blank, Ledger};
-use std::thread;
 use std::thread::{Scope, Threads};
 use std::time::Clock;
+use std::{mem, thread};
 
 /// What a session comes to: its passes, and the receipts that are compared.
 type Ended<C, P, S> = Result<(Vec<Pass<C, P, S>>, Vec<Receipt>), Fault>;
-
-/// Writes what a line printed.
-pub fn write_out(host: &HostRuntime, printer: &mut Printer) -> Result<(), Fault> {
-    printer.end()?;
-    let mut writer = io::writer(host);
-    writer.write_all(printer.bytes())?;
-    writer.flush()?;
-    printer.clear();
-    Ok(())
-}
 
 /// A receipt, as `EVENT` or `EVENT:RECORD`.
 fn receipt_of(word: &str) -> Result<Receipt, Fault> {
@@ -53,10 +41,7 @@ fn receipt_of(word: &str) -> Result<Receipt, Fault> {
 fn receipts_of(alloc: Global, words: &str) -> Result<Vec<Receipt>, Fault> {
     let mut receipts = Vec::new(alloc);
     for word in words.split_whitespace() {
-        let receipt = receipt_of(word)?;
-        if receipts.push(receipt).is_err() {
-            return Err(Fault::NoMemory);
-        }
+        receipts.push(receipt_of(word)?)?;
     }
     Ok(receipts)
 }
@@ -74,18 +59,18 @@ fn take_lines<
     scope: &Scope<'s, E>,
     host: &'s HostRuntime,
     session: &mut Session<'s, C, P, S, R>,
-    input: &mut Input<B>,
+    lines: &mut Lines<B>,
 ) -> Result<Vec<Receipt>, Fault> {
     for _ in 0..u64::MAX {
         write_out(host, &mut session.printer)?;
-        if !input.next()? {
+        if !lines.next()? {
             break;
         }
-        let line = input.line();
+        let line = lines.line();
         if let Some(words) = line.strip_prefix("settle") {
             return receipts_of(host.alloc(), words);
         }
-        take_line(scope, session, line)?;
+        session.take_line(scope, line)?;
     }
     Err(Fault::NoDirective)
 }
@@ -96,13 +81,9 @@ fn ended<C: Ledger, P: Ledger, S: Ledger>(
     passes: Passes<C, P, S>,
     receipts: Result<Vec<Receipt>, Fault>,
 ) -> Ended<C, P, S> {
-    match receipts {
-        Ok(receipts) => match passes.into_vec(alloc) {
-            Ok(passes) => Ok((passes, receipts)),
-            Err(fault) => Err(fault),
-        },
-        Err(fault) => Err(fault),
-    }
+    let receipts = receipts?;
+    let passes = passes.into_vec(alloc)?;
+    Ok((passes, receipts))
 }
 
 /// Does what the lines ask for, and lets the threads end.
@@ -118,11 +99,12 @@ fn take_all<
     scope: &Scope<'s, E>,
     host: &'s HostRuntime,
     mut session: Session<'s, C, P, S, R>,
-    input: &mut Input<B>,
+    lines: &mut Lines<B>,
 ) -> Ended<C, P, S> {
-    let receipts = take_lines(scope, host, &mut session, input);
+    let receipts = take_lines(scope, host, &mut session, lines);
     session.free();
-    ended(host.alloc(), session.passes, receipts)
+    let passes = mem::replace(&mut session.passes, Passes::new(host.alloc()));
+    ended(host.alloc(), passes, receipts)
 }
 
 /// Shares the stage with threads until the lines settle it.
@@ -137,7 +119,7 @@ fn work<
     rt: &'a R,
     host: &'a HostRuntime,
     session: Session<'a, C, P, S, R>,
-    input: &mut Input<B>,
+    lines: &mut Lines<B>,
 ) -> Ended<C, P, S> {
     thread::scope(
         thread::scope_env(),
@@ -147,11 +129,11 @@ fn work<
             requires player { IsSend P.row × IsSync P.row }
             requires scan { IsSend S.row × IsSync S.row }
             requires rest { IsSync R.row }
-        { take_all(scope, host, session, input) },
+        { take_all(scope, host, session, lines) },
     )
 }
 
-/// Shares a stage until it is settled, and prints how it ends.
+/// Shares a stage until it is settled.
 fn live_shared<
     C: Ledger + Send + Sync,
     P: Ledger + Send + Sync,
@@ -163,8 +145,8 @@ fn live_shared<
     host: &HostRuntime,
     live: Live<TestDisk>,
     blanks: Blanks,
-    input: &mut Input<B>,
-) -> Result<Live<TestDisk>, Fault>
+    lines: &mut Lines<B>,
+) -> Result<Settled, Fault>
     requires first { live.numbers.event ≡ 0 }
     requires clients { (blanks.clients.name ≡ C.name) × (blanks.clients.parts ≡ C.parts) × (blanks.clients.parts ≡ 65537) }
     requires player { (blanks.player.name ≡ P.name) × (blanks.player.parts ≡ P.parts) × (blanks.player.parts ≡ 65537) }
@@ -175,34 +157,17 @@ fn live_shared<
     let player = Stand::new(rt, alloc);
     let scan = Stand::new(rt, alloc);
     let session = Session::new(rt, host, &stage, &player, &scan);
-    let ended = work(rt, host, session, input);
-    settle(host, stage, ended)
+    let ended = work(rt, host, session, lines);
+    settle(stage, ended)
 }
 
-fn tell_end(
-    host: &HostRuntime,
-    refusal: Option<SettleError>,
-    live: &Live<TestDisk>,
-) -> Result<(), Fault> {
-    let mut printer = Printer::new(host.alloc());
-    tell_settled(&mut printer, refusal, live);
-    write_out(host, &mut printer)
-}
-
-/// Settles a stage, and prints what that gave.
+/// Settles a stage.
 fn settle<C: Ledger, P: Ledger, S: Ledger>(
-    host: &HostRuntime,
     stage: Stage<C, P, S>,
     ended: Ended<C, P, S>,
-) -> Result<Live<TestDisk>, Fault> {
+) -> Result<Settled, Fault> {
     match ended {
-        Ok((passes, receipts)) => {
-            let (refusal, live) = settled(stage, passes, &receipts);
-            match tell_end(host, refusal, &live) {
-                Ok(()) => Ok(live),
-                Err(fault) => Err(fault),
-            }
-        }
+        Ok((passes, receipts)) => Ok(settled(stage, passes, &receipts)),
         Err(fault) => Err(fault),
     }
 }
@@ -222,22 +187,13 @@ fn begun(
     }
 }
 
-/// No life begins.
-fn refuse(host: &HostRuntime, desk: &mut Desk, refused: Refused<TestDisk>) -> Result<(), Fault> {
-    let Refused { error, a, b } = refused;
-    desk.put_back(a, b);
-    let mut printer = Printer::new(host.alloc());
-    printer.refused(error.number(), error);
-    write_out(host, &mut printer)
-}
-
 /// A stage lives until it is settled.
 fn live_on<R: Threads + Wait + Clock + Sync, B: BufRead>(
     rt: &R,
     host: &HostRuntime,
     live: Live<TestDisk>,
-    input: &mut Input<B>,
-) -> Result<Live<TestDisk>, Fault>
+    lines: &mut Lines<B>,
+) -> Result<Settled, Fault>
     requires first { live.numbers.event ≡ 0 }
 {
     let blanks = Blanks {
@@ -245,27 +201,29 @@ fn live_on<R: Threads + Wait + Clock + Sync, B: BufRead>(
         player: Blank::new(65_537),
         scan: Blank::new(65_537),
     };
-    live_shared::<Brand, Brand, Brand, R, B>(rt, host, live, blanks, input)
+    live_shared::<Brand, Brand, Brand, R, B>(rt, host, live, blanks, lines)
 }
 
-/// A stage over the files of the desk, made or opened, until it is settled.
+/// A stage over the files of the desk, made or opened, until it is settled; prints how it ends.
 pub fn live_once<R: Threads + Wait + Clock + Sync, B: BufRead>(
     rt: &R,
     host: &HostRuntime,
     desk: &mut Desk,
     is_new: bool,
-    input: &mut Input<B>,
+    lines: &mut Lines<B>,
 ) -> Result<(), Fault> {
     let (a, b) = desk.take_disks();
     match begun(host.alloc(), a, b, is_new) {
-        Ok(live) => match live_on(rt, host, live, input) {
-            Ok(live) => {
-                let (a, b) = live.into_disks();
-                desk.put_back(a, b);
-                Ok(())
-            }
-            Err(fault) => Err(fault),
-        },
-        Err(refused) => refuse(host, desk, refused),
+        Ok(live) => {
+            let (refusal, live) = live_on(rt, host, live, lines)?;
+            tell_settled(&mut desk.printer, refusal, &live);
+            let (a, b) = live.into_disks();
+            desk.put_back(a, b);
+        }
+        Err(Refused { error, a, b }) => {
+            desk.put_back(a, b);
+            desk.printer.refused(error.number(), error);
+        }
     }
+    Ok(())
 }

@@ -4,26 +4,21 @@
 mod calls;
 mod desk;
 mod event;
-mod fault;
 mod files;
 mod hand;
-mod input;
+mod kind;
 mod life;
 mod passes;
-mod printer;
 mod session;
 mod shown;
 mod songs;
 mod stand;
 mod threads;
-mod words;
 
 use desk::Desk;
-use fault::Fault;
-use input::Input;
-use life::{live_once, write_out};
-use printer::Printer;
-use std::io::{self, BufRead, BufReader, ErrorKind};
+use life::live_once;
+use script_lines::{Fault, Lines, write_out};
+use std::io::{self, BufRead, BufReader};
 use std::sync::Wait;
 use std::thread::Threads;
 use std::time::Clock;
@@ -33,42 +28,35 @@ fn take_line<R: Threads + Wait + Clock + Sync, B: BufRead>(
     rt: &R,
     host: &HostRuntime,
     desk: &mut Desk,
-    input: &mut Input<B>,
+    lines: &mut Lines<B>,
 ) -> Result<(), Fault> {
-    match input.line() {
-        "make" => live_once(rt, host, desk, true, input),
-        "open" => live_once(rt, host, desk, false, input),
-        line => {
-            let mut printer = Printer::new(host.alloc());
-            desk.take(host, &mut printer, line)?;
-            write_out(host, &mut printer)
-        }
+    match lines.line() {
+        "make" => live_once(rt, host, desk, true, lines)?,
+        "open" => live_once(rt, host, desk, false, lines)?,
+        line => desk.take(host, line)?,
     }
+    write_out(host, &mut desk.printer)
 }
 
 fn take_lines<R: Threads + Wait + Clock + Sync, B: BufRead>(
     rt: &R,
     host: &HostRuntime,
-    input: &mut Input<B>,
+    desk: &mut Desk,
+    lines: &mut Lines<B>,
 ) -> Result<(), Fault> {
-    let mut desk = Desk::new(host.alloc());
     for _ in 0..u64::MAX {
-        if !input.next()? {
+        if !lines.next()? {
             break;
         }
-        take_line(rt, host, &mut desk, input)?;
+        take_line(rt, host, desk, lines)?;
     }
     Ok(())
 }
 
 fn main(rt: HostRuntime) -> io::Result<()> {
     let reader = BufReader::new(rt.alloc(), rt.reader())?;
-    let mut input = Input::new(rt.alloc(), reader);
-    match take_lines(&rt, &rt, &mut input) {
-        Ok(()) => Ok(()),
-        Err(fault) => {
-            eprintln!(rt; "{}: {}", fault.text(), input.line())?;
-            Err(ErrorKind::InvalidInput.into())
-        }
-    }
+    let mut lines = Lines::new(rt.alloc(), reader);
+    let mut desk = Desk::new(rt.alloc());
+    let done = take_lines(&rt, &rt, &mut desk, &mut lines);
+    lines.end(&rt, done)
 }

@@ -1,8 +1,8 @@
 //! The passes of a stage that no thread has.
-use crate::calls::{Stage, pass};
-use crate::fault::Fault;
-use crate::printer::Printer;
-use crate::words::{first_word, kind, name_of, number};
+use crate::calls::Stage;
+use crate::kind::{kind_of, name_of};
+use script_lines::words::{first_word, number};
+use script_lines::{Fault, Printer};
 use stage_workers::{Kind, Pass};
 use std::alloc::Global;
 use std::sync::Wait;
@@ -21,7 +21,7 @@ fn spend<C: Ledger, P: Ledger, S: Ledger, R: Wait>(
     printer: &mut Printer,
     kind: Kind,
 ) -> bool {
-    match pass(rt, stage, kind) {
+    match stage.pass(rt, kind) {
         Ok(_) => true,
         Err(spent) => {
             printer.refused(spent.number(), spent);
@@ -38,7 +38,7 @@ pub fn spend_passes<C: Ledger, P: Ledger, S: Ledger, R: Wait>(
     words: &str,
 ) -> Result<(), Fault> {
     let (word, rest) = first_word(words);
-    let (kind, count) = (kind(word)?, number(rest)?);
+    let (kind, count) = (kind_of(word)?, number::<u64>(rest)?);
     let mut spent = 0u64;
     for _ in 0..count {
         if !spend(rt, stage, printer, kind) {
@@ -80,7 +80,7 @@ impl<C: Ledger, P: Ledger, S: Ledger> Passes<C, P, S> {
         printer: &mut Printer,
         word: &str,
     ) -> Result<(), Fault> {
-        match pass(rt, stage, kind(word)?) {
+        match stage.pass(rt, kind_of(word)?) {
             Ok(pass) => {
                 if self.passes.push(Some(pass)).is_err() {
                     return Err(Fault::NoMemory);
@@ -104,14 +104,17 @@ impl<C: Ledger, P: Ledger, S: Ledger> Passes<C, P, S> {
     /// All that are there.
     pub fn into_vec(self, alloc: Global) -> Result<Vec<Pass<C, P, S>>, Fault> {
         let mut all = Vec::new(alloc);
+        let mut is_short = false;
         for place in self.passes {
             if let Some(pass) = place {
-                if all.push(pass).is_err() {
-                    return Err(Fault::NoMemory);
-                }
+                is_short = all.push(pass).is_err() || is_short;
             }
         }
-        Ok(all)
+        if is_short {
+            Err(Fault::NoMemory)
+        } else {
+            Ok(all)
+        }
     }
 }
 

@@ -1,28 +1,29 @@
 //! A stage that threads share, to which the lines of the input happen.
 use crate::calls::{
-    Stage, close, collected, is_closed, ordered, played_once, reported, rewound, running_job,
-    scan_ordered, scanned_once, served,
+    Answer, Stage, play, played_once, reported, rewound, scan, scanned_once, served,
 };
-use crate::event::{event_of, uri_of};
-use crate::fault::Fault;
+use crate::event::event_of;
 use crate::files::take_file_line;
 use crate::hand::{Hand, take_stand};
 use crate::passes::{Passes, spend_passes};
-use crate::printer::Printer;
 use crate::shown::{
-    tell_left, tell_live_error, tell_order, tell_scan_order, tell_served, tell_stage_error,
+    tell_job, tell_left, tell_order, tell_rewound, tell_scan_order, tell_served, tell_stage_error,
 };
 use crate::songs::{OpenMusic, music};
 use crate::stand::Stand;
-use crate::threads::{serve_all, start_clients, start_player, start_scan};
-use crate::words::{first_number, first_word, number};
-use crossbeam_channel::Sender;
+use crate::threads::{Done, serve_all};
+use crossbeam_channel::{Receiver, Sender};
+use daemon_core::Event;
 use player_core::{Order, PlayOrder, Volume};
+use script_lines::rows::uri_of;
+use script_lines::words::{first_number, first_word, number};
+use script_lines::{Fault, Printer};
 use song_db::ScanOrder;
+use stage_workers::Pass;
 use std::alloc::Global;
 use std::sync::Wait;
 use std::sync::ledger::Ledger;
-use std::thread::{Scope, Threads};
+use std::thread::{JoinHandle, Scope, Threads};
 use std::time::Clock;
 
 #[derive(Drop)]
@@ -39,6 +40,26 @@ pub struct Session<'s, C: Ledger, P: Ledger, S: Ledger, R> {
     /// What is open between two orders that this thread plays.
     song: Option<OpenMusic<'s, R>>,
     pub printer: Printer,
+}
+
+/// An event, the pass that makes it, and the pass's place.
+type Asked<C, P, S> = (u64, Event, Pass<C, P, S>);
+
+/// The thread that serves the other events of two, and the place of its pass.
+type Other<C, P, S> = (u64, JoinHandle<Done<C, P, S>>);
+
+/// `TICKET FRAME PERCENT URI`.
+fn order_of(alloc: Global, text: &str) -> Result<PlayOrder, Fault> {
+    let (ticket, text) = first_number(text)?;
+    let (first_frame, text) = first_number(text)?;
+    let (percent, text) = first_number(text)?;
+    let volume = Volume::new(u8::try_from(percent).unwrap_or(0)).unwrap_or_default();
+    Ok(PlayOrder {
+        ticket,
+        uri: uri_of(alloc, text)?,
+        first_frame,
+        volume,
+    })
 }
 
 impl<'s, C: Ledger, P: Ledger, S: Ledger, R: Wait + Clock> Session<'s, C, P, S, R> {
@@ -64,18 +85,36 @@ impl<'s, C: Ledger, P: Ledger, S: Ledger, R: Wait + Clock> Session<'s, C, P, S, 
         }
     }
 
+    /// The scan's thread is sent no further order.
+    fn hang_up(&mut self) {
+        self.orders = None;
+    }
+
     /// Lets the threads end.
     pub fn free(&mut self) {
-        self.orders = None;
-        close(self.rt, self.stage);
+        self.hang_up();
+        self.stage.close(self.rt);
         self.player.stand.free();
         self.scan.stand.free();
     }
 
-    fn serve(&mut self, words: &str) -> Result<(), Fault> {
+    /// What `PLACE EVENT` asks for.
+    fn asked(&mut self, words: &str) -> Result<Asked<C, P, S>, Fault> {
         let (place, text) = first_number(words)?;
         let event = event_of(self.alloc, text)?;
-        let pass = self.passes.take(place)?;
+        Ok((place, event, self.passes.take(place)?))
+    }
+
+    /// Puts a pass back, and prints why its event was refused, if it was.
+    fn put_back(&mut self, place: u64, (answer, pass): Answer<(), C, P, S>) {
+        self.passes.put(place, pass);
+        if let Err(error) = answer {
+            tell_stage_error(&mut self.printer, error);
+        }
+    }
+
+    fn serve(&mut self, words: &str) -> Result<(), Fault> {
+        let (place, event, pass) = self.asked(words)?;
         let (answer, pass) = served(self.rt, self.alloc, self.stage, pass, event);
         self.passes.put(place, pass);
         match answer {
@@ -86,143 +125,117 @@ impl<'s, C: Ledger, P: Ledger, S: Ledger, R: Wait + Clock> Session<'s, C, P, S, 
     }
 
     fn report(&mut self, words: &str) -> Result<(), Fault> {
-        let (place, text) = first_number(words)?;
-        let event = event_of(self.alloc, text)?;
-        let pass = self.passes.take(place)?;
-        let (answer, pass) = reported(self.rt, self.alloc, self.stage, pass, event);
-        self.passes.put(place, pass);
-        if let Err(error) = answer {
-            tell_stage_error(&mut self.printer, error);
-        }
+        let (place, event, pass) = self.asked(words)?;
+        let answer = reported(self.rt, self.alloc, self.stage, pass, event);
+        self.put_back(place, answer);
         Ok(())
     }
 
-    /// The order that is meant: the stage's own, or `TICKET FRAME PERCENT URI`.
-    fn order_of(&mut self, text: &str) -> Result<Option<PlayOrder>, Fault> {
-        if text.is_empty() {
-            return Ok(match ordered(self.rt, self.alloc, self.stage) {
-                Ok(Order::Play(order)) => Some(order),
-                _ => None,
-            });
+    /// The order that is meant: the stage's own, or that of a text.
+    fn order(&self, text: &str) -> Result<PlayOrder, Fault> {
+        if !text.is_empty() {
+            return order_of(self.alloc, text);
         }
-        let (ticket, text) = first_number(text)?;
-        let (first_frame, text) = first_number(text)?;
-        let (percent, text) = first_number(text)?;
-        let volume = Volume::new(u8::try_from(percent).unwrap_or(0)).unwrap_or_default();
-        Ok(Some(PlayOrder {
-            ticket,
-            uri: uri_of(self.alloc, text)?,
-            first_frame,
-            volume,
-        }))
+        match self.stage.order(self.rt, self.alloc) {
+            Ok(Order::Play(order)) => Ok(order),
+            _ => Err(Fault::NoDirective),
+        }
+    }
+
+    /// The order of the job that runs.
+    fn scan_order(&self) -> Result<ScanOrder, Fault> {
+        match self.stage.scan_order(self.rt, self.alloc) {
+            Ok(Some(order)) => Ok(order),
+            _ => Err(Fault::NoDirective),
+        }
     }
 
     fn play_once(&mut self, words: &str) -> Result<(), Fault> {
         let (place, text) = first_number(words)?;
-        let order = self.order_of(text)?.ok_or(Fault::NoDirective)?;
+        let order = self.order(text)?;
         let pass = self.passes.take(place)?;
         let stand = self.player.stand;
         let mut folder = music(self.host, self.alloc, stand);
-        let tools = (&mut folder, &mut self.song);
-        let (answer, pass) = played_once(
+        let answer = played_once(
             self.rt,
             self.alloc,
             self.stage,
             stand,
-            tools,
+            (&mut folder, &mut self.song),
             (pass, &order),
         );
-        self.passes.put(place, pass);
-        if let Err(error) = answer {
-            tell_stage_error(&mut self.printer, error);
-        }
+        self.put_back(place, answer);
         Ok(())
     }
 
     fn scan_once(&mut self, words: &str) -> Result<(), Fault> {
         let place = number(words)?;
-        let Ok(Some(order)) = scan_ordered(self.rt, self.alloc, self.stage) else {
-            return Err(Fault::NoDirective);
-        };
+        let order = self.scan_order()?;
         let pass = self.passes.take(place)?;
         let stand = self.scan.stand;
-        let (answer, pass) = scanned_once(self.rt, self.host, self.stage, stand, (pass, order));
-        self.passes.put(place, pass);
-        if let Err(error) = answer {
-            tell_stage_error(&mut self.printer, error);
-        }
+        let answer = scanned_once(self.rt, self.host, self.stage, stand, (pass, order));
+        self.put_back(place, answer);
         Ok(())
     }
 
-    fn tell_order(&mut self) {
-        match ordered(self.rt, self.alloc, self.stage) {
-            Ok(order) => tell_order(&mut self.printer, &order),
-            Err(error) => tell_live_error(&mut self.printer, error),
-        }
-    }
-
-    fn tell_scan_order(&mut self) {
-        match scan_ordered(self.rt, self.alloc, self.stage) {
-            Ok(order) => tell_scan_order(&mut self.printer, &order),
-            Err(error) => tell_live_error(&mut self.printer, error),
-        }
-    }
-
-    fn tell_job(&mut self) {
-        match running_job(self.rt, self.stage) {
-            Ok(Some(job)) => self.printer.count("job", u64::from(job)),
-            Ok(None) => self.printer.line("no job"),
-            Err(error) => tell_live_error(&mut self.printer, error),
-        }
-    }
-
-    fn tell_rewound(&mut self, words: &str) -> Result<(), Fault> {
+    fn rewound(&mut self, words: &str) -> Result<(), Fault> {
         let (seen, found) = first_number(words)?;
-        match rewound(seen, number(found)?) {
-            Ok(()) => self.printer.line("none"),
-            Err(error) => tell_stage_error(&mut self.printer, error),
-        }
+        tell_rewound(&mut self.printer, rewound(seen, number(found)?));
         Ok(())
     }
 
-    /// Does what a line asks for that starts no thread.
-    fn look(&mut self, word: &str, rest: &str) -> Result<(), Fault> {
+    /// Does what a line asks for of passes and files.
+    fn make(&mut self, word: &str, rest: &str) -> Result<(), Fault> {
         match word {
-            "serve" => return self.serve(rest),
-            "report" => return self.report(rest),
-            "play_once" => return self.play_once(rest),
-            "scan_once" => return self.scan_once(rest),
-            "rewound" => return self.tell_rewound(rest),
-            "spend" => return spend_passes(self.rt, self.stage, &mut self.printer, rest),
-            "pass" => return self
+            "serve" => self.serve(rest),
+            "report" => self.report(rest),
+            "play_once" => self.play_once(rest),
+            "scan_once" => self.scan_once(rest),
+            "rewound" => self.rewound(rest),
+            "spend" => spend_passes(self.rt, self.stage, &mut self.printer, rest),
+            "pass" => self
                 .passes
                 .add(self.rt, self.stage, &mut self.printer, rest),
-            "file" | "remove" | "shorten" => return take_file_line(self.host, word, rest),
-            "drop" => drop(self.passes.take(number(rest)?)?),
-            "passes" => self.passes.tell(&mut self.printer),
-            "collect" => tell_left(
-                &mut self.printer,
-                &collected(self.rt, self.alloc, self.stage),
-            ),
-            "order" => self.tell_order(),
-            "scan_order" => self.tell_scan_order(),
-            "job" => self.tell_job(),
-            "close" => close(self.rt, self.stage),
-            "closed" => self.printer.line(if is_closed(self.rt, self.stage) {
-                "yes"
-            } else {
-                "no"
-            }),
-            _ => return Err(Fault::NoDirective),
+            "drop" => {
+                drop(self.passes.take(number(rest)?)?);
+                Ok(())
+            }
+            _ => take_file_line(self.host, word, rest),
         }
-        Ok(())
+    }
+
+    /// Does what a word asks of the stage; whether it is such a word.
+    fn look(&mut self, word: &str) -> bool {
+        let (rt, alloc, stage) = (self.rt, self.alloc, self.stage);
+        match word {
+            "passes" => self.passes.tell(&mut self.printer),
+            "collect" => tell_left(&mut self.printer, &stage.collect(rt, alloc)),
+            "order" => tell_order(&mut self.printer, stage.order(rt, alloc)),
+            "scan_order" => tell_scan_order(&mut self.printer, stage.scan_order(rt, alloc)),
+            "job" => tell_job(&mut self.printer, stage.running_job(rt)),
+            "close" => stage.close(rt),
+            "closed" => self
+                .printer
+                .line(if stage.is_closed(rt) { "yes" } else { "no" }),
+            _ => return false,
+        }
+        true
+    }
+
+    /// A channel of orders to the thread that scans.
+    fn channel(&mut self) -> Result<Receiver<ScanOrder>, Fault> {
+        match crossbeam_channel::unbounded(self.alloc) {
+            Ok((sender, orders)) => {
+                self.orders = Some(sender);
+                Ok(orders)
+            }
+            Err(_) => Err(Fault::NoMemory),
+        }
     }
 
     /// Sends the scan the order of the job that runs.
     fn send(&mut self) -> Result<(), Fault> {
-        let Ok(Some(order)) = scan_ordered(self.rt, self.alloc, self.stage) else {
-            return Err(Fault::NoDirective);
-        };
+        let order = self.scan_order()?;
         match &self.orders {
             Some(orders) => orders.send(self.rt, order).or(Err(Fault::NoThread)),
             None => Err(Fault::NoThread),
@@ -230,132 +243,121 @@ impl<'s, C: Ledger, P: Ledger, S: Ledger, R: Wait + Clock> Session<'s, C, P, S, 
     }
 }
 
-/// Prints the numbers of events, rising.
-fn tell_events(printer: &mut Printer, events: &mut Vec<u64>) -> Result<(), Fault> {
-    events.sort()?;
+impl<
+    's,
+    C: Ledger + Send + Sync + 's,
+    P: Ledger + Send + Sync + 's,
+    S: Ledger + Send + Sync + 's,
+    R: Threads + Wait + Clock + Sync + 's,
+> Session<'s, C, P, S, R> {
+    /// Starts a thread that serves `PLACE EVENT ; EVENT ..`.
+    fn start_other<E: 's>(
+        &mut self,
+        scope: &Scope<'s, E>,
+        words: &str,
+    ) -> Result<Other<C, P, S>, Fault> {
+        let (place, text) = first_number(words)?;
+        let text = String::from_str(self.alloc, text)?;
+        let pass = self.passes.take(place)?;
+        let (rt, alloc, stage) = (self.rt, self.alloc, self.stage);
+        let thread = move || serve_all(rt, alloc, stage, pass, text.as_str());
+        Ok((place, scope.spawn(thread).or(Err(Fault::NoThread))?))
+    }
+
+    /// Two threads serve events at once: `PLACE EVENT ; EVENT .. | PLACE EVENT ; EVENT ..`.
+    fn serve_at_once<E: 's>(&mut self, scope: &Scope<'s, E>, words: &str) -> Result<(), Fault> {
+        let (mine, other) = words.split_once(" | ").ok_or(Fault::NoDirective)?;
+        let (place, text) = first_number(mine)?;
+        let pass = self.passes.take(place)?;
+        let (other_place, thread) = self.start_other(scope, other)?;
+        let first = serve_all(self.rt, self.alloc, self.stage, pass, text);
+        let second = thread.join(self.rt);
+        tell_both(&mut self.printer, &first, &second);
+        self.passes.put(place, first.pass);
+        self.passes.put(other_place, second.pass);
+        Ok(())
+    }
+
+    /// Starts the player's thread with the pass of a place.
+    fn begin_player<E: 's>(&mut self, scope: &Scope<'s, E>, word: &str) -> Result<(), Fault> {
+        let place = number(word)?;
+        let pass = self.passes.take(place)?;
+        let (rt, host, stage, stand) = (self.rt, self.host, self.stage, self.player.stand);
+        let thread = move || play(rt, host, stage, stand, pass);
+        let started = scope.spawn(thread).or(Err(Fault::NoThread));
+        self.player.keep(place, started)
+    }
+
+    /// Starts the scan's thread with the pass of a place.
+    fn begin_scan<E: 's>(&mut self, scope: &Scope<'s, E>, word: &str) -> Result<(), Fault> {
+        let place = number(word)?;
+        let orders = self.channel()?;
+        let pass = self.passes.take(place)?;
+        let (rt, host, stage, stand) = (self.rt, self.host, self.stage, self.scan.stand);
+        let thread = move || scan(rt, host, stage, stand, (pass, orders));
+        let started = scope.spawn(thread).or(Err(Fault::NoThread));
+        self.scan.keep(place, started)
+    }
+
+    fn take_player<E: 's>(&mut self, scope: &Scope<'s, E>, words: &str) -> Result<(), Fault> {
+        let (word, rest) = first_word(words);
+        match word {
+            "start" => self.begin_player(scope, rest),
+            "end" => self.player.end(self.rt, &mut self.passes),
+            _ => take_stand(self.player.stand, &mut self.printer, word, rest),
+        }
+    }
+
+    fn take_scan<E: 's>(&mut self, scope: &Scope<'s, E>, words: &str) -> Result<(), Fault> {
+        let (word, rest) = first_word(words);
+        match word {
+            "start" => self.begin_scan(scope, rest),
+            "send" => self.send(),
+            "hang_up" => {
+                self.hang_up();
+                Ok(())
+            }
+            "end" => self.scan.end(self.rt, &mut self.passes),
+            _ => take_stand(self.scan.stand, &mut self.printer, word, rest),
+        }
+    }
+
+    /// Does what a line asks for.
+    pub fn take_line<E: 's>(&mut self, scope: &Scope<'s, E>, line: &str) -> Result<(), Fault> {
+        let (word, rest) = first_word(line);
+        match word {
+            "player" => self.take_player(scope, rest),
+            "scan" => self.take_scan(scope, rest),
+            "at_once" => self.serve_at_once(scope, rest),
+            _ if self.look(word) => Ok(()),
+            _ => self.make(word, rest),
+        }
+    }
+}
+
+/// Prints the numbers of events of two threads, rising.
+fn tell_events(printer: &mut Printer, mine: &[u64], others: &[u64]) {
+    let mut events = Vec::new(printer.alloc);
+    if events.extend_from_slice(mine).is_err()
+        || events.extend_from_slice(others).is_err()
+        || events.sort().is_err()
+    {
+        printer.lack();
+    }
     printer.add(b"events");
     for event in events.as_slice() {
         printer.next(*event);
     }
     printer.add(b"\n");
-    Ok(())
 }
 
-/// Two threads serve events at once: `PLACE EVENT ; EVENT .. | PLACE EVENT ; EVENT ..`.
-fn serve_at_once<
-    's,
-    E: 's,
-    C: Ledger + Send + Sync + 's,
-    P: Ledger + Send + Sync + 's,
-    S: Ledger + Send + Sync + 's,
-    R: Threads + Wait + Clock + Sync + 's,
->(scope: &Scope<'s, E>, session: &mut Session<'s, C, P, S, R>, words: &str) -> Result<(), Fault> {
-    let (mine, other) = words.split_once(" | ").ok_or(Fault::NoDirective)?;
-    let (mine_at, mine) = first_number(mine)?;
-    let (other_at, other) = first_number(other)?;
-    let other = String::from_str(session.alloc, other)?;
-    let pass = session.passes.take(other_at)?;
-    let thread = start_clients(scope, session.rt, session.alloc, session.stage, pass, other)?;
-    let pass = session.passes.take(mine_at)?;
-    let mut first = serve_all(session.rt, session.alloc, session.stage, pass, mine);
-    let second = thread.join(session.rt);
-    first.events.extend_from_slice(&second.events)?;
-    tell_events(&mut session.printer, &mut first.events)?;
-    session.printer.add(first.printer.bytes());
-    session.printer.add(second.printer.bytes());
-    session.passes.put(mine_at, first.pass);
-    session.passes.put(other_at, second.pass);
-    Ok(())
-}
-
-/// Starts the player's thread with the pass of a place.
-fn begin_player<
-    's,
-    E: 's,
-    C: Ledger + Send + Sync + 's,
-    P: Ledger + Send + Sync + 's,
-    S: Ledger + Send + Sync + 's,
-    R: Threads + Wait + Clock + Sync + 's,
->(scope: &Scope<'s, E>, session: &mut Session<'s, C, P, S, R>, word: &str) -> Result<(), Fault> {
-    let place = number(word)?;
-    let pass = session.passes.take(place)?;
-    let stand = session.player.stand;
-    let started = start_player(scope, session.rt, session.host, session.stage, stand, pass);
-    session.player.keep(place, started)
-}
-
-/// Starts the scan's thread with the pass of a place.
-fn begin_scan<
-    's,
-    E: 's,
-    C: Ledger + Send + Sync + 's,
-    P: Ledger + Send + Sync + 's,
-    S: Ledger + Send + Sync + 's,
-    R: Threads + Wait + Clock + Sync + 's,
->(scope: &Scope<'s, E>, session: &mut Session<'s, C, P, S, R>, word: &str) -> Result<(), Fault> {
-    let place = number(word)?;
-    let pass = session.passes.take(place)?;
-    let Ok((sender, orders)) = crossbeam_channel::unbounded(session.alloc) else {
-        return Err(Fault::NoMemory);
-    };
-    session.orders = Some(sender);
-    let stand = session.scan.stand;
-    let with = (pass, orders);
-    let started = start_scan(scope, session.rt, session.host, session.stage, stand, with);
-    session.scan.keep(place, started)
-}
-
-fn take_player<
-    's,
-    E: 's,
-    C: Ledger + Send + Sync + 's,
-    P: Ledger + Send + Sync + 's,
-    S: Ledger + Send + Sync + 's,
-    R: Threads + Wait + Clock + Sync + 's,
->(scope: &Scope<'s, E>, session: &mut Session<'s, C, P, S, R>, words: &str) -> Result<(), Fault> {
-    let (word, rest) = first_word(words);
-    match word {
-        "start" => begin_player(scope, session, rest),
-        "end" => session.player.end(session.rt, &mut session.passes),
-        _ => take_stand(session.player.stand, &mut session.printer, word, rest),
-    }
-}
-
-fn take_scan<
-    's,
-    E: 's,
-    C: Ledger + Send + Sync + 's,
-    P: Ledger + Send + Sync + 's,
-    S: Ledger + Send + Sync + 's,
-    R: Threads + Wait + Clock + Sync + 's,
->(scope: &Scope<'s, E>, session: &mut Session<'s, C, P, S, R>, words: &str) -> Result<(), Fault> {
-    let (word, rest) = first_word(words);
-    match word {
-        "start" => begin_scan(scope, session, rest),
-        "send" => session.send(),
-        "hang_up" => {
-            session.orders = None;
-            Ok(())
-        }
-        "end" => session.scan.end(session.rt, &mut session.passes),
-        _ => take_stand(session.scan.stand, &mut session.printer, word, rest),
-    }
-}
-
-/// Does what a line asks for.
-pub fn take_line<
-    's,
-    E: 's,
-    C: Ledger + Send + Sync + 's,
-    P: Ledger + Send + Sync + 's,
-    S: Ledger + Send + Sync + 's,
-    R: Threads + Wait + Clock + Sync + 's,
->(scope: &Scope<'s, E>, session: &mut Session<'s, C, P, S, R>, line: &str) -> Result<(), Fault> {
-    let (word, rest) = first_word(line);
-    match word {
-        "player" => take_player(scope, session, rest),
-        "scan" => take_scan(scope, session, rest),
-        "at_once" => serve_at_once(scope, session, rest),
-        _ => session.look(word, rest),
-    }
+/// Prints the numbers of the events of two threads, and the outputs of the first and then of the second.
+fn tell_both<C: Ledger, P: Ledger, S: Ledger>(
+    printer: &mut Printer,
+    first: &Done<C, P, S>,
+    second: &Done<C, P, S>,
+) {
+    tell_events(printer, &first.events, &second.events);
+    printer.add(first.printer.bytes());
+    printer.add(second.printer.bytes());
 }

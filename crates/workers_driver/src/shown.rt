@@ -1,10 +1,10 @@
 //! What is printed of answers.
 use crate::calls::TestDisk;
-use crate::printer::Printer;
-use crate::words::name_of;
+use crate::kind::name_of;
 use daemon_core::Output;
 use live_stage::{Live, LiveError, Turn};
 use player_core::Order;
+use script_lines::Printer;
 use song_db::ScanOrder;
 use stage_workers::{Outbox, Served, SettleError, StageError};
 
@@ -53,14 +53,29 @@ pub fn tell_stage_error(printer: &mut Printer, error: StageError) {
     printer.refused(error.number(), error);
 }
 
-pub fn tell_live_error(printer: &mut Printer, error: LiveError) {
+fn tell_live_error(printer: &mut Printer, error: LiveError) {
     printer.refused(error.number(), error);
 }
 
-pub fn tell_order(printer: &mut Printer, order: &Order) {
+pub fn tell_rewound(printer: &mut Printer, rewound: Result<(), StageError>) {
+    match rewound {
+        Ok(()) => printer.line("none"),
+        Err(error) => tell_stage_error(printer, error),
+    }
+}
+
+pub fn tell_job(printer: &mut Printer, job: Result<Option<u32>, LiveError>) {
+    match job {
+        Ok(Some(job)) => printer.count("job", u64::from(job)),
+        Ok(None) => printer.line("no job"),
+        Err(error) => tell_live_error(printer, error),
+    }
+}
+
+pub fn tell_order(printer: &mut Printer, order: Result<Order, LiveError>) {
     match order {
-        Order::Wait => printer.line("wait"),
-        Order::Play(order) => {
+        Ok(Order::Wait) => printer.line("wait"),
+        Ok(Order::Play(order)) => {
             printer.add(b"play");
             printer.next(order.ticket);
             printer.next(order.first_frame);
@@ -68,13 +83,14 @@ pub fn tell_order(printer: &mut Printer, order: &Order) {
             printer.add(b" ");
             printer.line(order.uri.as_str());
         }
+        Err(error) => tell_live_error(printer, error),
     }
 }
 
-pub fn tell_scan_order(printer: &mut Printer, order: &Option<ScanOrder>) {
+pub fn tell_scan_order(printer: &mut Printer, order: Result<Option<ScanOrder>, LiveError>) {
     match order {
-        None => printer.line("no scan"),
-        Some(order) => {
+        Ok(None) => printer.line("no scan"),
+        Ok(Some(order)) => {
             printer.add(b"scan");
             printer.next(u64::from(order.job()));
             printer.next(order.known().len() as u64);
@@ -84,6 +100,7 @@ pub fn tell_scan_order(printer: &mut Printer, order: &Option<ScanOrder>) {
                 None => "/",
             });
         }
+        Err(error) => tell_live_error(printer, error),
     }
 }
 

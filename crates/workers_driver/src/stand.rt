@@ -1,5 +1,5 @@
 //! The places that a worker's thread passes. At one of them it can be made to stand still, or what it does there fails.
-use crate::fault::Fault;
+use script_lines::Fault;
 use song_output::{Gate, Point};
 use stage_workers::Wake;
 use std::alloc::Global;
@@ -40,20 +40,6 @@ impl Place {
             _ => Err(Fault::NoDirective),
         }
     }
-
-    fn index(self) -> usize {
-        match self {
-            Place::List => 0,
-            Place::Open => 1,
-            Place::Read => 2,
-            Place::BeforeRead => 3,
-            Place::AfterRead => 4,
-            Place::BeforeWrite => 5,
-            Place::AfterWrite => 6,
-            Place::Write => 7,
-            Place::Report => 8,
-        }
-    }
 }
 
 /// What becomes of a thread at a place.
@@ -91,7 +77,7 @@ struct State {
 
 impl State {
     fn count(&self, place: Place) -> u64 {
-        match self.counts.get(place.index()) {
+        match self.counts.get(place as usize) {
             Some(count) => *count,
             None => 0,
         }
@@ -99,13 +85,13 @@ impl State {
 
     /// A thread comes to a place.
     fn note(&mut self, place: Place) -> Passage {
-        if let Some(count) = self.counts.get_mut(place.index()) {
+        if let Some(count) = self.counts.get_mut(place as usize) {
             *count = count.saturating_add(1);
         }
         let Some(plan) = self.plan else {
             return Passage::Free;
         };
-        if plan.place.index() != place.index() {
+        if plan.place as usize != place as usize {
             return Passage::Free;
         }
         self.plan = None;

@@ -1,19 +1,12 @@
-//! The threads over a stage.
-use crate::calls::{Stage, play, scan, served};
+//! What a thread does that serves events.
+use crate::calls::{Stage, served};
 use crate::event::event_of;
-use crate::fault::Fault;
-use crate::hand::Started;
-use crate::printer::Printer;
 use crate::shown::{tell_outputs, tell_stage_error};
-use crate::stand::Stand;
-use crossbeam_channel::Receiver;
-use song_db::ScanOrder;
+use script_lines::Printer;
 use stage_workers::Pass;
 use std::alloc::Global;
 use std::sync::Wait;
 use std::sync::ledger::Ledger;
-use std::thread::{JoinHandle, Scope, Threads};
-use std::time::Clock;
 
 /// What came of the events of a thread: its pass, the numbers of the events, and the outputs.
 #[derive(Drop)]
@@ -23,41 +16,30 @@ pub struct Done<C: Ledger, P: Ledger, S: Ledger> {
     pub printer: Printer,
 }
 
-/// Serves an event; whether it was read and its number kept.
+/// Serves an event, and keeps its number.
 fn serve<C: Ledger, P: Ledger, S: Ledger, R: Wait>(
     rt: &R,
     stage: &Stage<C, P, S>,
-    done: Done<C, P, S>,
+    pass: Pass<C, P, S>,
+    events: &mut Vec<u64>,
+    printer: &mut Printer,
     text: &str,
-) -> Done<C, P, S> {
-    let Done {
-        pass,
-        mut events,
-        mut printer,
-    } = done;
+) -> Pass<C, P, S> {
     let Ok(event) = event_of(printer.alloc, text) else {
         printer.line("no event");
-        return Done {
-            pass,
-            events,
-            printer,
-        };
+        return pass;
     };
     let (answer, pass) = served(rt, printer.alloc, stage, pass, event);
     match answer {
         Ok(served) => {
-            tell_outputs(&mut printer, served.turn.outputs());
+            tell_outputs(printer, served.turn.outputs());
             if events.push(served.turn.event()).is_err() {
-                printer.text(None);
+                printer.lack();
             }
         }
-        Err(error) => tell_stage_error(&mut printer, error),
+        Err(error) => tell_stage_error(printer, error),
     }
-    Done {
-        pass,
-        events,
-        printer,
-    }
+    pass
 }
 
 /// Serves these events, with ` ; ` between them.
@@ -68,73 +50,15 @@ pub fn serve_all<C: Ledger, P: Ledger, S: Ledger, R: Wait>(
     pass: Pass<C, P, S>,
     text: &str,
 ) -> Done<C, P, S> {
-    let mut done = Done {
-        pass,
-        events: Vec::new(alloc),
-        printer: Printer::new(alloc),
-    };
+    let mut pass = pass;
+    let mut events = Vec::new(alloc);
+    let mut printer = Printer::new(alloc);
     for text in text.split(" ; ") {
-        done = serve(rt, stage, done, text);
+        pass = serve(rt, stage, pass, &mut events, &mut printer, text);
     }
-    done
-}
-
-/// Starts a thread that serves these events.
-pub fn start_clients<
-    's,
-    E: 's,
-    C: Ledger + Send + Sync + 's,
-    P: Ledger + Send + Sync + 's,
-    S: Ledger + Send + Sync + 's,
-    R: Wait + Clock + Sync + 's,
->(
-    scope: &Scope<'s, E>,
-    rt: &'s R,
-    alloc: Global,
-    stage: &'s Stage<C, P, S>,
-    pass: Pass<C, P, S>,
-    text: String,
-) -> Result<JoinHandle<Done<C, P, S>>, Fault> {
-    let thread = move || serve_all(rt, alloc, stage, pass, text.as_str());
-    scope.spawn(thread).or(Err(Fault::NoThread))
-}
-
-/// Starts the player's thread.
-pub fn start_player<
-    's,
-    E: 's,
-    C: Ledger + Send + Sync + 's,
-    P: Ledger + Send + Sync + 's,
-    S: Ledger + Send + Sync + 's,
-    R: Wait + Clock + Sync + 's,
->(
-    scope: &Scope<'s, E>,
-    rt: &'s R,
-    host: &'s HostRuntime,
-    stage: &'s Stage<C, P, S>,
-    stand: &'s Stand<'s, R>,
-    pass: Pass<C, P, S>,
-) -> Started<C, P, S> {
-    let thread = move || play(rt, host, stage, stand, pass);
-    scope.spawn(thread).or(Err(Fault::NoThread))
-}
-
-/// Starts the scan's thread.
-pub fn start_scan<
-    's,
-    E: 's,
-    C: Ledger + Send + Sync + 's,
-    P: Ledger + Send + Sync + 's,
-    S: Ledger + Send + Sync + 's,
-    R: Wait + Clock + Sync + 's,
->(
-    scope: &Scope<'s, E>,
-    rt: &'s R,
-    host: &'s HostRuntime,
-    stage: &'s Stage<C, P, S>,
-    stand: &'s Stand<'s, R>,
-    (pass, orders): (Pass<C, P, S>, Receiver<ScanOrder>),
-) -> Started<C, P, S> {
-    let thread = move || scan(rt, host, stage, stand, (pass, orders));
-    scope.spawn(thread).or(Err(Fault::NoThread))
+    Done {
+        pass,
+        events,
+        printer,
+    }
 }

@@ -1,7 +1,7 @@
 //! Records and ops applied to the state.
 use super::Codec;
 use super::ops::read;
-use crate::fault::Fault;
+use crate::fault::{Fault, unapplied};
 use crate::given::numbered;
 use crate::printer::Printer;
 use state_codec::{ApplyError, BodyError, Op, OpRefusal, Saved};
@@ -23,7 +23,7 @@ fn apply(state: &mut Saved, alloc: Global, op: Op) -> Result<(), ApplyError> {
 
 fn apply_all(state: &mut Saved, alloc: Global, layout: u32, bytes: &[u8]) -> Result<(), Fault> {
     for op in read(alloc, layout, bytes)? {
-        apply(state, alloc, op)?;
+        apply(state, alloc, op).map_err(unapplied)?;
     }
     Ok(())
 }

@@ -1,5 +1,5 @@
 //! Ops as they are read, and their bytes.
-use crate::fault::Fault;
+use crate::fault::{Fault, unread};
 use crate::printer::Printer;
 use no_memory::NoMemory;
 use state_codec::{CodecError, Op, put_op, take_ops};
@@ -21,7 +21,7 @@ fn copy_of(alloc: Global, op: &Op) -> Result<Op, AllocError> {
 
 /// The ops that bytes spell in a layout, where they spell some.
 pub fn read(alloc: Global, layout: u32, bytes: &[u8]) -> Result<Vec<Op>, Fault> {
-    Ok(taken(alloc, layout, bytes)?)
+    taken(alloc, layout, bytes).map_err(unread)
 }
 
 /// What is wrong with ops, if anything is.

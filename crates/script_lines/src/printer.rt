@@ -29,7 +29,7 @@ impl Printer {
         self.bytes.clear();
     }
 
-    /// Ends what a line prints: whether all of it is there.
+    /// Ends what a line prints with a point: whether all of it is there.
     pub fn end(&mut self) -> Result<(), Fault> {
         self.add(b".\n");
         if self.is_short {
@@ -39,9 +39,14 @@ impl Printer {
         }
     }
 
+    /// Memory was refused to something that the line was to do.
+    pub fn lack(&mut self) {
+        self.is_short = true;
+    }
+
     pub fn add(&mut self, bytes: &[u8]) {
         if self.bytes.extend_from_slice(bytes).is_err() {
-            self.is_short = true;
+            self.lack();
         }
     }
 
@@ -54,7 +59,7 @@ impl Printer {
     pub fn text(&mut self, text: Option<String>) {
         match text {
             Some(text) => self.add(text.as_bytes()),
-            None => self.is_short = true,
+            None => self.lack(),
         }
     }
 
@@ -75,14 +80,16 @@ impl Printer {
         self.add(b"\n");
     }
 
+    /// The bytes in hex digits.
+    pub fn digits(&mut self, bytes: &[u8]) {
+        self.text(hex::encode(self.alloc, bytes).ok());
+    }
+
     /// A word and the bytes in hex digits, or `-` where there are none.
     pub fn hex(&mut self, word: &str, bytes: &[u8]) {
         self.add(word.as_bytes());
-        self.add(b" ");
-        if bytes.is_empty() {
-            self.add(b"-");
-        }
-        self.text(hex::encode(self.alloc, bytes).ok());
+        self.add(if bytes.is_empty() { b" -" } else { b" " });
+        self.digits(bytes);
         self.add(b"\n");
     }
 
@@ -91,9 +98,10 @@ impl Printer {
         self.text(format!(in self.alloc; "refused {number} {error}\n").ok());
     }
 
-    /// Bytes that a client gets, each line behind the client's number. A last line without its end has `%` behind it.
-    pub fn output(&mut self, client: u64, bytes: &[u8]) {
-        let mut is_inside = false;
+    /// Bytes that a client gets, each line behind the client's number, the first one unless it goes on with a line that has begun. Whether
+    /// the last line has no end yet.
+    pub fn sent(&mut self, client: u64, bytes: &[u8], goes_on: bool) -> bool {
+        let mut is_inside = goes_on;
         for byte in bytes {
             if !is_inside {
                 self.number(client);
@@ -102,8 +110,19 @@ impl Printer {
             self.add(&[*byte]);
             is_inside = *byte != b'\n';
         }
-        if is_inside {
+        is_inside
+    }
+
+    /// All bytes that a client gets. A last line without its end has `%` behind it.
+    pub fn output(&mut self, client: u64, bytes: &[u8]) {
+        if self.sent(client, bytes, false) {
             self.add(b"%\n");
         }
+    }
+
+    /// The connection of a client ends.
+    pub fn closed(&mut self, client: u64) {
+        self.number(client);
+        self.line(" closed");
     }
 }

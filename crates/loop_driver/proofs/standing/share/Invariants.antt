@@ -1,4 +1,4 @@
-use Rattle.loop_driver.proofs.standing.begin_stage.Given as goal
+use Rattle.loop_driver.proofs.standing.share.Given as goal
 
 abbrev pub ghosts-stand-C-Ledger : goal.ghosts-stand-C-Ledger
 ghosts-stand-C-Ledger g a = record { name = a.blanks.clients.name; parts = a.blanks.clients.parts }

@@ -1,19 +1,28 @@
-//! Words of the input.
+//! Words of a line.
 use crate::fault::Fault;
 use hex::FromHexError;
-use stage_workers::Kind;
 use std::alloc::Global;
+use std::str::FromStr;
 
 /// The first word of a text, and what stands behind the space after it.
 pub fn first_word<'a>(text: &'a str) -> (&'a str, &'a str) {
     text.split_once(' ').unwrap_or((text, ""))
 }
 
-pub fn number(text: &str) -> Result<u64, Fault> {
-    match text.parse::<u64>() {
+/// The number that a text is, of any type of numbers.
+pub fn number<N: FromStr>(text: &str) -> Result<N, Fault>
+where
+    N::Err: Drop,
+{
+    match text.parse::<N>() {
         Ok(number) => Ok(number),
         Err(_) => Err(Fault::NoNumber),
     }
+}
+
+/// The byte that a number is.
+pub fn byte(text: &str) -> Result<u8, Fault> {
+    number(text)
 }
 
 /// The number at the front of a text, and what stands behind it.
@@ -31,22 +40,5 @@ pub fn bytes(alloc: Global, text: &str) -> Result<Vec<u8>, Fault> {
         Ok(bytes) => Ok(bytes),
         Err(FromHexError::OutOfMemory) => Err(Fault::NoMemory),
         Err(_) => Err(Fault::NoBytes),
-    }
-}
-
-pub fn kind(word: &str) -> Result<Kind, Fault> {
-    match word {
-        "clients" => Ok(Kind::Clients),
-        "player" => Ok(Kind::Player),
-        "scan" => Ok(Kind::Scan),
-        _ => Err(Fault::NoDirective),
-    }
-}
-
-pub fn name_of(kind: Kind) -> &'static str {
-    match kind {
-        Kind::Clients => "clients",
-        Kind::Player => "player",
-        Kind::Scan => "scan",
     }
 }
