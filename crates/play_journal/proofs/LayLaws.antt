@@ -1,37 +1,14 @@
 -- What a crash leaves in the three steps in which a file is laid down.
 use Rattle.std.proofs.Common.{◌≡◌, ◌⊎◌, inl, inr, ℕ, ◌+◌, ◌<◌, ◌≤◌, List, [], ◌∷◌, ◌++◌, length, length-append, take, drop, get_or}
-use Rattle.std.proofs.Common.{append_assoc, arith, refl, sym, ap, subst, ◌∙◌}
-use Rattle.std.specs.Prelude.{slice_index}
+use Rattle.std.proofs.Common.{append_assoc, arith, refl, sym, ap, ◌∙◌}
 use Rattle.std.proofs.lemmas.Bool.{cases_eq}
-use Rattle.std.proofs.lemmas.List.{take_at, length-take-le, get_or-take, drop_more, drop_at}
+use Rattle.std.proofs.lemmas.List.{take_at, length-take-le, get_or-take, drop_at}
 use Rattle.disk_model.specs.Calls.{overwritten}
 use Rattle.disk_model.specs.Torn.{Torn}
 use Rattle.disk_model.proofs.BehindLaws.{KeepsBefore}
 use Rattle.play_journal.specs.File.{open_gate, IsClosed, IsShut}
 use Rattle.play_journal.specs.Laying.{IsSameOrShut, IsLaidDown}
 use Rattle.play_journal.proofs.AppendLaws.{torn_byte}
-
--- a byte and what follows it
-first_part : (bytes : List ℕ) → 0 < length bytes → bytes ≡ get_or bytes 0 0 ∷ drop 1 bytes
-first_part bytes some = drop_more bytes 0 0 some
-
--- ---- the gate is closed
-
-closing : (bytes image : List ℕ) → 0 < length bytes → slice_index bytes 0 ≡ open_gate → Torn 0 1 bytes image → IsSameOrShut bytes image
-closing bytes image some opened torn = elim (cases_eq (get_or image 0 0) open_gate) [
-  | inl still ↦ inl (torn_byte 0 bytes image some torn ∙ ap (λ (n : ℕ). n ∷ drop 1 bytes) (still ∙ sym opened)
-      ∙ sym (first_part bytes some))
-  | inr closed ↦ inr (inr closed)
-]
-
-pub closes : (bytes image : List ℕ) → (bytes ≡ []) ⊎ (slice_index bytes 0 ≡ open_gate) → Torn 0 1 bytes image → IsSameOrShut bytes image
-closes [] image needed torn = inr (inl (omega (arith, torn.no_longer)))
-closes (byte ∷ bytes) image (inl none) torn = absurd cc
-closes (byte ∷ bytes) image (inr opened) torn = closing (byte ∷ bytes) image (omega arith) opened torn
-
-pub is_closed : (bytes closed : List ℕ) → closed ≡ overwritten bytes 0 (0 ∷ []) → IsClosed closed
-is_closed bytes closed is =
-    subst (λ (l : List ℕ). IsClosed l) (sym is) (record { stands = omega arith; closed = λ same. omega arith })
 
 -- ---- the file is written behind the closed gate
 

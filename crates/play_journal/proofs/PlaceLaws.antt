@@ -1,5 +1,5 @@
 -- The two disks of a journal, whichever of them is in use.
-use Rattle.std.proofs.Common.{◌≡◌, inl, ℕ, Bool, true, false, List, length, Option, Some, refl, ap, subst, ◌∙◌}
+use Rattle.std.proofs.Common.{◌≡◌, inl, ℕ, Bool, true, false, List, length, Option, Some, ap, subst, ◌∙◌}
 use Rattle.disk_model.specs.History.{Change}
 use Rattle.std.specs.Prelude.{not}
 use Rattle.disk_model.specs.Later.{IsLater, AreLater}
@@ -49,11 +49,6 @@ kept_layout here there h o end layout generation base count kept = ap (λ (c : C
 pub kept_known : (here there : List ℕ) (h o : List Change) (end layout generation base count : ℕ)
     → IsKept here there h o end layout generation base count → IsKnownLayout layout
 kept_known here there h o end layout generation base count kept = subst IsKnownLayout kept.in_use.laid kept.in_use.is_file.fits.layout
-
--- what stands at the place of the file in use stands where it was
-pub placed_back : {D : Type 0} (swapped : Bool) (a b : D) → at_place swapped (at_place swapped a b) (at_place swapped b a) ≡ a
-placed_back true a b = refl
-placed_back false a b = refl
 
 -- a record was added to the file in use, or may have been
 pub added_since : {D : Type 0} (history : D → List Change) (P : Option Content → Type 0) (swapped : Bool) (here new there : D)
@@ -105,18 +100,6 @@ module _ {D : Type 0} (honest : D → Type 0) (history : D → List Change) (fau
       (at_place swapped there new)
   later_here true here there new later = record { a = later_begin honest history faults there; b = later }
   later_here false here there new later = record { a = later; b = later_begin honest history faults there }
-
-  pub later_there : (swapped : Bool) (here there new : D) → IsLater honest history faults there new
-      → AreLater honest history faults (at_place swapped here there) (at_place swapped there here) (at_place swapped here new)
-      (at_place swapped new here)
-  later_there true here there new later = record { a = later; b = later_begin honest history faults here }
-  later_there false here there new later = record { a = later_begin honest history faults here; b = later }
-
-  pub later_swapped : (swapped : Bool) (here there new : D) → IsLater honest history faults there new
-      → AreLater honest history faults (at_place swapped here there) (at_place swapped there here) (at_place (not swapped) new here)
-      (at_place (not swapped) here new)
-  later_swapped true here there new later = record { a = later; b = later_begin honest history faults here }
-  later_swapped false here there new later = record { a = later_begin honest history faults here; b = later }
 
 pub old_or_new : (content : Content) (snapshot : List ℕ) (f : Option Content) → f ≡ Some content → IsOldOrNew content snapshot f
 old_or_new content snapshot f is = inl is

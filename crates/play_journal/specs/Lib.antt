@@ -10,4 +10,5 @@ pub mod Opening
 pub mod Pair
 pub mod Reading
 pub mod Room
+pub mod Steps
 pub mod Stored

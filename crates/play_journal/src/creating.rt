@@ -1,14 +1,12 @@
 // Laying down the first file.
 ghost use Rattle.std.specs.Prelude.{◌≡◌, ◌↔◌, ◌+◌, ◌-◌, ◌^◌, ◌<◌, ◌≤◌, ◌≢◌, ◌⊎◌, [], ◌∷◌, ◌++◌, length, vec_capacity, Err, IfOk, IfErr};
 ghost use Rattle.std.specs.Prelude.{OnErr, OnOk};
-ghost use Rattle.disk_model.specs.Faults.{HasGrown};
-ghost use Rattle.disk_model.specs.Images.{window, settled};
 ghost use Rattle.disk_model.specs.Later.{AreLater, HasFailed};
 ghost use Rattle.play_journal.specs.Calls.{SameFaults};
 ghost use Rattle.play_journal.specs.Content.{present_layout};
-ghost use Rattle.play_journal.specs.Errors.{IsRefusalOfCreate};
 ghost use Rattle.play_journal.specs.File.{open_gate, head};
 ghost use Rattle.play_journal.specs.Room.{room};
+ghost use Rattle.play_journal.specs.Steps.{IsLaidFirst, IsRefusalOverEmpty, AreUntouched};
 
 use crate::JournalError;
 use crate::laying::{head_bytes, lay_down};
@@ -27,20 +25,15 @@ pub(crate) fn fresh_journal<D: Disk>(
     b: &mut D,
     snapshot: &[u8],
 ) -> Result<(Vec<u8>, u64), JournalError>
-    ensures written { D.honest a.old → OnOk result (D.content a.new ≡ open_gate ∷ head present_layout 1 0 (length snapshot.now)
-        ++ snapshot.now ++ 0 ∷ []) }
-    ensures settled_a { D.honest a.old → OnOk result (window (D.history a.new) ≡ settled (D.content a.new)) }
-    ensures settled_b { D.honest b.old → OnOk result (window (D.history b.new) ≡ settled (D.content b.new)) }
-    ensures content_b { D.honest b.old → OnOk result (D.content b.new ≡ D.content b.old) }
+    ensures laid { OnOk result (IsLaidFirst D.honest D.history D.content a.old b.old a.new b.new
+        (open_gate ∷ head present_layout 1 0 (length snapshot.now) ++ snapshot.now ++ 0 ∷ [])) }
     ensures room { IfOk result (λ r. room ≤ vec_capacity r.0) }
     ensures end { IfOk result (λ r. r.1 ≡ 32 + length snapshot.now) }
     ensures too_long { (result ≡ Err JournalError.TooLong) ↔ (4294967295 < length snapshot.now) }
     ensures later { AreLater D.honest D.history D.faults a.old b.old a.new b.new }
     ensures fault { D.honest a.old → D.honest b.old → result ≡ Err JournalError.DiskFault → HasFailed D.faults a.old b.old a.new b.new }
-    ensures nothing_else { IfErr result IsRefusalOfCreate }
-    ensures not_empty { IfErr result (λ e. e ≢ JournalError.NotEmpty) }
-    ensures stays_a { IfErr result (λ e. e ≢ JournalError.DiskFault → a.new ≡ a.old) }
-    ensures stays_b { IfErr result (λ e. e ≢ JournalError.DiskFault → b.new ≡ b.old) }
+    ensures nothing_else { IfErr result IsRefusalOverEmpty }
+    ensures stays { IfErr result (λ e. e ≢ JournalError.DiskFault → AreUntouched a.old b.old a.new b.new) }
     ensures met_none { OnOk result (SameFaults D.faults a.old b.old a.new b.new) }
 {
     if snapshot.len() > LONGEST_SNAPSHOT {

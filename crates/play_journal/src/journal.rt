@@ -6,11 +6,11 @@ ghost use Rattle.play_journal.specs.Calls.{Holds, IsNew, IsOpened, IsNextRecord,
 ghost use Rattle.play_journal.specs.Calls.{AreItsNumbers, RefusesRecord};
 ghost use Rattle.play_journal.specs.Content.{fresh, with_record, with_snapshot, IsBeforeOrAfter, IsOldOrNew};
 ghost use Rattle.play_journal.specs.Errors.{IsRefusalOfCreate, IsRefusalOfOpen, IsRefusalOfAppend, IsRefusalOfCheckpoint};
-ghost use Rattle.play_journal.specs.FileRead.{content_read};
 ghost use Rattle.play_journal.specs.JournalState.{at_place, content_in, IsKept};
 ghost use Rattle.play_journal.specs.Opening.{IsCause};
 ghost use Rattle.play_journal.specs.Pair.{reading, AllPairsNow, AllPairsSince, KeepsFound};
 ghost use Rattle.play_journal.specs.Room.{room};
+ghost use Rattle.play_journal.specs.Steps.{IsReady, HasNumbersOf};
 
 use crate::appending::{append_at, put_record};
 use crate::creating::{LONGEST_SNAPSHOT, fresh_journal};
@@ -338,17 +338,13 @@ fn placed<D>(swapped: bool, first: D, second: D) -> (D, D)
 
 // The journal over a file that was opened, and what stands in it.
 fn opened_journal<D: Disk>(opened: Opened, swapped: bool, a: D, b: D) -> (Journal<D>, Stored)
-    requires room { room ≤ vec_capacity opened.buffer }
-    requires numbers { opened.file.base + length opened.file.stored.records < 2 ^ 64 }
+    requires ready { IsReady (vec_capacity opened.buffer) opened.file }
     requires in_use { D.honest a → D.honest b → IsKept (D.content (at_place swapped a b)) (D.content (at_place swapped b a))
         (D.history (at_place swapped a b)) (D.history (at_place swapped b a)) opened.file.end opened.file.layout opened.file.generation
         opened.file.base (length opened.file.stored.records) }
     ensures a { result.0.a ≡ a }
     ensures b { result.0.b ≡ b }
-    ensures layout { result.0.layout ≡ opened.file.layout }
-    ensures generation { result.0.generation ≡ opened.file.generation }
-    ensures base { result.0.base ≡ opened.file.base }
-    ensures count { result.0.count ≡ length opened.file.stored.records }
+    ensures numbers { HasNumbersOf opened.file result.0 }
     ensures content { result.0.content ≡ content_in (D.content (at_place swapped a b)) }
     ensures usable { result.0.is_spent ≡ false }
     ensures in_b { result.0.is_in_b ≡ swapped }

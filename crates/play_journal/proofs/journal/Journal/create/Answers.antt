@@ -16,17 +16,17 @@ short g c = elim (cases_lt 4294967295 (length c.args.snapshot.now)) [
 empty : (g : _) (c : goal.In-Ok g) → g.D.Disk.honest c.args.b → g.D.Disk.content c.fresh_journal.new.b ≡ []
 empty g c b =
     let empty_b : IsTrue c.is_empty-else-not-is_empty.result = search rules in
-    c.in-Ok.ensures.content_b b ∙ (c.is_empty-else-not-is_empty.ensures b).0 empty_b
+    c.in-Ok.ensures.laid.other b ∙ (c.is_empty-else-not-is_empty.ensures b).0 empty_b
 
 written : (g : _) (c : goal.In-Ok g) → g.D.Disk.honest c.args.a → g.D.Disk.honest c.args.b
     → IsKept (g.D.Disk.content c.fresh_journal.new.a) (g.D.Disk.content c.fresh_journal.new.b) (g.D.Disk.history c.fresh_journal.new.a)
     (g.D.Disk.history c.fresh_journal.new.b) c.in-Ok.end present_layout 1 0 0
     × (content_in (g.D.Disk.content c.fresh_journal.new.a) ≡ fresh c.args.snapshot.now)
 written g c a b =
-    let here = c.in-Ok.ensures.written a in (
+    let here = c.in-Ok.ensures.laid.written a in (
       fresh_kept (g.D.Disk.content c.fresh_journal.new.a) (g.D.Disk.content c.fresh_journal.new.b) c.args.snapshot.now
           (g.D.Disk.history c.fresh_journal.new.a) (g.D.Disk.history c.fresh_journal.new.b) c.in-Ok.end
-          here (empty g c b) c.in-Ok.ensures.end (short g c) (c.in-Ok.ensures.settled_a a) (c.in-Ok.ensures.settled_b b),
+          here (empty g c b) c.in-Ok.ensures.end (short g c) (c.in-Ok.ensures.laid.settled.a a) (c.in-Ok.ensures.laid.settled.b b),
       laid_content (g.D.Disk.content c.fresh_journal.new.a) c.args.snapshot.now 1 0 here (lit< tt) (lit< tt) (short g c),
     )
 

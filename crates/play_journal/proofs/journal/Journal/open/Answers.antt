@@ -15,7 +15,7 @@ returns-in-Err-clause-any_moment g c = λ a b.
 pub returns-in-Ok-clause-kept : goal.returns-in-Ok-clause-kept
 returns-in-Ok-clause-kept g c = λ a b. rw (c.opened_journal.ensures.a, c.opened_journal.ensures.b, c.opened_journal.ensures.content)
     (placed_now g.D.Disk.content g.D.Disk.history c.in-Ok.swapped c.open_files.new.a c.open_files.new.b _ _ _ _ _
-    (c.in-Ok.ensures.in_use a b))
+    (c.in-Ok.ensures.opened a b).in_use)
 
 pub returns-in-Err-clause-opens : goal.returns-in-Err-clause-opens
 returns-in-Err-clause-opens g c = λ a b all.
