@@ -4,3 +4,4 @@ pub mod Steps
 pub mod Sessions
 pub mod StreamLaws
 pub mod ListLaws
+pub mod ReadLines

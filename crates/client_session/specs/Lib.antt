@@ -1,5 +1,6 @@
 pub mod Lines
 pub mod Lists
 pub mod Requests
+pub mod Reading
 pub mod Session
 pub mod Refusal
