@@ -71,11 +71,6 @@ impl<S: Stream, L: Listener<S>, P: Ready<S>> Clients<S, L, P> {
         &mut self.listener
     }
 
-    /// What tells which streams are ready.
-    pub fn ready_mut(&mut self) -> &mut P {
-        &mut self.ready
-    }
-
     /// How many clients are connected.
     pub fn len(&self) -> usize {
         self.connections.len()

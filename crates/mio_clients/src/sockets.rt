@@ -57,6 +57,9 @@ impl Write for Link {
 }
 
 /// A client's socket. After `READ_BUDGET` bytes a read answers `WouldBlock` once, so that the other clients come to their turn.
+///
+/// So it does, without asking the system, behind a read that gave fewer bytes than it had room for and ended with a newline: there were no
+/// more, and the system tells of those that come later. A stream of which it has told the end is read until that is found.
 #[derive(Drop)]
 pub struct Socket {
     link: Link,
@@ -64,6 +67,12 @@ pub struct Socket {
     taken: usize,
     // That was no real one: there may be more to read.
     rests: bool,
+    // The last read took all that there was.
+    is_drained: bool,
+    // The last `WouldBlock` was no real one: there is nothing more to read but maybe the end.
+    is_spared: bool,
+    // The system has told that the client sends nothing more, or that the stream has failed.
+    has_ended: bool,
     // It is registered for writing too.
     writes: bool,
     failed: bool,
@@ -75,6 +84,9 @@ impl Socket {
             link,
             taken: 0,
             rests: false,
+            is_drained: false,
+            is_spared: false,
+            has_ended: false,
             writes: false,
             failed: false,
         }
@@ -86,7 +98,9 @@ impl Stream for Socket {
 
     fn read(&mut self, buf: &mut [u8]) -> io::Result<usize> {
         self.rests = self.taken >= READ_BUDGET;
-        if self.rests {
+        self.is_spared = self.is_drained;
+        self.is_drained = false;
+        if self.rests || self.is_spared {
             self.taken = 0;
             return Err(io::Error::from(ErrorKind::WouldBlock));
         }
@@ -94,6 +108,7 @@ impl Stream for Socket {
         match self.link.read(&mut buf[..room]) {
             Ok(count) => {
                 self.taken = self.taken.saturating_add(count);
+                self.is_drained = !self.has_ended && count < room && buf[..count].ends_with(b"\n");
                 Ok(count)
             }
             Err(error) => {
@@ -120,25 +135,11 @@ impl Stream for Socket {
 pub struct SocketListener {
     tcp: Option<TcpListener>,
     unix: Option<UnixListener>,
-    // Why the last `accept` failed, as long as it was not told.
-    fault: Option<ErrorKind>,
-    // It has failed, and none succeeded since.
-    is_failing: bool,
 }
 
 impl SocketListener {
     pub fn new(tcp: Option<TcpListener>, unix: Option<UnixListener>) -> Self {
-        SocketListener {
-            tcp,
-            unix,
-            fault: None,
-            is_failing: false,
-        }
-    }
-
-    /// Why no client can be accepted, told once: from the first failure to the next client.
-    pub fn take_fault(&mut self) -> Option<ErrorKind> {
-        self.fault.take()
+        SocketListener { tcp, unix }
     }
 
     // The next connection of the TCP socket.
@@ -164,22 +165,9 @@ impl SocketListener {
 
 impl Listener<Socket> for SocketListener {
     fn accept(&mut self) -> io::Result<Socket> {
-        let accepted = match self.accept_tcp() {
+        match self.accept_tcp() {
             Err(error) if error.kind() == ErrorKind::WouldBlock => self.accept_unix(),
-            other => other,
-        };
-        match accepted {
-            Ok(socket) => {
-                self.is_failing = false;
-                Ok(socket)
-            }
-            Err(error) => {
-                if is_fault(error.kind()) && !self.is_failing {
-                    self.is_failing = true;
-                    self.fault = Some(error.kind());
-                }
-                Err(error)
-            }
+            accepted => accepted,
         }
     }
 }
@@ -194,6 +182,8 @@ pub struct SocketReady {
     next: usize,
     // The keys of streams that were not read to their end.
     again: Vec<usize>,
+    // The keys of streams whose client sends nothing more, or that have failed, as the last wait found.
+    ended: Vec<usize>,
 }
 
 impl SocketReady {
@@ -214,6 +204,7 @@ impl SocketReady {
             found: Vec::with_capacity(alloc, EVENT_LIMIT + CLIENT_LIMIT)?,
             next: 0,
             again: Vec::with_capacity(alloc, CLIENT_LIMIT)?,
+            ended: Vec::with_capacity(alloc, EVENT_LIMIT)?,
         })
     }
 
@@ -263,10 +254,14 @@ impl Ready<Socket> for SocketReady {
             stream.writes = writes;
             self.reregister(stream, key)?;
         }
-        if writes || !(stream.rests || interest == Interest::Again) {
+        // The end stays with the stream, however much of it is still to be read before.
+        stream.has_ended |= self.ended.contains(&key);
+        let hides_end = stream.has_ended && stream.is_spared;
+        if writes || !(hides_end || stream.rests || interest == Interest::Again) {
             return Ok(());
         }
         stream.rests = false;
+        stream.is_spared = false;
         // Without room for it, the system is asked to tell of it anew.
         match self.again.push(key) {
             Ok(()) => Ok(()),
@@ -294,9 +289,13 @@ impl Ready<Socket> for SocketReady {
             let _kept = self.found.push(Token::Client(*key));
         }
         self.again.clear();
+        self.ended.clear();
         self.poll.poll(&mut self.events, Some(limit))?;
         for event in &self.events {
             let _kept = self.found.push(token_of(event.token()));
+            if event.is_read_closed() || event.is_error() {
+                let _told = self.ended.push(event.token().0);
+            }
         }
         Ok(())
     }
