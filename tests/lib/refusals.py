@@ -230,7 +230,9 @@ def stickers(full):
     known = words("n", *BAD_STICKERS, ("gone", NO_STICKER))
     value = words("v", ("v" * 4097, BAD))
     other = ["album", "zzz", "x=y", "v", "v"]
-    yield Command("sticker", [words("get", ("Get", BAD), ("zzz", BAD))[1:], [Word("album zzz x=y v v v"), None]], None, [[]])
+    miscounted = [[], ["zzz"], ["Get", "song"], ["zzz", *other, "v"], ["get", *other, "v"]]
+    forms = words("get", ("Get", BAD), ("zzz", BAD))[1:]
+    yield Command("sticker", [forms, words("album zzz") + words("album zzz x=y v v")], None, miscounted)
     yield Command("sticker", [[Word("get")], kinds, SONG, known], None, [["get"], ["get", *other[:2]], ["get", *other[:4]]])
     fresh = words("fresh", *BAD_STICKERS)
     yield Command("sticker", [[Word("set")], kinds, SONG, fresh, value], full, [["set", *other[:3]], ["set", *other]])

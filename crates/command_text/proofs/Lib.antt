@@ -15,3 +15,4 @@ pub mod AckLength
 pub mod ControlLaws
 pub mod LinesLaws
 pub mod NameSearch
+mod WordsText

@@ -1,5 +1,5 @@
 -- The five forms of `sticker`; its arguments are counted from the form's word.
-use Rattle.std.specs.Prelude.{List, [], ◌∷◌, Option, Some, None, Result, Ok, Err, codes, if◌then◌else◌}
+use Rattle.std.specs.Prelude.{nat_le, ◌&&◌, List, [], ◌∷◌, length, Option, Some, None, Result, Ok, Err, codes, if◌then◌else◌}
 use Rattle.std.specs.Option.{option_map}
 use Rattle.std.specs.Str.{bytes_eq}
 use Rattle.command_text.specs.declared.command.sticker.StickersCommand.{StickersCommand}
@@ -70,6 +70,7 @@ form_of form words =
     else (if bytes_eq form (codes "list") then list_of words
     else (if bytes_eq form (codes "find") then find_of words else Err (BadArgument 1)))))
 
+-- with two to five words behind the form's
 abbrev pub stickers_of : List Word → Result StickersCommand CommandRefusal
 stickers_of [] = Err WrongCount
-stickers_of (form ∷ words) = form_of form words
+stickers_of (form ∷ words) = if nat_le 2 (length words) && nat_le (length words) 5 then form_of form words else Err WrongCount

@@ -1,6 +1,8 @@
 //! Laws of the definitions that the contracts cite.
 
-ghost use Rattle.std.specs.Prelude.{◌≡◌, ◌<◌, ◌≤◌, ◌^◌, ◌↔◌, ℕ, List, Option, Some, Ok, Err, Contains, IsSorted, length, map};
+ghost use Rattle.std.specs.Prelude.{◌≡◌, ◌<◌, ◌≤◌, ◌^◌, ◌↔◌, ℕ, List, Option, Some, Ok, Err, Contains, IsSorted, length, map, true};
+ghost use Rattle.std.specs.List.{list_all};
+ghost use Rattle.std.specs.Str.{is_utf8};
 ghost use Rattle.std.specs.Cmp.Lexicographic.{slice_cmp};
 ghost use Rattle.std.specs.Ordering.{nat_cmp};
 ghost use Rattle.command_text.specs.declared.command.NamedCommand.{NamedCommand};
@@ -17,6 +19,12 @@ ghost use Rattle.command_text.specs.declared.answer.TheConstants.{WANT_OF_MEMORY
 /// A line has the words that the grammar gives it, and so at most one list of them.
 pub fn words_are_the_grammar()
     ensures { (line : List ℕ) (words : List (List ℕ)) → (words_of line ≡ Some words) ↔ AreWordsOfLine line words }
+{}
+
+/// The words of a line that is UTF-8 are UTF-8, each of them: no word of a line that is read is refused for its bytes.
+pub fn words_are_text()
+    ensures { (line : List ℕ) (words : List (List ℕ)) →
+        is_utf8 line ≡ true → words_of line ≡ Some words → list_all is_utf8 words ≡ true }
 {}
 
 /// Each name is listed; the command is found by its text, and by no other word.

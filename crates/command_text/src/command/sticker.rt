@@ -35,13 +35,19 @@ pub enum ValueBound<'w> {
     Greater(Text<'w>),
 }
 
-/// The form that the first argument names, with those behind it.
+/// The form that the first argument names, with those behind it: two to five, and then as many as the form has.
 pub(crate) fn read<'w>(words: &'w [LineWord<'_>]) -> Result<StickersCommand<'w>, CommandRefusal>
     ensures { result ≡ stickers_of words.now }
 {
     match words {
         [] => Err(CommandRefusal::WrongCount),
-        [form, words @ ..] => of_form(form.bytes(), words),
+        [form, words @ ..] => {
+            if 2 <= words.len() && words.len() <= 5 {
+                of_form(form.bytes(), words)
+            } else {
+                Err(CommandRefusal::WrongCount)
+            }
+        }
     }
 }
 
