@@ -7,7 +7,7 @@ use Rattle.std.specs.Prelude.{not, ◌==◌}
 use Rattle.daemon_core.specs.Handled.{Does}
 use Rattle.daemon_core.specs.Parts.{state_of}
 use Rattle.daemon_core.specs.Request.{ran_of}
-use Rattle.daemon_core.specs.Room.{IsRoomFor, IsReadyToTell, KeepsRoom}
+use Rattle.daemon_core.specs.Room.{IsReadyToTell, KeepsRoom}
 use Rattle.daemon_core.specs.Session.{of_ran}
 use Rattle.daemon_core.specs.declared.handled.Handled.{Handled}
 use Rattle.daemon_core.specs.declared.outcome.Ending.{Ending}
@@ -23,11 +23,6 @@ ready_left before after c has gone kept =
     fewer_fit (length before.watch) (length after.watch) after.room
     (still_fits (length before.watch) before.room after.room has kept)
     (omega (arith, shorter, filtered_shorter (λ w. not (w.client == c)) before.watch))
-
-pub ready_kept : (before after : CoreParts) → IsReadyToTell before → after.watch ≡ before.watch → KeepsRoom before.room after.room →
-    IsReadyToTell after
-ready_kept before after has same kept =
-    subst (λ ws. IsRoomFor (length ws) after.room) (sym same) (still_fits (length before.watch) before.room after.room has kept)
 
 -- a request that ended so
 pub ends_so : (c : ℕ) (before after : CoreParts) (work : Work) (end : RequestEnd) (handled : Handled) (ending : Ending) →

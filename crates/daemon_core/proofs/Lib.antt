@@ -13,6 +13,9 @@ mod QuietLaws
 mod StrayLaws
 mod KillLaws
 mod LeavingLaws
+mod UnchangedLaws
+mod Lasting
+mod SoundLaws
 mod SongForms
 mod SongSettings
 mod SongDatabase

@@ -27,9 +27,8 @@ use Rattle.state_codec.specs.Spelling.{ops_bytes}
 use Rattle.state_codec.specs.declared.op.Op.{Op}
 use Rattle.daemon_core.specs.Handled.{Does}
 use Rattle.daemon_core.specs.Parts.{state_of}
-use Rattle.daemon_core.specs.Request.{stop_of_reading, ran_of, WentOn, IsStop, Stopped, RunsLine, HasRoomToStop, AnswersStop}
+use Rattle.daemon_core.specs.Request.{stop_of_reading, ran_of, WentOn, IsStop, Stopped, RunsLine, AnswersStop}
 use Rattle.daemon_core.specs.Request.{RunsLines}
-use Rattle.daemon_core.specs.Room.{KeepsRoom, HasRoomToEnd}
 use Rattle.daemon_core.specs.Session.{of_ran, runs}
 use Rattle.daemon_core.specs.Run.{Did, Goes, Refuses, Ends, ending_of, did_of, unless_it_ends, performed, read_and_performed, attempted}
 use Rattle.daemon_core.specs.Run.{Ran, ends, wants_memory, preceded, follow, is_refused_at, ran}
@@ -39,7 +38,6 @@ use Rattle.daemon_core.specs.declared.outcome.Ending.TheVariants.{Answered, Clos
 use Rattle.daemon_core.specs.declared.parts.CoreParts.{CoreParts}
 use Rattle.daemon_core.specs.declared.request.RequestEnd.{RequestEnd}
 use Rattle.daemon_core.specs.declared.request.Stop.{Stop}
-use Rattle.daemon_core.specs.declared.room.Room.{Room}
 use Rattle.idle_masks.specs.declared.watch.Watched.{Watched}
 use Rattle.daemon_core.specs.declared.request.Stop.TheVariants as stops
 use Rattle.daemon_core.proofs.PendingLaws.{contains-set_of, set_ext}
@@ -410,27 +408,6 @@ line_runs place between line words slice named s t before mid after r parted sam
     (subst (λ did. RunsLine between did s t mid after r)
     (ap (λ n. performed n named s) nothing.size
     ∙ read_performed place before.size line slice s named (parted ∙ ap Ok (sym same)) read) h)
-
--- the room that a stop took is there for the request's end
-pub ends_with_room : (p : CoreParts) (stop : Stop) (index : ℕ) (line : List ℕ) (refused : Option ℕ) (ending : Ending)
-    (work done : Work) → HasRoomToStop p stop → AnswersStop stop index line refused ending work done → HasRoomToEnd ending p
-ends_with_room p (stops.Ends it) index line None ending work done has answer =
-    subst (λ e. HasRoomToEnd e p) (sym answer.0) has
-ends_with_room p (stops.Refused refusal) index line None ending work done has answer =
-    subst (λ e. HasRoomToEnd e p) (sym answer.0) tt
-ends_with_room p stops.NoMemory index line None ending work done has answer = absurd answer
-ends_with_room p stop index line (Some at) ending work done has answer =
-    let wants = answer.1 in subst (λ e. HasRoomToEnd e p) (sym wants.0) tt
-
-pub kept_more : (a b c : Room) → KeepsRoom a b → KeepsRoom b c → KeepsRoom a c
-kept_more a b c first second = record {
-  texts = omega (arith, first.texts, second.texts);
-  outputs = omega (arith, first.outputs, second.outputs);
-  reports = omega (arith, first.reports, second.reports);
-}
-
-pub same_room : (a : Room) → KeepsRoom a a
-same_room a = record { texts = omega arith; outputs = omega arith; reports = omega arith }
 
 -- what a request that ran makes of the clients doesn't hang on the machine before it
 of_ran_same : (c : ℕ) (clients : List Watched) (m n : MachineState) (r : Ran) (ending : Ending) →

@@ -72,6 +72,11 @@ pub length_with : (ws : List Watched) (c : ℕ) (mask : Option Subsystems) → l
 length_with [] c mask = refl
 length_with (w ∷ ws) c mask = ap suc (length_with ws c mask)
 
+-- one who is connected is one
+pub some_watched : (ws : List Watched) (c : ℕ) → IsSome (watched ws c) → 0 < length ws
+some_watched [] c h = absurd (false≢true h)
+some_watched (w ∷ ws) c h = omega arith
+
 -- room for more is room for less, and room that was kept is still there
 pub fewer_fit : (clients fewer : ℕ) (room : Room) → IsRoomFor clients room → fewer ≤ clients → IsRoomFor fewer room
 fewer_fit clients fewer room has h = record {

@@ -1,7 +1,7 @@
 -- Events that come too late, or to which nobody belongs any more, do nothing.
 use Rattle.std.proofs.Common.{◌≡◌, ℕ, Bool, true, false, not, ◌||◌, ◌&&◌, ◌==◌, List, [], ◌∷◌, Option, Some, None, cond}
 use Rattle.std.proofs.Common.{refl, ◌∙◌, ap, eq-eqb, map}
-use Rattle.std.specs.Prelude.{is_some, is_none, find, nat_eq, min, ◌+◌}
+use Rattle.std.specs.Prelude.{is_some, is_none, nat_eq, min, ◌+◌}
 use Rattle.std.specs.Option.{option_eq}
 use Rattle.std.proofs.lemmas.Bool.{and_from, and_parts, false≢true}
 use Rattle.std.proofs.Math.Bool.{or-false}

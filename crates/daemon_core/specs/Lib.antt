@@ -18,4 +18,5 @@ pub mod Quiet
 pub mod Stray
 pub mod Leaving
 pub mod Kill
+pub mod Unchanged
 pub mod Running

@@ -11,11 +11,9 @@ use Rattle.machine_core.specs.Meaning.{Meaning}
 use Rattle.machine_core.specs.State.{MachineState}
 use Rattle.machine_core.specs.Work.{AddsNothing, AddsOps, AddsText, HasRoom, ack_room}
 use Rattle.machine_core.specs.declared.work.Work.{Work}
-use Rattle.daemon_core.specs.Room.{HasRoomToEnd}
 use Rattle.daemon_core.specs.Run.{Did, Goes, Refuses, Ends, Ran, ran}
 use Rattle.daemon_core.specs.declared.outcome.Ending.{Ending}
 use Rattle.daemon_core.specs.declared.outcome.Ending.TheVariants.{Answered}
-use Rattle.daemon_core.specs.declared.parts.CoreParts.{CoreParts}
 use Rattle.daemon_core.specs.declared.request.RequestEnd.{RequestEnd}
 use Rattle.daemon_core.specs.declared.request.Stop.{Stop}
 use Rattle.daemon_core.specs.declared.request.Stop.TheVariants as stops
@@ -61,11 +59,6 @@ pub record Stopped (did : Did) (before after : MachineState) (work done : Work) 
 abbrev pub RunsLine : List ℕ → Did → MachineState → MachineState → Work → Work → Result Subsystems Stop → Type 0
 RunsLine separator did before after work done (Ok set) = WentOn separator did before after work done set
 RunsLine separator did before after work done (Err stop) = Stopped did before after work done stop
-
-abbrev pub HasRoomToStop : CoreParts → Stop → Type 0
-HasRoomToStop p (stops.Ends ending) = HasRoomToEnd ending p
-HasRoomToStop p (stops.Refused refusal) = Unit {0}
-HasRoomToStop p stops.NoMemory = Unit {0}
 
 -- How a stop is answered: by nothing where the command ends the request, by the line of its refusal, or by that of want of memory.
 abbrev pub AnswersIt : Stop → ℕ → Ending → Work → Work → Type 0

@@ -1,7 +1,5 @@
 -- The memory for what an event gives out beside its answer, which a core keeps from event to event.
 use Rattle.std.specs.Prelude.{ℕ, ◌<◌, ◌≤◌, length, vec_len, vec_capacity}
-use Rattle.daemon_core.specs.declared.outcome.Ending.{Ending}
-use Rattle.daemon_core.specs.declared.outcome.Ending.TheVariants.{Answered, Closed, Killed, Waits}
 use Rattle.daemon_core.specs.declared.parts.CoreParts.{CoreParts}
 use Rattle.daemon_core.specs.declared.room.Room.{Room}
 
@@ -21,9 +19,6 @@ pub record KeepsRoom (before after : Room) : Type 0 where
   pub outputs : vec_capacity before.outputs ≤ vec_capacity after.outputs
   pub reports : before.reports_for ≤ after.reports_for
 
--- enough for the clients that a request closes that ends so
-abbrev pub HasRoomToEnd : Ending → CoreParts → Type 0
-HasRoomToEnd Answered p = Unit {0}
-HasRoomToEnd Closed p = 0 < vec_capacity p.room.closes
-HasRoomToEnd Killed p = length p.watch ≤ vec_capacity p.room.closes
-HasRoomToEnd (Waits mask) p = Unit {0}
+-- enough for the numbers of all clients that are connected, each of which may be closed
+abbrev pub CanCloseAll : CoreParts → Type 0
+CanCloseAll p = length p.watch ≤ vec_capacity p.room.closes

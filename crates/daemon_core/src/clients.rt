@@ -39,7 +39,7 @@ fn ok(alloc: Global) -> Result<Bytes, NoMemory>
 impl CoreParts {
     ghost use Rattle.idle_masks.specs.Watched.{watched, left, marked, with_waiting, reports_of, after_reports};
     ghost use Rattle.std.specs.Prelude.{Some};
-    ghost use Rattle.daemon_core.specs.Room.{IsReadyToTell};
+    ghost use Rattle.daemon_core.specs.Room.{CanCloseAll, IsReadyToTell};
     ghost use Rattle.daemon_core.specs.Session.{nothing, without};
     ghost use Rattle.daemon_core.specs.Step.{connects_client, told_to, waits_no_more};
     ghost use Rattle.daemon_core.specs.declared.outcome.Ending.TheVariants.{Waits};
@@ -94,6 +94,7 @@ impl CoreParts {
         is_noidle: bool,
     ) -> Result<Handled, NoMemory>
         requires ready { IsReadyToTell self.old }
+        requires closes { CanCloseAll self.old }
         requires known { IsSome (watched self.old.watch client) }
         ensures ok { IfOk result (Does (waits_no_more is_noidle client (state_of self.old)) self.new) }
         ensures err { OnErr result (state_of self.new ≡ state_of self.old) }
@@ -105,9 +106,9 @@ impl CoreParts {
             }
             Ok(handled)
         } else {
-            let handled = Handled::closing(alloc, client)?;
+            let closes = self.room.give_closes(alloc);
             self.leave(client);
-            Ok(handled)
+            Ok(Handled::closing(alloc, client, closes))
         }
     }
 

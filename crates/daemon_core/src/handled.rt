@@ -1,5 +1,5 @@
 // What an event does, before clients that wait are told.
-ghost use Rattle.std.specs.Prelude.{◌≡◌, ◌∷◌, ◌≤◌, [], vec_len, IfOk};
+ghost use Rattle.std.specs.Prelude.{◌≡◌, ◌∷◌, ◌<◌, ◌≤◌, [], vec_capacity, vec_len, IfOk};
 ghost use Rattle.daemon_core.specs.Session.{output};
 
 use crate::outcome::{Bytes, Output};
@@ -68,12 +68,13 @@ impl Handled {
         Ok(Handled::of(alloc, outputs, Vec::new(alloc)))
     }
 
-    // A client is closed.
-    pub(crate) fn closing(alloc: Global, client: ClientId) -> Result<Self, NoMemory>
-        ensures { IfOk result (IsNothingBut [] (client ∷ [])) }
+    // A client is closed, for whose number there is room.
+    pub(crate) fn closing(alloc: Global, client: ClientId, mut closes: Vec<ClientId>) -> Self
+        requires empty { closes.items ≡ [] }
+        requires room { 0 < vec_capacity closes }
+        ensures { IsNothingBut [] (client ∷ []) result }
     {
-        let mut closes = Vec::with_capacity(alloc, 1)?;
         closes.push_reserved(client);
-        Ok(Handled::of(alloc, Vec::new(alloc), closes))
+        Handled::of(alloc, Vec::new(alloc), closes)
     }
 }

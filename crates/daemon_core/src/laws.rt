@@ -1,5 +1,6 @@
 //! Laws of the definitions, for the layers above: a call brings its clauses into their proofs.
-ghost use Rattle.std.specs.Prelude.{◌≡◌, ◌⊎◌, ℕ, List, [], Option, None, true, false};
+ghost use Rattle.std.specs.Prelude.{◌≡◌, ◌⊎◌, ℕ, List, [], Option, None, true, false, IfSome};
+ghost use Rattle.std.specs.List.{AllByRecursion};
 ghost use Rattle.daemon_core.specs.Kill.{ends_daemon};
 ghost use Rattle.daemon_core.specs.Leaving.{missing, still_there, there, ClosesNoOther};
 ghost use Rattle.daemon_core.specs.Quiet.{is_quiet, NobodyIsDue};
@@ -9,8 +10,10 @@ ghost use Rattle.daemon_core.specs.Session.{numbers_of};
 ghost use Rattle.daemon_core.specs.State.{State};
 ghost use Rattle.daemon_core.specs.Step.{Stepped, step};
 ghost use Rattle.daemon_core.specs.Stray.{is_stray, stays};
+ghost use Rattle.daemon_core.specs.Unchanged.{LeavesSaved};
 ghost use Rattle.daemon_core.specs.declared.event.Event.{Event};
-ghost use Rattle.state_codec.specs.SavedState.{SavedState};
+ghost use Rattle.machine_core.specs.Sound.{IsIn, AreOwn, IsWithinSong};
+ghost use Rattle.state_codec.specs.SavedState.{SavedState, IsSavedState};
 
 /// Along any history the outputs of each event are the reply that the history gives: its own client's answer, and for
 /// each waiting client what is pending for it by what happened so far.
@@ -69,3 +72,35 @@ pub fn daemon_ends_at_kill()
 pub fn playing_player_has_a_song()
     ensures { (kept : SavedState) (history : List Entry) → has_song (replay kept history).machine.player ≡ true }
 {}
+
+/// After any history the current song stands in the queue, and so do the played ones, each of which stands once among them; without random
+/// none is played.
+pub fn player_is_sound()
+    ensures current { (kept : SavedState) (history : List Entry) → let m = (replay kept history).machine in
+        IfSome m.player.current (IsIn m.saved.queue.entries) }
+    ensures played { (kept : SavedState) (history : List Entry) → let m = (replay kept history).machine in
+        AllByRecursion (IsIn m.saved.queue.entries) m.player.played }
+    ensures once { (kept : SavedState) (history : List Entry) → AreOwn (replay kept history).machine.player.played }
+    ensures without_random { (kept : SavedState) (history : List Entry) → let m = (replay kept history).machine in
+        m.saved.options.random ≡ false → m.player.played ≡ [] }
+{
+    machine_core::laws::player_stays_sound();
+}
+
+/// After any history of a state that could be saved the frame position is at most the frames of the song that is current.
+pub fn frame_is_within_the_song()
+    ensures { (kept : SavedState) (history : List Entry) → IsSavedState kept → IsWithinSong (replay kept history).machine }
+{
+    machine_core::laws::frame_stays_within_the_song();
+}
+
+/// An event makes no op exactly where nothing that is saved changes at any turn of it: no command of its request that is run changes the
+/// saved half, nor does what follows the end of its song, and no change of its batch changes a row.
+pub fn no_op_without_a_change()
+    ensures none { (s : State) (event : Event) (refused : Option ℕ) → IsSavedState s.machine.saved → LeavesSaved s event refused
+        → (step s event refused).ops ≡ [] }
+    ensures same { (s : State) (event : Event) (refused : Option ℕ) → (step s event refused).ops ≡ [] → LeavesSaved s event refused }
+{
+    machine_core::laws::no_op_without_a_change();
+    machine_core::laws::no_op_of_an_event_without_a_change();
+}

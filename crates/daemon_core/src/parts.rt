@@ -17,11 +17,12 @@ pub struct CoreParts {
 
 impl CoreParts {
     ghost use Rattle.std.specs.Prelude.{OnOk};
-    ghost use Rattle.daemon_core.specs.Room.{IsReadyToTell};
+    ghost use Rattle.daemon_core.specs.Room.{CanCloseAll, IsReadyToTell};
 
-    // Takes what is missing to tell the clients.
+    // Takes what is missing to tell the clients, and to close them.
     pub(crate) fn take_room(&mut self, alloc: Global) -> Result<(), NoMemory>
         ensures ok { OnOk result (IsReadyToTell self.new) }
+        ensures closes { OnOk result (CanCloseAll self.new) }
         ensures machine { self.new.machine ≡ self.old.machine }
         ensures watch { self.new.watch ≡ self.old.watch }
     {

@@ -1,7 +1,7 @@
 // The commands of a request, one after the other, and how it ends.
-ghost use Rattle.std.specs.Prelude.{◌≡◌, ◌<◌, ◌^◌, length};
-ghost use Rattle.daemon_core.specs.Request.{stop_of_reading, RunsLine, RunsLines, AnswersStop, HasRoomToStop};
-ghost use Rattle.daemon_core.specs.Run.{ending_of, separator};
+ghost use Rattle.std.specs.Prelude.{◌≡◌, ◌<◌, ◌^◌, None, length};
+ghost use Rattle.daemon_core.specs.Request.{stop_of_reading, RunsLine, RunsLines, AnswersStop};
+ghost use Rattle.daemon_core.specs.Run.{attempted, ending_of, performed, separator};
 ghost use Rattle.daemon_core.specs.Step.{is_noidle};
 ghost use Rattle.machine_core.specs.Work.{AddsText, HasRoom, ack_room, command_room};
 
@@ -13,7 +13,7 @@ use command_text::{
     SettingsCommand, read_words,
 };
 use idle_masks::{ClientId, Subsystems};
-use machine_core::{Failure, Work};
+use machine_core::{Failure, Machine, Work};
 use no_memory::NoMemory;
 use std::alloc::Global;
 
@@ -110,8 +110,8 @@ impl CoreParts {
     ghost use Rattle.daemon_core.specs.Session.{of_ran, runs};
     ghost use Rattle.daemon_core.specs.Step.{requested_by, waiting_of};
     ghost use Rattle.daemon_core.specs.Parts.{state_of};
-    ghost use Rattle.daemon_core.specs.Room.{IsReadyToTell, KeepsRoom, HasRoomToEnd};
-    ghost use Rattle.daemon_core.specs.Run.{ran, performed, attempted};
+    ghost use Rattle.daemon_core.specs.Room.{CanCloseAll, IsReadyToTell};
+    ghost use Rattle.daemon_core.specs.Run.{ran};
 
     // A client's request.
     pub(crate) fn handle_request(
@@ -120,7 +120,8 @@ impl CoreParts {
         client: ClientId,
         request: Request,
     ) -> Result<Handled, NoMemory>
-        requires { IsReadyToTell self.old }
+        requires ready { IsReadyToTell self.old }
+        requires closes { CanCloseAll self.old }
         ensures ok { IfOk result (λ handled. Does (requested_by client handled.refused_at (state_of self.old) request
             (waiting_of (watched self.old.watch client))) self.new handled) }
         ensures place { IfOk result (λ handled. IfSome handled.refused_at (λ k. k < commands_in request)) }
@@ -159,6 +160,7 @@ impl CoreParts {
         lines: LinesRef<'_>,
     ) -> Result<Handled, NoMemory>
         requires ready { IsReadyToTell self.old }
+        requires closes { CanCloseAll self.old }
         requires known { IsSome (watched self.old.watch client) }
         ensures ok { IfOk result (λ handled. Does (runs client (state_of self.old)
             (ran place (separator separated) handled.refused_at 0 0 lines.entry self.old.machine)) self.new handled) }
@@ -170,7 +172,7 @@ impl CoreParts {
         }
         let outputs = Vec::with_capacity(alloc, 1)?;
         let mut work = Work::new(alloc)?;
-        let end = self.run_lines(alloc, place, separated, lines, &mut work);
+        let end = run_lines(&mut self.machine, alloc, place, separated, lines, &mut work);
         Ok(self.end_request(alloc, client, work, end, outputs))
     }
 
@@ -184,8 +186,8 @@ impl CoreParts {
         mut outputs: Vec<Output>,
     ) -> Handled
         requires ready { IsReadyToTell self.old }
+        requires closes { CanCloseAll self.old }
         requires known { IsSome (watched self.old.watch client) }
-        requires room { HasRoomToEnd end.ending self.old }
         requires empty { outputs.items ≡ [] }
         requires one { 0 < vec_capacity outputs }
         ensures { Does (of_ran client (state_of self.old) (ran_of self.old.machine work end) end.ending) self.new result }
@@ -247,125 +249,101 @@ impl CoreParts {
             }
         }
     }
+}
 
-    // The commands of these lines, until one stops the request. A request has fewer than 2^32 commands.
-    fn run_lines(
-        &mut self,
-        alloc: Global,
-        place: Place,
-        separated: bool,
-        lines: LinesRef<'_>,
-        work: &mut Work,
-    ) -> RequestEnd
-        requires room { HasRoom ack_room work.old }
-        requires count { length lines < 2 ^ 32 }
-        ensures ran { RunsLines place (separator separated) lines.entry self.old.machine self.new.machine work.old work.new result }
-        ensures watch { self.new.watch ≡ self.old.watch }
-        ensures kept { KeepsRoom self.old.room self.new.room }
-        ensures ending { HasRoomToEnd result.ending self.new }
-    {
-        let mut changed = Subsystems::none();
-        let mut index = 0;
-        let mut rest = lines;
-        while let Some((line, after)) = rest.split_first() {
-            match self.run_line(alloc, place, separated, line, work) {
-                Ok(set) => changed = changed.union(set),
-                Err(stop) => {
-                    let (ending, refused_at) = answer_stop(index, line, stop, work);
-                    return RequestEnd {
-                        ending,
-                        changed,
-                        refused_at,
-                    };
-                }
+// The commands of these lines, until one stops the request. A request has fewer than 2^32 commands.
+fn run_lines(
+    machine: &mut Machine,
+    alloc: Global,
+    place: Place,
+    separated: bool,
+    lines: LinesRef<'_>,
+    work: &mut Work,
+) -> RequestEnd
+    requires room { HasRoom ack_room work.old }
+    requires count { length lines < 2 ^ 32 }
+    ensures { RunsLines place (separator separated) lines.entry machine.old machine.new work.old work.new result }
+{
+    let mut changed = Subsystems::none();
+    let mut index = 0;
+    let mut rest = lines;
+    while let Some((line, after)) = rest.split_first() {
+        match run_line(machine, alloc, place, separated, line, work) {
+            Ok(set) => changed = changed.union(set),
+            Err(stop) => {
+                let (ending, refused_at) = answer_stop(index, line, stop, work);
+                return RequestEnd {
+                    ending,
+                    changed,
+                    refused_at,
+                };
             }
-            index += 1;
-            rest = after;
         }
-        work.end();
-        RequestEnd {
-            ending: Ending::Answered,
-            changed,
-            refused_at: None,
-        }
+        index += 1;
+        rest = after;
     }
-
-    // One command of a request, from its line.
-    fn run_line(
-        &mut self,
-        alloc: Global,
-        place: Place,
-        separated: bool,
-        line: &[u8],
-        work: &mut Work,
-    ) -> Result<Subsystems, Stop>
-        requires { HasRoom ack_room work.old }
-        ensures ran { RunsLine (separator separated) (attempted place work.old.size line.now self.old.machine)
-            self.old.machine self.new.machine work.old work.new result }
-        ensures watch { self.new.watch ≡ self.old.watch }
-        ensures kept { KeepsRoom self.old.room self.new.room }
-        ensures stop { IfErr result (HasRoomToStop self.new) }
-    {
-        if work.make_room().is_err() {
-            return Err(Stop::NoMemory);
-        }
-        let words = match read_words(alloc, line) {
-            Ok(words) => words,
-            Err(error) => return Err(stop_of_reading(error)),
-        };
-        match Command::read(alloc, place, words.as_slice()) {
-            Ok(command) => self.run_command(alloc, separated, command, work),
-            Err(error) => Err(stop_of_reading(error)),
-        }
+    work.end();
+    RequestEnd {
+        ending: Ending::Answered,
+        changed,
+        refused_at: None,
     }
+}
 
-    fn run_command(
-        &mut self,
-        alloc: Global,
-        separated: bool,
-        command: NamedCommand<'_>,
-        work: &mut Work,
-    ) -> Result<Subsystems, Stop>
-        requires { HasRoom command_room work.old }
-        ensures ran { RunsLine (separator separated) (performed work.old.size command.entry self.old.machine)
-            self.old.machine self.new.machine work.old work.new result }
-        ensures watch { self.new.watch ≡ self.old.watch }
-        ensures kept { KeepsRoom self.old.room self.new.room }
-        ensures stop { IfErr result (HasRoomToStop self.new) }
-    {
-        let NamedCommand { name, command } = command;
-        match ending_of(&command) {
-            Some(ending) => {
-                drop(command);
-                self.take_room_to_end(ending)?;
-                return Err(Stop::Ends(ending));
-            }
-            None => {}
-        }
-        match self.machine.perform(alloc, command, work) {
-            Ok(changed) => {
-                separate(separated, work);
-                Ok(changed)
-            }
-            Err(Failure::Refused(refusal)) => {
-                Err(Stop::Refused(Refusal::OfCommand(name, refusal)))
-            }
-            Err(Failure::NoMemory) => Err(Stop::NoMemory),
-        }
+// One command of a request, from its line.
+fn run_line(
+    machine: &mut Machine,
+    alloc: Global,
+    place: Place,
+    separated: bool,
+    line: &[u8],
+    work: &mut Work,
+) -> Result<Subsystems, Stop>
+    requires { HasRoom ack_room work.old }
+    ensures { RunsLine (separator separated) (attempted place work.old.size line.now machine.old)
+        machine.old machine.new work.old work.new result }
+{
+    if work.make_room().is_err() {
+        return Err(Stop::NoMemory);
     }
+    let words = match read_words(alloc, line) {
+        Ok(words) => words,
+        Err(error) => return Err(stop_of_reading(error)),
+    };
+    match Command::read(alloc, place, words.as_slice()) {
+        Ok(command) => run_command(machine, alloc, separated, command, work),
+        Err(error) => Err(stop_of_reading(error)),
+    }
+}
 
-    // Takes the room for the clients that a request closes that ends so.
-    fn take_room_to_end(&mut self, ending: Ending) -> Result<(), NoMemory>
-        ensures ok { OnOk result (HasRoomToEnd ending self.new) }
-        ensures machine { self.new.machine ≡ self.old.machine }
-        ensures watch { self.new.watch ≡ self.old.watch }
-        ensures kept { KeepsRoom self.old.room self.new.room }
-    {
-        match ending {
-            Ending::Answered | Ending::Waits(_) => Ok(()),
-            Ending::Closed => self.room.take_closes(1),
-            Ending::Killed => self.room.take_closes(self.watch.len()),
+// One command of a request. One that ends the request wants no memory.
+fn run_command(
+    machine: &mut Machine,
+    alloc: Global,
+    separated: bool,
+    command: NamedCommand<'_>,
+    work: &mut Work,
+) -> Result<Subsystems, Stop>
+    requires { HasRoom command_room work.old }
+    ensures ran { RunsLine (separator separated) (performed work.old.size command.entry machine.old)
+        machine.old machine.new work.old work.new result }
+    ensures memory { result ≡ Err Stop.NoMemory → ending_of command.entry.command ≡ None }
+{
+    let NamedCommand { name, command } = command;
+    match ending_of(&command) {
+        Some(ending) => {
+            drop(command);
+            return Err(Stop::Ends(ending));
         }
+        None => {}
+    }
+    match machine.perform(alloc, command, work) {
+        Ok(changed) => {
+            separate(separated, work);
+            Ok(changed)
+        }
+        Err(Failure::Refused(refusal)) => { Err(Stop::Refused(Refusal::OfCommand(name, refusal))) }
+        Err(Failure::NoMemory) => Err(Stop::NoMemory),
     }
 }
 

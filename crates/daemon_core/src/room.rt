@@ -18,7 +18,7 @@ pub struct Room {
     pub(crate) reports: Option<ReadyRoom>,
     // For how many clients `reports` is.
     pub(crate) reports_for: usize,
-    // For the clients that a command closes.
+    // For the numbers of all clients, each of which may be closed.
     pub(crate) closes: Vec<ClientId>,
     ghost no_outputs: { outputs.items ≡ [] },
     ghost no_closes: { closes.items ≡ [] },
@@ -39,30 +39,22 @@ impl Room {
         }
     }
 
-    // Takes what is missing to tell so many clients.
+    // Takes what is missing to tell so many clients, and to close them.
     pub(crate) fn take(&mut self, alloc: Global, clients: usize) -> Result<(), NoMemory>
         ensures ok { OnOk result (IsRoomFor clients self.new) }
         ensures kept { KeepsRoom self.old self.new }
-        ensures closes { self.new.closes ≡ self.old.closes }
+        ensures closes { OnOk result (clients ≤ vec_capacity self.new.closes) }
     {
         if clients == 0 {
             return Ok(());
         }
         take_texts(alloc, &mut self.texts, clients)?;
         self.outputs.reserve(clients.saturating_add(1))?;
+        self.closes.reserve(clients)?;
         if self.reports_for < clients {
             self.reports = Some(ReadyRoom::new(alloc, clients)?);
             self.reports_for = clients;
         }
-        Ok(())
-    }
-
-    // Takes what is missing for so many clients that are closed.
-    pub(crate) fn take_closes(&mut self, count: usize) -> Result<(), NoMemory>
-        ensures ok { OnOk result (count ≤ vec_capacity self.new.closes) }
-        ensures kept { KeepsRoom self.old self.new }
-    {
-        self.closes.reserve(count)?;
         Ok(())
     }
 

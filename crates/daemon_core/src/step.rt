@@ -20,12 +20,13 @@ impl CoreParts {
     ghost use Rattle.daemon_core.specs.Outcome.{command_count};
     ghost use Rattle.daemon_core.specs.Parts.{state_of};
     ghost use Rattle.daemon_core.specs.Reported.{IsReported};
-    ghost use Rattle.daemon_core.specs.Room.{IsReadyToTell};
+    ghost use Rattle.daemon_core.specs.Room.{CanCloseAll, IsReadyToTell};
     ghost use Rattle.daemon_core.specs.Step.{acted};
 
     // What an event does before clients that wait are told.
     fn handle(&mut self, alloc: Global, event: Event) -> Result<Handled, NoMemory>
-        requires { IsReadyToTell self.old }
+        requires ready { IsReadyToTell self.old }
+        requires closes { CanCloseAll self.old }
         ensures ok { IfOk result (λ handled. Does (acted (state_of self.old) event handled.refused_at) self.new handled) }
         ensures place { IfOk result (λ handled. IfSome handled.refused_at (λ k. k < command_count event)) }
         ensures reported { IfOk result (λ handled. IsReported event self.old.machine) }
@@ -61,8 +62,8 @@ impl CoreParts {
 
 impl Core {
     /// Handles one event whole. Where memory is refused at a command, the commands before it stand and the answer says so; at a request
-    /// an `Err` comes only where there is no memory for such an answer, for a line that closes its client or for what each client may be
-    /// told, at any other event also where its own growth is refused. Then nothing was done.
+    /// an `Err` comes only where there is no memory for such an answer, for what each client may be told or for the numbers of those that
+    /// may be closed, at any other event also where its own growth is refused. Then nothing was done.
     pub fn step(&mut self, alloc: Global, event: Event) -> Result<Outcome, NoMemory>
         ensures ok { IfOk result (λ outcome. IsOutcome self.old event outcome self.new) }
 

@@ -20,24 +20,24 @@ use Rattle.machine_core.specs.declared.work.Failure.TheVariants.{Refused}
 use Rattle.machine_core.specs.declared.work.Work.{Work}
 
 -- what a check that was refused says
-pub refused_by : (refusal : Option OpRefusal) (e : OpRefusal) → AnswersCheck {T = Unit {0}} refusal (Err e) → refusal ≡ Some e
-refused_by None e answer = absurd (cc)
-refused_by (Some refusal) e answer = cc
+pub refused_by : (T : Type 0) (refusal : Option OpRefusal) (e : OpRefusal) → AnswersCheck {T = T} refusal (Err e) → refusal ≡ Some e
+refused_by T None e answer = absurd (cc)
+refused_by T (Some refusal) e answer = cc
 
 -- and one that wasn't
-pub allowed_by : (refusal : Option OpRefusal) (x : Unit {0}) → AnswersCheck refusal (Ok x) → refusal ≡ None
+pub allowed_by : {T : Type 0} (refusal : Option OpRefusal) (x : T) → AnswersCheck refusal (Ok x) → refusal ≡ None
 allowed_by None x answer = refl
 allowed_by (Some refusal) x answer = absurd (cc)
 
 -- an op that is refused refuses the command
 pub refused_edits : (op : Op) (m : MachineState) (e : OpRefusal) (r : Result Bool Failure) →
-    AnswersCheck {T = Unit {0}} (refusal_of op m.saved) (Err e) → IsErrAnd r (λ failure. failure ≡ Refused (op_told e)) →
+    AnswersCheck {T = Bool} (refusal_of op m.saved) (Err e) → IsErrAnd r (λ failure. failure ≡ Refused (op_told e)) →
     (size : ℕ) → IfErr r (IsRefusalOf (edits op [] m) size)
 unfolding edits
 refused_edits op m e (Ok x) answer told_so size = tt
 refused_edits op m e (Err failure) answer told_so size =
     subst (IsRefusalOf (edits op [] m) size) (sym told_so)
-    (ap (λ o. within size (unless_refused (told o) (made op [] m))) (refused_by (refusal_of op m.saved) e answer))
+    (ap (λ o. within size (unless_refused (told o) (made op [] m))) (refused_by Bool (refusal_of op m.saved) e answer))
 
 -- a command that was refused has done nothing
 pub refused_failed : (meant : Meant) (m : MachineState) (work : Work) (failure : Failure) (r : Result (Unit {0}) Failure) →
@@ -59,13 +59,11 @@ abbrev pub meant_if : Op → MachineState → Bool → Meant
 meant_if op m changes = Ok (if changes then edited op [] (followed op m) m else stands [] m)
 
 -- an op that isn't refused is made, unless it changes nothing
-pub looked_at : (op : Op) (m : MachineState) (nothing : Bool) → refusal_of op m.saved ≡ None → nothing ≡ changes_nothing op m.saved →
-    edits op [] m ≡ meant_if op m (not nothing)
+pub looked_at : (op : Op) (m : MachineState) (changes : Bool) → refusal_of op m.saved ≡ None → changes ≡ not (changes_nothing op m.saved) →
+    edits op [] m ≡ meant_if op m changes
 unfolding edits
-looked_at op m nothing fits is =
-    ap (λ o. unless_refused (told o) (made op [] m)) fits
-    ∙ ap (λ b. Ok (if b then stands [] m else edited op [] (followed op m) m)) (sym is)
-    ∙ turned nothing
+looked_at op m changes fits is =
+    ap (λ o. unless_refused (told o) (made op [] m)) fits ∙ turned (changes_nothing op m.saved) ∙ ap (meant_if op m) (sym is)
   where
     turned : (b : Bool) → Ok (if b then stands [] m else edited op [] (followed op m) m) ≡ meant_if op m (not b)
     turned true = refl

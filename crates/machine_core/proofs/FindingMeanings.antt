@@ -45,7 +45,7 @@ pub values_mean : (m : MachineState) (tag : Tag) (tree : Option Tree)
 unfolding finding_meaning
 values_mean m tag tree = refl
 
-fewer : {X : Type 0} (test : X → Bool) (xs : List X) → length (filter test xs) ≤ length xs
+pub fewer : {X : Type 0} (test : X → Bool) (xs : List X) → length (filter test xs) ≤ length xs
 fewer test [] = omega arith
 fewer test (x ∷ xs) = by_cases (test x) refl (fewer test xs)
   where
@@ -66,10 +66,10 @@ found_by_uri search part rows is within =
     within (matching search.case search.filter rows) (fewer (is_match search.case search.filter) rows)
     ∙ ap (λ sort. in_window search.window (in_order sort (matching search.case search.filter rows))) (sym is)
 
-pub all_found : (case : Case) (tree : Tree) (part : Part) (rows : List Row)
-    → ((some : List Row) → length some ≤ length rows → part_of part some ≡ in_window None some)
-    → part_of part (matching case tree rows) ≡ matching case tree rows
-all_found case tree part rows within = within (matching case tree rows) (fewer (is_match case tree) rows)
+pub matching_found : (search : Search) (rows : List Row) → search.sort ≡ None
+    → in_window search.window (matching search.case search.filter rows) ≡ found search rows
+matching_found search rows is =
+    ap (λ sort. in_window search.window (in_order sort (matching search.case search.filter rows))) (sym is)
 
 pub add_means : (m : MachineState) (search : Search) (to : Option Target)
     → finding_meaning (Add search to) m ≡ adds to (numbers_in m.saved.songs (found search m.saved.songs)) [] m

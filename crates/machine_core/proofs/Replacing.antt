@@ -71,7 +71,7 @@ pub refused_replaces : (name : List ℕ) (m : MachineState) (e : OpRefusal) (r :
 refused_replaces name m e (Ok x) saved answer told_so size = tt
 refused_replaces name m e (Err failure) saved answer told_so size =
     let refused : refusal_of_all (replace_ops name) m.saved ≡ Some e =
-    sym (refused_in_turn name m.saved saved) ∙ refused_by (replace_refusal name m.saved) e answer in
+    sym (refused_in_turn name m.saved saved) ∙ refused_by (Unit {0}) (replace_refusal name m.saved) e answer in
     subst (IsRefusalOf (replaces name m) size) (sym told_so)
     (ap (λ o. within size (unless_refused (told o) (if replaces_nothing name m.saved then stands [] m else replaced name m))) refused)
 

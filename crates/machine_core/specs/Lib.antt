@@ -17,6 +17,7 @@ pub mod Stickers
 pub mod Entries
 pub mod Playing
 pub mod Command
+pub mod Memory
 pub mod Changed
 pub mod Reports
 pub mod Before
@@ -25,3 +26,4 @@ pub mod Work
 pub mod Held
 pub mod Scanning
 pub mod ScanningRows
+pub mod Sound

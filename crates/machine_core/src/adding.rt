@@ -1,5 +1,5 @@
 // Songs are added to the queue, by any command that adds some.
-ghost use Rattle.std.specs.Prelude.{◌≡◌, [], length};
+ghost use Rattle.std.specs.Prelude.{◌≡◌, ◌≢◌, [], length};
 ghost use Rattle.machine_core.specs.Adding.{adds, can_count, place_among, place_in};
 ghost use Rattle.machine_core.specs.Named.{Finds};
 ghost use Rattle.machine_core.specs.State.{shown_of};
@@ -56,7 +56,8 @@ impl Machine {
 
 // The position that a place names among so many entries.
 pub(crate) fn resolve(target: Target, current: Option<usize>, length: u32) -> Result<u32, Failure>
-    ensures { Finds (place_among target current length) result }
+    ensures found { Finds (place_among target current length) result }
+    ensures memory { result ≢ Err Failure.NoMemory }
 {
     match target.resolve(current, length as usize) {
         Ok(at) => Ok(at as u32),

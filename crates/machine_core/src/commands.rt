@@ -1,7 +1,8 @@
 // One method a command: it performs what the command means. Those of a topic stand in a file of its name.
-ghost use Rattle.std.specs.Prelude.{◌≡◌, IfOk};
+ghost use Rattle.std.specs.Prelude.{◌≡◌, true, IfOk};
 ghost use Rattle.machine_core.specs.Changed.{changed};
 ghost use Rattle.machine_core.specs.Command.{meaning};
+ghost use Rattle.machine_core.specs.Memory.{takes_memory};
 ghost use Rattle.machine_core.specs.Work.{HasRoom, Performs, command_room};
 
 use crate::machine::Machine;
@@ -22,7 +23,8 @@ mod sticker;
 
 impl Machine {
     /// Performs a command, for whose end the answer has room, and says which subsystems it changed. Refused, or without memory, it
-    /// leaves machine and answer as they were.
+    /// leaves machine and answer as they were. Memory is taken for the lines of a command, with the room behind them, for what it looks up
+    /// and for what it changes; `NoMemory` comes of no command that does nothing of these.
     pub fn perform(
         &mut self,
         alloc: Global,
@@ -32,6 +34,7 @@ impl Machine {
         requires room { HasRoom command_room work.old }
         ensures performs { Performs (meaning command.entry self.old) self.old self.new work.old work.new result }
         ensures changed { IfOk result (λ set. set ≡ changed self.old self.new) }
+        ensures memory { result ≡ Err Failure.NoMemory → takes_memory command.entry self.old ≡ true }
     {
         let before = self.before();
         let made = work.ops.len();
@@ -48,7 +51,8 @@ impl Machine {
         work: &mut Work,
     ) -> Result<(), Failure>
         requires { HasRoom command_room work.old }
-        ensures { Performs (meaning command.entry self.old) self.old self.new work.old work.new result }
+        ensures performs { Performs (meaning command.entry self.old) self.old self.new work.old work.new result }
+        ensures memory { result ≡ Err Failure.NoMemory → takes_memory command.entry self.old ≡ true }
     {
         match command {
             Command::Settings(command) => self.perform_settings(alloc, command, work),

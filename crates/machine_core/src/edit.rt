@@ -1,12 +1,13 @@
 // The edits of the saved half: what the shared form of edits means, done. An op is looked at first, then room is taken for it, then it
 // is made, and the player follows.
-ghost use Rattle.std.specs.Prelude.{◌≡◌, ℕ, false, [], IfOk, IfErr, OnOk, OnErr, IsOkUnless, if◌then◌else◌};
+ghost use Rattle.std.specs.Prelude.{◌≡◌, ◌≢◌, ℕ, true, false, [], IfOk, IfErr, OnOk, OnErr, IsOkUnless, if◌then◌else◌};
 ghost use Rattle.state_codec.specs.Applied.{refusal_of, changes_nothing, after, after_all};
 ghost use Rattle.state_codec.specs.declared.op.Op.TheVariants.{SetOption, Queue as OfQueue};
 ghost use Rattle.state_codec.specs.declared.op.queue_op.QueueOp.TheVariants.{Delete};
 ghost use Rattle.state_codec.specs.declared.op.setting.Setting.TheVariants.{Random};
 ghost use Rattle.machine_core.specs.Followed.{followed, stays, follows_random};
 ghost use Rattle.machine_core.specs.Meaning.{edits, edited, stands, order_ops};
+ghost use Rattle.machine_core.specs.Memory.{grows};
 ghost use Rattle.machine_core.specs.State.{MachineState, shown_of};
 ghost use Rattle.machine_core.specs.Work.{HasRoom, IsRefusalOf, Performs, command_room};
 
@@ -21,7 +22,8 @@ impl Machine {
     pub(crate) fn edit(&mut self, alloc: Global, op: Op, work: &mut Work) -> Result<(), Failure>
         requires room { HasRoom command_room work.old }
         requires stays { followed op self.old ≡ stays self.old }
-        ensures { Performs (edits op [] self.old) self.old self.new work.old work.new result }
+        ensures performs { Performs (edits op [] self.old) self.old self.new work.old work.new result }
+        ensures memory { result ≡ Err Failure.NoMemory → grows (edits op [] self.old) ≡ true }
     {
         if !self.would_change(&op)? {
             return Ok(());
@@ -40,7 +42,8 @@ impl Machine {
         work: &mut Work,
     ) -> Result<(), Failure>
         requires { HasRoom command_room work.old }
-        ensures { Performs (edits (SetOption setting) [] self.old) self.old self.new work.old work.new result }
+        ensures performs { Performs (edits (SetOption setting) [] self.old) self.old self.new work.old work.new result }
+        ensures memory { result ≡ Err Failure.NoMemory → grows (edits (SetOption setting) [] self.old) ≡ true }
     {
         match setting {
             Setting::Random(on) => self.set_random(on, work),
@@ -52,7 +55,8 @@ impl Machine {
 
     fn set_random(&mut self, on: bool, work: &mut Work) -> Result<(), Failure>
         requires { HasRoom command_room work.old }
-        ensures { Performs (edits (SetOption (Random on)) [] self.old) self.old self.new work.old work.new result }
+        ensures performs { Performs (edits (SetOption (Random on)) [] self.old) self.old self.new work.old work.new result }
+        ensures memory { result ≡ Err Failure.NoMemory → grows (edits (SetOption (Random on)) [] self.old) ≡ true }
     {
         let op = Op::SetOption(Setting::Random(on));
         if !self.would_change(&op)? {
@@ -78,7 +82,8 @@ impl Machine {
         work: &mut Work,
     ) -> Result<(), Failure>
         requires { HasRoom command_room work.old }
-        ensures { Performs (edits (OfQueue (Delete start end)) [] self.old) self.old self.new work.old work.new result }
+        ensures performs { Performs (edits (OfQueue (Delete start end)) [] self.old) self.old self.new work.old work.new result }
+        ensures memory { result ≡ Err Failure.NoMemory → grows (edits (OfQueue (Delete start end)) [] self.old) ≡ true }
     {
         let op = Op::Queue(QueueOp::Delete { start, end });
         if !self.would_change(&op)? {
@@ -114,9 +119,9 @@ impl Machine {
         ensures changes { IfOk result (λ changes. edits op.now [] self.now
             ≡ Ok (if changes then edited op.now [] (followed op.now self.now) self.now else stands [] self.now)) }
         ensures refused { (size : ℕ) → IfErr result (IsRefusalOf (edits op.now [] self.now) size) }
+        ensures memory { result ≢ Err Failure.NoMemory }
     {
-        self.saved.check(op)?;
-        Ok(!self.saved.changes_nothing(op))
+        Ok(self.saved.check(op)?)
     }
 
     // Applies a copy of an op that isn't refused.

@@ -6,9 +6,11 @@ ghost use Rattle.state_codec.specs.Applied.{all_applied};
 ghost use Rattle.state_codec.specs.SavedState.{IsSavedState};
 ghost use Rattle.machine_core.specs.Command.{meaning};
 ghost use Rattle.machine_core.specs.Meaning.{Meaning};
-ghost use Rattle.machine_core.specs.Reports.{when_ended};
-ghost use Rattle.machine_core.specs.Scanning.{is_running, telling, when_found};
+ghost use Rattle.machine_core.specs.Reports.{when_broken, when_ended, when_fed};
+ghost use Rattle.machine_core.specs.Scanning.{is_running, telling, when_found, when_scanned};
+ghost use Rattle.machine_core.specs.Sound.{IsSound, IsSoundMachine};
 ghost use Rattle.machine_core.specs.State.{MachineState};
+ghost use Rattle.player_core.specs.declared.failure.BrokenCause.{BrokenCause};
 
 /// The ops of a command, applied to the saved half before it, give the saved half after it.
 pub fn ops_rebuild_the_state()
@@ -32,4 +34,29 @@ pub fn no_op_of_an_event_without_a_change()
     ensures same { (ticket : ℕ) (m : MachineState) → (when_ended ticket m).ops ≡ [] → (when_ended ticket m).after.saved ≡ m.saved }
     ensures found { (job : ℕ) (changes : List RowChange) (m : MachineState) → is_running job m ≡ true
         → ((when_found job changes m).ops ≡ [] ↔ telling m.saved.songs changes ≡ []) }
+{}
+
+/// A command, a report of the output and an event of a scan keep the player sound: the current song stands in the queue, and so do the
+/// played ones, each of which stands once; without random none is played.
+pub fn player_stays_sound()
+    ensures command { (command : Command) (m : MachineState) (x : Meaning) → IsSound m → meaning command m ≡ Ok x → IsSound x.after }
+    ensures fed { (ticket frames : ℕ) (m : MachineState) → IsSound m → IsSound (when_fed ticket frames m).after }
+    ensures ended { (ticket : ℕ) (m : MachineState) → IsSound m → IsSound (when_ended ticket m).after }
+    ensures broken { (ticket : ℕ) (cause : BrokenCause) (m : MachineState) → IsSound m → IsSound (when_broken ticket cause m).after }
+    ensures found { (job : ℕ) (changes : List RowChange) (m : MachineState) → IsSound m → IsSound (when_found job changes m).after }
+    ensures scanned { (job : ℕ) (m : MachineState) → IsSound m → IsSound (when_scanned job m).after }
+{}
+
+/// A command, a report of the output and an event of a scan keep the frame position within the song that is current, beside a queue and a
+/// sound player.
+pub fn frame_stays_within_the_song()
+    ensures command { (command : Command) (m : MachineState) (x : Meaning) → IsSoundMachine m → meaning command m ≡ Ok x
+        → IsSoundMachine x.after }
+    ensures fed { (ticket frames : ℕ) (m : MachineState) → IsSoundMachine m → IsSoundMachine (when_fed ticket frames m).after }
+    ensures ended { (ticket : ℕ) (m : MachineState) → IsSoundMachine m → IsSoundMachine (when_ended ticket m).after }
+    ensures broken { (ticket : ℕ) (cause : BrokenCause) (m : MachineState) → IsSoundMachine m
+        → IsSoundMachine (when_broken ticket cause m).after }
+    ensures found { (job : ℕ) (changes : List RowChange) (m : MachineState) → IsSoundMachine m
+        → IsSoundMachine (when_found job changes m).after }
+    ensures scanned { (job : ℕ) (m : MachineState) → IsSoundMachine m → IsSoundMachine (when_scanned job m).after }
 {}

@@ -1,5 +1,5 @@
 -- What follows a song that has ended, or that a listener leaves.
-use Rattle.std.specs.Prelude.{ℕ, ◌+◌, Bool, true, false, ◌==◌, List, [], ◌∷◌, Option, Some, None, option_map, if◌then◌else◌}
+use Rattle.std.specs.Prelude.{ℕ, ◌+◌, Bool, true, false, ◌==◌, List, [], Option, Some, None, if◌then◌else◌}
 use Rattle.play_queue.specs.declared.entry.Entry.{Entry}
 use Rattle.player_core.specs.declared.block.Block.{Block}
 use Rattle.player_core.specs.declared.choice.Choice.{Choice}

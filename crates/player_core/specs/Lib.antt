@@ -12,4 +12,5 @@ pub mod Reports
 pub mod Shown
 pub mod Order
 pub mod Answered
+pub mod Removal
 pub mod FailureText

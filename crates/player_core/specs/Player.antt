@@ -8,7 +8,7 @@ use Rattle.player_core.specs.declared.changes.Changes.{Changes}
 use Rattle.player_core.specs.declared.choice.Choice.{Choice}
 use Rattle.player_core.specs.declared.failure.PlayFailure.{PlayFailure}
 use Rattle.player_core.specs.declared.playing.PlayState.{PlayState}
-use Rattle.player_core.specs.declared.playing.PlayState.TheVariants.{Stop, Play, Pause}
+use Rattle.player_core.specs.declared.playing.PlayState.TheVariants.{Stop, Play}
 use Rattle.player_core.specs.declared.playing.Playing.{Playing}
 use Rattle.player_core.specs.Staying.{takes}
 

@@ -1,5 +1,5 @@
 -- Seeking.
-use Rattle.std.specs.Prelude.{ℕ, ◌+◌, ◌-◌, ◌*◌, ◌/◌, List, Option, Some, None, Result, min, if◌then◌else◌}
+use Rattle.std.specs.Prelude.{ℕ, ◌+◌, ◌-◌, ◌*◌, ◌/◌, Option, Some, None, Result, min}
 use Rattle.player_core.specs.declared.playing.PlayState.{PlayState}
 use Rattle.player_core.specs.declared.playing.PlayState.TheVariants.{Stop, Play, Pause}
 use Rattle.player_core.specs.declared.refusal.PlayerError.{PlayerError}

@@ -1,10 +1,7 @@
 -- What is shown of the player beside the queue.
-use Rattle.std.specs.Prelude.{ℕ, Bool, ◌==◌, List, Option, Some, None, position, option_map, option_and_then, if◌then◌else◌}
-use Rattle.std.specs.List.{find}
+use Rattle.std.specs.Prelude.{ℕ, List, Option, Some, None}
 use Rattle.play_queue.specs.declared.entry.Entry.{Entry}
 use Rattle.player_core.specs.declared.choice.Choice.{Choice}
-use Rattle.player_core.specs.declared.playing.PlayState.{PlayState}
-use Rattle.player_core.specs.declared.playing.PlayState.TheVariants.{Stop, Play, Pause}
 use Rattle.player_core.specs.declared.settings.PlaySettings.{PlaySettings}
 use Rattle.player_core.specs.declared.shown.Shown.{Shown}
 use Rattle.player_core.specs.Choice.{placed}

@@ -3,7 +3,7 @@ ghost use Rattle.std.specs.Prelude.{◌≡◌, ◌<◌, length};
 ghost use Rattle.player_core.specs.RandomOrder.{goes_before};
 ghost use Rattle.player_core.specs.Staying.{all_staying, staying_behind};
 ghost use Rattle.player_core.specs.Choice.{least, is_left, round_again, in_row, at_random, chosen, first_chosen};
-ghost use Rattle.player_core.specs.Candidates.{better, is_counted, counted};
+ghost use Rattle.player_core.specs.Candidates.{is_first, is_counted, counted};
 
 use crate::block::Block;
 use crate::choice::Choice;
@@ -32,18 +32,13 @@ fn goes_before(one: Drawn, other: Drawn) -> bool
         || (one.1 == other.1 && (one.2 < other.2 || (one.2 == other.2 && one.0 < other.0)))
 }
 
-fn better(drawn: Drawn, best: Option<Drawn>) -> Drawn
-    ensures { result ≡ better drawn best }
+// Whether it goes before the best so far.
+fn is_first(drawn: Drawn, best: Option<Drawn>) -> bool
+    ensures { result ≡ is_first drawn best }
 {
     match best {
-        Some(other) => {
-            if goes_before(drawn, other) {
-                drawn
-            } else {
-                other
-            }
-        }
-        None => drawn,
+        Some(other) => goes_before(drawn, other),
+        None => true,
     }
 }
 
@@ -63,6 +58,8 @@ fn is_counted(is_new: bool, current: u32, played: &IndexSet<u32>, entry: &Entry)
 
 // The id of the least, in random order, of the entries that stay: of all in a new round, else of those that
 // are neither the current one nor played.
+//
+// A word costs far less than a look into the played list, so this is asked only of an entry that goes before the best so far.
 fn least(
     entries: &[Entry],
     block: Block,
@@ -78,9 +75,12 @@ fn least(
     let mut best = None;
     for at in (0..entries.len()).rev() {
         let entry = &entries[at];
-        if !takes(block, dropped, at, entry) && is_counted(is_new, current, played, entry) {
-            let drawn = (entry.id, entry.priority, words.word(entry.id));
-            best = Some(better(drawn, best));
+        let drawn = (entry.id, entry.priority, words.word(entry.id));
+        if is_first(drawn, best)
+            && !takes(block, dropped, at, entry)
+            && is_counted(is_new, current, played, entry)
+        {
+            best = Some(drawn);
         }
     }
     best.map(|drawn| drawn.0)

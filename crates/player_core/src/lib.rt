@@ -16,6 +16,7 @@ mod played;
 pub mod player;
 pub mod playing;
 pub mod refusal;
+mod removal;
 mod round_words;
 pub mod seek;
 pub mod selector;

@@ -1,15 +1,11 @@
 // The played list, and how a song is started or the player stops.
 ghost use Rattle.std.specs.Prelude.{◌≡◌, ◌<◌, ◌≤◌, [], IsTrue, OnOk};
 ghost use Rattle.indexmap.specs.IndexSet.{spare};
-ghost use Rattle.player_core.specs.Player.{player_of, noted, without, started, stopped_without_song, gone_on, left_by, next_ticket};
+ghost use Rattle.player_core.specs.Player.{player_of, noted, without, started, stopped_without_song, gone_on, next_ticket};
 
-use crate::block::Block;
 use crate::choice::Choice;
 use crate::playing::{PlayState, Playing};
-use crate::staying::takes;
 use indexmap::IndexSet;
-use play_queue::Entry;
-use song_db::Uri;
 use std::alloc::AllocError;
 
 // Makes room for one more id, where songs that start are noted.
@@ -81,43 +77,5 @@ pub(crate) fn go_on(playing: &mut Playing, played: &mut IndexSet<u32>, random: b
     match choice.id {
         Some(id) => start(playing, played, random, id),
         None => stop_without_song(playing),
-    }
-}
-
-// The ids of the entries that leave the queue leave the list. It costs the block, and a pass over the entries
-// only where URIs are dropped.
-pub(crate) fn leave(played: &mut IndexSet<u32>, entries: &[Entry], block: Block, dropped: &[Uri])
-    ensures ids { played.new.keys ≡ left_by block dropped.now 0 entries.now played.old.keys }
-    ensures room { spare played.old ≤ spare played.new }
-{
-    if played.is_empty() {
-        return;
-    }
-    if dropped.is_empty() {
-        leave_block(played, entries, block);
-    } else {
-        leave_all(played, entries, block, dropped);
-    }
-}
-
-fn leave_block(played: &mut IndexSet<u32>, entries: &[Entry], block: Block)
-    ensures ids { played.new.keys ≡ left_by block [] 0 entries.now played.old.keys }
-    ensures room { spare played.old ≤ spare played.new }
-{
-    let end = block.end.min(entries.len());
-    for at in block.start.min(end)..end {
-        remove(played, entries[at].id);
-    }
-}
-
-fn leave_all(played: &mut IndexSet<u32>, entries: &[Entry], block: Block, dropped: &[Uri])
-    ensures ids { played.new.keys ≡ left_by block dropped.now 0 entries.now played.old.keys }
-    ensures room { spare played.old ≤ spare played.new }
-{
-    for at in 0..entries.len() {
-        let entry = &entries[at];
-        if takes(block, dropped, at, entry) {
-            remove(played, entry.id);
-        }
     }
 }

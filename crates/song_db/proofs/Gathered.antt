@@ -58,7 +58,7 @@ with_texts-append known (x ∷ xs) ys = with_texts-append (with_text x known) xs
 
 -- ---- which texts are there
 
-abbrev has : List (List ℕ) → List ℕ → Bool
+abbrev pub has : List (List ℕ) → List ℕ → Bool
 has known q = list_any (λ t. is_eq (texts q t)) known
 
 or_twice : (a b : Bool) → (a || (a || b)) ≡ (a || b)
@@ -98,7 +98,7 @@ or_none : (a : Bool) → (a || false) ≡ a
 or_none true = refl
 or_none false = refl
 
-has-shown : (ts : List (Bor (List ℕ))) (q : List ℕ) → list_any (λ t. is_eq (texts q t.now)) ts ≡ has (shown ts) q
+pub has-shown : (ts : List (Bor (List ℕ))) (q : List ℕ) → list_any (λ t. is_eq (texts q t.now)) ts ≡ has (shown ts) q
 has-shown [] q = refl
 has-shown (t ∷ ts) q = ap (λ b. is_eq (texts q t.now) || b) (has-shown ts q)
 
@@ -115,13 +115,20 @@ none_rising : IsRising (λ (t : List ℕ). t) []
 unfolding IsStrictlySortedBy
 none_rising = tt
 
+-- what rises and has the same texts
+pub distinct_is : (known ts : List (List ℕ)) → IsRising (λ t. t) known → ((q : List ℕ) → has known q ≡ has ts q) → known ≡ distinct_of ts
+distinct_is known ts rising same = btree_set_from_contains nat_list_cmp_total (record { keys = known }) (record { keys = distinct_of ts })
+    rising (with_texts_rising [] ts none_rising) (λ q. same q ∙ sym (has-with_texts [] ts q ∙ or_none (has ts q))) equal_texts
+
+-- those that are distinct already
+pub distinct_again : (ts : List (List ℕ)) → distinct_of (distinct_of ts) ≡ distinct_of ts
+distinct_again ts = sym (distinct_is (distinct_of ts) (distinct_of ts) (with_texts_rising [] ts none_rising) (λ q. refl))
+
 -- the keys of a set that is made of texts
 pub collected : (ts : List (Bor (List ℕ))) (set : BTreeSet (Bor (List ℕ))) → IsFromIterResult (λ a b. texts a.now b.now) ts set
     → shown set.keys ≡ distinct_of (shown ts)
-collected ts set made = btree_set_from_contains nat_list_cmp_total (record { keys = shown set.keys }) (record { keys = distinct_of (shown ts) })
-    (sorted_map (λ (a b : Bor (List ℕ)). texts a.now b.now) texts (λ key. key.now) (λ a b h. h) set.keys made.1) (with_texts_rising []
-    (shown ts) none_rising) same equal_texts
+collected ts set made = distinct_is (shown set.keys) (shown ts) (sorted_map (λ (a b : Bor (List ℕ)). texts a.now b.now) texts (λ
+    key. key.now) (λ a b h. h) set.keys made.1) same
   where
-    same : (q : List ℕ) → has (shown set.keys) q ≡ has (distinct_of (shown ts)) q
+    same : (q : List ℕ) → has (shown set.keys) q ≡ has (shown ts) q
     same q = sym (has-shown set.keys q) ∙ made.0 (record { ref_ptr = (0, 0); now = q }) ∙ has-shown ts q
-        ∙ sym (has-with_texts [] (shown ts) q ∙ or_none (has (shown ts) q))

@@ -5,6 +5,7 @@ pub mod Below
 pub mod BelowOrder
 mod Counts
 pub mod Differences
+mod DistinctTexts
 mod FolderRuns
 mod Folders
 mod Gathered
@@ -13,6 +14,7 @@ mod Known
 mod KnownRows
 mod LastRow
 mod ListedSteps
+mod Numbered
 mod Opened
 mod Ordered
 mod OwnSteps

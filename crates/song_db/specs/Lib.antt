@@ -1,11 +1,13 @@
 pub mod Batch
 pub mod Change
 pub mod Difference
+pub mod Distinct
 pub mod Droppable
 pub mod Duration
 pub mod Effect
 pub mod Found
 pub mod Gain
+pub mod Kept
 pub mod Known
 pub mod Last
 pub mod Limits

@@ -1,8 +1,25 @@
-//! A law of scans, for the layers above: a call brings its clause into their proofs.
+//! Laws of scans and of what is asked of the rows, for the layers above: a call brings its clauses into their proofs.
+ghost use Rattle.std.specs.Prelude.{◌≡◌, ℕ, List};
 ghost use Rattle.song_db.specs.Difference.{ScansTellTheDifference};
+ghost use Rattle.song_db.specs.Distinct.{AreTextsWith, IsValue, IsFolderIn};
+ghost use Rattle.song_db.specs.Query.{values_of, folders_in};
+ghost use Rattle.song_db.specs.Row.{Row};
+ghost use Rattle.song_db.specs.declared.place.Place.{Place};
+ghost use Rattle.wave_pcm.specs.declared.tags.Tag.{Tag};
 
 /// A scan from its beginning to its end, over an honest folder that never fails, tells the difference: each song is put
 /// once, with its row, and nothing else is; each known URI that is no song is dropped, and nothing else is.
 pub fn scans_tell_the_difference()
     ensures difference { ScansTellTheDifference }
+{}
+
+/// The values of a tag are the texts of it that rows have, and no others, rising by bytes, each once. The folders in a place
+/// are those directly in it that a row stands below, likewise. No other lists are that.
+pub fn each_text_once()
+    ensures values { (rows : List Row) (tag : Tag) → AreTextsWith (IsValue rows tag) (values_of rows tag) }
+    ensures only_values { (rows : List Row) (tag : Tag) (texts : List (List ℕ)) →
+        AreTextsWith (IsValue rows tag) texts → texts ≡ values_of rows tag }
+    ensures folders { (rows : List Row) (place : Place) → AreTextsWith (IsFolderIn rows place) (folders_in rows place) }
+    ensures only_folders { (rows : List Row) (place : Place) (texts : List (List ℕ)) →
+        AreTextsWith (IsFolderIn rows place) texts → texts ≡ folders_in rows place }
 {}

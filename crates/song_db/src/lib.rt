@@ -5,6 +5,7 @@ mod batch;
 pub mod change;
 pub mod effect;
 mod folder_rows;
+mod kept;
 mod known_rows;
 pub mod laws;
 pub mod limits;

@@ -18,6 +18,7 @@ use crate::batch::make_changes;
 use crate::change::RowChange;
 use crate::effect::Effects;
 use crate::folder_rows::{rows_below, run_below};
+use crate::kept::{KeptValues, kept_values, numbers_for};
 use crate::known_rows::known_in;
 use crate::limits::MAX_ROWS;
 use crate::near::position_near;
@@ -30,18 +31,31 @@ use crate::rows::{clone_rows, ends_before, position};
 use crate::texts::Texts;
 use crate::uri::Uri;
 use crate::valued::rows_with;
-use crate::values::{ValueCounts, folders_of, songs_of, value_counts, values_of};
+use crate::values::{ValueCounts, folders_of, songs_of, value_counts};
 use crate::walk::Walk;
 use std::alloc::Global;
+use std::fmt;
 use std::marker::Model;
 use wave_pcm::Tag;
 
 /// The songs, by the bytes of their URIs: at most 65,536, and one for each URI.
-#[derive(Debug, Drop)]
+#[derive(Drop)]
 pub struct SongDb {
     rows: Vec<SongRow>,
     // The milliseconds of all of them.
     total: u128,
+    // Where the values of some tags stand, so that they need not be found again.
+    kept: Vec<KeptValues>,
+}
+
+/// The songs and their milliseconds, and not what is kept of them.
+impl fmt::Debug for SongDb {
+    fn fmt<W: fmt::Write>(&self, f: &mut fmt::Formatter<W>) -> fmt::Result {
+        f.debug_struct("SongDb")
+            .field("rows", &self.rows)
+            .field("total", &self.total)
+            .finish()
+    }
 }
 
 impl Model for SongDb {
@@ -49,12 +63,13 @@ impl Model for SongDb {
     ghost use Rattle.song_db.specs.Row.{Row};
     ghost use Rattle.song_db.specs.Change.{IsDatabase};
     ghost use Rattle.song_db.specs.Duration.{IsTimed};
+    ghost use Rattle.song_db.specs.Kept.{AreKept};
 
     ghost Value = { List Row };
 
     ghost view = { λ d. d.rows.items };
 
-    ghost invariant = { λ d. IsDatabase d.rows.items × IsTimed d.rows.items d.total };
+    ghost invariant = { λ d. IsDatabase d.rows.items × IsTimed d.rows.items d.total × AreKept d.rows.items d.kept.items };
 }
 
 impl SongDb {
@@ -65,6 +80,7 @@ impl SongDb {
         SongDb {
             rows: Vec::new(alloc),
             total: 0,
+            kept: Vec::new(alloc),
         }
     }
 
@@ -111,6 +127,7 @@ impl SongDb {
     {
         let mut effects = Vec::with_capacity(alloc, changes.len())?;
         self.rows.reserve(changes.len())?;
+        self.kept.clear();
         make_changes(&mut self.rows, &mut self.total, changes, &mut effects);
         Ok(Effects { effects })
     }
@@ -221,6 +238,7 @@ impl SongDb {
             return Err(PushError::Full);
         }
         self.rows.reserve(1)?;
+        self.kept.clear();
         self.total += row.milliseconds();
         self.rows.push_reserved(row);
         Ok(())
@@ -235,6 +253,7 @@ impl SongDb {
         Ok(SongDb {
             rows,
             total: self.total,
+            kept: Vec::new(alloc),
         })
     }
 
@@ -276,13 +295,27 @@ impl SongDb {
         Ok(rows_with(alloc, &self.rows, tag, value)?)
     }
 
+    /// Keeps where the values of a tag stand until the songs change, so that `distinct` and `value_counts` read no row without need.
+    /// Where they are kept already nothing is done. Refused by `NoMemory`, and then they are not kept.
+    pub fn keep_values(&mut self, alloc: Global, tag: Tag) -> Result<(), SongDbError>
+        ensures songs { self.new ≡ self.old }
+        ensures only { IsOkUnless result NoMemory }
+    {
+        if numbers_for(&self.kept, tag).is_some() {
+            return Ok(());
+        }
+        let values = KeptValues::of(alloc, &self.rows, tag)?;
+        self.kept.push(values)?;
+        Ok(())
+    }
+
     /// How many artists and albums the songs have, each counted once; no text is copied. Refused by `NoMemory`.
     pub fn value_counts(&self, alloc: Global) -> Result<ValueCounts, SongDbError>
         ensures artists { IfOk result (λ counts. counts.artists ≡ length (values_of self.now Artist)) }
         ensures albums { IfOk result (λ counts. counts.albums ≡ length (values_of self.now Album)) }
         ensures only { IsOkUnless result NoMemory }
     {
-        Ok(value_counts(alloc, &self.rows)?)
+        Ok(value_counts(alloc, &self.rows, &self.kept)?)
     }
 
     /// The values of a tag by their bytes; rows without the tag give none. Refused by `NoMemory`.
@@ -290,6 +323,6 @@ impl SongDb {
         ensures values { IfOk result (λ values. values ≡ values_of self.now tag) }
         ensures only { IsOkUnless result NoMemory }
     {
-        Ok(values_of(alloc, &self.rows, tag)?)
+        Ok(kept_values(alloc, &self.rows, &self.kept, tag)?)
     }
 }

@@ -34,8 +34,8 @@ impl<'a> Texts<'a> {
         }
     }
 
-    // The texts of a list.
-    pub(crate) fn of(alloc: Global, texts: Vec<&'a str>) -> Result<Self, AllocError>
+    /// The texts of a list. They are sorted once, where `insert` looks for the place of each. Refused where there is no memory.
+    pub fn of(alloc: Global, texts: Vec<&'a str>) -> Result<Self, AllocError>
         ensures { IfOk result (λ all. all ≡ distinct_of (map (λ text. text.now) texts.entry.items)) }
     {
         Ok(Texts {

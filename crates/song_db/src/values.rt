@@ -1,5 +1,6 @@
 ghost use Rattle.std.specs.Prelude.{◌≡◌, ◌==◌, true, [], ◌∷◌, length, map, filter, IsTrue, IfOk, OnOk, IfSome, option_copied, option_to_list};
 ghost use Rattle.std.specs.List.{filter_map, position};
+ghost use Rattle.song_db.specs.Kept.{AreKept};
 ghost use Rattle.song_db.specs.Place.{is_below};
 ghost use Rattle.song_db.specs.Replaced.{IsRising};
 ghost use Rattle.song_db.specs.Row.{row_uri};
@@ -8,6 +9,7 @@ ghost use Rattle.wave_pcm.specs.Tag.{text_of};
 ghost use Rattle.wave_pcm.specs.declared.tags.Tag.TheVariants.{Artist, Album};
 
 use crate::folder_rows::end_below;
+use crate::kept::{KeptValues, count_values};
 use crate::place::Place;
 use crate::row::SongRow;
 use crate::texts::Texts;
@@ -67,15 +69,18 @@ pub struct ValueCounts {
 }
 
 // How many artists and albums the rows have.
-pub(crate) fn value_counts(alloc: Global, rows: &[SongRow]) -> Result<ValueCounts, AllocError>
+pub(crate) fn value_counts(
+    alloc: Global,
+    rows: &[SongRow],
+    kept: &[KeptValues],
+) -> Result<ValueCounts, AllocError>
+    requires { AreKept rows.now kept.now }
     ensures artists { IfOk result (λ counts. counts.artists ≡ length (values_of rows.now Artist)) }
     ensures albums { IfOk result (λ counts. counts.albums ≡ length (values_of rows.now Album)) }
 {
-    let artists = values_of(alloc, rows, Tag::Artist)?;
-    let albums = values_of(alloc, rows, Tag::Album)?;
     Ok(ValueCounts {
-        artists: artists.len(),
-        albums: albums.len(),
+        artists: count_values(alloc, rows, kept, Tag::Artist)?,
+        albums: count_values(alloc, rows, kept, Tag::Album)?,
     })
 }
 

@@ -1,6 +1,8 @@
-// `player_core`: the words beside another implementation, random order, and the texts of errors.
+// `player_core`: the words beside another implementation, random order, the texts of errors, and the played list where entries leave.
 use crate::assertions::{equal, same_numbers, same_text, uri};
-use player_core::{PlayFailure, word};
+use play_queue::Entry;
+use player_core::{Block, Options, PlayFailure, PlaySettings, Player, Single, word};
+use song_db::{RowUri, Uri};
 use std::alloc::Global;
 use std::process::Abort;
 use std::test::Fail;
@@ -59,3 +61,96 @@ fn texts_of_failures(rt: HostRuntime) -> Result<(), Fail> {
     reads(&rt, rt.alloc(), &failure, "cannot play d/a.wav")?;
     reads(&rt, rt.alloc(), &PlayFailure::OutputFailed, "output failed")
 }
+
+/// Entries with the ids 1, 2 and so on; every third song is b.wav, the others are a.wav.
+fn entries_of(alloc: Global, count: u32) -> Result<Vec<Entry>, Fail> {
+    let mut entries = Vec::new(alloc);
+    for at in 0..count {
+        let id = at + 1;
+        let text = if id % 3 == 0 { "b.wav" } else { "a.wav" };
+        entries.push(Entry {
+            id,
+            uri: RowUri::new(uri(alloc, text)?, 0),
+            priority: 0,
+            stamp: 1,
+        })?;
+    }
+    Ok(entries)
+}
+
+fn random_settings(order: u64) -> PlaySettings {
+    PlaySettings {
+        options: Options {
+            repeat: false,
+            random: true,
+            single: Single::Off,
+            consume: Single::Off,
+        },
+        key: RISING,
+        order,
+    }
+}
+
+/// A player in stop that has played so many of them in one random round, of which each is another one.
+fn played_player(alloc: Global, entries: &[Entry], count: usize) -> Result<Player, Fail> {
+    let mut player = Player::new(alloc);
+    let begun = player.resume(entries, &random_settings(0))?;
+    let settings = random_settings(begun.order.unwrap_or(0));
+    for _ in 1..count {
+        let _ = player.next(entries, &settings)?;
+    }
+    player.stop();
+    Ok(player)
+}
+
+/// The played list after a block of entries and those of dropped URIs have left, beside a plain one: the ids that stay, in their order.
+fn removes(
+    rt: &impl Abort,
+    alloc: Global,
+    count: usize,
+    block: Block,
+    drops_b: bool,
+) -> Result<(), Fail> {
+    let entries = entries_of(alloc, 60)?;
+    let mut dropped = Vec::new(alloc);
+    if drops_b {
+        dropped.push(uri(alloc, "b.wav")?)?;
+    }
+    let mut player = played_player(alloc, &entries, count)?;
+    let mut plain = Vec::new(alloc);
+    for id in player.played() {
+        let place = *id as usize;
+        let leaves = (block.start < place && place <= block.end) || (drops_b && *id % 3 == 0);
+        if !leaves {
+            plain.push(*id)?;
+        }
+    }
+    equal(rt, player.played().len(), count);
+    let _ = player.follow_removal(&entries, &random_settings(1), block, &dropped)?;
+    same_numbers(rt, player.played(), &plain);
+    Ok(())
+}
+
+#[test]
+fn played_list_where_entries_leave(rt: HostRuntime) -> Result<(), Fail> {
+    for (count, start, end, drops_b) in &REMOVALS {
+        let block = Block {
+            start: *start,
+            end: *end,
+        };
+        removes(&rt, rt.alloc(), *count, block, *drops_b)?;
+    }
+    Ok(())
+}
+
+// How many songs a random round of 60 entries has played, the block that leaves, and whether b.wav leaves.
+const REMOVALS: [(usize, usize, usize, bool); 8] = [
+    (50, 5, 45, false),
+    (50, 5, 8, false),
+    (50, 0, 60, false),
+    (50, 20, 90, true),
+    (50, 0, 0, true),
+    (5, 10, 50, true),
+    (60, 30, 38, false),
+    (60, 59, 61, false),
+];

@@ -1,14 +1,15 @@
 ghost use Rattle.std.specs.Prelude.{[]};
 
-// `song_db`: scans of a folder that fails, and the order of what a scan tells.
-use crate::assertions::{equal, uri};
+// `song_db`: scans of a folder that fails, the order of what a scan tells, and the values that a database keeps.
+use crate::assertions::{equal, same_text, uri};
 use crate::waves::WAVE_A;
-use song_db::{RowChange, Scan, ScanOrder, SongDbError, Uri};
+use song_db::{RowChange, Scan, ScanOrder, SongDb, SongDbError, SongRow, Uri};
 use std::alloc::Global;
 use std::process::Abort;
 use std::test::Fail;
 use wave_pcm::{
-    FaultyFolder, FaultySource, Folder, FolderEntry, FolderFault, MemFolder, MemSource, ReadTrouble,
+    FaultyFolder, FaultySource, Folder, FolderEntry, FolderFault, MemFolder, MemSource,
+    ReadTrouble, Tag, Tags, WaveInfo,
 };
 
 /// A folder in memory of which one call fails, or one read of each file.
@@ -188,4 +189,75 @@ fn order_of_a_scan(rt: HostRuntime) -> Result<(), Fail> {
     let want =
         "+B.wav +a/c.wav +a.b/c.wav +a.wav/b.wav +a.wav +b.wav +ä/ö.wav -d/A.wav -d/B.wav -x.wav";
     is_told(&rt, rt.alloc(), folder, (NEVER, NEVER, "", want))
+}
+
+/// The row of a URI with an artist.
+fn row_of(alloc: Global, path: &str, artist: &str) -> Result<SongRow, Fail> {
+    let mut tags = Tags::new();
+    tags.set(Tag::Artist, Some(String::from_str(alloc, artist)?));
+    let info = WaveInfo {
+        rate: 8_000,
+        channels: 1,
+        first_byte: 44,
+        frames: 1,
+        tags,
+    };
+    Ok(SongRow::new(alloc, uri(alloc, path)?, info)?.ok_or("no row")?)
+}
+
+/// The texts of a tag are these, which a space parts.
+fn has_values(
+    rt: &impl Abort,
+    alloc: Global,
+    songs: &SongDb,
+    tag: Tag,
+    want: &str,
+) -> Result<(), SongDbError> {
+    let values = songs.distinct(alloc, tag)?;
+    equal(rt, values.len(), want.split_whitespace().count());
+    for (value, word) in values.iter().zip(want.split_whitespace()) {
+        same_text(rt, value, word);
+    }
+    Ok(())
+}
+
+/// These are the artists, told from what is kept and by a copy, which keeps nothing; there is no album.
+fn has_artists(
+    rt: &impl Abort,
+    alloc: Global,
+    songs: &mut SongDb,
+    want: &str,
+) -> Result<(), SongDbError> {
+    has_values(rt, alloc, &songs.try_clone(alloc)?, Tag::Artist, want)?;
+    has_values(rt, alloc, songs, Tag::Artist, want)?;
+    songs.keep_values(alloc, Tag::Artist)?;
+    songs.keep_values(alloc, Tag::Album)?;
+    songs.keep_values(alloc, Tag::Artist)?;
+    has_values(rt, alloc, songs, Tag::Artist, want)?;
+    has_values(rt, alloc, songs, Tag::Album, "")?;
+    let counts = songs.value_counts(alloc)?;
+    equal(
+        rt,
+        (counts.artists, counts.albums),
+        (want.split_whitespace().count(), 0),
+    );
+    Ok(())
+}
+
+/// Values that are kept are those of the rows, also after a row behind the last one and after a batch.
+#[test]
+fn values_that_are_kept(rt: HostRuntime) -> Result<(), Fail> {
+    let alloc = rt.alloc();
+    let mut songs = SongDb::new(alloc);
+    has_artists(&rt, alloc, &mut songs, "")?;
+    songs.push_last(row_of(alloc, "a.wav", "Z")?)?;
+    has_artists(&rt, alloc, &mut songs, "Z")?;
+    songs.push_last(row_of(alloc, "c.wav", "A")?)?;
+    has_artists(&rt, alloc, &mut songs, "A Z")?;
+    let mut changes = Vec::new(alloc);
+    changes.push(RowChange::Put(row_of(alloc, "b.wav", "Z")?))?;
+    changes.push(RowChange::Put(row_of(alloc, "c.wav", "M")?))?;
+    songs.apply_batch(alloc, changes)?;
+    has_artists(&rt, alloc, &mut songs, "M Z")?;
+    Ok(())
 }

@@ -1,5 +1,5 @@
 // The commands of the database and its scans.
-ghost use Rattle.std.specs.Prelude.{◌≡◌, [], true, false, flat_map, filter, unwrap_or};
+ghost use Rattle.std.specs.Prelude.{◌≡◌, [], true, false, not, flat_map, filter, unwrap_or};
 ghost use Rattle.command_text.specs.AnswerNames.{command_line, tag_type_line};
 ghost use Rattle.command_text.specs.AnswerSongs.{shown_tags};
 ghost use Rattle.command_text.specs.AnswerStatus.{job_line};
@@ -10,6 +10,7 @@ ghost use Rattle.song_db.specs.Query.{is_folder};
 ghost use Rattle.song_db.specs.Row.{row_at};
 ghost use Rattle.machine_core.specs.Database.{database_meaning, folder_info, info_at, all_at, all_below, statistics};
 ghost use Rattle.machine_core.specs.Meaning.{answers, says};
+ghost use Rattle.machine_core.specs.Memory.{database_takes_memory};
 ghost use Rattle.machine_core.specs.Work.{HasRoom, Performs, command_room};
 
 use crate::answer::write_content;
@@ -18,10 +19,11 @@ use crate::job::Job;
 use crate::machine::Machine;
 use crate::work::{Failure, Work};
 use command_text::{
-    CommandRefusal, DatabaseCommand, Text, write_job, write_song, write_statistics,
+    CommandRefusal, DatabaseCommand, NoMemory, Text, write_job, write_song, write_statistics,
 };
 use song_db::{Place, Uri};
 use std::alloc::Global;
+use wave_pcm::Tag;
 
 // The path that is named, or the empty one, which is the root.
 fn path_or_root<'a>(path: &'a Option<Text<'_>>) -> &'a str
@@ -56,7 +58,8 @@ impl Machine {
         work: &mut Work,
     ) -> Result<(), Failure>
         requires { HasRoom command_room work.old }
-        ensures { Performs (database_meaning command.entry self.old) self.old self.new work.old work.new result }
+        ensures performs { Performs (database_meaning command.entry self.old) self.old self.new work.old work.new result }
+        ensures memory { result ≡ Err Failure.NoMemory → database_takes_memory command.entry self.old ≡ true }
     {
         match command {
             DatabaseCommand::Commands => self.list_commands(work),
@@ -92,10 +95,19 @@ impl Machine {
         work.keep(mark, written)
     }
 
-    // `stats`, by one walk of the songs.
-    fn put_statistics(&self, alloc: Global, work: &mut Work) -> Result<(), Failure>
-        ensures { Performs (says (statistics self.now.saved.songs) self.now) self.now self.now work.old work.new result }
+    // Keeps the values of a tag, so that those who ask for them next look at no song.
+    pub(super) fn keep_values(&mut self, alloc: Global, tag: Tag) -> Result<(), NoMemory>
+        ensures { self.new ≡ self.old }
     {
+        self.saved.keep_values(alloc, tag)
+    }
+
+    // `stats`, by the values that are kept of both tags.
+    fn put_statistics(&mut self, alloc: Global, work: &mut Work) -> Result<(), Failure>
+        ensures { Performs (says (statistics self.old.saved.songs) self.old) self.old self.new work.old work.new result }
+    {
+        self.keep_values(alloc, Tag::Artist)?;
+        self.keep_values(alloc, Tag::Album)?;
         let songs = self.saved.songs();
         let Ok(counts) = songs.value_counts(alloc) else {
             return Err(Failure::NoMemory);
@@ -115,7 +127,8 @@ impl Machine {
     // `update`: a job begins, unless one runs.
     fn begin_job(&mut self, place: Option<Uri>, work: &mut Work) -> Result<(), Failure>
         requires { HasRoom command_room work.old }
-        ensures { Performs (database_meaning (Update place) self.old) self.old self.new work.old work.new result }
+        ensures performs { Performs (database_meaning (Update place) self.old) self.old self.new work.old work.new result }
+        ensures memory { result ≡ Err Failure.NoMemory → not self.old.job.runs ≡ true }
     {
         if self.job.runs {
             return Err(Failure::Refused(CommandRefusal::AlreadyUpdating));

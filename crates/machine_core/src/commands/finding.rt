@@ -15,38 +15,40 @@ use crate::machine::Machine;
 use crate::work::{Failure, Work};
 use command_text::{FindingCommand, NoMemory, Search, Window, write_counts};
 use filter_expr::{Case, Filter, SortOrder, window};
-use gathering::{matching_numbers, matching_values, numbers_of, sorted_rows};
-use part::Part;
+use gathering::{
+    all_numbers, matching_rows, matching_values, numbers_by_uri, numbers_of, sorted_rows,
+};
 use play_queue::Target;
 use song_db::{SongDb, SongRow, Texts};
 use state_codec::{ListOp, Op, RowNumbers};
 use std::alloc::Global;
 use wave_pcm::Tag;
-use writing::{write_entries, write_matching, write_values};
+use writing::{write_by_uri, write_entries, write_values};
 
 mod gathering;
 mod part;
 mod writing;
 
 // How many rows match, and how many milliseconds they play together.
-fn count_matching(
-    alloc: Global,
-    rows: &[SongRow],
-    filter: &Filter,
-) -> Result<(usize, u128), NoMemory>
-    requires { length rows.now ≤ MAX_ROWS }
-    ensures songs { IfOk result (λ counted. counted.0 ≡ length (matching Exact filter.now rows.now)) }
-    ensures time { IfOk result (λ counted. counted.1 ≡ total_of (matching Exact filter.now rows.now)) }
+fn count_matching(alloc: Global, songs: &SongDb, filter: &Filter) -> Result<(usize, u128), NoMemory>
+    ensures songs { IfOk result (λ counted. counted.0 ≡ length (matching Exact filter.now songs.now)) }
+    ensures time { IfOk result (λ counted. counted.1 ≡ total_of (matching Exact filter.now songs.now)) }
 {
-    let mut songs: usize = 0;
+    let _limit = songs.len();
+    let found = matching_rows(alloc, songs, Case::Exact, filter)?;
+    Ok((found.len(), milliseconds_of(&found)))
+}
+
+// How many milliseconds songs play together.
+fn milliseconds_of(rows: &[&SongRow]) -> u128
+    requires { length rows.now ≤ MAX_ROWS }
+    ensures { result ≡ total_of (map (λ row. row.now) rows.now) }
+{
     let mut milliseconds: u128 = 0;
     for row in rows {
-        if filter.matches(alloc, row, Case::Exact)? {
-            songs += 1;
-            milliseconds += row.milliseconds();
-        }
+        milliseconds += row.milliseconds();
     }
-    Ok((songs, milliseconds))
+    milliseconds
 }
 
 impl Machine {
@@ -86,19 +88,18 @@ impl Machine {
         }
     }
 
-    // `count`: the rows that match aren't gathered, only counted.
+    // `count`
     fn count(&self, alloc: Global, filter: &Filter, work: &mut Work) -> Result<(), Failure>
         ensures { Performs (finding_meaning (Count filter.now) self.now) self.now self.now work.old work.new result }
     {
         let database = self.saved.songs();
-        let _limit = database.len();
-        let (songs, milliseconds) = count_matching(alloc, database.rows(), filter)?;
+        let (songs, milliseconds) = count_matching(alloc, database, filter)?;
         let mark = work.text.len();
         let written = write_counts(&mut work.text, songs, milliseconds);
         work.keep(mark, written)
     }
 
-    // `find`, `search`: what isn't sorted is written while rows are looked at.
+    // `find`, `search`
     fn find(&self, alloc: Global, search: &Search, work: &mut Work) -> Result<(), Failure>
         ensures { Performs (finding_meaning (Find search.now) self.now) self.now self.now work.old work.new result }
     {
@@ -118,8 +119,8 @@ impl Machine {
         requires { search.now.sort ≡ Some order }
         ensures { Performs (finding_meaning (Find search.now) self.now) self.now self.now work.old work.new result }
     {
-        let rows = self.saved.songs().rows();
-        let sorted = sorted_rows(alloc, rows, search.case, &search.filter, order)?;
+        let songs = self.saved.songs();
+        let sorted = sorted_rows(alloc, songs, search.case, &search.filter, order)?;
         let mark = work.text.len();
         let written = write_songs(&mut work.text, windowed(&sorted, search.window));
         work.keep(mark, written)
@@ -129,17 +130,9 @@ impl Machine {
         requires { search.now.sort ≡ None }
         ensures { Performs (finding_meaning (Find search.now) self.now) self.now self.now work.old work.new result }
     {
-        let rows = self.saved.songs().rows();
-        let part = Part::of_window(search.window, rows.len());
+        let songs = self.saved.songs();
         let mark = work.text.len();
-        let written = write_matching(
-            &mut work.text,
-            alloc,
-            rows,
-            search.case,
-            &search.filter,
-            part,
-        );
+        let written = write_by_uri(&mut work.text, alloc, songs, search);
         work.keep(mark, written)
     }
 
@@ -193,19 +186,35 @@ impl Machine {
 
     // `list`: the values of a tag, of all rows or of those that match.
     fn list_values(
-        &self,
+        &mut self,
         alloc: Global,
         tag: Tag,
         filter: Option<&Filter>,
         work: &mut Work,
     ) -> Result<(), Failure>
-        ensures { Performs (finding_meaning (ListTag tag (option_copied filter.entry)) self.now) self.now self.now
+        ensures { Performs (finding_meaning (ListTag tag (option_copied filter.entry)) self.old) self.old self.new
             work.old work.new result }
     {
+        self.keep_asked_values(alloc, tag, filter)?;
         let values = chosen_values(alloc, self.saved.songs(), tag, filter)?;
         let mark = work.text.len();
         let written = write_values(&mut work.text, tag, &values);
         work.keep(mark, written)
+    }
+
+    // Where the values of all rows are asked for, they are kept, so that the next time no row is looked at.
+    fn keep_asked_values(
+        &mut self,
+        alloc: Global,
+        tag: Tag,
+        filter: Option<&Filter>,
+    ) -> Result<(), NoMemory>
+        ensures { self.new ≡ self.old }
+    {
+        match filter {
+            Some(_) => Ok(()),
+            None => self.keep_values(alloc, tag),
+        }
     }
 }
 
@@ -234,16 +243,14 @@ fn found_numbers(alloc: Global, songs: &SongDb, search: &Search) -> Result<RowNu
     ensures { IfOk result (λ numbers. numbers ≡ numbers_in songs.now (found search.now songs.now)) }
 {
     let _limit = songs.len();
-    let rows = songs.rows();
     match search.sort {
         Some(order) => {
-            let sorted = sorted_rows(alloc, rows, search.case, &search.filter, order)?;
+            let sorted = sorted_rows(alloc, songs, search.case, &search.filter, order)?;
             let numbers = numbers_of(alloc, songs, windowed(&sorted, search.window))?;
             Ok(row_numbers(numbers))
         }
         None => {
-            let part = Part::of_window(search.window, rows.len());
-            let numbers = matching_numbers(alloc, rows, search.case, &search.filter, part)?;
+            let numbers = numbers_by_uri(alloc, songs, search)?;
             Ok(row_numbers(numbers))
         }
     }
@@ -253,10 +260,7 @@ fn found_numbers(alloc: Global, songs: &SongDb, search: &Search) -> Result<RowNu
 fn folded_numbers(alloc: Global, songs: &SongDb, filter: &Filter) -> Result<RowNumbers, NoMemory>
     ensures { IfOk result (λ numbers. numbers ≡ numbers_in songs.now (matching Folded filter.now songs.now)) }
 {
-    let _limit = songs.len();
-    let rows = songs.rows();
-    let all = Part::of_window(None, rows.len());
-    let numbers = matching_numbers(alloc, rows, Case::Folded, filter, all)?;
+    let numbers = all_numbers(alloc, songs, Case::Folded, filter)?;
     Ok(row_numbers(numbers))
 }
 
@@ -281,7 +285,7 @@ fn chosen_values<'a>(
     ensures { IfOk result (λ values. values ≡ values_of (chosen (option_copied filter.entry) songs.now) tag) }
 {
     match filter {
-        Some(filter) => matching_values(alloc, songs.rows(), filter, tag),
+        Some(filter) => matching_values(alloc, songs, filter, tag),
         None => match songs.distinct(alloc, tag) {
             Ok(values) => Ok(values),
             Err(_) => Err(NoMemory),

@@ -1,10 +1,11 @@
 // The commands of the player.
-ghost use Rattle.std.specs.Prelude.{◌≡◌, None};
+ghost use Rattle.std.specs.Prelude.{◌≡◌, true, None};
 ghost use Rattle.command_text.specs.Answer.{Adds};
 ghost use Rattle.command_text.specs.declared.command.playing.PlayingCommand.TheVariants.{CurrentSong};
 ghost use Rattle.player_core.specs.Commands.{halted, paused, previous_one};
 ghost use Rattle.player_core.specs.Seek.{sought_here};
 ghost use Rattle.machine_core.specs.Entries.{shown_info};
+ghost use Rattle.machine_core.specs.Memory.{playing_takes_memory};
 ghost use Rattle.machine_core.specs.Playing.{playing_meaning};
 ghost use Rattle.machine_core.specs.State.{settings_of, shown_of};
 ghost use Rattle.machine_core.specs.Steps.{step_in, moves, puts, named_length, current_length};
@@ -29,7 +30,8 @@ impl Machine {
         work: &mut Work,
     ) -> Result<(), Failure>
         requires { HasRoom command_room work.old }
-        ensures { Performs (playing_meaning command self.old) self.old self.new work.old work.new result }
+        ensures performs { Performs (playing_meaning command self.old) self.old self.new work.old work.new result }
+        ensures memory { result ≡ Err Failure.NoMemory → playing_takes_memory command ≡ true }
     {
         match command {
             PlayingCommand::ClearError => self.clear_error(),

@@ -1,7 +1,8 @@
 // The commands of the queue.
-ghost use Rattle.std.specs.Prelude.{◌≡◌, ◌<◌, length, IfOk};
+ghost use Rattle.std.specs.Prelude.{◌≡◌, ◌<◌, true, length, IfOk};
 ghost use Rattle.command_text.specs.declared.command.queue.QueueCommand.TheVariants as commands;
 ghost use Rattle.play_queue.specs.Limits.{MAX_ENTRIES};
+ghost use Rattle.machine_core.specs.Memory.{grows, queue_takes_memory};
 ghost use Rattle.machine_core.specs.Queue.{place_of_id, queue_length, queue_meaning};
 ghost use Rattle.machine_core.specs.Spans.{span_in, span_or_all};
 ghost use Rattle.machine_core.specs.Work.{HasRoom, Performs, command_room};
@@ -27,7 +28,8 @@ impl Machine {
         work: &mut Work,
     ) -> Result<(), Failure>
         requires { HasRoom command_room work.old }
-        ensures { Performs (queue_meaning command.entry self.old) self.old self.new work.old work.new result }
+        ensures performs { Performs (queue_meaning command.entry self.old) self.old self.new work.old work.new result }
+        ensures memory { result ≡ Err Failure.NoMemory → queue_takes_memory command.entry self.old ≡ true }
     {
         match command {
             QueueCommand::Add(uri, to) => self.add_named(alloc, uri, to, work),
@@ -88,7 +90,8 @@ impl Machine {
     #[tactic(auto, unfolding(crate::specs::Queue::queue_meaning))]
     fn clear_queue(&mut self, work: &mut Work) -> Result<(), Failure>
         requires { HasRoom command_room work.old }
-        ensures { Performs (queue_meaning commands.Clear self.old) self.old self.new work.old work.new result }
+        ensures performs { Performs (queue_meaning commands.Clear self.old) self.old self.new work.old work.new result }
+        ensures memory { result ≡ Err Failure.NoMemory → grows (queue_meaning commands.Clear self.old) ≡ true }
     {
         let end = self.queue_length();
         self.delete_entries(0, end, work)
@@ -97,7 +100,8 @@ impl Machine {
     #[tactic(auto, unfolding(crate::specs::Queue::queue_meaning))]
     fn delete_range(&mut self, range: PositionRange, work: &mut Work) -> Result<(), Failure>
         requires { HasRoom command_room work.old }
-        ensures { Performs (queue_meaning (commands.Delete range) self.old) self.old self.new work.old work.new result }
+        ensures performs { Performs (queue_meaning (commands.Delete range) self.old) self.old self.new work.old work.new result }
+        ensures memory { result ≡ Err Failure.NoMemory → grows (queue_meaning (commands.Delete range) self.old) ≡ true }
     {
         let span = self.span(range)?;
         self.delete_entries(span.start, span.end, work)
@@ -106,7 +110,8 @@ impl Machine {
     #[tactic(auto, unfolding(crate::specs::Queue::queue_meaning))]
     fn delete_id(&mut self, id: u32, work: &mut Work) -> Result<(), Failure>
         requires { HasRoom command_room work.old }
-        ensures { Performs (queue_meaning (commands.DeleteId id) self.old) self.old self.new work.old work.new result }
+        ensures performs { Performs (queue_meaning (commands.DeleteId id) self.old) self.old self.new work.old work.new result }
+        ensures memory { result ≡ Err Failure.NoMemory → grows (queue_meaning (commands.DeleteId id) self.old) ≡ true }
     {
         let at = self.place_of_id(id)?;
         self.delete_entries(at, at + 1, work)
@@ -115,7 +120,8 @@ impl Machine {
     #[tactic(auto, unfolding(crate::specs::Queue::queue_meaning))]
     fn swap(&mut self, alloc: Global, one: u32, other: u32, work: &mut Work) -> Result<(), Failure>
         requires { HasRoom command_room work.old }
-        ensures { Performs (queue_meaning (commands.Swap one other) self.old) self.old self.new work.old work.new result }
+        ensures performs { Performs (queue_meaning (commands.Swap one other) self.old) self.old self.new work.old work.new result }
+        ensures memory { result ≡ Err Failure.NoMemory → grows (queue_meaning (commands.Swap one other) self.old) ≡ true }
     {
         self.edit(alloc, Op::Queue(QueueOp::Swap { one, other }), work)
     }
@@ -129,7 +135,8 @@ impl Machine {
         work: &mut Work,
     ) -> Result<(), Failure>
         requires { HasRoom command_room work.old }
-        ensures { Performs (queue_meaning (commands.SwapId one other) self.old) self.old self.new work.old work.new result }
+        ensures performs { Performs (queue_meaning (commands.SwapId one other) self.old) self.old self.new work.old work.new result }
+        ensures memory { result ≡ Err Failure.NoMemory → grows (queue_meaning (commands.SwapId one other) self.old) ≡ true }
     {
         let one = self.place_of_id(one)?;
         let other = self.place_of_id(other)?;
@@ -144,7 +151,8 @@ impl Machine {
         work: &mut Work,
     ) -> Result<(), Failure>
         requires { HasRoom command_room work.old }
-        ensures { Performs (queue_meaning (commands.Shuffle range) self.old) self.old self.new work.old work.new result }
+        ensures performs { Performs (queue_meaning (commands.Shuffle range) self.old) self.old self.new work.old work.new result }
+        ensures memory { result ≡ Err Failure.NoMemory → grows (queue_meaning (commands.Shuffle range) self.old) ≡ true }
     {
         let span = self.span_or_all(range)?;
         if span.count() < 2 {

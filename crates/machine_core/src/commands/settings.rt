@@ -1,4 +1,6 @@
 // The commands of the settings.
+ghost use Rattle.std.specs.Prelude.{◌≡◌, true};
+ghost use Rattle.machine_core.specs.Memory.{settings_take_memory};
 ghost use Rattle.machine_core.specs.Settings.{settings_meaning};
 ghost use Rattle.machine_core.specs.Work.{HasRoom, Performs, command_room};
 
@@ -17,7 +19,8 @@ impl Machine {
         work: &mut Work,
     ) -> Result<(), Failure>
         requires { HasRoom command_room work.old }
-        ensures { Performs (settings_meaning command self.old) self.old self.new work.old work.new result }
+        ensures performs { Performs (settings_meaning command self.old) self.old self.new work.old work.new result }
+        ensures memory { result ≡ Err Failure.NoMemory → settings_take_memory command self.old ≡ true }
     {
         match command {
             SettingsCommand::Close => Ok(()),

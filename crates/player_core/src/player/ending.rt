@@ -10,9 +10,10 @@ use crate::changes::Changes;
 use crate::followed::{consumed, followed_by, go_on_or_stop, is_on, is_oneshot, order_of};
 use crate::options::Single;
 use crate::placing::placed;
-use crate::played::{leave, make_room};
+use crate::played::make_room;
 use crate::playing::PlayState;
 use crate::refusal::PlayerError;
+use crate::removal::leave;
 use crate::settings::PlaySettings;
 use play_queue::Entry;
 

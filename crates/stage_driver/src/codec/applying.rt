@@ -13,7 +13,7 @@ fn apply_body(state: &mut Saved, alloc: Global, layout: u32, body: &[u8]) -> Res
     state.apply_body(alloc, layout, body)
 }
 
-fn check(state: &Saved, op: &Op) -> Result<(), OpRefusal> {
+fn check(state: &Saved, op: &Op) -> Result<bool, OpRefusal> {
     state.check(op)
 }
 

@@ -1,47 +1,21 @@
-// Whether ops would change anything. No call takes memory.
-ghost use Rattle.std.specs.Prelude.{◌≡◌, ◌==◌, ◌&&◌, not, length, is_some, None};
+// Whether what an op that isn't refused says stands already. No call takes memory.
+ghost use Rattle.std.specs.Prelude.{◌≡◌, ◌==◌, ◌&&◌, length, is_some, None};
 ghost use Rattle.std.specs.List.{list_any};
 ghost use Rattle.song_db.specs.Effect.{effect_of, put_effect, effects_of, changes_a_row};
 ghost use Rattle.song_db.specs.Row.{row_at};
 ghost use Rattle.stickers.specs.Sticker.{value_at, find_refusal};
 ghost use Rattle.stored_lists.specs.Lists.{songs_of, songs_or_none, name_refusal, add_refusal};
-ghost use Rattle.state_codec.specs.Applied.{refusal_of, changes_nothing};
-ghost use Rattle.state_codec.specs.OpsLists.{list_refusal, leaves_lists};
-ghost use Rattle.state_codec.specs.OpsQueue.{queue_refusal, leaves_queue};
 ghost use Rattle.state_codec.specs.OpsSettings.{is_set};
-ghost use Rattle.state_codec.specs.OpsStickers.{sticker_refusal, leaves_stickers, is_value};
-ghost use Rattle.state_codec.specs.Stored.{state_of};
+ghost use Rattle.state_codec.specs.OpsStickers.{is_value};
 
-use super::{Saved, SavedParts};
-use crate::op::{ListOp, Op, QueueOp, Setting, StickerOp};
+use crate::op::Setting;
 use player_core::Options;
 use song_db::{MAX_ROWS, RowChange, SongDb, SongRow};
 use stickers::Stickers;
 use stored_lists::Lists;
 
-impl Saved {
-    /// Whether an op that isn't refused would leave the state as it is; of a batch, whether none of its changes would
-    /// change a row at its turn. It takes no memory.
-    ///
-    /// Of a priority it looks at the entries of the ranges, of a move in a playlist at the songs between the places, and
-    /// of a batch it looks up the rows of its changes, up to the first that would change one.
-    pub fn changes_nothing(&self, op: &Op) -> bool
-        ensures { refusal_of op.now self.now ≡ None → result ≡ changes_nothing op.now self.now }
-    {
-        let parts = &self.parts;
-        match op {
-            Op::SetOption(setting) => is_set(*setting, parts.options),
-            Op::SetVolume(volume) => volume.percent() == parts.volume.percent(),
-            Op::SetOrder(order) => *order == parts.order,
-            Op::Queue(op) => leaves_queue(parts, op),
-            Op::List(op) => leaves_lists(parts, op),
-            Op::Sticker(op) => leaves_stickers(parts, op),
-            Op::Batch(changes) => leaves_rows(&parts.songs, changes.as_slice()),
-        }
-    }
-}
-
-fn is_set(setting: Setting, options: Options) -> bool
+// Whether an option has the value already.
+pub(super) fn is_set(setting: Setting, options: Options) -> bool
     ensures { result ≡ is_set setting options }
 {
     match setting {
@@ -52,47 +26,14 @@ fn is_set(setting: Setting, options: Options) -> bool
     }
 }
 
-fn leaves_queue(parts: &SavedParts, op: &QueueOp) -> bool
-    ensures { queue_refusal op.now (state_of parts.now) ≡ None → result ≡ leaves_queue op.now (state_of parts.now) }
-{
-    let queue = &parts.queue;
-    match op {
-        QueueOp::Add { rows, .. } => rows.len() == 0,
-        QueueOp::Delete { start, end } => *start == *end,
-        QueueOp::Move { start, end, to } => {
-            !queue.would_move(*start as usize, *end as usize, *to as usize)
-        }
-        QueueOp::Swap { one, other } => !queue.would_swap(*one as usize, *other as usize),
-        QueueOp::Shuffle { .. } => false,
-        QueueOp::Prio { priority, ranges } => !queue.would_set_prio(ranges.ranges(), *priority),
-    }
-}
-
-fn leaves_lists(parts: &SavedParts, op: &ListOp) -> bool
-    ensures { list_refusal op.now (state_of parts.now) ≡ None → result ≡ leaves_lists op.now (state_of parts.now) }
-{
-    let lists = &parts.lists;
-    match op {
-        ListOp::Save { .. } => false,
-        ListOp::Add { name, rows } => adds_nothing(lists, name.as_str(), rows.len()),
-        ListOp::Remove { start, end, .. } => *start == *end,
-        ListOp::Move { name, from, to } => {
-            !lists.would_move_at(name.as_str(), *from as usize, *to as usize)
-        }
-        ListOp::Clear { name } => has_no_songs(lists, name.as_str()),
-        ListOp::Rename { .. } => false,
-        ListOp::Drop { .. } => false,
-    }
-}
-
 // Whether no song is added, and the playlist is there already.
-fn adds_nothing(lists: &Lists, name: &str, count: usize) -> bool
+pub(super) fn adds_nothing(lists: &Lists, name: &str, count: usize) -> bool
     ensures { add_refusal lists.now name.now count ≡ None → result ≡ (is_some (songs_of lists.now name.now) && count == 0) }
 {
     lists.get(name).is_ok() && count == 0
 }
 
-fn has_no_songs(lists: &Lists, name: &str) -> bool
+pub(super) fn has_no_songs(lists: &Lists, name: &str) -> bool
     ensures { name_refusal lists.now name.now ≡ None → result ≡ (length (songs_or_none lists.now name.now) == 0) }
 {
     match lists.get(name) {
@@ -101,23 +42,8 @@ fn has_no_songs(lists: &Lists, name: &str) -> bool
     }
 }
 
-fn leaves_stickers(parts: &SavedParts, op: &StickerOp) -> bool
-    ensures { sticker_refusal op.now (state_of parts.now) ≡ None → result ≡ leaves_stickers op.now (state_of parts.now) }
-{
-    match op {
-        StickerOp::Set { uri, name, value } => has_value(
-            &parts.stickers,
-            uri.as_str(),
-            name.as_str(),
-            value.as_str(),
-        ),
-        StickerOp::Delete { .. } => false,
-        StickerOp::DeleteAll { .. } => false,
-    }
-}
-
 // Whether a sticker has the value already.
-fn has_value(stickers: &Stickers, uri: &str, name: &str, value: &str) -> bool
+pub(super) fn has_value(stickers: &Stickers, uri: &str, name: &str, value: &str) -> bool
     ensures { find_refusal name.now ≡ None → result ≡ is_value value.now (value_at stickers.now uri.now name.now) }
 {
     match stickers.get(uri, name) {
@@ -126,12 +52,12 @@ fn has_value(stickers: &Stickers, uri: &str, name: &str, value: &str) -> bool
     }
 }
 
-// As long as no change changes a row, each finds the rows as they are.
-fn leaves_rows(songs: &SongDb, changes: &[RowChange]) -> bool
-    ensures { result ≡ not (list_any changes_a_row (effects_of songs.now changes.now)) }
+// Whether some change changes a row at its turn. As long as none does, each finds the rows as they are.
+pub(super) fn changes_rows(songs: &SongDb, changes: &[RowChange]) -> bool
+    ensures { result ≡ list_any changes_a_row (effects_of songs.now changes.now) }
 {
     let _rows = songs.len();
-    !some_would_change(songs, changes)
+    some_would_change(songs, changes)
 }
 
 // Whether some change would change a row, if it were the first.

@@ -1,52 +1,80 @@
 // What is found, gathered where it can't be written at once: to be sorted, or for the numbers of its rows.
-ghost use Rattle.std.specs.Prelude.{◌≡◌, ◌≤◌, ◌++◌, length, map, IfOk, OnOk, option_to_list};
+ghost use Rattle.std.specs.Prelude.{◌≡◌, ◌≤◌, ◌∷◌, ◌++◌, [], length, map, slice_get, None, IfOk, IsTrue, OnOk, option_to_list};
+ghost use Rattle.std.specs.List.{filter_map};
 ghost use Rattle.song_db.specs.Limits.{MAX_ROWS};
-ghost use Rattle.song_db.specs.Query.{number_at, values_of, with_texts};
+ghost use Rattle.song_db.specs.Query.{distinct_of, number_at, values_of, with_texts};
 ghost use Rattle.song_db.specs.Replaced.{IsRising};
 ghost use Rattle.song_db.specs.Row.{row_uri};
 ghost use Rattle.filter_expr.specs.declared.case.Case.TheVariants.{Exact};
 ghost use Rattle.filter_expr.specs.Order.{is_before, sorted};
 ghost use Rattle.wave_pcm.specs.Tag.{text_of};
-ghost use Rattle.machine_core.specs.Finding.{matching, numbers_in, part_of};
+ghost use Rattle.machine_core.specs.Finding.{found, matching, numbers_in, part_of};
 
 use super::part::Part;
-use command_text::NoMemory;
+use command_text::{NoMemory, Search};
 use filter_expr::{Case, Filter, SortOrder, sort_rows};
 use song_db::{SongDb, SongRow, Texts};
 use std::alloc::Global;
 use wave_pcm::Tag;
 
 // The rows that match, by URI.
-fn matching_rows<'a>(
+pub(super) fn matching_rows<'a>(
     alloc: Global,
-    rows: &'a [SongRow],
+    songs: &'a SongDb,
     case: Case,
     filter: &Filter,
 ) -> Result<Vec<&'a SongRow>, NoMemory>
-    ensures found { IfOk result (λ found. map (λ row. row.now) found.items ≡ matching case filter.now rows.now) }
-    ensures few { IfOk result (λ found. length found.items ≤ length rows.now) }
+    ensures found { IfOk result (λ found. map (λ row. row.now) found.items ≡ matching case filter.now songs.now) }
+    ensures few { IfOk result (λ found. length found.items ≤ length songs.now) }
 {
-    let mut found = Vec::new(alloc);
-    for row in rows {
-        if filter.matches(alloc, row, case)? {
-            found.push(row)?;
-        }
+    let numbers = filter.select(alloc, songs, case)?;
+    rows_at(alloc, songs.rows(), &numbers)
+}
+
+// The rows with these numbers.
+fn rows_at<'a>(
+    alloc: Global,
+    rows: &'a [SongRow],
+    numbers: &[u32],
+) -> Result<Vec<&'a SongRow>, NoMemory>
+    ensures { IfOk result (λ found. map (λ row. row.now) found.items ≡ filter_map (slice_get rows.now) numbers.now) }
+{
+    let mut found = Vec::with_capacity(alloc, numbers.len())?;
+    for number in numbers {
+        push_row(&mut found, rows, *number as usize)?;
     }
     Ok(found)
+}
+
+// Takes the row with a number, if there is one.
+fn push_row<'a>(
+    found: &mut Vec<&'a SongRow>,
+    rows: &'a [SongRow],
+    number: usize,
+) -> Result<(), NoMemory>
+    ensures { OnOk result (map (λ row. row.now) found.new.items
+        ≡ map (λ row. row.now) found.old.items ++ option_to_list (slice_get rows.now number)) }
+{
+    match rows.get(number) {
+        Some(row) => found.push(row)?,
+        None => {}
+    }
+    Ok(())
 }
 
 // The rows that match, in an order.
 pub(super) fn sorted_rows<'a>(
     alloc: Global,
-    rows: &'a [SongRow],
+    songs: &'a SongDb,
     case: Case,
     filter: &Filter,
     order: SortOrder,
 ) -> Result<Vec<&'a SongRow>, NoMemory>
-    ensures found { IfOk result (λ found. map (λ row. row.now) found.items ≡ sorted (is_before order) (matching case filter.now rows.now)) }
-    ensures few { IfOk result (λ found. length found.items ≤ length rows.now) }
+    ensures found { IfOk result (λ found. map (λ row. row.now) found.items
+        ≡ sorted (is_before order) (matching case filter.now songs.now)) }
+    ensures few { IfOk result (λ found. length found.items ≤ length songs.now) }
 {
-    let mut found = matching_rows(alloc, rows, case, filter)?;
+    let mut found = matching_rows(alloc, songs, case, filter)?;
     sort_rows(alloc, &mut found, order)?;
     Ok(found)
 }
@@ -54,29 +82,73 @@ pub(super) fn sorted_rows<'a>(
 // The values of a tag among the rows that match.
 pub(super) fn matching_values<'a>(
     alloc: Global,
-    rows: &'a [SongRow],
+    songs: &'a SongDb,
     filter: &Filter,
     tag: Tag,
 ) -> Result<Texts<'a>, NoMemory>
-    ensures { IfOk result (λ values. values ≡ values_of (matching Exact filter.now rows.now) tag) }
+    ensures { IfOk result (λ values. values ≡ values_of (matching Exact filter.now songs.now) tag) }
 {
-    let mut values = Texts::new(alloc);
-    for row in rows {
-        if filter.matches(alloc, row, Case::Exact)? {
-            insert_value(&mut values, row, tag)?;
-        }
-    }
-    Ok(values)
+    let found = matching_rows(alloc, songs, Case::Exact, filter)?;
+    values_among(alloc, &found, tag)
 }
 
-// Takes a row's value of a tag, if it has one.
-fn insert_value<'a>(values: &mut Texts<'a>, row: &'a SongRow, tag: Tag) -> Result<(), NoMemory>
-    ensures { OnOk result (values.new ≡ with_texts values.old (option_to_list (text_of row.now.tags tag))) }
+// The values of a tag among these rows, which are sorted once.
+fn values_among<'a>(alloc: Global, rows: &[&'a SongRow], tag: Tag) -> Result<Texts<'a>, NoMemory>
+    ensures { IfOk result (λ values. values ≡ values_of (map (λ row. row.now) rows.now) tag) }
 {
-    if let Some(text) = row.tag(tag) {
-        values.insert(text)?;
+    let texts = texts_among(alloc, rows, tag)?;
+    Ok(Texts::of(alloc, texts)?)
+}
+
+// The texts of a tag row by row, without one that the row before has, too.
+fn texts_among<'a>(alloc: Global, rows: &[&'a SongRow], tag: Tag) -> Result<Vec<&'a str>, NoMemory>
+    ensures { IfOk result (λ texts. distinct_of (map (λ text. text.now) texts.items) ≡ values_of (map (λ row. row.now) rows.now) tag) }
+{
+    let mut texts = Vec::new(alloc);
+    for row in rows {
+        push_text(&mut texts, *row, tag)?;
     }
+    Ok(texts)
+}
+
+// Takes a row's text of a tag, if it has one, and it isn't the last one taken.
+fn push_text<'a>(texts: &mut Vec<&'a str>, row: &'a SongRow, tag: Tag) -> Result<(), NoMemory>
+    ensures { OnOk result (distinct_of (map (λ text. text.now) texts.new.items)
+        ≡ with_texts (distinct_of (map (λ text. text.now) texts.old.items)) (option_to_list (text_of row.now.tags tag))) }
+{
+    let Some(text) = row.tag(tag) else {
+        return Ok(());
+    };
+    if ends_with(texts, text) {
+        return Ok(());
+    }
+    texts.push(text)?;
     Ok(())
+}
+
+// Whether a text is the last one, so that taking it once more changes nothing.
+fn ends_with(texts: &[&str], text: &str) -> bool
+    ensures { IsTrue result → (with_texts (distinct_of (map (λ t. t.now) texts.now)) (text.now
+        ∷ []) ≡ distinct_of (map (λ t. t.now) texts.now)) }
+{
+    match texts.last() {
+        None => false,
+        Some(last) => *last == text,
+    }
+}
+
+// The numbers of all rows that match.
+pub(super) fn all_numbers(
+    alloc: Global,
+    songs: &SongDb,
+    case: Case,
+    filter: &Filter,
+) -> Result<Vec<u32>, NoMemory>
+    ensures numbers { IfOk result (λ numbers. numbers.items ≡ numbers_in songs.now (matching case filter.now songs.now)) }
+    ensures few { IfOk result (λ numbers. length numbers.items ≤ MAX_ROWS) }
+{
+    let _limit = songs.len();
+    filter.select(alloc, songs, case)
 }
 
 // The numbers of the rows that match, and of these a part. The rows behind the part aren't looked at.
@@ -107,6 +179,27 @@ pub(super) fn matching_numbers(
         numbers.push(number as u32)?;
     }
     Ok(numbers)
+}
+
+// The numbers of what a search finds that stays by URI.
+pub(super) fn numbers_by_uri(
+    alloc: Global,
+    songs: &SongDb,
+    search: &Search,
+) -> Result<Vec<u32>, NoMemory>
+    requires { search.now.sort ≡ None }
+    ensures numbers { IfOk result (λ numbers. numbers.items ≡ numbers_in songs.now (found search.now songs.now)) }
+    ensures few { IfOk result (λ numbers. length numbers.items ≤ MAX_ROWS) }
+{
+    match search.window {
+        None => all_numbers(alloc, songs, search.case, &search.filter),
+        Some(_) => {
+            let _limit = songs.len();
+            let rows = songs.rows();
+            let part = Part::of_window(search.window, rows.len());
+            matching_numbers(alloc, rows, search.case, &search.filter, part)
+        }
+    }
 }
 
 // The numbers of rows among the songs.

@@ -1,13 +1,16 @@
 // The lines of what is found, written while songs and entries are looked at.
-ghost use Rattle.std.specs.Prelude.{◌≡◌};
+ghost use Rattle.std.specs.Prelude.{◌≡◌, None};
 ghost use Rattle.std.specs.List.{flat_map};
 ghost use Rattle.command_text.specs.Answer.{Adds};
 ghost use Rattle.command_text.specs.AnswerSongs.{song_lines};
 ghost use Rattle.song_db.specs.Row.{row_at};
-ghost use Rattle.machine_core.specs.Finding.{Writes, entries_found, entry_found, matching, part_of, value_lines};
+ghost use Rattle.machine_core.specs.Finding.{Writes, entries_found, entry_found, found, matching, part_of, value_lines};
 
+use super::gathering::matching_rows;
 use super::part::Part;
-use command_text::{NoMemory, write_entry, write_song, write_value};
+use super::windowed;
+use crate::answer::write_songs;
+use command_text::{NoMemory, Search, write_entry, write_song, write_value};
 use filter_expr::{Case, Filter};
 use play_queue::Entry;
 use song_db::{SongDb, SongRow, Texts};
@@ -39,6 +42,39 @@ pub(super) fn write_matching(
         write_song(out, row)?;
     }
     Ok(())
+}
+
+// Adds the rows that match where the case counts: they are gathered first, as few may have to be looked at.
+fn write_selected(
+    out: &mut Vec<u8>,
+    alloc: Global,
+    songs: &SongDb,
+    search: &Search,
+) -> Result<(), NoMemory>
+    requires { search.now.sort ≡ None }
+    ensures { Writes (flat_map song_lines (found search.now songs.now)) result out.old out.new }
+{
+    let found = matching_rows(alloc, songs, search.case, &search.filter)?;
+    write_songs(out, windowed(&found, search.window))
+}
+
+// Adds what a search finds that stays by URI.
+pub(super) fn write_by_uri(
+    out: &mut Vec<u8>,
+    alloc: Global,
+    songs: &SongDb,
+    search: &Search,
+) -> Result<(), NoMemory>
+    requires { search.now.sort ≡ None }
+    ensures { Writes (flat_map song_lines (found search.now songs.now)) result out.old out.new }
+{
+    match search.case {
+        Case::Exact => write_selected(out, alloc, songs, search),
+        Case::Folded => {
+            let part = Part::of_window(search.window, songs.len());
+            write_matching(out, alloc, songs.rows(), search.case, &search.filter, part)
+        }
+    }
 }
 
 // Adds the values of a tag.

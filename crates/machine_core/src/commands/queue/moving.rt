@@ -1,6 +1,7 @@
 // The commands that move entries of the queue.
-ghost use Rattle.std.specs.Prelude.{◌≡◌, option_map};
+ghost use Rattle.std.specs.Prelude.{◌≡◌, ◌≢◌, true, option_map};
 ghost use Rattle.command_text.specs.declared.command.queue.QueueCommand.TheVariants as commands;
+ghost use Rattle.machine_core.specs.Memory.{grows};
 ghost use Rattle.machine_core.specs.Named.{Finds};
 ghost use Rattle.machine_core.specs.Queue.{in_rest, is_held, is_relative, moves, place_in_rest, queue_meaning};
 ghost use Rattle.machine_core.specs.Work.{HasRoom, Performs, command_room};
@@ -54,7 +55,8 @@ impl Machine {
         work: &mut Work,
     ) -> Result<(), Failure>
         requires { HasRoom command_room work.old }
-        ensures { Performs (queue_meaning (commands.Move range to) self.old) self.old self.new work.old work.new result }
+        ensures performs { Performs (queue_meaning (commands.Move range to) self.old) self.old self.new work.old work.new result }
+        ensures memory { result ≡ Err Failure.NoMemory → grows (queue_meaning (commands.Move range to) self.old) ≡ true }
     {
         let current = self.current_position();
         if !can_count(Some(to), current) {
@@ -73,7 +75,8 @@ impl Machine {
         work: &mut Work,
     ) -> Result<(), Failure>
         requires { HasRoom command_room work.old }
-        ensures { Performs (queue_meaning (commands.MoveId id to) self.old) self.old self.new work.old work.new result }
+        ensures performs { Performs (queue_meaning (commands.MoveId id to) self.old) self.old self.new work.old work.new result }
+        ensures memory { result ≡ Err Failure.NoMemory → grows (queue_meaning (commands.MoveId id to) self.old) ≡ true }
     {
         let start = self.place_of_id(id)?;
         let end = start + 1;
@@ -89,7 +92,8 @@ impl Machine {
         work: &mut Work,
     ) -> Result<(), Failure>
         requires { HasRoom command_room work.old }
-        ensures { Performs (moves block to self.old) self.old self.new work.old work.new result }
+        ensures performs { Performs (moves block to self.old) self.old self.new work.old work.new result }
+        ensures memory { result ≡ Err Failure.NoMemory → grows (moves block to self.old) ≡ true }
     {
         let at = self.place_in_rest(to, block)?;
         let op = QueueOp::Move {
@@ -102,7 +106,8 @@ impl Machine {
 
     // The position of a place in the rest without a block.
     fn place_in_rest(&self, to: Target, block: Span) -> Result<u32, Failure>
-        ensures { Finds (place_in_rest to block self.now) result }
+        ensures found { Finds (place_in_rest to block self.now) result }
+        ensures memory { result ≢ Err Failure.NoMemory }
     {
         let current = self.current_position();
         if is_relative(to) && is_held(block, current) {

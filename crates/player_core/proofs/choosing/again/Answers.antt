@@ -1,7 +1,6 @@
 use Rattle.std.proofs.Common.{◌≡◌, ◌∙◌, List, Some, None, refl, sym, ap, subst}
 use Rattle.play_queue.specs.declared.entry.Entry.{Entry}
 use Rattle.player_core.specs.declared.choice.Choice.{Choice}
-use Rattle.player_core.specs.Words.{next_order}
 use Rattle.player_core.specs.Staying.{staying}
 use Rattle.player_core.specs.Choice.{least, new_round, nothing}
 use Rattle.player_core.proofs.Leaving.{counted-all}

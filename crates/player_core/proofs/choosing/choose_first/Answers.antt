@@ -1,4 +1,4 @@
-use Rattle.std.proofs.Common.{◌≡◌, ◌∙◌, refl, sym, ap}
+use Rattle.std.proofs.Common.{◌∙◌, ap}
 use Rattle.player_core.specs.Words.{next_order}
 use Rattle.player_core.specs.Choice.{least, new_round}
 use Rattle.player_core.proofs.Leaving.{staying-all}

@@ -1,4 +1,4 @@
-use Rattle.std.proofs.Common.{◌≡◌, ◌<◌, length, refl, arith}
+use Rattle.std.proofs.Common.{refl}
 use Rattle.player_core.proofs.LastIds.{last_or-found}
 use Rattle.player_core.proofs.commanded.last_left.Goals as goal
 

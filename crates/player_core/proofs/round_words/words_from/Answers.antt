@@ -1,6 +1,6 @@
 use Rattle.std.proofs.Common.{◌≡◌, ◌+◌, ◌%◌, ◌^◌, refl, ap, ◌∙◌, arith}
 use Rattle.std.proofs.lemmas.List.{length-set}
-use Rattle.rand_chacha.specs.ChaCha.{ChaCha, key_of}
+use Rattle.rand_chacha.specs.ChaCha.{ChaCha}
 use Rattle.player_core.proofs.MadeWords.{at_id, word_made, next_at, words_more}
 use Rattle.player_core.proofs.round_words.words_from.Goals as goal
 

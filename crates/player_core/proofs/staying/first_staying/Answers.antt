@@ -1,6 +1,6 @@
-use Rattle.std.proofs.Common.{◌≡◌, ◌∙◌, sym, ap, false, true}
-use Rattle.player_core.specs.Staying.{takes, first_id}
-use Rattle.player_core.proofs.Leaving.{staying-stays, staying-leaves}
+use Rattle.std.proofs.Common.{◌≡◌, ◌∙◌, sym, false}
+use Rattle.player_core.specs.Staying.{takes}
+use Rattle.player_core.proofs.Leaving.{staying-stays}
 use Rattle.player_core.proofs.staying.first_staying.Goals as goal
 
 pub returns-then-not-takes : goal.returns-then-not-takes

@@ -1,11 +1,15 @@
-use Rattle.std.proofs.Common.{◌≡◌, ℕ, Bool, true, false, List, [], ◌∷◌, None, refl, sym, subst}
+use Rattle.std.proofs.Common.{◌≡◌, ℕ, Bool, true, false, List, [], ◌∷◌, None, refl, sym, subst, arith}
 use Rattle.idle_masks.specs.Watched.{with_waiting}
 use Rattle.daemon_core.specs.Handled.{Does, IsNothingBut}
 use Rattle.daemon_core.specs.Parts.{state_of}
 use Rattle.daemon_core.specs.Session.{output}
 use Rattle.daemon_core.specs.Step.{waits_no_more}
 use Rattle.daemon_core.specs.declared.parts.CoreParts.{CoreParts}
-use Rattle.daemon_core.proofs.ClientLaws.{does_but, left_ready, waiting_ready, so_ok}
+use Rattle.daemon_core.specs.Room.{KeepsRoom}
+use Rattle.daemon_core.specs.declared.room.Room.{Room}
+use Rattle.daemon_core.proofs.ClientLaws.{does_but, waiting_ready, so_ok}
+use Rattle.daemon_core.proofs.EndLaws.{ready_left}
+use Rattle.daemon_core.proofs.RoomLaws.{some_watched}
 use Rattle.daemon_core.proofs.parts.CoreParts.end_waiting.Goals as goal
 
 pub returns-else-is_err-clause-ok : goal.returns-else-is_err-clause-ok
@@ -20,13 +24,18 @@ returns-else-is_err-clause-ok c =
     (does_but (waits_no_more true c.args.client (state_of p)) q h but (λ i. record { machine = p.machine; clients = watch i })
     refl refl refl refl (waiting_ready p q c.args.client None c.requires.ready watch refl))
 
-pub returns-in_ok-handled-2-clause-ok : goal.returns-in_ok-handled-2-clause-ok
-returns-in_ok-handled-2-clause-ok c =
+pub returns-else-is_noidle-clause-ok : goal.returns-else-is_noidle-clause-ok
+returns-else-is_noidle-clause-ok c =
     let p : CoreParts = c.args.self.now in
     let q : CoreParts = c.leave.new.self in
-    let h = c.in_ok-handled-2.handled in
     let left = c.leave.ensures in
-    subst (λ (b : Bool). Does (waits_no_more b c.args.client (state_of p)) q h) (sym c.if-is_noidle.false)
-    (does_but (waits_no_more false c.args.client (state_of p)) q h c.in_ok-handled-2.ensures
+    subst (λ (b : Bool). Does (waits_no_more b c.args.client (state_of p)) q c.closing.result) (sym c.if-is_noidle.false)
+    (does_but (waits_no_more false c.args.client (state_of p)) q c.closing.result c.closing.ensures
     (λ i. record { machine = left.machine i; clients = left.watch i })
-    refl refl refl refl (left_ready p q c.args.client c.requires.ready left.watch left.room))
+    refl refl refl refl (ready_left p q c.args.client c.requires.ready left.watch
+    (subst (λ (r : Room). KeepsRoom p.room r) (sym left.room) c.give_closes-closes.ensures.kept)))
+
+pub closing-requires-clause-room : goal.closing-requires-clause-room
+closing-requires-clause-room c =
+    let some = some_watched c.args.self.now.watch c.args.client c.requires.known in
+    omega (arith, some, c.requires.closes, c.give_closes-closes.ensures.room)

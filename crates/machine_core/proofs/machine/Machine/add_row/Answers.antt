@@ -17,7 +17,7 @@ returns-then-is_err c =
     let queue = c.queue.ensures ∙ ap (λ (n : MachineState). n.saved.queue) c.self.view_is in
     let next = c.next_id.ensures ∙ ap (λ (q : QueueState). q.next_id) queue in
     let added = subst (λ (rows : List ℕ). Performs (edits (Queue (Add c.args.at rows)) [] m) m c.edit-added.new.self c.keep.new.self
-    c.edit-added.new.work c.edit-added.result) c.in_ok-rows.ensures.rows c.edit-added.ensures in
+    c.edit-added.new.work c.edit-added.result) c.in_ok-rows.ensures.rows c.edit-added.ensures.performs in
     was_not_made op (id_line m.saved.queue.next_id) m _ _ c.args.work.now _ c.keep.new.self c.edit-added.new.work _ _
     c.len-mark.ensures refl refl (adds_same _ _ _ _ _ c.write_id-written.ensures (ap id_line next)) c.in_ok-keep.ensures _ _
     (sym c.is_err.ensures.value ∙ c.if-is_err.true) added c.truncate.ensures.items (omega (arith, c.truncate.ensures.capacity)) refl refl
@@ -29,7 +29,7 @@ returns-else-is_err c =
     let queue = c.queue.ensures ∙ ap (λ (n : MachineState). n.saved.queue) c.self.view_is in
     let next = c.next_id.ensures ∙ ap (λ (q : QueueState). q.next_id) queue in
     let added = subst (λ (rows : List ℕ). Performs (edits (Queue (Add c.args.at rows)) [] m) m c.edit-added.new.self c.keep.new.self
-    c.edit-added.new.work c.edit-added.result) c.in_ok-rows.ensures.rows c.edit-added.ensures in
+    c.edit-added.new.work c.edit-added.result) c.in_ok-rows.ensures.rows c.edit-added.ensures.performs in
     was_made op (id_line m.saved.queue.next_id) m _ _ c.args.work.now _ c.keep.new.self c.edit-added.new.work _ _
     c.len-mark.ensures refl refl (adds_same _ _ _ _ _ c.write_id-written.ensures (ap id_line next)) c.in_ok-keep.ensures _
     (sym c.is_err.ensures.value ∙ c.if-is_err.false) added

@@ -38,4 +38,4 @@ returns c =
     (λ good. numbers_named m.saved.songs c.args.path.now >>= λ rows. edits (OfLists (Add good rows)) [] m) name c.in_ok-name.ensures
     ∙ found (numbers_named m.saved.songs c.args.path.now) (λ rows. edits (OfLists (Add name rows)) [] m) c.in_ok-rows.rows
     c.in_ok-rows.ensures)
-    c.edit.ensures
+    c.edit.ensures.performs

@@ -31,4 +31,4 @@ returns c =
     also _ _ _ _ _ _ _
     (found (list_name c.args.name.now)
     (λ good. edits (OfLists (Add good (numbers_in m.saved.songs (matching Folded tree m.saved.songs)))) [] m) name c.in_ok-name.ensures
-    ∙ (λ i. edits (OfLists (Add name (sym rows i))) [] m)) c.edit.ensures
+    ∙ (λ i. edits (OfLists (Add name (sym rows i))) [] m)) c.edit.ensures.performs

@@ -63,4 +63,4 @@ returns c =
     (found (songs_named m.saved.lists name) (λ songs. edits (OfLists (Add name (queue_rows m))) [] m) c.in_ok-songs_named.field-0.now is
     ∙ found (found_rows (queue_rows m)) (λ rows. edits (OfLists (Add name rows)) [] m) c.in_ok-rows.rows rows
     ∙ ap (λ text. edits (OfLists (Add text c.in_ok-rows.rows)) [] m) (sym (name_is name c.in_ok-name.name c.in_ok-name.ensures)))
-    c.edit.ensures
+    c.edit.ensures.performs

@@ -1,4 +1,4 @@
-use Rattle.std.proofs.Common.{◌≡◌, List, refl, ap, ◌∙◌, length}
+use Rattle.std.proofs.Common.{List, refl, ap, ◌∙◌, length}
 use Rattle.command_text.specs.AnswerNames.{count_lines}
 use Rattle.command_text.proofs.Adding.{adds_same}
 use Rattle.filter_expr.specs.declared.case.Case.TheVariants.{Exact}
@@ -14,10 +14,9 @@ pub returns : goal.returns
 returns c =
     let m = c.args.self.now in
     let tree = c.args.filter.now in
-    let rows : c.rows.result.now ≡ m.saved.songs = c.rows.ensures ∙ c.songs-database.ensures
-    ∙ ap (λ (n : MachineState). n.saved.songs) c.self.view_is in
+    let songs = c.songs-database.ensures ∙ ap (λ (n : MachineState). n.saved.songs) c.self.view_is in
     reads _ _ m m _ c.args.work.now _ c.keep.new.self _ _ (count_means m tree) refl c.len-mark.ensures refl refl
     (adds_same _ _ _ _ _ c.write_counts-written.ensures
     ((λ i. count_lines (c.in_ok-songs.ensures.songs i) (c.in_ok-songs.ensures.time i))
-    ∙ ap (λ (songs : List Row). count_lines (length (matching Exact tree songs)) (total_of (matching Exact tree songs))) rows))
+    ∙ ap (λ (songs : List Row). count_lines (length (matching Exact tree songs)) (total_of (matching Exact tree songs))) songs))
     c.keep.ensures

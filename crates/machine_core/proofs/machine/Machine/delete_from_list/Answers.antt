@@ -69,4 +69,4 @@ returns c =
     (λ all. span_in range (length all) >>= λ part. edits (OfLists (Remove name part.start part.end)) [] m) songs is
     ∙ found (span_in range (length songs)) (λ part. edits (OfLists (Remove name part.start part.end)) [] m) span within
     ∙ ap (λ text. edits (OfLists (Remove text span.start span.end)) [] m) (sym (name_is name c.in_ok-name.name c.in_ok-name.ensures)))
-    c.edit.ensures
+    c.edit.ensures.performs

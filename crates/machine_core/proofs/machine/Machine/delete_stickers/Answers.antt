@@ -27,4 +27,4 @@ returns c =
     also _ _ _ _ _ _ _
     (ap (λ u. stickers_meaning (commands.Delete u None) m) (sym c.as_str.ensures) ∙ deleted m uri None song.0
     ∙ ap (λ u. edits (OfSticker (DeleteAll u)) [] m) (sym song.1))
-    c.edit.ensures
+    c.edit.ensures.performs

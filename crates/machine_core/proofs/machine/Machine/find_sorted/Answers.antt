@@ -1,4 +1,4 @@
-use Rattle.std.proofs.Common.{◌≡◌, map, refl, ap, ◌∙◌}
+use Rattle.std.proofs.Common.{map, refl, ap, ◌∙◌}
 use Rattle.std.specs.List.{flat_map}
 use Rattle.command_text.proofs.Adding.{adds_same}
 use Rattle.command_text.specs.AnswerSongs.{song_lines}
@@ -12,11 +12,10 @@ pub returns : goal.returns
 returns c =
     let m = c.args.self.now in
     let search = c.args.search.now in
-    let rows : c.rows-rows.result.now ≡ m.saved.songs = c.rows-rows.ensures ∙ c.songs.ensures
-    ∙ ap (λ (n : MachineState). n.saved.songs) c.self.view_is in
+    let songs = c.songs-songs.ensures ∙ ap (λ (n : MachineState). n.saved.songs) c.self.view_is in
     reads _ _ m m _ c.args.work.now _ c.keep.new.self _ _ (find_means m search) refl c.len-mark.ensures refl refl
     (adds_same _ _ _ _ _ c.write_songs-written.ensures (ap (flat_map song_lines) (c.windowed.ensures.rows
     ∙ ap (λ items. in_window search.window (map (λ row. row.now) items)) c.deref.ensures.value
     ∙ ap (in_window search.window) c.in_ok-sorted.ensures.found
-    ∙ sorted_found search c.args.order c.rows-rows.result.now c.requires
-    ∙ ap (found search) rows))) c.keep.ensures
+    ∙ sorted_found search c.args.order c.songs-songs.result.now c.requires
+    ∙ ap (found search) songs))) c.keep.ensures

@@ -20,4 +20,4 @@ returns c =
     let m = c.args.self.now in
     also _ _ _ _ _ _ _
     (found (list_name c.args.name.now) (λ good. edits (OfLists (Move good c.args.from c.args.to)) [] m) c.in_ok-name.name
-    c.in_ok-name.ensures) c.edit.ensures
+    c.in_ok-name.ensures) c.edit.ensures.performs

@@ -35,4 +35,4 @@ returns c =
     (found (list_name c.args.from.now) (λ old. list_name c.args.to.now >>= λ new. edits (OfLists (Rename old new)) [] m) from
     c.in_ok-from.ensures
     ∙ found (list_name c.args.to.now) (λ new. edits (OfLists (Rename from new)) [] m) c.in_ok-to.to c.in_ok-to.ensures)
-    c.edit.ensures
+    c.edit.ensures.performs

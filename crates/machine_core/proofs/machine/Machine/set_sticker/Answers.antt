@@ -64,4 +64,4 @@ returns c =
     also _ _ _ _ _ _ _
     (here ∙ set_edits m uri name value given.0
     ∙ (λ i. edits (OfSticker (Set (sym song.1 i) (sym named.1 i) (sym given.1 i))) [] m))
-    c.edit.ensures
+    c.edit.ensures.performs

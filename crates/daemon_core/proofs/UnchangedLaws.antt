@@ -1,0 +1,219 @@
+-- An event makes no op exactly where it changes nothing of what is saved, since a command, the end of a song and a batch do.
+use Rattle.std.proofs.Common.{◌≡◌, ℕ, suc, ◌+◌, ◌↔◌, Bool, true, false, List, [], ◌∷◌, ◌++◌, length, Option, Some, None, cond}
+use Rattle.std.proofs.Common.{refl, sym, subst, ◌∙◌, ap}
+use Rattle.std.specs.Prelude.{Result, Ok, Err, nat_le}
+use Rattle.std.proofs.lemmas.Bool.{false≢true}
+use Rattle.command_text.specs.Answer.{list_ok}
+use Rattle.command_text.specs.Reading.{line_reading}
+use Rattle.command_text.specs.declared.command.Command.{Command}
+use Rattle.command_text.specs.declared.command.NamedCommand.{NamedCommand}
+use Rattle.command_text.specs.declared.name.CommandName.{CommandName}
+use Rattle.command_text.specs.declared.place.Place.{Place}
+use Rattle.command_text.specs.declared.place.Place.TheVariants.{Alone, InList}
+use Rattle.command_text.specs.declared.refusal.CommandRefusal.TheVariants.{RequestTooLarge}
+use Rattle.command_text.specs.declared.refusal.Refusal.{Refusal}
+use Rattle.command_text.specs.declared.request.Request.{Request}
+use Rattle.command_text.specs.declared.request.Request.TheVariants.{Single, List as CommandList, OkList, Noidle}
+use Rattle.idle_masks.specs.Watched.{watched}
+use Rattle.idle_masks.specs.declared.subsystem.Subsystems.{Subsystems}
+use Rattle.idle_masks.specs.declared.watch.Watched.{Watched}
+use Rattle.machine_core.specs.Command.{meaning}
+use Rattle.machine_core.specs.Happening.{Happening, nothing_happens}
+use Rattle.machine_core.specs.Meaning.{Meaning, Meant}
+use Rattle.machine_core.specs.Reports.{when_ended}
+use Rattle.machine_core.specs.Scanning.{ends_scan, finds, is_running, telling, when_found, when_scanned}
+use Rattle.machine_core.specs.Size.{max_request_bytes, within}
+use Rattle.machine_core.specs.State.{MachineState}
+use Rattle.song_db.specs.declared.change.RowChange.{RowChange}
+use Rattle.state_codec.specs.SavedState.{IsSavedState}
+use Rattle.state_codec.specs.Spelling.{ops_bytes}
+use Rattle.state_codec.specs.declared.op.Op.{Op}
+use Rattle.daemon_core.specs.Run.{Did, Goes, Refuses, Ends, ending_of, did_of, unless_it_ends, performed, read_and_performed, attempted}
+use Rattle.daemon_core.specs.Run.{Ran, wants_memory, follow, is_refused_at, ran}
+use Rattle.daemon_core.specs.Session.{of_ran, runs}
+use Rattle.daemon_core.specs.State.{State}
+use Rattle.daemon_core.specs.Step.{connects_client, asked, waits_no_more, is_noidle, requested_by, waiting_of, acted, step}
+use Rattle.daemon_core.specs.Unchanged.{CommandLeaves, CommandsLeave, RequestLeaves, AskedLeaves, LeavesSaved}
+use Rattle.daemon_core.specs.declared.event.Event.{Event}
+use Rattle.daemon_core.specs.declared.event.Event.TheVariants as events
+use Rattle.daemon_core.specs.declared.outcome.Ending.{Ending}
+use Rattle.daemon_core.specs.declared.outcome.Ending.TheVariants.{Answered, Closed, Killed, Waits}
+
+-- what is known of a command, of the end of a song, and of a batch
+pub record MachineTells : Type 0 where
+  pub none : (command : Command) (m : MachineState) (x : Meaning) → IsSavedState m.saved → meaning command m ≡ Ok x
+      → x.after.saved ≡ m.saved → x.ops ≡ []
+  pub same : (command : Command) (m : MachineState) (x : Meaning) → meaning command m ≡ Ok x → x.ops ≡ [] → x.after.saved ≡ m.saved
+  pub ended_none : (ticket : ℕ) (m : MachineState) → IsSavedState m.saved
+      → (when_ended ticket m).after.saved ≡ m.saved → (when_ended ticket m).ops ≡ []
+  pub ended_same : (ticket : ℕ) (m : MachineState) → (when_ended ticket m).ops ≡ [] → (when_ended ticket m).after.saved ≡ m.saved
+  pub found : (job : ℕ) (changes : List RowChange) (m : MachineState) → is_running job m ≡ true
+      → ((when_found job changes m).ops ≡ [] ↔ telling m.saved.songs changes ≡ [])
+
+-- it makes no op exactly where it leaves what is saved
+record Tells (Leaves : Type 0) (m : MachineState) (ops : List Op) : Type 0 where
+  none : IsSavedState m.saved → Leaves → ops ≡ []
+  same : ops ≡ [] → Leaves
+
+abbrev CommandTells : MachineState → Meaning → Type 0
+CommandTells m x = Tells (x.after.saved ≡ m.saved) m x.ops
+
+abbrev DidTells : MachineState → Did → Type 0
+DidTells m (Goes x) = CommandTells m x
+DidTells m (Refuses refusal) = Unit {0}
+DidTells m (Ends ending) = Unit {0}
+
+-- nothing is done, and nothing was to be done
+silent : (m : MachineState) → Tells (Unit {0}) m []
+silent m = record { none = λ saved leaves. refl; same = λ empty. tt }
+
+within_tells : (size : ℕ) (m : MachineState) (name : CommandName) (x : Meaning) (fits : Bool) → CommandTells m x →
+    DidTells m (did_of name (cond fits (Ok x) (Err RequestTooLarge)))
+within_tells size m name x true tells = tells
+within_tells size m name x false tells = tt
+
+did_tells : (known : MachineTells) (size : ℕ) (m : MachineState) (name : CommandName) (command : Command) (meant : Meant) →
+    meaning command m ≡ meant → DidTells m (did_of name (within size meant))
+did_tells known size m name command (Err refusal) is = tt
+did_tells known size m name command (Ok x) is =
+    within_tells size m name x (nat_le (size + length (ops_bytes x.ops)) max_request_bytes)
+    (record { none = λ saved leaves. known.none command m x saved is leaves; same = λ empty. known.same command m x is empty })
+
+unless_tells : (m : MachineState) (ending : Option Ending) (did : Did) → DidTells m did → DidTells m (unless_it_ends ending did)
+unless_tells m None did tells = tells
+unless_tells m (Some ending) did tells = tt
+
+performed_tells : (known : MachineTells) (size : ℕ) (named : NamedCommand) (m : MachineState) → DidTells m (performed size named m)
+unfolding performed
+performed_tells known size named m =
+    unless_tells m (ending_of named.command) _ (did_tells known size m named.name named.command (meaning named.command m) refl)
+
+read_tells : (known : MachineTells) (size : ℕ) (m : MachineState) (read : Result NamedCommand Refusal) →
+    DidTells m (read_and_performed size m read)
+read_tells known size m (Ok named) = performed_tells known size named m
+read_tells known size m (Err refusal) = tt
+
+attempted_tells : (known : MachineTells) (place : Place) (size : ℕ) (line : List ℕ) (m : MachineState) →
+    DidTells m (attempted place size line m)
+unfolding attempted
+attempted_tells known place size line m = read_tells known size m (line_reading place line)
+
+-- so does what a request ran
+nothing_in : (a b : List Op) → a ++ b ≡ [] → (a ≡ []) × (b ≡ [])
+nothing_in [] b empty = (refl, empty)
+nothing_in (op ∷ a) b empty = absurd (cc)
+
+follow_tells : (separator : List ℕ) (index size : ℕ) (m : MachineState) (rest : ℕ → MachineState → Ran)
+    (Rest : ℕ → MachineState → Type 0) (d : Did) → DidTells m d →
+    ((n : ℕ) (t : MachineState) → let r = rest n t in Tells (Rest n t) t r.ops) →
+    let r = follow separator index size m rest d in Tells (CommandLeaves size m Rest d) m r.ops
+follow_tells separator index size m rest Rest (Goes x) tells later =
+    let r : Ran = rest (size + length (ops_bytes x.ops)) x.after in
+    let l = later (size + length (ops_bytes x.ops)) x.after in
+    record {
+      none = λ saved leaves.
+          ap (λ (ops : List Op). ops ++ r.ops) (tells.none saved leaves.0) ∙ l.none (subst IsSavedState (sym leaves.0) saved) leaves.1;
+      same = λ empty. let parts = nothing_in x.ops r.ops empty in (tells.same parts.0, l.same parts.1);
+    }
+follow_tells separator index size m rest Rest (Refuses refusal) tells later = silent m
+follow_tells separator index size m rest Rest (Ends ending) tells later = silent m
+
+here_tells : (m : MachineState) (index : ℕ) (line : List ℕ) (r : Ran) (Leaves : Type 0) (here : Bool) → Tells Leaves m r.ops →
+    let either = cond here (wants_memory m index line) r in Tells (here ≡ false → Leaves) m either.ops
+here_tells m index line r Leaves true tells =
+    record { none = λ saved leaves. refl; same = λ empty not. absurd (false≢true (sym not)) }
+here_tells m index line r Leaves false tells =
+    record { none = λ saved leaves. tells.none saved (leaves refl); same = λ empty not. tells.same empty }
+
+ran_tells : (known : MachineTells) (place : Place) (separator : List ℕ) (refused : Option ℕ) (index size : ℕ)
+    (lines : List (List ℕ)) (m : MachineState) →
+    let r = ran place separator refused index size lines m in Tells (CommandsLeave place refused index size lines m) m r.ops
+unfolding ran CommandsLeave
+ran_tells known place separator refused index size [] m = silent m
+ran_tells known place separator refused index size (line ∷ lines) m =
+    here_tells m index line _ _ (is_refused_at refused index)
+    (follow_tells separator index size m (λ n t. ran place separator refused (suc index) n lines t)
+    (λ n t. CommandsLeave place refused (suc index) n lines t) (attempted place size line m)
+    (attempted_tells known place size line m)
+    (λ n t. ran_tells known place separator refused (suc index) n lines t))
+
+-- so does any event
+of_ran_tells : (c : ℕ) (s : State) (r : Ran) (ending : Ending) (Leaves : Type 0) → Tells Leaves s.machine r.ops →
+    let a = of_ran c s r ending in Tells Leaves s.machine a.ops
+of_ran_tells c s r Answered Leaves tells = tells
+of_ran_tells c s r Closed Leaves tells = tells
+of_ran_tells c s r Killed Leaves tells = tells
+of_ran_tells c s r (Waits mask) Leaves tells = tells
+
+runs_tells : (c : ℕ) (s : State) (r : Ran) (Leaves : Type 0) → Tells Leaves s.machine r.ops →
+    let a = runs c s r in Tells Leaves s.machine a.ops
+runs_tells c s r Leaves tells = of_ran_tells c s r r.ending Leaves tells
+
+asked_tells : (known : MachineTells) (c : ℕ) (refused : Option ℕ) (s : State) (request : Request) →
+    let a = asked c refused s request in Tells (RequestLeaves refused s.machine request) s.machine a.ops
+asked_tells known c refused s (Single line) =
+    runs_tells c s _ _ (ran_tells known Alone [] refused 0 0 (line ∷ []) s.machine)
+asked_tells known c refused s (CommandList lines) =
+    runs_tells c s _ _ (ran_tells known InList [] refused 0 0 lines s.machine)
+asked_tells known c refused s (OkList lines) =
+    runs_tells c s _ _ (ran_tells known InList list_ok refused 0 0 lines s.machine)
+asked_tells known c refused s Noidle = silent s.machine
+
+waiting_tells : (noidle : Bool) (c : ℕ) (s : State) → let a = waits_no_more noidle c s in Tells (Unit {0}) s.machine a.ops
+waiting_tells true c s = silent s.machine
+waiting_tells false c s = silent s.machine
+
+requested_tells : (known : MachineTells) (c : ℕ) (refused : Option ℕ) (s : State) (request : Request)
+    (found : Option (Option Subsystems)) →
+    let a = requested_by c refused s request found in Tells (AskedLeaves refused s.machine request found) s.machine a.ops
+requested_tells known c refused s request None = silent s.machine
+requested_tells known c refused s request (Some None) = asked_tells known c refused s request
+requested_tells known c refused s request (Some (Some mask)) = waiting_tells (is_noidle request) c s
+
+connect_tells : (c : ℕ) (s : State) (found : Option Watched) →
+    let a = connects_client c s found in Tells (Unit {0}) s.machine a.ops
+connect_tells c s None = silent s.machine
+connect_tells c s (Some w) = silent s.machine
+
+found_tells : (known : MachineTells) (job : ℕ) (changes : List RowChange) (m : MachineState) →
+    let h = when_found job changes m in Tells (is_running job m ≡ true → telling m.saved.songs changes ≡ []) m h.ops
+found_tells known job changes m = record {
+  none = λ saved leaves. of (is_running job m) refl leaves;
+  same = λ empty runs. (known.found job changes m runs).0 empty;
+}
+  where
+    of : (b : Bool) → is_running job m ≡ b → (is_running job m ≡ true → telling m.saved.songs changes ≡ []) →
+        let h = when_found job changes m in h.ops ≡ []
+    of true runs leaves = (known.found job changes m runs).1 (leaves runs)
+    of false runs leaves =
+        ap (λ (b : Bool). let h : Happening = cond b (finds (telling m.saved.songs changes) m) (nothing_happens m) in h.ops) runs
+
+scanned_tells : (job : ℕ) (m : MachineState) → let h = when_scanned job m in Tells (Unit {0}) m h.ops
+scanned_tells job m = of (is_running job m)
+  where
+    of : (b : Bool) → let h : Happening = cond b (ends_scan m) (nothing_happens m) in Tells (Unit {0}) m h.ops
+    of true = silent m
+    of false = silent m
+
+acted_tells : (known : MachineTells) (s : State) (event : Event) (refused : Option ℕ) →
+    let a = acted s event refused in Tells (LeavesSaved s event refused) s.machine a.ops
+acted_tells known s (events.Connect c) refused = connect_tells c s (watched s.clients c)
+acted_tells known s (events.Request c request) refused =
+    requested_tells known c refused s request (waiting_of (watched s.clients c))
+acted_tells known s (events.Gone c) refused = silent s.machine
+acted_tells known s (events.Fed ticket frames) refused = silent s.machine
+acted_tells known s (events.Ended ticket) refused =
+    record { none = known.ended_none ticket s.machine; same = known.ended_same ticket s.machine }
+acted_tells known s (events.Broken ticket cause) refused = silent s.machine
+acted_tells known s (events.Batch job changes) refused = found_tells known job changes s.machine
+acted_tells known s (events.ScanDone job) refused = scanned_tells job s.machine
+
+pub no_op : (known : MachineTells) (s : State) (event : Event) (refused : Option ℕ) → IsSavedState s.machine.saved
+    → LeavesSaved s event refused → (step s event refused).ops ≡ []
+unfolding step
+no_op known s event refused saved leaves = (acted_tells known s event refused).none saved leaves
+
+pub nothing_changed : (known : MachineTells) (s : State) (event : Event) (refused : Option ℕ) → (step s event refused).ops ≡ []
+    → LeavesSaved s event refused
+unfolding step
+nothing_changed known s event refused empty = (acted_tells known s event refused).same empty

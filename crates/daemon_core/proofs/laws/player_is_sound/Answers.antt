@@ -1,0 +1,22 @@
+use Rattle.machine_core.specs.Sound.{IsSound}
+use Rattle.daemon_core.proofs.Lasting.{IsKept}
+use Rattle.daemon_core.proofs.SoundLaws.{sound}
+use Rattle.daemon_core.proofs.laws.player_is_sound.Goals as goal
+
+pub returns : goal.returns
+returns c =
+    let stays = c.player_stays_sound.ensures in
+    let keeps : IsKept IsSound = record {
+      command = stays.command;
+      fed = stays.fed;
+      ended = stays.ended;
+      broken = stays.broken;
+      found = stays.found;
+      scanned = stays.scanned;
+    } in
+    record {
+      current = λ kept history. (sound keeps kept history).current;
+      played = λ kept history. (sound keeps kept history).played;
+      once = λ kept history. (sound keeps kept history).once;
+      without_random = λ kept history. (sound keeps kept history).ordered;
+    }

@@ -1,0 +1,28 @@
+use Rattle.std.proofs.Common.{refl}
+use Rattle.daemon_core.specs.Run.{separator}
+use Rattle.daemon_core.proofs.RequestLaws.{words_stop, command_stop, line_runs}
+use Rattle.daemon_core.proofs.request.run_line.Goals as goal
+
+pub returns-in-Err : goal.returns-in-Err
+returns-in-Err c = record {
+  stands = refl;
+  nothing = c.make_room.ensures.nothing;
+  why = words_stop c.args.place c.args.work.now.size c.args.line.now c.args.machine.now c.in-Err.error c.stop_of_reading.result
+      c.in-Err.ensures.exact c.stop_of_reading.ensures;
+}
+
+pub returns : goal.returns
+returns c = record {
+  stands = refl;
+  nothing = c.make_room.ensures.nothing;
+  why = command_stop c.args.place c.args.work.now.size c.args.line.now c.in-Ok.words.items c.as_slice.result.now
+      c.args.machine.now c.in-Err-read.error c.stop_of_reading-in-Err-read.result c.in-Ok.ensures.exact c.as_slice.ensures.value
+      c.in-Err-read.ensures.exact c.stop_of_reading-in-Err-read.ensures;
+}
+
+pub returns-in-Ok-read : goal.returns-in-Ok-read
+returns-in-Ok-read c =
+    line_runs c.args.place (separator c.args.separated) c.args.line.now c.in-Ok.words.items c.as_slice.result.now c.in-Ok-read.command
+    c.args.machine.now c.run_command.new.machine c.args.work.now c.make_room.new.self c.run_command.new.work
+    c.run_command.result c.in-Ok.ensures.exact c.as_slice.ensures.value c.in-Ok-read.ensures.exact c.make_room.ensures.nothing
+    c.run_command.ensures.ran

@@ -1,0 +1,55 @@
+-- The events that change nothing of what is saved, each part of them at its turn.
+use Rattle.std.specs.Prelude.{◌≡◌, ℕ, suc, ◌+◌, List, [], ◌∷◌, length, true, false, Option, Some, None}
+use Rattle.command_text.specs.declared.place.Place.{Place}
+use Rattle.command_text.specs.declared.place.Place.TheVariants.{Alone, InList}
+use Rattle.command_text.specs.declared.request.Request.{Request}
+use Rattle.command_text.specs.declared.request.Request.TheVariants.{Single, List as CommandList, OkList, Noidle}
+use Rattle.idle_masks.specs.Watched.{watched}
+use Rattle.idle_masks.specs.declared.subsystem.Subsystems.{Subsystems}
+use Rattle.machine_core.specs.Reports.{when_ended}
+use Rattle.machine_core.specs.Scanning.{is_running, telling}
+use Rattle.machine_core.specs.State.{MachineState}
+use Rattle.state_codec.specs.Spelling.{ops_bytes}
+use Rattle.daemon_core.specs.Run.{Did, Goes, Refuses, Ends, attempted, is_refused_at}
+use Rattle.daemon_core.specs.State.{State}
+use Rattle.daemon_core.specs.Step.{waiting_of}
+use Rattle.daemon_core.specs.declared.event.Event.{Event}
+use Rattle.daemon_core.specs.declared.event.Event.TheVariants as events
+
+-- a command that goes well leaves the saved half as it finds it, and so does what follows it
+abbrev pub CommandLeaves : ℕ → MachineState → (ℕ → MachineState → Type 0) → Did → Type 0
+CommandLeaves size m Rest (Goes x) = (x.after.saved ≡ m.saved) × Rest (size + length (ops_bytes x.ops)) x.after
+CommandLeaves size m Rest (Refuses refusal) = Unit {0}
+CommandLeaves size m Rest (Ends ending) = Unit {0}
+
+-- The commands from this index on, up to the first that is refused, is refused memory or ends the request: each leaves the saved half as
+-- it finds it.
+unfoldable pub CommandsLeave : Place → Option ℕ → ℕ → ℕ → List (List ℕ) → MachineState → Type 0
+CommandsLeave place refused index size [] m = Unit {0}
+CommandsLeave place refused index size (line ∷ lines) m =
+    is_refused_at refused index ≡ false
+    → CommandLeaves size m (λ size after. CommandsLeave place refused (suc index) size lines after) (attempted place size line m)
+
+abbrev pub RequestLeaves : Option ℕ → MachineState → Request → Type 0
+RequestLeaves refused m (Single line) = CommandsLeave Alone refused 0 0 (line ∷ []) m
+RequestLeaves refused m (CommandList lines) = CommandsLeave InList refused 0 0 lines m
+RequestLeaves refused m (OkList lines) = CommandsLeave InList refused 0 0 lines m
+RequestLeaves refused m Noidle = Unit {0}
+
+-- no command is run of a client that isn't connected, or waits
+abbrev pub AskedLeaves : Option ℕ → MachineState → Request → Option (Option Subsystems) → Type 0
+AskedLeaves refused m request None = Unit {0}
+AskedLeaves refused m request (Some None) = RequestLeaves refused m request
+AskedLeaves refused m request (Some (Some mask)) = Unit {0}
+
+-- Nothing that is saved changes at any turn: each command of a request leaves the saved half as it finds it, so does what follows the end
+-- of a song, and no change of a batch of the job that runs changes a row. Of the saved half no other event speaks.
+abbrev pub LeavesSaved : State → Event → Option ℕ → Type 0
+LeavesSaved s (events.Connect c) refused = Unit {0}
+LeavesSaved s (events.Request c request) refused = AskedLeaves refused s.machine request (waiting_of (watched s.clients c))
+LeavesSaved s (events.Gone c) refused = Unit {0}
+LeavesSaved s (events.Fed ticket frames) refused = Unit {0}
+LeavesSaved s (events.Ended ticket) refused = (when_ended ticket s.machine).after.saved ≡ s.machine.saved
+LeavesSaved s (events.Broken ticket cause) refused = Unit {0}
+LeavesSaved s (events.Batch job changes) refused = is_running job s.machine ≡ true → telling s.machine.saved.songs changes ≡ []
+LeavesSaved s (events.ScanDone job) refused = Unit {0}

@@ -1,0 +1,121 @@
+-- Each command, and each event of the output and of a scan, keeps the player sound.
+use Rattle.std.proofs.Common.{◌≡◌, ℕ, Bool, true, false, cond, ◌+◌, List, [], ◌∷◌, ◌++◌, Option, Some, None, Ok, subst}
+use Rattle.std.specs.Prelude.{min}
+use Rattle.command_text.specs.declared.command.Command.{Command}
+use Rattle.command_text.specs.declared.command.playing.PlayingCommand.{PlayingCommand}
+use Rattle.command_text.specs.declared.command.playing.PlayingCommand.TheVariants as playing
+use Rattle.play_queue.specs.declared.entry.Entry.{Entry as QueueEntry}
+use Rattle.player_core.specs.Commands.{paused, previous_one}
+use Rattle.player_core.specs.Order.{current_entry}
+use Rattle.player_core.specs.Player.{PlayerState}
+use Rattle.player_core.specs.Reports.{counts, failure}
+use Rattle.player_core.specs.Seek.{sought_here}
+use Rattle.player_core.specs.declared.failure.BrokenCause.{BrokenCause}
+use Rattle.player_core.specs.declared.playing.PlayState.TheVariants.{Stop}
+use Rattle.song_db.specs.Row.{Row}
+use Rattle.song_db.specs.declared.change.RowChange.{RowChange}
+use Rattle.state_codec.specs.Applied.{after_all}
+use Rattle.state_codec.specs.declared.op.Op.TheVariants.{Batch}
+use Rattle.machine_core.specs.Command.{meaning}
+use Rattle.machine_core.specs.Followed.{current_row, followed}
+use Rattle.machine_core.specs.Happening.{nothing_happens}
+use Rattle.machine_core.specs.Meaning.{Meaning, order_ops}
+use Rattle.machine_core.specs.Playing.{playing_meaning}
+use Rattle.machine_core.specs.Reports.{fed_in, broken_in, when_fed, when_ended, when_broken}
+use Rattle.machine_core.specs.Scanning.{is_running, telling, finds, ends_scan, when_found, when_scanned}
+use Rattle.machine_core.specs.Sound.{IsSoundPlayer, IsSound}
+use Rattle.machine_core.specs.State.{MachineState, settings_of}
+use Rattle.machine_core.specs.Steps.{named_length, current_length}
+use Rattle.machine_core.specs.declared.steps.PlayerStep.TheVariants as steps
+use Rattle.machine_core.proofs.Lasting.{KeptBy, command_lasts}
+use Rattle.machine_core.proofs.SoundForms.{batch_sound, edits_sound, moves_sound, puts_sound, steps_sound}
+use Rattle.machine_core.proofs.SoundPlaying.{previous_sound, sought_here_sound, halted_sound, ended_sound}
+use Rattle.machine_core.proofs.SoundSteps.{sound_from, played_of}
+
+pub playing_sound : (command : PlayingCommand) (m : MachineState) → KeptBy IsSound m (playing_meaning command m)
+unfolding playing_meaning
+playing_sound playing.ClearError m = λ sound.
+    sound_from m.saved.queue.entries m.saved.options.random (record m.player { error = None }) sound.current
+    (played_of m.saved.queue.entries m.saved.options.random m.player sound)
+playing_sound playing.CurrentSong m = λ sound. sound
+playing_sound playing.Next m = moves_sound steps.Next m
+playing_sound (playing.Pause switch) m = λ sound.
+    sound_from m.saved.queue.entries m.saved.options.random (record m.player { state = paused switch m.player.state }) sound.current
+    (played_of m.saved.queue.entries m.saved.options.random m.player sound)
+playing_sound (playing.Play None) m = moves_sound steps.Resume m
+playing_sound (playing.Play (Some selector)) m = moves_sound (steps.Play selector) m
+playing_sound playing.Previous m =
+    puts_sound (previous_one m.saved.queue.entries (settings_of m.saved) m.player) m
+    (previous_sound m.saved.queue.entries (settings_of m.saved) m.player)
+playing_sound (playing.Seek selector milliseconds) m = moves_sound (steps.Seek selector (named_length selector m) milliseconds) m
+playing_sound (playing.SeekCurrent time) m =
+    puts_sound (sought_here (settings_of m.saved) (current_length m) time m.player) m
+    (sought_here_sound m.saved.queue.entries (settings_of m.saved) (current_length m) time m.player)
+playing_sound playing.Stop m = halted_sound m.player.state m.saved.queue.entries m.saved.options.random m.player
+
+command_kept : (command : Command) (m : MachineState) → KeptBy IsSound m (meaning command m)
+command_kept command m = command_lasts IsSound (λ n job sound. sound) (λ n lists sound. sound) edits_sound playing_sound command m
+
+pub command_sound : (command : Command) (m : MachineState) (x : Meaning) → IsSound m → meaning command m ≡ Ok x → IsSound x.after
+command_sound command m x sound means = subst (λ meant. KeptBy IsSound m meant) means (command_kept command m) sound
+
+-- ---- events
+
+fed_sound : (row : Option Row) (ticket frames : ℕ) (entries : List QueueEntry) (random : Bool) (player : PlayerState)
+    → IsSoundPlayer entries random player → IsSoundPlayer entries random (fed_in row ticket frames player)
+fed_sound None ticket frames entries random player sound = sound
+fed_sound (Some row) ticket frames entries random player sound = of (counts player.state player.ticket ticket)
+  where
+    of : (b : Bool) → IsSoundPlayer entries random (cond b (record player { frame = min (player.frame + frames) row.frames }) player)
+    of true = sound_from entries random (record player { frame = min (player.frame + frames) row.frames }) sound.current
+        (played_of entries random player sound)
+    of false = sound
+
+pub when_fed_sound : (ticket frames : ℕ) (m : MachineState) → IsSound m → let h = when_fed ticket frames m in IsSound h.after
+when_fed_sound ticket frames m sound =
+    fed_sound (current_row m.saved m.player) ticket frames m.saved.queue.entries m.saved.options.random m.player sound
+
+pub when_ended_sound : (ticket : ℕ) (m : MachineState) → IsSound m → let h = when_ended ticket m in IsSound h.after
+when_ended_sound ticket m sound =
+    steps_sound _ m (ended_sound m.player.state m.saved.queue.entries (settings_of m.saved) m.player ticket sound)
+
+broken_sound : (entry : Option QueueEntry) (ticket : ℕ) (cause : BrokenCause) (entries : List QueueEntry) (random : Bool)
+    (player : PlayerState) → IsSoundPlayer entries random player → IsSoundPlayer entries random (broken_in entry ticket cause player)
+broken_sound None ticket cause entries random player sound = sound
+broken_sound (Some entry) ticket cause entries random player sound = of (counts player.state player.ticket ticket)
+  where
+    of : (b : Bool)
+        → IsSoundPlayer entries random (cond b (record player { state = Stop; error = Some (failure cause entry.uri) }) player)
+    of true = sound_from entries random (record player { state = Stop; error = Some (failure cause entry.uri) }) sound.current
+        (played_of entries random player sound)
+    of false = sound
+
+pub when_broken_sound : (ticket : ℕ) (cause : BrokenCause) (m : MachineState) → IsSound m → let h = when_broken ticket cause m in
+    IsSound h.after
+when_broken_sound ticket cause m sound =
+    broken_sound (current_entry m.saved.queue.entries m.player.current) ticket cause m.saved.queue.entries m.saved.options.random m.player
+    sound
+
+finds_sound : (changes : List RowChange) (m : MachineState) → IsSound m → let h = finds changes m in IsSound h.after
+finds_sound [] m sound = sound
+finds_sound (change ∷ changes) m sound = of (let next = followed (Batch (change ∷ changes)) m in next.order)
+  where
+    of : (order : Option ℕ) → let s = after_all (order_ops order ++ Batch (change ∷ changes) ∷ []) m.saved in
+        let next = followed (Batch (change ∷ changes)) m in IsSoundPlayer s.queue.entries s.options.random next.player
+    of None = batch_sound (change ∷ changes) m.saved.order m sound
+    of (Some order) = batch_sound (change ∷ changes) order m sound
+
+pub when_found_sound : (job : ℕ) (changes : List RowChange) (m : MachineState) → IsSound m → let h = when_found job changes m in
+    IsSound h.after
+when_found_sound job changes m sound = of (is_running job m)
+  where
+    of : (b : Bool) → let h = cond b (finds (telling m.saved.songs changes) m) (nothing_happens m) in IsSound h.after
+    of true = finds_sound (telling m.saved.songs changes) m sound
+    of false = sound
+
+pub when_scanned_sound : (job : ℕ) (m : MachineState) → IsSound m → let h = when_scanned job m in IsSound h.after
+when_scanned_sound job m sound = of (is_running job m)
+  where
+    of : (b : Bool) → let h = cond b (ends_scan m) (nothing_happens m) in IsSound h.after
+    of true = sound
+    of false = sound

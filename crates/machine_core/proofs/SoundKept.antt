@@ -1,0 +1,149 @@
+-- Each command, and each event of the output and of a scan, keeps the frame position within the song that is current.
+use Rattle.std.proofs.Common.{◌≡◌, ℕ, ◌+◌, Bool, true, false, cond, List, [], ◌∷◌, ◌++◌, Option, Some, None, Ok, refl, sym, subst, arith}
+use Rattle.std.specs.Prelude.{min}
+use Rattle.command_text.specs.declared.command.Command.{Command}
+use Rattle.command_text.specs.declared.command.playing.PlayingCommand.{PlayingCommand}
+use Rattle.command_text.specs.declared.command.playing.PlayingCommand.TheVariants as playing
+use Rattle.play_queue.specs.Queue.{IsQueue}
+use Rattle.play_queue.specs.declared.entry.Entry.{Entry as QueueEntry}
+use Rattle.player_core.specs.Order.{current_entry}
+use Rattle.player_core.specs.Reports.{counts, failure}
+use Rattle.player_core.specs.declared.failure.BrokenCause.{BrokenCause}
+use Rattle.player_core.specs.declared.playing.PlayState.TheVariants.{Stop}
+use Rattle.song_db.specs.Row.{Row}
+use Rattle.song_db.specs.Scan.{drops_of}
+use Rattle.song_db.specs.declared.change.RowChange.{RowChange}
+use Rattle.state_codec.specs.Applied.{after_all}
+use Rattle.state_codec.specs.declared.op.Op.TheVariants.{Batch}
+use Rattle.stored_lists.specs.Lists.{Stored}
+use Rattle.machine_core.specs.Command.{meaning}
+use Rattle.machine_core.specs.Followed.{current_row, followed}
+use Rattle.machine_core.specs.Happening.{nothing_happens}
+use Rattle.machine_core.specs.Meaning.{Meaning, order_ops}
+use Rattle.machine_core.specs.Playing.{playing_meaning}
+use Rattle.machine_core.specs.Reports.{broken_in, fed_in, when_broken, when_ended, when_fed}
+use Rattle.machine_core.specs.Scanning.{ends_scan, finds, is_running, telling, when_found, when_scanned}
+use Rattle.machine_core.specs.Sound.{IsSoundMachine, IsWithinSong}
+use Rattle.machine_core.specs.State.{MachineState}
+use Rattle.machine_core.specs.declared.job.Job.{Job}
+use Rattle.machine_core.proofs.Lasting.{KeptBy, command_lasts}
+use Rattle.machine_core.proofs.SoundCommands.{playing_sound, when_broken_sound, when_fed_sound, when_found_sound}
+use Rattle.machine_core.proofs.SoundFrame.{FrameWithin}
+use Rattle.machine_core.proofs.SoundQueues.{batch_stays}
+use Rattle.machine_core.proofs.SoundWithin.{batch_framed, edits_holds, ended_holds, halted_within, next_holds, play_holds, previous_holds}
+use Rattle.machine_core.proofs.SoundWithin.{resume_holds, seek_current_holds, seek_holds}
+
+playing_holds : (command : PlayingCommand) (m : MachineState) → KeptBy IsSoundMachine m (playing_meaning command m)
+unfolding playing_meaning
+playing_holds playing.ClearError m = λ holds.
+    record { queue = holds.queue; sound = playing_sound playing.ClearError m holds.sound; frame = holds.frame }
+playing_holds playing.CurrentSong m = λ holds. holds
+playing_holds playing.Next m = next_holds m
+playing_holds (playing.Pause switch) m = λ holds.
+    record { queue = holds.queue; sound = playing_sound (playing.Pause switch) m holds.sound; frame = holds.frame }
+playing_holds (playing.Play None) m = resume_holds m
+playing_holds (playing.Play (Some selector)) m = play_holds m selector
+playing_holds playing.Previous m = previous_holds m (playing_sound playing.Previous m)
+playing_holds (playing.Seek selector milliseconds) m = seek_holds m selector milliseconds
+playing_holds (playing.SeekCurrent time) m = seek_current_holds m time (playing_sound (playing.SeekCurrent time) m)
+playing_holds playing.Stop m = λ holds.
+    record {
+      queue = holds.queue;
+      sound = playing_sound playing.Stop m holds.sound;
+      frame = halted_within m m.player.state holds.frame;
+    }
+
+without_job : (m : MachineState) (job : Job) → IsSoundMachine m → IsSoundMachine (record m { job = job })
+without_job m job holds = record { queue = holds.queue; sound = holds.sound; frame = holds.frame }
+
+without_lists : (m : MachineState) (lists : Stored) → IsSoundMachine m
+    → IsSoundMachine (record m { saved = record m.saved { lists = lists } })
+without_lists m lists holds = record { queue = holds.queue; sound = holds.sound; frame = holds.frame }
+
+pub command_holds : (command : Command) (m : MachineState) (x : Meaning) → IsSoundMachine m → meaning command m ≡ Ok x
+    → IsSoundMachine x.after
+command_holds command m x holds means =
+    subst (λ meant. KeptBy IsSoundMachine m meant) means
+    (command_lasts IsSoundMachine without_job without_lists edits_holds playing_holds command m) holds
+
+-- ---- events
+
+fed_within : (m : MachineState) (row : Option Row) (ticket frames : ℕ) → current_row m.saved m.player ≡ row → IsWithinSong m
+    → IsWithinSong (record m { player = fed_in row ticket frames m.player })
+fed_within m None ticket frames is h = h
+fed_within m (Some row) ticket frames is h = of (counts m.player.state m.player.ticket ticket)
+  where
+    of : (b : Bool)
+        → IsWithinSong (record m { player = cond b (record m.player { frame = min (m.player.frame + frames) row.frames }) m.player })
+    of true = subst (λ (r : Option Row). FrameWithin r (min (m.player.frame + frames) row.frames)) (sym is) (omega arith)
+    of false = h
+
+pub when_fed_holds : (ticket frames : ℕ) (m : MachineState) → IsSoundMachine m → let h = when_fed ticket frames m in IsSoundMachine h.after
+when_fed_holds ticket frames m holds = record {
+  queue = holds.queue;
+  sound = when_fed_sound ticket frames m holds.sound;
+  frame = fed_within m (current_row m.saved m.player) ticket frames refl holds.frame;
+}
+
+pub when_ended_holds : (ticket : ℕ) (m : MachineState) → IsSoundMachine m → let h = when_ended ticket m in IsSoundMachine h.after
+when_ended_holds ticket m holds = ended_holds m ticket holds
+
+broken_within : (m : MachineState) (entry : Option QueueEntry) (ticket : ℕ) (cause : BrokenCause) → IsWithinSong m
+    → IsWithinSong (record m { player = broken_in entry ticket cause m.player })
+broken_within m None ticket cause h = h
+broken_within m (Some entry) ticket cause h = of (counts m.player.state m.player.ticket ticket)
+  where
+    of : (b : Bool)
+        → IsWithinSong (record m { player = cond b (record m.player { state = Stop; error = Some (failure cause entry.uri) }) m.player })
+    of true = h
+    of false = h
+
+pub when_broken_holds : (ticket : ℕ) (cause : BrokenCause) (m : MachineState) → IsSoundMachine m → let h = when_broken ticket cause m in
+    IsSoundMachine h.after
+when_broken_holds ticket cause m holds = record {
+  queue = holds.queue;
+  sound = when_broken_sound ticket cause m holds.sound;
+  frame = broken_within m (current_entry m.saved.queue.entries m.player.current) ticket cause holds.frame;
+}
+
+finds_queue : (changes : List RowChange) (m : MachineState) → IsQueue m.saved.queue → let h = finds changes m in
+    IsQueue h.after.saved.queue
+finds_queue [] m queue = queue
+finds_queue (change ∷ changes) m queue = of (let next = followed (Batch (change ∷ changes)) m in next.order)
+  where
+    of : (order : Option ℕ) → IsQueue (after_all (order_ops order ++ Batch (change ∷ changes) ∷ []) m.saved).queue
+    of None = batch_stays m.saved.queue (drops_of (change ∷ changes)) _ queue
+    of (Some order) = batch_stays m.saved.queue (drops_of (change ∷ changes)) _ queue
+
+finds_within : (changes : List RowChange) (m : MachineState) → IsWithinSong m → let h = finds changes m in IsWithinSong h.after
+finds_within [] m frame = frame
+finds_within (change ∷ changes) m frame = of (let next = followed (Batch (change ∷ changes)) m in next.order)
+  where
+    of : (order : Option ℕ) → let s = after_all (order_ops order ++ Batch (change ∷ changes) ∷ []) m.saved in
+        let next = followed (Batch (change ∷ changes)) m in
+        FrameWithin (current_row s next.player) next.player.frame
+    of None = batch_framed (change ∷ changes) m.saved.order m
+    of (Some order) = batch_framed (change ∷ changes) order m
+
+pub when_found_holds : (job : ℕ) (changes : List RowChange) (m : MachineState) → IsSoundMachine m → let h = when_found job changes m in
+    IsSoundMachine h.after
+when_found_holds job changes m holds = record {
+  queue = queue_of (is_running job m);
+  sound = when_found_sound job changes m holds.sound;
+  frame = frame_of (is_running job m);
+}
+  where
+    queue_of : (b : Bool) → let h = cond b (finds (telling m.saved.songs changes) m) (nothing_happens m) in IsQueue h.after.saved.queue
+    queue_of true = finds_queue (telling m.saved.songs changes) m holds.queue
+    queue_of false = holds.queue
+
+    frame_of : (b : Bool) → let h = cond b (finds (telling m.saved.songs changes) m) (nothing_happens m) in IsWithinSong h.after
+    frame_of true = finds_within (telling m.saved.songs changes) m holds.frame
+    frame_of false = holds.frame
+
+pub when_scanned_holds : (job : ℕ) (m : MachineState) → IsSoundMachine m → let h = when_scanned job m in IsSoundMachine h.after
+when_scanned_holds job m holds = of (is_running job m)
+  where
+    of : (b : Bool) → let h = cond b (ends_scan m) (nothing_happens m) in IsSoundMachine h.after
+    of true = record { queue = holds.queue; sound = holds.sound; frame = holds.frame }
+    of false = holds

@@ -1,0 +1,13 @@
+use Rattle.machine_core.proofs.SoundCommands.{command_sound, when_broken_sound, when_ended_sound, when_fed_sound}
+use Rattle.machine_core.proofs.SoundCommands.{when_found_sound, when_scanned_sound}
+use Rattle.machine_core.proofs.laws.player_stays_sound.Goals as goal
+
+pub returns : goal.returns
+returns c = record {
+  command = command_sound;
+  fed = when_fed_sound;
+  ended = when_ended_sound;
+  broken = when_broken_sound;
+  found = when_found_sound;
+  scanned = when_scanned_sound;
+}
