@@ -4,7 +4,7 @@ a daemon's lives.
 What each client gets from the row's line on, over some turns more, and what one that comes then finds, is compared with that of a run with
 memory enough. Where one allocation is refused it may be the same, however the turns part it. Or one client is let go of: what it got is a
 front of that, and its request was done, or was not. Or its request is answered by `ACK [52@..] .. out of memory`, and was not done. Nobody else
-gets other bytes than in a run in which it was done, or not.
+gets other bytes than in a run in which it was done, or not. Where a turn ends early nobody loses a byte: what it left is served by the next.
 """
 
 import re
@@ -12,6 +12,7 @@ import re
 import refused_rows
 
 REPORTED = "refused 43 out of memory"
+ENDED_EARLY = "refused 43"
 NOTHING = "nothing done, refused 43"
 # A stream of the driver that finds no room for what it takes has failed.
 FAILED = r"refused 48 the connection of client \d+ failed"
@@ -43,6 +44,8 @@ ASKED = [
     {"3": None},
     {"1": "ping", "3": None},
 ]
+# The same of a client that sends nothing more.
+ASKED_LAST = {"1": "ping%nping%nping%nstatus%nping"}
 # Lines before the row's, and the row's: calls by themselves, and what threads report.
 CALLS = [
     (["connect 3"], "accept"),
@@ -85,10 +88,9 @@ class Told:
         return self.is_closed and whole.text.startswith(self.text)
 
     def is_answered(self, whole):
-        """Whether it was told that memory was refused, behind a front of the lines that it would have got."""
-        *lines, last = self.text.split("\n")[:-1] or [""]
-        front = "".join(f"{it}\n" for it in lines)
-        return whole.text.startswith(front) and bool(re.fullmatch(r"ACK \[52@\d+\] \{\w*\} out of memory", last))
+        """Whether it was told once that memory was refused, between a front and an end of the lines that it would have got."""
+        parts = re.split(r"^ACK \[52@\d+\] \{\w*\} out of memory\n", self.text, flags=re.MULTILINE)
+        return len(parts) == 2 and whole.text.startswith(parts[0]) and whole.text.endswith(parts[1])
 
 
 def told(groups):
@@ -106,10 +108,11 @@ def told(groups):
 class Turned:
     """A line of loop_driver, behind which turns of the loop are made."""
 
-    def __init__(self, program, front, line, asked=(), is_report=False):
-        self.program, self.asked, self.is_report = program, dict(asked), is_report
+    def __init__(self, program, front, line, asked=(), behind=(), is_report=False):
+        self.program, self.asked, self.behind, self.is_report = program, dict(asked), behind, is_report
         self.begun, self.line = [*BEGINNING, *front], line
-        self.name = f"loop, {' '.join([*front, *(f'{client}> {text}' for client, text in self.asked.items())])[:80]}: {line}"
+        told = [*front, *(f"{client}> {text}" for client, text in self.asked.items()), *behind]
+        self.name = f"loop, {' '.join(told)[:80]}: {line}"
         self.wanted, self.worlds = None, {}
 
     def front(self, quiet=None):
@@ -117,7 +120,7 @@ class Turned:
         sends = []
         for client, text in self.asked.items():
             sends += [f"connect {client}"] if text is None else [f"{client}> {'ping' if client == quiet else text}"]
-        return [*self.begun, *sends]
+        return [*self.begun, *sends, *self.behind]
 
     def run(self, place, lines, refused=0):
         run = refused_rows.Run(place, self.program, lines, refused)
@@ -153,6 +156,8 @@ class Turned:
         got, other = told(groups)
         if other:
             return f"it printed {other!r}", False
+        if ENDED_EARLY in groups[0]:
+            return None if got == self.wanted else f"a turn ended early, and clients got {got}, wanted {self.wanted}", False
         return self.judged(got, REPORTED in groups[0], any("no memory at" in line for group in groups for line in group)), False
 
     def judged(self, got, has_refused, is_answered):
@@ -232,6 +237,7 @@ class Lived:
 def rows(program):
     """Each row, by its name."""
     found = [Turned(program, [], "turn", asked) for asked in ASKED]
+    found += [Turned(program, [], "turn", ASKED_LAST, ["1 ends"])]
     found += [Turned(program, front, line) for front, line in CALLS]
     found += [Turned(program, front, line, is_report=True) for front, line in REPORTS]
     return {row.name: row for row in [*found, Lived(program)]}

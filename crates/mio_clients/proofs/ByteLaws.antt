@@ -1,17 +1,7 @@
--- Bytes that are known, and grow or are taken.
-use Rattle.std.proofs.Common.{ℕ, List, [], ◌++◌, Option, None, Some, refl, sym, ◌∙◌, ap, append_assoc}
-use Rattle.std.specs.Io.KnownBytes.{Keeps, Consumes, append_known}
+-- Bytes that are known, and grow.
+use Rattle.std.proofs.Common.{ℕ, List, [], ◌++◌, Option, None, Some, sym, ◌∙◌, ap, append_assoc}
+use Rattle.std.specs.Io.KnownBytes.{Keeps, append_known}
 use Rattle.std.proofs.lemmas.List.{append-nil}
-
-pub keeps_itself : (a : Option (List ℕ)) → Keeps a a
-keeps_itself None = tt
-keeps_itself (Some xs) = refl
-
-pub keeps_twice : (a b c : Option (List ℕ)) → Keeps a b → Keeps b c → Keeps a c
-keeps_twice None b c p q = tt
-keeps_twice (Some xs) None c p q = absurd p
-keeps_twice (Some xs) (Some ys) None p q = absurd q
-keeps_twice (Some xs) (Some ys) (Some zs) p q = q ∙ p
 
 -- no further bytes
 pub grows_by_none : (a b : Option (List ℕ)) → Keeps a b → Keeps (append_known a []) b
@@ -38,14 +28,3 @@ pub queued_behind : (a : Option (List ℕ)) (queued more : List ℕ)
     → Keeps (append_known (append_known a queued) more) (append_known a (queued ++ more))
 queued_behind None queued more = tt
 queued_behind (Some xs) queued more = sym (append_assoc xs queued more)
-
-pub consumes_none : (a b : Option (List ℕ)) → Keeps a b → Consumes a b []
-consumes_none None b p = tt
-consumes_none (Some xs) None p = absurd p
-consumes_none (Some xs) (Some ys) p = sym p
-
-pub consumes_twice : (a b c : Option (List ℕ)) (xs ys : List ℕ) → Consumes a b xs → Consumes b c ys → Consumes a c (xs ++ ys)
-consumes_twice None b c xs ys p q = tt
-consumes_twice (Some us) None c xs ys p q = absurd p
-consumes_twice (Some us) (Some vs) None xs ys p q = absurd q
-consumes_twice (Some us) (Some vs) (Some ws) xs ys p q = p ∙ (ap (λ t. xs ++ t) q ∙ sym (append_assoc xs ys ws))

@@ -16,7 +16,8 @@ use Rattle.mio_clients.specs.Streams.{IsUntouched}
 use Rattle.mio_clients.specs.Events.{asked_by}
 use Rattle.mio_clients.specs.Given.{left_in_pieces, given, Moves}
 use Rattle.mio_clients.specs.Connections.{Reads, Gathers, IsTaken, IsReading}
-use Rattle.mio_clients.proofs.ByteLaws.{keeps_itself, grows_by_none, grows_twice, kept_behind, queued_behind, consumes_none, consumes_twice}
+use Rattle.client_session.proofs.ByteLaws.{keeps_itself, consumes_nothing, consumes_twice}
+use Rattle.mio_clients.proofs.ByteLaws.{grows_by_none, grows_twice, kept_behind, queued_behind}
 
 pub left_in_pieces-append : (left : Unread) (ps qs : List (List ℕ))
     → left_in_pieces left (ps ++ qs) ≡ left_in_pieces (left_in_pieces left ps) qs
@@ -41,7 +42,7 @@ module _ {S : Type 0} (remaining contents : S → Option (List ℕ)) where
   moves_none a b same grows unread left closing unrefused = record {
     same = same;
     grows = grows_by_none (given contents a) (given contents b) grows;
-    taken = consumes_none (remaining a.stream) (remaining b.stream) unread;
+    taken = consumes_nothing (remaining a.stream) (remaining b.stream) unread;
     left = inr left;
     closing = λ h. (refl, closing h);
     unrefused = unrefused;
@@ -155,7 +156,7 @@ module _ {S : Type 0} (remaining contents : S → Option (List ℕ)) where
       let unread : Keeps (remaining m.stream) (remaining b.stream) =
       subst (λ (s : S). Keeps (remaining m.stream) (remaining s)) (sym stream) (keeps_itself (remaining m.stream)) in
       reads_twice a m b first then last reads
-      (reads_taken m m b [] then last reading refl refl id unwritten (consumes_none (remaining m.stream) (remaining b.stream) unread) t)
+      (reads_taken m m b [] then last reading refl refl id unwritten (consumes_nothing (remaining m.stream) (remaining b.stream) unread) t)
 
   -- only the stream, the session and whether it is to be closed have changed
   pub same_but_read : (a m b : Client S) → m ≡ record a { stream = m.stream; session = m.session; is_closing = m.is_closing }
@@ -185,7 +186,7 @@ module _ {S : Type 0} (remaining contents : S → Option (List ℕ)) where
   moves_queued a b bytes is = subst (Moves remaining contents bytes [] a) (sym is) (record {
     same = refl;
     grows = queued_behind (contents a.stream) a.session.queued bytes;
-    taken = consumes_none (remaining a.stream) (remaining a.stream) (keeps_itself (remaining a.stream));
+    taken = consumes_nothing (remaining a.stream) (remaining a.stream) (keeps_itself (remaining a.stream));
     left = inr refl;
     closing = λ h. (refl, h);
     unrefused = refl;
@@ -195,7 +196,7 @@ module _ {S : Type 0} (remaining contents : S → Option (List ℕ)) where
   moves_released a b is = subst (Moves remaining contents [] [] a) (sym is) (record {
     same = refl;
     grows = grows_by_none (given contents a) (given contents a) (keeps_itself (given contents a));
-    taken = consumes_none (remaining a.stream) (remaining a.stream) (keeps_itself (remaining a.stream));
+    taken = consumes_nothing (remaining a.stream) (remaining a.stream) (keeps_itself (remaining a.stream));
     left = inl refl;
     closing = λ h. (refl, refl);
     unrefused = refl;

@@ -152,7 +152,8 @@ impl<S: Stream> Client<S> {
         requires open { self.old.session.closed ≡ None }
         ensures same { self.new ≡ record self.old { session = self.new.session } }
         ensures left { OnOk result (self.new.session ≡ record self.old.session { left = left_by self.old.session.left piece.now }) }
-        ensures gathered { OnOk result (queue.new.events ≡ queue.old.events ++ asked_by self.old.id (brought self.old.session.left piece.now)) }
+        ensures gathered { OnOk result (queue.new.events ≡
+            queue.old.events ++ asked_by self.old.id (brought self.old.session.left piece.now)) }
         ensures err { OnErr result (queue.new.events ≡ queue.old.events) }
         ensures too_long { IfErr result (λ e. e ≢ SessionError.NoMemory → brought self.old.session.left piece.now ≡ []) }
         ensures spare { queue.new.spare ≡ queue.old.spare }
@@ -192,7 +193,11 @@ impl<S: Stream> Client<S> {
     fn read_once(&mut self, alloc: Global, buffer: &mut [u8], queue: &mut EventQueue) -> Reading
         requires reading { IsReading self.old }
         ensures reads { result ≢ Reading.Refused → Reads S.remaining S.contents self.old self.new queue.old.events queue.new.events }
-        ensures same { self.new ≡ record self.old { stream = self.new.stream; session = self.new.session; is_closing = self.new.is_closing } }
+        ensures same { self.new ≡ record self.old {
+          stream = self.new.stream;
+          session = self.new.session;
+          is_closing = self.new.is_closing;
+        } }
         ensures goes_on { (result ≡ Reading.More) ⊎ (result ≡ Reading.Drained) → IsReading self.new }
         ensures refused { result ≡ Reading.Refused → queue.new.events ≡ queue.old.events }
         ensures failed { result ≡ Reading.Failed → S.failed self.new.stream ≡ true }
@@ -213,7 +218,11 @@ impl<S: Stream> Client<S> {
     fn read_often(&mut self, alloc: Global, buffer: &mut [u8], queue: &mut EventQueue) -> Reading
         requires reading { IsReading self.old }
         ensures reads { result ≢ Reading.Refused → Reads S.remaining S.contents self.old self.new queue.old.events queue.new.events }
-        ensures same { self.new ≡ record self.old { stream = self.new.stream; session = self.new.session; is_closing = self.new.is_closing } }
+        ensures same { self.new ≡ record self.old {
+          stream = self.new.stream;
+          session = self.new.session;
+          is_closing = self.new.is_closing;
+        } }
         ensures goes_on { (result ≡ Reading.More) ⊎ (result ≡ Reading.Drained) → IsReading self.new }
         ensures refused { result ≡ Reading.Refused → Gathers self.old.id queue.old.events queue.new.events }
         ensures failed { result ≡ Reading.Failed → S.failed self.new.stream ≡ true }
@@ -238,7 +247,11 @@ impl<S: Stream> Client<S> {
     ) -> Reading
         requires reading { IsReading self.old }
         ensures reads { result ≢ Reading.Refused → Reads S.remaining S.contents self.old self.new queue.old.events queue.new.events }
-        ensures same { self.new ≡ record self.old { stream = self.new.stream; session = self.new.session; is_closing = self.new.is_closing } }
+        ensures same { self.new ≡ record self.old {
+          stream = self.new.stream;
+          session = self.new.session;
+          is_closing = self.new.is_closing;
+        } }
         ensures refused { result ≡ Reading.Refused → Gathers self.old.id queue.old.events queue.new.events }
         ensures failed { result ≡ Reading.Failed → S.failed self.new.stream ≡ true }
         ensures spare { queue.new.spare ≡ queue.old.spare }

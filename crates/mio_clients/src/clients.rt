@@ -218,7 +218,7 @@ impl<S: Stream, L: Listener<S>, P: Ready<S>> Clients<S, L, P> {
         let _read = self.read_ready(alloc, key);
     }
 
-    // Sends what is queued for each client, and lets go of those that are to be closed and were sent all.
+    // Sends what is queued for each client, and lets go of those that are to be closed, were sent all, and asked for nothing that waits.
     pub(crate) fn send_all(&mut self)
         ensures later { AllGoOn S.remaining S.contents no_bytes no_requests self.old self.new }
         ensures quiet { StaysQuiet self.old.events self.new.events }
@@ -238,7 +238,7 @@ impl<S: Stream, L: Listener<S>, P: Ready<S>> Clients<S, L, P> {
         }
     }
 
-    // The same of one client, which is let go of where it is to be closed and was sent all.
+    // The same of one client, which is let go of where it is to be closed, was sent all, and asked for nothing that waits.
     fn send(&mut self, key: usize)
         ensures later { AllGoOn S.remaining S.contents no_bytes no_requests self.old self.new }
         ensures quiet { StaysQuiet self.old.events self.new.events }
@@ -261,7 +261,8 @@ impl<S: Stream, L: Listener<S>, P: Ready<S>> Clients<S, L, P> {
     // Takes the first event that waits.
     pub(crate) fn pop(&mut self) -> Option<ClientEvent>
         ensures same { self.new ≡ record self.old { events = self.new.events; room = self.new.room } }
-        ensures event { MatchOption result ((self.old.events ≡ []) × (self.new.events ≡ [])) (λ event. self.old.events ≡ event ∷ self.new.events) }
+        ensures event { MatchOption result ((self.old.events ≡ []) × (self.new.events ≡ []))
+            (λ event. self.old.events ≡ event ∷ self.new.events) }
         ensures room { OnSome result (slab_len self.new.clients + 1 ≤ self.new.room) }
     {
         self.connections.pop()

@@ -103,10 +103,14 @@ impl<S: Stream> Connections<S> {
         }
     }
 
-    /// Whether the client at a key is to be closed, and was sent all.
+    /// Whether the client at a key is to be closed, was sent all that is queued for it, and no request of it waits.
     pub(crate) fn is_over(&self, key: usize) -> bool {
         match self.clients.get(key) {
-            Some(client) => client.is_closing && client.session.queued_len() == 0,
+            Some(client) => {
+                client.is_closing
+                    && client.session.queued_len() == 0
+                    && !self.queue.has_request_of(client.id)
+            }
             None => false,
         }
     }
@@ -239,7 +243,8 @@ impl<S: Stream> Connections<S> {
     /// Takes the first event that waits.
     pub(crate) fn pop(&mut self) -> Option<ClientEvent>
         ensures same { self.new ≡ record self.old { events = self.new.events; room = self.new.room } }
-        ensures event { MatchOption result ((self.old.events ≡ []) × (self.new.events ≡ [])) (λ event. self.old.events ≡ event ∷ self.new.events) }
+        ensures event { MatchOption result ((self.old.events ≡ []) × (self.new.events ≡ []))
+            (λ event. self.old.events ≡ event ∷ self.new.events) }
         ensures room { OnSome result (slab_len self.new.clients + 1 ≤ self.new.room) }
     {
         self.queue.pop()

@@ -32,6 +32,14 @@ impl Model for EventQueue {
     ghost invariant = { λ q. deque_len q.events + q.spare ≤ deque_capacity q.events };
 }
 
+// Whether an event is a request of this client.
+fn is_request_of(event: &ClientEvent, client: u64) -> bool {
+    match event {
+        ClientEvent::Request(id, _) => *id == client,
+        ClientEvent::Connect(_) | ClientEvent::Gone(_) => false,
+    }
+}
+
 impl EventQueue {
     pub(crate) fn new(alloc: Global) -> Self
         ensures events { result.events ≡ [] }
@@ -113,14 +121,25 @@ impl EventQueue {
     /// Whether the first event is a request of this client.
     pub(crate) fn is_next(&self, client: u64) -> bool {
         match self.events.front() {
-            Some(ClientEvent::Request(id, _)) => *id == client,
-            Some(_) | None => false,
+            Some(event) => is_request_of(event, client),
+            None => false,
         }
+    }
+
+    /// Whether a request of this client waits. All events are looked at where none does.
+    pub(crate) fn has_request_of(&self, client: u64) -> bool {
+        for event in self.events.iter() {
+            if is_request_of(event, client) {
+                return true;
+            }
+        }
+        false
     }
 
     /// Takes the first event.
     pub(crate) fn pop(&mut self) -> Option<ClientEvent>
-        ensures event { MatchOption result ((self.old.events ≡ []) × (self.new.events ≡ [])) (λ event. self.old.events ≡ event ∷ self.new.events) }
+        ensures event { MatchOption result ((self.old.events ≡ []) × (self.new.events ≡ []))
+            (λ event. self.old.events ≡ event ∷ self.new.events) }
         ensures spare { self.new.spare ≡ self.old.spare }
         ensures room { IfSome result (λ _. self.new.spare + 1 ≤ self.new.room) }
     {

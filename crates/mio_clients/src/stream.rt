@@ -23,7 +23,8 @@ pub trait Stream: Drop {
         ensures bound { ReadsAtMost result buf.new }
         ensures bytes { ReadConsumes (remaining self.old) (remaining self.new) result buf.new }
         ensures unwritten { Keeps (contents self.old) (contents self.new) }
-        ensures fault { IfErr result (λ e. error_kind e ≢ ErrorKind.WouldBlock → error_kind e ≢ ErrorKind.Interrupted → failed self.new ≡ true) };
+        ensures fault { IfErr result (λ e. error_kind e ≢ ErrorKind.WouldBlock → error_kind e ≢ ErrorKind.Interrupted →
+            failed self.new ≡ true) };
 
     /// Sends what it takes of the queued bytes by one write, as `Session::send_some` does. It reads nothing.
     fn send(&mut self, session: &mut Session) -> io::Result<usize>
@@ -34,5 +35,6 @@ pub trait Stream: Drop {
         ensures nothing { session.old.queued ≡ [] → result ≡ Ok 0 }
         ensures err { OnErr result (session.new ≡ session.old) }
         ensures unread { Keeps (remaining self.old) (remaining self.new) }
-        ensures fault { IfErr result (λ e. error_kind e ≢ ErrorKind.WouldBlock → error_kind e ≢ ErrorKind.Interrupted → failed self.new ≡ true) };
+        ensures fault { IfErr result (λ e. error_kind e ≢ ErrorKind.WouldBlock → error_kind e ≢ ErrorKind.Interrupted →
+            failed self.new ≡ true) };
 }

@@ -17,10 +17,11 @@ refusal_of (Damaged offset) = Ended (JournalRefused (start_number_of (Damaged of
 refusal_of NoMemory = Ended (JournalRefused (start_number_of NoMemory))
 refusal_of NumbersSpent = Ended (JournalRefused (start_number_of NumbersSpent))
 
--- how a life ends whose stage came back, and that would else have ended so
-abbrev pub ending_of : Bool → ServeStatus → LifeEnding
-ending_of true status = Faulted
-ending_of false status = Ended status
+-- how a life ends whose stage came back broken or not, of a daemon that was ended already or not, and that would else have ended so
+abbrev pub ending_of : Bool → Bool → ServeStatus → LifeEnding
+ending_of true true status = Ended DiskFault
+ending_of true false status = Faulted
+ending_of false is_ended status = Ended status
 
 -- how a daemon ends whose last life ended so
 abbrev pub status_of : LifeEnding → ServeStatus

@@ -14,7 +14,7 @@ pub enum ServeStatus {
     JournalRefused(u8),
     /// A thread could not be made.
     NoThread,
-    /// A second disk fault, or a first one where no further life can be had.
+    /// A second disk fault, or a first one where no further life can be had or the daemon was ended already.
     DiskFault,
 }
 
@@ -60,15 +60,16 @@ impl<D: Disk> Life<D> {
         Life { ending, a, b }
     }
 
-    /// The end of a stage: of the daemon with this status, unless a disk failed.
-    pub(crate) fn ended(live: Live<D>, status: ServeStatus) -> Life<D>
-        ensures ending { result.ending ≡ ending_of live.is_broken status }
+    /// The end of a stage: of the daemon with this status, unless a disk failed. Where the daemon was ended already, a disk fault doesn't
+    /// undo that.
+    pub(crate) fn ended(live: Live<D>, status: ServeStatus, is_ended: bool) -> Life<D>
+        ensures ending { result.ending ≡ ending_of live.is_broken is_ended status }
         ensures disks { (result.a ≡ live.a) × (result.b ≡ live.b) }
     {
-        let ending = if live.is_broken() {
-            LifeEnding::Faulted
-        } else {
-            LifeEnding::Ended(status)
+        let ending = match (live.is_broken(), is_ended) {
+            (false, _) => LifeEnding::Ended(status),
+            (true, false) => LifeEnding::Faulted,
+            (true, true) => LifeEnding::Ended(ServeStatus::DiskFault),
         };
         let (a, b) = live.into_disks();
         Life { ending, a, b }

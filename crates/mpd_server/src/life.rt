@@ -304,23 +304,25 @@ where
     let mut returned = match Vec::with_capacity(alloc, 3) {
         Ok(returned) => returned,
         Err(_) => {
-            let life = Life::ended(live, ServeStatus::JournalRefused(7));
+            let life = Life::ended(live, ServeStatus::JournalRefused(7), false);
             return (life, Some(tools));
         }
     };
     let (sender, orders) = match crossbeam_channel::bounded(alloc, 1) {
         Ok(ends) => ends,
         Err(_) => {
-            let life = Life::ended(live, ServeStatus::JournalRefused(7));
+            let life = Life::ended(live, ServeStatus::JournalRefused(7), false);
             return (life, Some(tools));
         }
     };
     let stage = SharedStage::<D, C, P, S>::new(alloc, live, blanks);
     let mut status = ServeStatus::NoThread;
+    let mut is_ended = false;
     let mut back = (None, None);
     if let Ok(passes) = Passes::of(rt, &stage) {
         let ends = (Jobs::new(sender), orders);
         let worked = work(rt, alloc, &stage, passes, clients, (tools, signals), ends);
+        is_ended = worked.turns.is_ended;
         back = worked.into_passes(&mut returned);
         if back.0.is_some() {
             status = ServeStatus::Killed;
@@ -328,7 +330,7 @@ where
     }
     let (tools, receipt) = back;
     let live = settled(rt, stage, returned, receipt);
-    (Life::ended(live, status), tools)
+    (Life::ended(live, status, is_ended), tools)
 }
 
 // Takes the stage back; what doesn't add up is told.

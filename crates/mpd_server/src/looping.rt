@@ -21,16 +21,24 @@ const NO_MEMORY: u8 = 43;
 pub(crate) struct Turns {
     /// The receipt that was given out last, if one was.
     pub(crate) receipt: Option<Receipt>,
-    /// No further turn is made.
-    is_over: bool,
+    /// The daemon ends: a client asked for that, or an event was refused by anything but want of memory or a disk fault.
+    pub(crate) is_ended: bool,
+    // A disk has failed.
+    is_faulted: bool,
 }
 
 impl Turns {
     pub(crate) fn none() -> Turns {
         Turns {
             receipt: None,
-            is_over: false,
+            is_ended: false,
+            is_faulted: false,
         }
+    }
+
+    // Whether no further turn is made.
+    fn is_over(&self) -> bool {
+        self.is_ended || self.is_faulted
     }
 
     // Looks at what one turn of the loop answered.
@@ -39,7 +47,7 @@ impl Turns {
             match part {
                 Part::Served(served) => {
                     self.receipt = Some(served.turn.receipt());
-                    self.is_over |= served.turn.ended();
+                    self.is_ended |= served.turn.ended();
                 }
                 Part::Collected(_) => {}
                 Part::Refused(number) => self.refused(rt, *number),
@@ -52,10 +60,12 @@ impl Turns {
         if number == NO_MEMORY {
             return;
         }
-        if number != BROKEN {
-            warn!(rt; "event refused: {number}");
+        if number == BROKEN {
+            self.is_faulted = true;
+            return;
         }
-        self.is_over = true;
+        warn!(rt; "event refused: {number}");
+        self.is_ended = true;
     }
 }
 
@@ -88,7 +98,7 @@ pub(crate) fn run_loop<
             // There was no memory for its answer, so that nothing was done.
             Err((_, back)) => pass = back,
         }
-        if turns.is_over || jobs.send_new(rt, alloc, stage).is_err() {
+        if turns.is_over() || jobs.send_new(rt, alloc, stage).is_err() {
             break;
         }
     }
