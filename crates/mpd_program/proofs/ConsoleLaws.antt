@@ -1,44 +1,20 @@
 -- What a console of one life or two answers.
-use Rattle.std.proofs.Common.{◌≡◌, ◌≢◌, ◌⊎◌, inl, inr, ◌≤◌, ℕ, Option, Some, None, Result, Ok, Err, refl, sym, subst, length, ◌∙◌, ap}
+use Rattle.std.proofs.Common.{◌≡◌, ◌⊎◌, inl, inr, ◌≤◌, ℕ, Option, Some, None, Result, Ok, Err, refl, sym, subst, length, ◌∙◌, ap}
 use Rattle.std.specs.Prelude.{IsSome}
 use Rattle.disk_model.specs.Moments.{LeftSince}
 use Rattle.disk_model.proofs.MomentLaws.{counts_now}
 use Rattle.state_codec.specs.SavedState.{SavedState}
 use Rattle.live_stage.specs.declared.refusal.StartError.{StartError}
-use Rattle.live_stage.specs.declared.refusal.StartError.TheVariants.{NotEmpty, NoJournal, Damaged, NoMemory, NumbersSpent, Broken}
-use Rattle.live_stage.specs.Errors.{IsRefusalOfOpen, start_number_of}
-use Rattle.mpd_program.specs.Lives.{Moment, HasFailed, AreImages, AllFind, IsFaulted, IsRefused, IsLife, status_of, ending_of, IsConsole}
+use Rattle.live_stage.specs.declared.refusal.StartError.TheVariants.{NoMemory, NumbersSpent}
+use Rattle.live_stage.specs.Errors.{start_number_of}
+use Rattle.mpd_program.specs.Lives.{Moment, AreImages, AllFind, IsFaulted, IsRefused, IsLife, status_of, IsConsole}
 use Rattle.mpd_program.specs.declared.console.Ending.{Ending}
 use Rattle.mpd_program.specs.declared.console.Ending.TheVariants.{Whole, Cut, Faulted}
 use Rattle.mpd_program.specs.declared.console.Status.{Status}
-use Rattle.mpd_program.specs.declared.console.Status.TheVariants.{Done, JournalRefused}
-use Rattle.mpd_program.proofs.ServingLaws.{failed_still}
+use Rattle.mpd_program.specs.declared.console.Status.TheVariants.{JournalRefused}
 use Rattle.mpd_program.proofs.LifeLaws.{life_under}
 
--- ---- served
-
-one_served : (came_to : Result Ending ℕ) → came_to ≢ Ok Faulted → ending_of came_to ≢ Faulted → status_of came_to ≡ Done
-one_served (Ok Whole) other served = refl
-one_served (Ok Cut) other served = refl
-one_served (Ok Faulted) other served = absurd (other refl)
-one_served (Err number) other served = absurd (served refl)
-
-pub served_is_done : (Honest : Type 0) (status : Status) (ending : Ending) (first last : Moment) → IsConsole Honest status ending first last
-    → ending ≢ Faulted → status ≡ Done
-served_is_done Honest status ending first last (inl one) served = one.same_status
-    ∙ one_served one.came_to one.no_fault (λ is. served (one.same_ending ∙ is))
-served_is_done Honest status ending first last (inr two) served = absurd (served two.same_ending)
-
 -- ---- refused
-
-refused_as : (n : ℕ) (error : StartError) → IsRefusalOfOpen error → error ≢ Broken → n ≡ start_number_of error
-    → (n ≡ 4) ⊎ (n ≡ 5) ⊎ (n ≡ 7) ⊎ (n ≡ 49)
-refused_as n NotEmpty refusal other is = elim refusal [ ]
-refused_as n NoJournal refusal other is = inl is
-refused_as n (Damaged offset) refusal other is = inr (inl is)
-refused_as n NoMemory refusal other is = inr (inr (inl is))
-refused_as n NumbersSpent refusal other is = inr (inr (inr is))
-refused_as n Broken refusal other is = absurd (other refl)
 
 -- the number of a life whose status is that of a refused journal
 number_of_life : (came_to : Result Ending ℕ) (n : ℕ) → status_of came_to ≡ JournalRefused n → came_to ≡ Err n
@@ -51,16 +27,6 @@ refusal_of_life : (Honest : Type 0) (c : ℕ) (came_to : Result Ending ℕ) (sta
     → IsLife Honest c came_to first last → status ≡ status_of came_to → status ≡ JournalRefused n → IsRefused Honest n first last
 refusal_of_life Honest c came_to status n first last life same is =
     subst (λ (r : Result Ending ℕ). IsLife Honest c r first last) (number_of_life came_to n (sym same ∙ is)) life
-
-pub refused_numbers : (Honest : Type 0) (status : Status) (ending : Ending) (first last : Moment)
-    → IsConsole Honest status ending first last
-    → (n : ℕ) → status ≡ JournalRefused n → (n ≡ 4) ⊎ (n ≡ 5) ⊎ (n ≡ 7) ⊎ (n ≡ 49)
-refused_numbers Honest status ending first last (inl one) n is =
-    let r = refusal_of_life Honest 1 one.came_to status n first last one.life one.same_status is in
-    refused_as n r.error r.refusal r.not_a_fault r.number
-refused_numbers Honest status ending first last (inr two) n is =
-    let r = refusal_of_life Honest 2 two.came_to status n two.between last two.life two.same_status is in
-    refused_as n r.error r.refusal r.not_a_fault r.number
 
 -- ---- each pair gives a state
 
@@ -101,25 +67,6 @@ good_files Honest status ending first last (inl one) honest all n is =
 good_files Honest status ending first last (inr two) honest all n is =
     let r = refusal_of_life Honest 2 two.came_to status n two.between last two.life two.same_status is in
     good_number n r.error r.number (r.good_files honest (still_opens Honest 1 first two.between honest two.fault all))
-
--- ---- faulted
-
-one_faulted : (came_to : Result Ending ℕ) → came_to ≢ Ok Faulted → ending_of came_to ≡ Faulted
-    → (n : ℕ) × (status_of came_to ≡ JournalRefused n)
-one_faulted (Ok Whole) other is = absurd (cc)
-one_faulted (Ok Cut) other is = absurd (cc)
-one_faulted (Ok Faulted) other is = absurd (other refl)
-one_faulted (Err number) other is = (number, refl)
-
-pub faulted_or_refused : (Honest : Type 0) (status : Status) (ending : Ending) (first last : Moment)
-    → IsConsole Honest status ending first last → Honest → ending ≡ Faulted
-    → HasFailed first last ⊎ ((n : ℕ) × (status ≡ JournalRefused n))
-faulted_or_refused Honest status ending first last (inl one) honest is =
-    let refused = one_faulted one.came_to one.no_fault (sym one.same_ending ∙ is) in
-    inr (refused.0, one.same_status ∙ refused.1)
-faulted_or_refused Honest status ending first last (inr two) honest is =
-    inl (failed_still first.faults_a first.faults_b two.between.faults_a two.between.faults_b last.faults_a last.faults_b
-    (two.fault.failed honest) two.later_a two.later_b)
 
 -- ---- two lives
 

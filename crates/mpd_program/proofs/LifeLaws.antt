@@ -1,5 +1,6 @@
 -- The lives of a console.
 use Rattle.std.proofs.Common.{◌≡◌, ◌≢◌, ◌⊎◌, inl, inr, ℕ, List, [], ◌∷◌, ◌++◌, Option, Some, None, Result, Ok, Err, refl, subst, ◌∙◌, ap}
+use Rattle.std.proofs.Common.{OnOk, sym}
 use Rattle.std.specs.Prelude.{IsSome}
 use Rattle.std.specs.Io.KnownBytes.{Appends, Consumes, Keeps}
 use Rattle.disk_model.specs.History.{Change}
@@ -17,12 +18,12 @@ use Rattle.live_stage.specs.Transcript.{replayed}
 use Rattle.live_stage.proofs.RunLaws.{replayed_from_start}
 use Rattle.client_session.specs.Requests.{requests_of}
 use Rattle.mpd_program.specs.Console.{bytes_to, given, events_of, ClosesNone, ClosesAtLast, ClosesNoneBefore, ComesInTurn, JobsInTurn}
-use Rattle.mpd_program.specs.Console.{RunsNone}
+use Rattle.mpd_program.specs.Console.{asked_in, RunsNone}
 use Rattle.mpd_program.specs.Lives.{Moment, HasFailed, IsWhole, IsCut, FailsInEvent, IsFaulted, IsRefused, IsLife, refusal_of}
-use Rattle.mpd_program.specs.Serving.{given_from, KeepsOpen, KeepsTurns, KeepsOpenBefore, ClosesLast, ServesAll, ServesToClose, ServesFront}
-use Rattle.mpd_program.specs.Serving.{ServesToFault, ServesClient, IsAllRead}
+use Rattle.mpd_program.specs.Serving.{given_from, KeepsOpen, KeepsTurns, KeepsOpenBefore, ClosesLast, ServesEvents, IsAllRead, ending_with}
 use Rattle.mpd_program.specs.declared.console.Ending.{Ending}
 use Rattle.mpd_program.specs.declared.console.Ending.TheVariants.{Whole, Cut, Faulted}
+use Rattle.mpd_program.proofs.ServingLaws.{all_asked}
 
 -- ---- histories that begin with what was kept
 
@@ -73,33 +74,35 @@ HoldsEither x event a b =
 
 -- ---- a life whose journal was opened
 
-whole_by_end : (Honest : Type 0) (c : ℕ) (first last : Moment) (kept : SavedState) (t : State) (read : List ℕ)
+whole_by_end : (Honest : Type 0) (c : ℕ) (first last : Moment) (kept : SavedState) (t : State) (read : List ℕ) (done : Unit {0})
     → (Honest → found_state first.content_a first.content_b ≡ Some kept) → Consumes first.input last.input read
-    → ServesAll c (events_of c (requests_of read)) (start kept) t first.output last.output → IsAllRead read last.input
-    → RunsNone t.machine.job
+    → ServesEvents Honest c (events_of c (requests_of read)) (start kept) t last.history_a last.history_b first.output last.output (Ok done)
+    → IsAllRead read last.input → RunsNone t.machine.job
     → (Honest → AllFindNow (λ f. f ≡ Some t.machine.saved) last.history_a last.history_b) → IsWhole Honest c first last
 unfolding Holds
-whole_by_end Honest c first last kept t read found consumed p at_end idle holds = record {
-  kept = kept;
-  read = read;
-  history = p.history;
-  consumed = consumed;
-  in_turn = turns_at_start kept p.history p.in_turn;
-  served = inl (record {
-    all = p.all;
-    stays_open = open_at_start kept p.history p.stays_open;
-    idle = subst (λ (v : State). RunsNone v.machine.job) (p.state ∙ replayed_from_start kept p.history) idle;
-    at_end = at_end;
-  });
-  written = subst (Appends first.output last.output) (given_at_start c kept p.history) p.written;
-  found = found;
-  holds = λ honest. subst (λ (v : State). Holds v last.history_a last.history_b) (p.state ∙ replayed_from_start kept p.history)
-      (holds honest);
-}
+whole_by_end Honest c first last kept t read done found consumed p at_end idle holds =
+    let same : t ≡ replay kept p.history = p.state (λ is. cc) ∙ replayed_from_start kept p.history in
+    record {
+      kept = kept;
+      read = read;
+      history = p.history;
+      consumed = consumed;
+      in_turn = turns_at_start kept p.history p.in_turn;
+      served = inl (record {
+        all = all_asked p;
+        stays_open = open_at_start kept p.history p.stays_open;
+        idle = subst (λ (v : State). RunsNone v.machine.job) same idle;
+        at_end = at_end;
+      });
+      written = subst (Appends first.output last.output) (given_at_start c kept p.history) p.written;
+      found = found;
+      holds = λ honest. subst (λ (v : State). Holds v last.history_a last.history_b) same (holds honest);
+    }
 
 whole_by_close : (Honest : Type 0) (c : ℕ) (first last : Moment) (kept : SavedState) (t : State) (read : List ℕ)
     → (Honest → found_state first.content_a first.content_b ≡ Some kept) → Consumes first.input last.input read
-    → ServesToClose c (events_of c (requests_of read)) (start kept) t first.output last.output
+    → ServesEvents Honest c (events_of c (requests_of read)) (start kept) t last.history_a last.history_b first.output last.output
+    (Err Whole)
     → (Honest → AllFindNow (λ f. f ≡ Some t.machine.saved) last.history_a last.history_b) → IsWhole Honest c first last
 unfolding Holds
 whole_by_close Honest c first last kept t read found consumed p holds = record {
@@ -108,16 +111,16 @@ whole_by_close Honest c first last kept t read found consumed p holds = record {
   history = p.history;
   consumed = consumed;
   in_turn = turns_at_start kept p.history p.in_turn;
-  served = inr (record { behind = p.behind; front = p.front; closed = closed_at_start kept p.history p.closed });
+  served = inr (record { behind = p.behind; front = p.front; closed = closed_at_start kept p.history p.stays_open });
   written = subst (Appends first.output last.output) (given_at_start c kept p.history) p.written;
   found = found;
-  holds = λ honest. subst (λ (v : State). Holds v last.history_a last.history_b) (p.state ∙ replayed_from_start kept p.history)
-      (holds honest);
+  holds = λ honest. subst (λ (v : State). Holds v last.history_a last.history_b)
+      (p.state (λ is. cc) ∙ replayed_from_start kept p.history) (holds honest);
 }
 
 cut_life : (Honest : Type 0) (c : ℕ) (first last : Moment) (kept : SavedState) (t : State) (read : List ℕ)
     → (Honest → found_state first.content_a first.content_b ≡ Some kept) → Consumes first.input last.input read
-    → ServesFront c (events_of c (requests_of read)) (start kept) t first.output last.output
+    → ServesEvents Honest c (events_of c (requests_of read)) (start kept) t last.history_a last.history_b first.output last.output (Err Cut)
     → (Honest → AllFindNow (λ f. f ≡ Some t.machine.saved) last.history_a last.history_b) → IsCut Honest c first last
 unfolding Holds
 cut_life Honest c first last kept t read found consumed p holds = record {
@@ -134,59 +137,62 @@ cut_life Honest c first last kept t read found consumed p holds = record {
   parts = p.written.parts ∙ given_at_start c kept p.history;
   appended = p.written.appended;
   found = found;
-  holds = λ honest. subst (λ (v : State). Holds v last.history_a last.history_b) (p.state ∙ replayed_from_start kept p.history)
-      (holds honest);
+  holds = λ honest. subst (λ (v : State). Holds v last.history_a last.history_b)
+      (p.state (λ is. cc) ∙ replayed_from_start kept p.history) (holds honest);
 }
 
-fault_in_event : (Honest : Type 0) (c : ℕ) (first last : Moment) (kept : SavedState) (read : List ℕ)
+fault_in_event : (Honest : Type 0) (c : ℕ) (first last : Moment) (kept : SavedState) (t : State) (read : List ℕ)
     → (Honest → found_state first.content_a first.content_b ≡ Some kept) → Consumes first.input last.input read
-    → ServesToFault Honest c (events_of c (requests_of read)) (start kept) last.history_a last.history_b first.output last.output
-    → FailsInEvent Honest c first last
+    → ServesEvents Honest c (events_of c (requests_of read)) (start kept) t last.history_a last.history_b first.output last.output
+    (Err Faulted) → FailsInEvent Honest c first last
 unfolding HoldsEither replay
-fault_in_event Honest c first last kept read found consumed p = record {
+fault_in_event Honest c first last kept t read found consumed p = record {
   kept = kept;
   read = read;
   history = p.history;
-  event = p.event;
-  behind = p.behind;
+  event = p.left.event;
+  behind = p.left.behind;
   consumed = consumed;
-  front = p.front;
+  front = ap (λ (v : List Event). asked_in p.history ++ v) (sym p.left.next) ∙ p.front;
   stays_open = open_at_start kept p.history p.stays_open;
-  in_turn = turns_at_start kept (record { event = p.event; refused = None } ∷ p.history) p.in_turn;
+  in_turn = turns_at_start kept (record { event = p.left.event; refused = None } ∷ p.history) (p.left.in_turn, p.in_turn);
   written = subst (Appends first.output last.output) (given_at_start c kept p.history) p.written;
   found = found;
-  holds = λ honest. subst (λ (v : State). HoldsEither v p.event last.history_a last.history_b) (replayed_from_start kept p.history)
-      (p.holds honest);
+  holds = λ honest. subst (λ (v : State). HoldsEither v p.left.event last.history_a last.history_b) (replayed_from_start kept p.history)
+      (p.left.holds honest);
 }
 
-served_life : (Honest : Type 0) (c : ℕ) (first last : Moment) (kept : SavedState) (t : State) (ending : Ending)
-    → (Honest → found_state first.content_a first.content_b ≡ Some kept)
-    → ServesClient Honest c first.input last.input (start kept) t last.history_a last.history_b first.output last.output ending
-    → (ending ≢ Faulted → Honest → AllFindNow (λ f. f ≡ Some t.machine.saved) last.history_a last.history_b)
-    → (ending ≡ Faulted → Honest → HasFailed first last)
-    → IsLife Honest c (Ok ending) first last
-served_life Honest c first last kept t Whole found p holds failed =
-    elim p.stops [
-      | inl all ↦ whole_by_end Honest c first last kept t p.read found p.consumed all.0 all.1.0 all.1.1 (holds (λ is. cc))
-      | inr closed ↦ whole_by_close Honest c first last kept t p.read found p.consumed closed (holds (λ is. cc))
-    ]
-served_life Honest c first last kept t Cut found p holds failed =
-    cut_life Honest c first last kept t p.read found p.consumed p.stops (holds (λ is. cc))
-served_life Honest c first last kept t Faulted found p holds failed = record {
-  place = inr (fault_in_event Honest c first last kept p.read found p.consumed p.stops);
+served_life : (Honest : Type 0) (c : ℕ) (first last : Moment) (kept : SavedState) (t : State) (read : List ℕ)
+    (result : Result (Unit {0}) Ending)
+    → (Honest → found_state first.content_a first.content_b ≡ Some kept) → Consumes first.input last.input read
+    → ServesEvents Honest c (events_of c (requests_of read)) (start kept) t last.history_a last.history_b first.output last.output result
+    → OnOk result (IsAllRead read last.input × RunsNone t.machine.job)
+    → (result ≢ Err Faulted → Honest → AllFindNow (λ f. f ≡ Some t.machine.saved) last.history_a last.history_b)
+    → (result ≡ Err Faulted → Honest → HasFailed first last)
+    → IsLife Honest c (Ok (ending_with result)) first last
+served_life Honest c first last kept t read (Ok done) found consumed p at_end holds failed =
+    whole_by_end Honest c first last kept t read done found consumed p at_end.0 at_end.1 (holds (λ is. cc))
+served_life Honest c first last kept t read (Err Whole) found consumed p at_end holds failed =
+    whole_by_close Honest c first last kept t read found consumed p (holds (λ is. cc))
+served_life Honest c first last kept t read (Err Cut) found consumed p at_end holds failed =
+    cut_life Honest c first last kept t read found consumed p (holds (λ is. cc))
+served_life Honest c first last kept t read (Err Faulted) found consumed p at_end holds failed = record {
+  place = inr (fault_in_event Honest c first last kept t read found consumed p);
   failed = failed refl;
 }
 
-pub opened_life : (Honest : Type 0) (c : ℕ) (first last : Moment) (s t : State) (ending : Ending)
+pub opened_life : (Honest : Type 0) (c : ℕ) (first last : Moment) (s t : State) (read : List ℕ) (result : Result (Unit {0}) Ending)
     → s ≡ start s.machine.saved → (Honest → found_state first.content_a first.content_b ≡ Some s.machine.saved)
-    → ServesClient Honest c first.input last.input s t last.history_a last.history_b first.output last.output ending
-    → (ending ≢ Faulted → Honest → AllFindNow (λ f. f ≡ Some t.machine.saved) last.history_a last.history_b)
-    → (ending ≡ Faulted → Honest → HasFailed first last)
-    → IsLife Honest c (Ok ending) first last
-opened_life Honest c first last s t ending begun found p holds failed =
-    served_life Honest c first last s.machine.saved t ending found
-    (subst (λ (v : State). ServesClient Honest c first.input last.input v t last.history_a last.history_b first.output last.output ending)
-    begun p) holds failed
+    → Consumes first.input last.input read
+    → ServesEvents Honest c (events_of c (requests_of read)) s t last.history_a last.history_b first.output last.output result
+    → OnOk result (IsAllRead read last.input × RunsNone t.machine.job)
+    → (result ≢ Err Faulted → Honest → AllFindNow (λ f. f ≡ Some t.machine.saved) last.history_a last.history_b)
+    → (result ≡ Err Faulted → Honest → HasFailed first last)
+    → IsLife Honest c (Ok (ending_with result)) first last
+opened_life Honest c first last s t read result begun found consumed p at_end holds failed =
+    served_life Honest c first last s.machine.saved t read result found consumed
+    (subst (λ (v : State). ServesEvents Honest c (events_of c (requests_of read)) v t last.history_a last.history_b first.output last.output
+    result) begun p) at_end holds failed
 
 -- ---- a life whose journal was not opened
 

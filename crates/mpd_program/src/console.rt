@@ -10,9 +10,10 @@ mod scanning;
 mod sending;
 mod serving;
 
+use client_session::Session;
 use disk_model::Disk;
 use live_stage::{Live, Refused, StartError};
-use serving::serve_client;
+use serving::{Service, ending_with};
 use std::alloc::Global;
 use std::fmt;
 use std::io::{Read, Write};
@@ -121,20 +122,37 @@ fn serve_life<D: Disk, F: Folder, R: Read, W: Write>(
     ensures life { IsLife (D.honest a × D.honest b) client result.came_to
         (moment_of D.content D.history D.faults a b (R.remaining reader.old) (W.contents writer.old))
         (moment_of D.content D.history D.faults result.a result.b (R.remaining reader.new) (W.contents writer.new)) }
-    ensures unfailed { (ending : Ending) → result.came_to ≡ Ok ending → ending ≢ Ending.Faulted → SameFaults D.faults a b result.a result.b }
+    ensures unfailed { (ending : Ending) → result.came_to ≡ Ok ending → ending ≢ Ending.Faulted
+        → SameFaults D.faults a b result.a result.b }
     ensures later { AreLater D.honest D.history D.faults a b result.a result.b }
 {
-    let mut live = match Live::open(alloc, a, b) {
+    let live = match Live::open(alloc, a, b) {
         Ok(live) => live,
         Err(refused) => return refused_life(refused),
     };
     let migrated = live.was_migrated();
-    let ending = serve_client(alloc, &mut live, client, folder, reader, writer);
+    let mut service = Service {
+        alloc,
+        live,
+        session: Session::new(alloc),
+        client,
+        folder,
+        writer,
+    };
+    let served = service.serve_client(reader);
+    let Service {
+        alloc: _alloc,
+        live,
+        session: _session,
+        client: _client,
+        folder: _folder,
+        writer: _writer,
+    } = service;
     // As long as no disk failed, the files give its state.
     let _broken = live.is_broken();
     let (a, b) = live.into_disks();
     Life {
-        came_to: Ok(ending),
+        came_to: Ok(ending_with(served)),
         migrated,
         a,
         b,

@@ -1,0 +1,20 @@
+use Rattle.std.proofs.lemmas.Result.{err_from_is_err_and}
+use Rattle.mpd_program.proofs.ServingLaws.{serves_on, usable_on}
+use Rattle.mpd_program.proofs.console.serving.Service.serve_request.Goals as goal
+
+pub serve_event-requires-clause-usable : goal.serve_event-requires-clause-usable
+serve_event-requires-clause-usable g c = c.requires.usable
+
+pub serve_event-requires-clause-turn : goal.serve_event-requires-clause-turn
+serve_event-requires-clause-turn g c = c.requires.idle
+
+pub serve_job-requires : goal.serve_job-requires
+serve_job-requires g c = usable_on c.in_ok-serve_event.ensures.served c.requires.usable
+
+pub returns-in_err-serve_event-clause-served : goal.returns-in_err-serve_event-clause-served
+returns-in_err-serve_event-clause-served g c =
+    let p = err_from_is_err_and c.from_residual.result c.from_residual.ensures.1 in
+    rw (p.1, p.2) c.in_err-serve_event.ensures.served
+
+pub returns-clause-served : goal.returns-clause-served
+returns-clause-served g c = serves_on c.in_ok-serve_event.ensures.served c.serve_job.ensures.served
