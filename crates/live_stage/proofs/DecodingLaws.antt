@@ -1,5 +1,5 @@
 -- Records decoded one after the other.
-use Rattle.std.proofs.Common.{◌≡◌, ℕ, ◌+◌, ◌-◌, ◌^◌, min, List, [], ◌∷◌, length, Some, None, Result, Ok, Err, refl, sym, subst, ◌∙◌, arith}
+use Rattle.std.proofs.Common.{◌≡◌, ℕ, ◌+◌, ◌-◌, ◌^◌, min, List, length, Result, Ok, Err, refl, sym, subst}
 use Rattle.state_codec.specs.SavedState.{SavedState}
 use Rattle.state_codec.specs.Answers.{GivesSaved}
 use Rattle.state_codec.specs.declared.refusal.CodecError.{CodecError}
@@ -7,7 +7,7 @@ use Rattle.state_codec.specs.declared.refusal.CodecError.TheVariants.{NoMemory, 
 use Rattle.live_stage.specs.declared.refusal.StartError.TheVariants.{Damaged}
 use Rattle.live_stage.specs.Decoding.{GivesState, snapshot_error}
 use Rattle.state_codec.specs.Reading.{saved_reading}
-use Rattle.live_stage.specs.Found.{after_record, records_reading, stored_reading}
+use Rattle.live_stage.specs.Found.{records_reading, stored_reading}
 
 -- these records are left, the state is the one before them, and the first one's gate has this offset, as far as offsets are counted
 pub record IsReadTo (layout counted : ℕ) (s : SavedState) (rest : List (List ℕ)) (all : Result SavedState ℕ) : Type 0 where
@@ -25,23 +25,6 @@ pub bad_snapshot : (layout : ℕ) (snapshot : List ℕ) (records : List (List �
     → stored_reading layout snapshot records ≡ Err 32
 unfolding stored_reading
 bad_snapshot layout snapshot records at read = rw read refl
-
-pub goes_on : (layout counted next : ℕ) (s after : SavedState) (body : List ℕ) (rest : List (List ℕ)) (all : Result SavedState ℕ)
-    → after_record layout body s ≡ Some after → next ≡ min (min (counted + 5) (2 ^ 64 - 1) + length body) (2 ^ 64 - 1)
-    → IsReadTo layout counted s (body ∷ rest) all → IsReadTo layout next after rest all
-goes_on layout counted next s after body rest all applies counts h = record {
-  gate = h.gate + (5 + length body);
-  counts = (let c : counted ≡ min h.gate (2 ^ 64 - 1) = h.counts in omega (arith, c, counts));
-  is = h.is ∙ rw applies refl;
-}
-
-pub stops : (layout counted : ℕ) (s : SavedState) (body : List ℕ) (rest : List (List ℕ)) (all : Result SavedState ℕ)
-    → after_record layout body s ≡ None → IsReadTo layout counted s (body ∷ rest) all
-    → (at : ℕ) × (all ≡ Err at) × (counted ≡ min at (2 ^ 64 - 1))
-stops layout counted s body rest all fails h = (h.gate, h.is ∙ rw fails refl, h.counts)
-
-pub is_done : (layout counted : ℕ) (s : SavedState) (all : Result SavedState ℕ) → IsReadTo layout counted s [] all → all ≡ Ok s
-is_done layout counted s all h = h.is
 
 -- what reading a snapshot answers, where it is refused
 pub refused_snapshot : (layout : ℕ) (snapshot : List ℕ) (records : List (List ℕ)) (e : CodecError)

@@ -66,10 +66,6 @@ record_added content op ops s after stands present valid applies =
     ap result_ok (stored_added content.layout content.snapshot content.records (ops_bytes (op ∷ ops)) s after
     (result_is_ok (content_reading content) s stands) (ops_applied content.layout op ops s after present valid applies))
 
--- no op changes nothing
-none_applied : (s after : SavedState) → all_applied [] s ≡ Some after → s ≡ after
-none_applied s after applies = cc
-
 -- the content after an event stands for the state after it
 pub content_after : (content after_content : Content) (ops : List Op) (s after : SavedState)
     → state_of (Some content) ≡ Some s → content.layout ≡ present_layout → AllByRecursion IsOp ops → all_applied ops s ≡ Some after

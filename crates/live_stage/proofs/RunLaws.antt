@@ -283,12 +283,6 @@ prefix_answered s events answers event t f same none h = elim h.is_whole [
   | inr b ↦ (let first = b.first in absurd cc)
 ]
 
--- the state before an event that was answered or broke the stage, and the state after it
-prefix_before : (s : State) (events : List Event) (answers : List Reply) (f : Option SavedState)
-    → (let now = replayed s (whole_of events answers) in f ≡ Some now.machine.saved) → FindsPrefix s events answers f
-prefix_before s events answers f is =
-    record { whole = whole_of events answers; is_whole = inl refl; later = []; prefix = whole_of events answers; parts = refl; finds = is }
-
 -- ---- one turn more
 
 by_refused : (was : Bool) (e : LiveError) → (e ≡ Broken → was ≡ true) → broken_by was (Err e) ≡ was

@@ -6,3 +6,4 @@ pub mod Answer
 pub mod Decoding
 pub mod Transcript
 pub mod Turns
+pub mod Writing

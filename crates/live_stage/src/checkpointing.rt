@@ -1,13 +1,12 @@
 // The state as a new snapshot.
-ghost use Rattle.std.specs.Prelude.{◌≡◌, ◌≢◌, ◌-◌, ◌^◌, false, length, Err, OnOk, MatchBool};
-ghost use Rattle.disk_model.specs.Later.{AreLater, HasFailed};
-ghost use Rattle.play_journal.specs.Calls.{Holds, IsNextGeneration, SameFaults};
-ghost use Rattle.play_journal.specs.Content.{with_snapshot, IsOldOrNew};
-ghost use Rattle.play_journal.specs.Pair.{AllPairsSince};
+ghost use Rattle.std.specs.Prelude.{◌≡◌, ◌≢◌, ◌-◌, ◌^◌, false, OnOk, MatchBool};
+ghost use Rattle.play_journal.specs.Calls.{IsNextGeneration};
+ghost use Rattle.play_journal.specs.Content.{with_snapshot};
 ghost use Rattle.state_codec.specs.SavedState.{IsSavedState};
 ghost use Rattle.state_codec.specs.Spelling.{saved_bytes};
 ghost use Rattle.live_stage.specs.Errors.{checkpoint_error};
 ghost use Rattle.live_stage.specs.Turns.{CallsAtMost, RefusesSnapshot};
+ghost use Rattle.live_stage.specs.Writing.{GoesOver, CallsDisks};
 
 use crate::LiveError;
 use disk_model::Disk;
@@ -24,20 +23,14 @@ pub(crate) fn write_snapshot<D: Disk>(
     requires usable { journal.old.is_spent ≡ false }
     requires generation { journal.old.generation ≢ 2 ^ 64 - 1 }
     ensures any_moment { D.honest journal.old.a → D.honest journal.old.b
-        → AllPairsSince (IsOldOrNew journal.old.content (saved_bytes saved.now))
-        (D.history journal.new.a) (length (D.history journal.old.a)) (D.history journal.new.b) (length (D.history journal.old.b)) }
-    ensures kept { D.honest journal.old.a → D.honest journal.old.b
-        → OnOk result (Holds D.history journal.new (with_snapshot journal.old.content (saved_bytes saved.now))) }
+        → GoesOver D.history journal.old journal.new (with_snapshot journal.old.content (saved_bytes saved.now)) result }
     ensures in_range { IsSavedState saved.now }
     ensures next { OnOk result (IsNextGeneration journal.old journal.new) }
-    ensures met_none { OnOk result (SameFaults D.faults journal.old.a journal.old.b journal.new.a journal.new.b) }
     ensures refuses { RefusesSnapshot journal.old journal.new result }
-    ensures fault { D.honest journal.old.a → D.honest journal.old.b → result ≡ Err LiveError.Broken
-        → HasFailed D.faults journal.old.a journal.old.b journal.new.a journal.new.b }
+    ensures disks { CallsDisks D.honest D.history D.faults journal.old journal.new LiveError.Broken result }
     ensures calls { D.honest journal.old.a → D.honest journal.old.b → OnOk result (CallsAtMost 9 (D.history journal.old.a)
         (D.history journal.old.b) (D.history journal.new.a) (D.history journal.new.b)) }
     ensures old_file { MatchBool journal.old.is_in_b (journal.new.b ≡ journal.old.b) (journal.new.a ≡ journal.old.a) }
-    ensures later { AreLater D.honest D.history D.faults journal.old.a journal.old.b journal.new.a journal.new.b }
 {
     // A saved state is in range, and the files say what the journal does.
     let _key = saved.key();

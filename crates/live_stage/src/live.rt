@@ -1,4 +1,4 @@
-// The stage.
+// The stage: made or opened over two disks, it handles events one at a time, and makes the checkpoints that are due.
 ghost use Rattle.std.specs.Prelude.{◌≡◌, ◌≢◌, ◌⊎◌, ◌↔◌, ◌+◌, ◌-◌, ◌^◌, ◌<◌, ◌≤◌, ℕ, true, false, [], length, Ok, Err, Some, None, Option};
 ghost use Rattle.std.specs.Prelude.{IsSome, IsTrue, IsOk, IfOk, IfErr, OnOk, OnErr, IsErrAnd, MatchResult, MatchBool, vec_capacity};
 ghost use Rattle.disk_model.specs.Later.{AreLater, HasFailed};
@@ -12,9 +12,10 @@ ghost use Rattle.daemon_core.specs.Step.{step};
 ghost use Rattle.live_stage.specs.Answer.{IsTurn, IsHandled, IsBeforeOrAfter, HasNoOps};
 ghost use Rattle.live_stage.specs.Errors.{IsRefusalOfCreate, IsRefusalOfOpen, IsCause, start_error};
 ghost use Rattle.live_stage.specs.Numbers.{first_numbers, first_file, greatest, is_due, AreCountsSpent, AreSpent};
-ghost use Rattle.live_stage.specs.Turns.{IsBegun, IsOver, IsStored, IsCheckpointed, IsCheckpointing, HoldsSnapshot, RefusesCheckpoint, CallsAtMost};
-ghost use Rattle.live_stage.specs.Turns.{IsReady, IsWritten, StaysInFile, WritesOneFile, MakesNoCall, LeavesAsIs, TellsFaults, RefusesInOrder};
-ghost use Rattle.live_stage.specs.Turns.{ready_content, recorded_content, writes_to_b};
+ghost use Rattle.live_stage.specs.Turns.{IsBegun, IsOver, IsStored, IsCheckpointed, IsCheckpointing, HoldsSnapshot, RefusesCheckpoint};
+ghost use Rattle.live_stage.specs.Turns.{CallsAtMost, IsReady, IsWritten, StaysInFile, WritesOneFile, MakesNoCall, LeavesAsIs};
+ghost use Rattle.live_stage.specs.Turns.{TellsFaults, RefusesInOrder, ready_content, writes_to_b};
+ghost use Rattle.live_stage.specs.Writing.{KeepsEvent};
 ghost use Rattle.live_stage.specs.Found.{found_state, AllFindNow, AllFindSince, KeepsFoundState};
 
 use crate::checkpointing::write_snapshot;
@@ -292,13 +293,7 @@ impl<D: Disk> Live<D> {
         requires numbers { AreCountsSpent self.old.numbers → ⊥ }
         ensures step { IfOk result (λ t. IsHandled self.old event t self.new) }
         ensures carries { IfOk result (λ t. (t.asked ≡ event) × (t.before ≡ self.old.state)) }
-        ensures any_moment { D.honest self.old.a → D.honest self.old.b → self.old.is_broken ≡ false
-            → (k : Option ℕ) × IfOk result (λ t. t.refused_at ≡ k) × AllFindSince (IsBeforeOrAfter self.old.state event k)
-            (D.history self.new.a) (length (D.history self.old.a)) (D.history self.new.b) (length (D.history self.old.b)) }
-        ensures kept { D.honest self.old.a → D.honest self.old.b → self.new.is_broken ≡ false
-            → AllFindNow (λ f. f ≡ Some self.new.state.machine.saved) (D.history self.new.a) (D.history self.new.b) }
-        ensures content { D.honest self.old.a → D.honest self.old.b → IfOk result (λ t.
-            let now = step self.old.state event t.refused_at in self.new.content ≡ recorded_content self.old.content now.ops) }
+        ensures any_moment { D.honest self.old.a → D.honest self.old.b → KeepsEvent D.history self.old self.new event result }
         ensures no_call { IfOk result (λ t. HasNoOps self.old event t → MakesNoCall self.old self.new) }
         ensures file { StaysInFile self.old self.new }
         ensures refuses { LeavesAsIs self.old self.new result }

@@ -1,5 +1,5 @@
 -- What an event does to what lies under the lock.
-use Rattle.std.specs.Prelude.{◌≡◌, ◌≢◌, ◌↔◌, ⊤, ℕ, ◌+◌, ◌<◌, ◌≤◌, List, [], ◌∷◌, ◌++◌, length, true, false, Option, None, Some}
+use Rattle.std.specs.Prelude.{◌≡◌, ◌≢◌, ◌⊎◌, ◌↔◌, ⊤, ℕ, ◌+◌, ◌<◌, ◌≤◌, List, [], ◌∷◌, ◌++◌, length, true, false, Option, None, Some}
 use Rattle.std.specs.Prelude.{Result, Err, OnOk, OnErr, IfErr}
 use Rattle.disk_model.specs.History.{Change}
 use Rattle.disk_model.specs.Later.{HasFailed}
@@ -17,7 +17,7 @@ use Rattle.stage_workers.specs.declared.refusal.StageError.TheVariants.{Broken, 
 use Rattle.stage_workers.specs.declared.served.Served.{Served}
 use Rattle.stage_workers.specs.declared.served.Way.{Way}
 use Rattle.stage_workers.specs.declared.served.Way.TheVariants.{Serve, Report}
-use Rattle.stage_workers.specs.PassState.{PassState}
+use Rattle.stage_workers.specs.PassState.{PassState, BooksState}
 use Rattle.stage_workers.specs.Books.{counted}
 use Rattle.stage_workers.specs.LockState.{LockState}
 
@@ -64,7 +64,19 @@ pub record IsCounted {D : Type 0} (old new : LockState D) (pass passed : PassSta
   pub share : passed.share ≡ pass.share + 1
   pub seen : passed.seen ≡ new.live.numbers.event
 
+-- A turn is counted in the book of the pass's kind, and in its share; the pass has seen its number, which is the last; and the stage isn't
+-- broken.
+pub record IsTurnCounted {D : Type 0} (live : LiveState D) (old new : BooksState) (before after : PassState) : Type 0 where
+  pub book : new ≡ counted before.kind old
+  pub pass : after ≡ record { kind = before.kind; seen = live.numbers.event; share = before.share + 1 }
+  pub usable : live.is_broken ≡ false
+
 -- ---- any event
+
+-- an event is taken by a stage that isn't broken and has no number spent, unless memory is wanting or a disk fails
+pub record TakesEvent {D : Type 0} (live : LiveState D) : Type 0 where
+  pub usable : live.is_broken ≡ false
+  pub unspent : AreSpent live.numbers live.file → ⊥
 
 -- Stopped at any moment of an event that a stage takes, a restart finds the saved state from before it or from after it, with one refused
 -- place for all that crashes may leave.
@@ -85,6 +97,14 @@ IsLeft Broken old new = new.is_broken ≡ true
 IsLeft NoMemory old new = IsStill old new
 IsLeft (Rewound seen found) old new = new ≡ old
 IsLeft NumbersSpent old new = new ≡ old
+
+-- a turn is refused for want of memory or by a disk fault alone, and then books and pass are as they were
+pub record IsTurnRefused {D : Type 0} (error : StageError) (old new : LiveState D) (books books_after : BooksState)
+    (before after : PassState) : Type 0 where
+  pub only : (error ≡ Broken) ⊎ (error ≡ NoMemory)
+  pub left : IsLeft error old new
+  pub same_books : books_after ≡ books
+  pub same_pass : after ≡ before
 
 -- the pass has seen more events than the stage had, and these are the numbers of both
 pub record IsRewound {D : Type 0} (live : LiveState D) (pass : PassState) (seen found : ℕ) : Type 0 where

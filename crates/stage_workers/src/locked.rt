@@ -1,10 +1,9 @@
 // What lies under the lock.
-ghost use Rattle.std.specs.Prelude.{◌≡◌, ◌⊎◌, ◌+◌, false, IfOk, IfErr, OnOk};
+ghost use Rattle.std.specs.Prelude.{◌≡◌, IfOk, IfErr, OnOk};
 ghost use Rattle.disk_model.specs.Later.{AreLater};
-ghost use Rattle.live_stage.specs.Numbers.{AreSpent};
-ghost use Rattle.stage_workers.specs.Books.{counted, events_of};
+ghost use Rattle.stage_workers.specs.Books.{events_of};
 ghost use Rattle.stage_workers.specs.LockState.{FindsItsState};
-ghost use Rattle.stage_workers.specs.Entry.{IsOneTurn, AnyMoment, TellsFaults, IsLeft};
+ghost use Rattle.stage_workers.specs.Entry.{TakesEvent, IsOneTurn, IsTurnCounted, AnyMoment, IsTurnRefused, TellsFaults};
 
 use crate::books::Books;
 use crate::refusal::refusal_of;
@@ -51,18 +50,14 @@ pub(crate) fn counted_turn<D: Disk, C: Ledger, P: Ledger, S: Ledger>(
     pass: &mut Pass<C, P, S>,
     event: Event,
 ) -> Result<Turn<D>, StageError>
-    requires usable { live.old.is_broken ≡ false }
-    requires unspent { AreSpent live.old.numbers live.old.file → ⊥ }
+    requires takes { TakesEvent live.old }
     requires counted { live.old.numbers.event ≡ events_of books.old }
     ensures turn { IfOk result (λ t. IsOneTurn D.honest D.history live.old live.new event t) }
+    ensures passed { OnOk result (IsTurnCounted live.new books.old books.new pass.old pass.new) }
     ensures counted { live.new.numbers.event ≡ events_of books.new }
-    ensures book { OnOk result (books.new ≡ counted pass.old.kind books.old) }
-    ensures passed { OnOk result (pass.new ≡ record { kind = pass.old.kind; seen = live.new.numbers.event; share = pass.old.share + 1 }) }
     ensures any_moment { AnyMoment D.honest D.history live.old live.new event }
     ensures kept { FindsItsState D.honest D.history live.new }
-    ensures usable { OnOk result (live.new.is_broken ≡ false) }
-    ensures refuses { IfErr result (λ e. IsLeft e live.old live.new × (books.new ≡ books.old) × (pass.new ≡ pass.old)) }
-    ensures only { IfErr result (λ e. (e ≡ StageError.Broken) ⊎ (e ≡ StageError.NoMemory)) }
+    ensures refuses { IfErr result (λ e. IsTurnRefused e live.old live.new books.old books.new pass.old pass.new) }
     ensures fault { TellsFaults D.honest D.faults live.old live.new result }
     ensures disks { AreLater D.honest D.history D.faults live.old.a live.old.b live.new.a live.new.b }
 {

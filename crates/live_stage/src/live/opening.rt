@@ -7,6 +7,7 @@ ghost use Rattle.live_stage.specs.Decoding.{GivesState};
 ghost use Rattle.live_stage.specs.Errors.{IsRefusalOfMigration, migration_error};
 ghost use Rattle.live_stage.specs.Found.{state_of, stored_reading, AllFindSince};
 ghost use Rattle.live_stage.specs.Turns.{IsBegun, IsOver, is_old, migrated};
+ghost use Rattle.live_stage.specs.Writing.{CallsDisks};
 
 use super::Live;
 use crate::checkpointing::write_snapshot;
@@ -68,10 +69,7 @@ fn migrate<D: Disk>(
     ensures same_state { D.honest journal.old.a → D.honest journal.old.b → AllFindSince (λ f. f ≡ Some saved.now)
         (D.history journal.new.a) (length (D.history journal.old.a)) (D.history journal.new.b) (length (D.history journal.old.b)) }
     ensures refuses { IfErr result (λ e. IsRefusalOfMigration journal.old e) }
-    ensures met_none { OnOk result (SameFaults D.faults journal.old.a journal.old.b journal.new.a journal.new.b) }
-    ensures fault { D.honest journal.old.a → D.honest journal.old.b → result ≡ Err StartError.Broken
-        → HasFailed D.faults journal.old.a journal.old.b journal.new.a journal.new.b }
-    ensures later { AreLater D.honest D.history D.faults journal.old.a journal.old.b journal.new.a journal.new.b }
+    ensures disks { CallsDisks D.honest D.history D.faults journal.old journal.new StartError.Broken result }
 {
     // As long as the journal isn't spent, the files say its content.
     let _spent = journal.is_spent();

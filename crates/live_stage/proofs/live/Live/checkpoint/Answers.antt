@@ -27,23 +27,23 @@ returns-in_err-write_snapshot-clause-any_moment g c = rw (← c.self.view_is) (�
   during = subst (λ (s : SavedState). AllPairsSince (IsOldOrNew c.self.inside.journal.content (saved_bytes s))
       (g.D.Disk.history c.write_snapshot.new.journal.a) (length (g.D.Disk.history c.self.inside.journal.a))
       (g.D.Disk.history c.write_snapshot.new.journal.b) (length (g.D.Disk.history c.self.inside.journal.b))) c.as_saved.ensures
-      (c.write_snapshot.ensures.any_moment ha hb);
+      (c.write_snapshot.ensures.any_moment ha hb).during;
 })
 
 pub returns-in_err-write_snapshot-clause-same_state : goal.returns-in_err-write_snapshot-clause-same_state
 returns-in_err-write_snapshot-clause-same_state g c = rw (← c.self.view_is, ← c.as_saved.ensures) (λ ha hb usable.
     find_same _ _ _ _ c.self.inside.journal.content c.as_saved.result.now
     (c.self.invariant.2 usable ha hb ∙ ap Some (sym c.as_saved.ensures)) c.write_snapshot.ensures.in_range
-    (c.write_snapshot.ensures.any_moment ha hb))
+    (c.write_snapshot.ensures.any_moment ha hb).during)
 
 pub invariant_of-self-2 : goal.invariant_of-self-2
 invariant_of-self-2 g c = (
   c.self.invariant.0,
   λ unspent. c.in_ok-write_snapshot.ensures.next.layout,
   λ unspent ha' hb'.
-      let ha = c.write_snapshot.ensures.later.a.honesty.1 ha' in
-      let hb = c.write_snapshot.ensures.later.b.honesty.1 hb' in
-      let held = c.in_ok-write_snapshot.ensures.kept ha hb in
+      let ha = c.write_snapshot.ensures.disks.later.a.honesty.1 ha' in
+      let hb = c.write_snapshot.ensures.disks.later.b.honesty.1 hb' in
+      let held = (c.in_ok-write_snapshot.ensures.any_moment ha hb).kept in
       ap (λ (k : Content). state_of (Some k)) held.says
       ∙ snapshot_stands c.self.inside.journal.content c.as_saved.result.now c.write_snapshot.ensures.in_range
       ∙ ap Some c.as_saved.ensures,
@@ -55,11 +55,11 @@ returns-clause-any_moment g c = rw (← c.self.view_is) (λ ha hb usable. record
   during = subst (λ (s : SavedState). AllPairsSince (IsOldOrNew c.self.inside.journal.content (saved_bytes s))
       (g.D.Disk.history c.write_snapshot.new.journal.a) (length (g.D.Disk.history c.self.inside.journal.a))
       (g.D.Disk.history c.write_snapshot.new.journal.b) (length (g.D.Disk.history c.self.inside.journal.b))) c.as_saved.ensures
-      (c.write_snapshot.ensures.any_moment ha hb);
+      (c.write_snapshot.ensures.any_moment ha hb).during;
 })
 
 pub returns-clause-same_state : goal.returns-clause-same_state
 returns-clause-same_state g c = rw (← c.self.view_is, ← c.as_saved.ensures) (λ ha hb usable.
     find_same _ _ _ _ c.self.inside.journal.content c.as_saved.result.now
     (c.self.invariant.2 usable ha hb ∙ ap Some (sym c.as_saved.ensures)) c.write_snapshot.ensures.in_range
-    (c.write_snapshot.ensures.any_moment ha hb))
+    (c.write_snapshot.ensures.any_moment ha hb).during)

@@ -11,31 +11,44 @@ use Rattle.live_stage.proofs.TurnLaws.{still_in_file, no_call_made}
 use Rattle.live_stage.proofs.live.Live.handle.Goals as goal
 
 pub returns-in-Err-clause-any_moment : goal.returns-in-Err-clause-any_moment
-returns-in-Err-clause-any_moment g c = rw (← c.self.view_is) (λ ha hb usable. (
-  None,
-  tt,
-  find_still _ _ c.self.inside.journal.content c.self.inside.core.machine.saved _ (c.is_spent-spent.ensures.kept ha hb usable)
-      (c.self.invariant.2 usable ha hb),
-))
+returns-in-Err-clause-any_moment g c =
+    let usable : c.self.inside.journal.is_spent ≡ false = ap (λ v. v.is_broken) c.self.view_is ∙ c.requires.usable in
+    rw (← c.self.view_is, c.in-Err.ensures.err) (λ ha hb. record {
+      during = (
+        None,
+        tt,
+        find_still _ _ c.self.inside.journal.content c.self.inside.core.machine.saved _ (c.is_spent-spent.ensures.kept ha hb usable)
+            (c.self.invariant.2 usable ha hb),
+      );
+      kept = λ unbroken. find_now (g.D.Disk.history c.self.inside.journal.a) (g.D.Disk.history c.self.inside.journal.b)
+          c.self.inside.journal.content c.self.inside.core.machine.saved (c.is_spent-spent.ensures.kept ha hb usable)
+          (c.self.invariant.2 usable ha hb);
+      content = tt;
+    })
 
 pub returns-in_err-number-clause-any_moment : goal.returns-in_err-number-clause-any_moment
 returns-in_err-number-clause-any_moment g c =
+    let usable : c.self.inside.journal.is_spent ≡ false = ap (λ v. v.is_broken) c.self.view_is ∙ c.requires.usable in
     let asked : Stepped = step c.self.inside.core c.args.event c.in-Ok.outcome.refused_at in
     let valid : AllByRecursion IsOp c.deref.result.now = c.record_ops.ensures.valid in
     let applies : all_applied c.deref.result.now c.self.inside.core.machine.saved ≡ Some asked.after.machine.saved =
     rw c.deref.ensures.value (c.in-Ok.ensures.rebuilt ∙ ap (λ (s : State). Some s.machine.saved) c.in-Ok.ensures.ok.after) in
-    rw (← c.self.view_is) (λ ha hb usable. (
-      c.in-Ok.outcome.refused_at,
-      search rules,
-      find_either _ _ _ _ c.self.inside.journal.content c.deref.result.now c.self.inside.core.machine.saved asked.after.machine.saved
-          (c.is_spent-spent.ensures.kept ha hb usable) (c.self.invariant.2 usable ha hb)
-          ((c.is_spent-spent.ensures.numbers ha hb usable).layout ∙ c.self.invariant.1 usable) valid applies
-          (λ e. (
-            ap (λ j. g.D.Disk.history j.a) (c.record_ops.ensures.none e).1,
-            ap (λ j. g.D.Disk.history j.b) (c.record_ops.ensures.none e).1,
-          ))
-          (λ some. c.record_ops.ensures.any_moment some ha hb),
-    ))
+    rw (← c.self.view_is) (λ ha hb. record {
+      during = (
+        c.in-Ok.outcome.refused_at,
+        search rules,
+        find_either _ _ _ _ c.self.inside.journal.content c.deref.result.now c.self.inside.core.machine.saved asked.after.machine.saved
+            (c.is_spent-spent.ensures.kept ha hb usable) (c.self.invariant.2 usable ha hb)
+            ((c.is_spent-spent.ensures.numbers ha hb usable).layout ∙ c.self.invariant.1 usable) valid applies
+            (λ e. (
+              ap (λ j. g.D.Disk.history j.a) (c.record_ops.ensures.none e).1,
+              ap (λ j. g.D.Disk.history j.b) (c.record_ops.ensures.none e).1,
+            ))
+            (λ some. (c.record_ops.ensures.any_moment some ha hb).during),
+      );
+      kept = search rules;
+      content = search rules;
+    })
 
 pub invariant_of-self-2 : goal.invariant_of-self-2
 invariant_of-self-2 g c =
@@ -47,56 +60,58 @@ invariant_of-self-2 g c =
       omega (arith, c.record_ops.ensures.capacity, room),
       λ unspent. c.record_ops.ensures.file.layout ∙ c.self.invariant.1 usable,
       λ unspent ha' hb'.
-          let ha = c.record_ops.ensures.later.a.honesty.1 ha' in
-          let hb = c.record_ops.ensures.later.b.honesty.1 hb' in
+          let ha = c.record_ops.ensures.disks.later.a.honesty.1 ha' in
+          let hb = c.record_ops.ensures.disks.later.b.honesty.1 hb' in
           content_after c.self.inside.journal.content c.record_ops.new.journal.content c.deref.result.now c.self.inside.core.machine.saved
           c.step.new.self.machine.saved
           (c.self.invariant.2 usable ha hb)
           ((c.is_spent-spent.ensures.numbers ha hb usable).layout ∙ c.self.invariant.1 usable) valid applies
           (λ e. ap (λ j. j.content) (c.record_ops.ensures.none e).1)
-          (λ some. let held = c.in_ok-number.ensures.kept some ha hb in held.says),
+          (λ some. let held = (c.in_ok-number.ensures.any_moment some ha hb).kept in held.says),
     )
 
 pub returns-clause-any_moment : goal.returns-clause-any_moment
 returns-clause-any_moment g c =
-    let asked : Stepped = step c.self.inside.core c.args.event c.in-Ok.outcome.refused_at in
+    let usable : c.self.inside.journal.is_spent ≡ false = ap (λ v. v.is_broken) c.self.view_is ∙ c.requires.usable in
+    let asked : Option ℕ → Stepped = λ k. step c.self.inside.core c.args.event k in
+    let now : Stepped = asked c.in-Ok.outcome.refused_at in
     let valid : AllByRecursion IsOp c.deref.result.now = c.record_ops.ensures.valid in
-    let applies : all_applied c.deref.result.now c.self.inside.core.machine.saved ≡ Some asked.after.machine.saved =
-    rw c.deref.ensures.value (c.in-Ok.ensures.rebuilt ∙ ap (λ (s : State). Some s.machine.saved) c.in-Ok.ensures.ok.after) in
-    rw (← c.self.view_is) (λ ha hb usable. (
-      c.in-Ok.outcome.refused_at,
-      ap (λ t. t.refused_at) c.new.ensures,
-      find_either _ _ _ _ c.self.inside.journal.content c.deref.result.now c.self.inside.core.machine.saved asked.after.machine.saved
-          (c.is_spent-spent.ensures.kept ha hb usable) (c.self.invariant.2 usable ha hb)
-          ((c.is_spent-spent.ensures.numbers ha hb usable).layout ∙ c.self.invariant.1 usable) valid applies
+    let rebuilt : all_applied c.deref.result.now c.self.inside.core.machine.saved ≡ Some c.step.new.self.machine.saved =
+    rw c.deref.ensures.value c.in-Ok.ensures.rebuilt in
+    let applies : all_applied c.deref.result.now c.self.inside.core.machine.saved ≡ Some now.after.machine.saved =
+    rebuilt ∙ ap (λ (s : State). Some s.machine.saved) c.in-Ok.ensures.ok.after in
+    let place : c.in-Ok.outcome.refused_at ≡ c.new.result.refused_at = sym (ap (λ t. t.refused_at) c.new.ensures) in
+    let ops_are : c.deref.result.now ≡ (let of_answer : Stepped = asked c.new.result.refused_at in of_answer.ops) =
+    c.deref.ensures.value ∙ c.in-Ok.ensures.ok.ops ∙ ap (λ (k : Option ℕ). let of_answer : Stepped = asked k in of_answer.ops) place in
+    rw (← c.self.view_is) (λ ha hb.
+    let first = c.is_spent-spent.ensures.kept ha hb usable in
+    let stands = c.self.invariant.2 usable ha hb in
+    let layout = (c.is_spent-spent.ensures.numbers ha hb usable).layout ∙ c.self.invariant.1 usable in
+    record {
+      during = (
+        c.in-Ok.outcome.refused_at,
+        ap (λ t. t.refused_at) c.new.ensures,
+        find_either _ _ _ _ c.self.inside.journal.content c.deref.result.now c.self.inside.core.machine.saved now.after.machine.saved
+            first stands layout valid applies
+            (λ e. (
+              ap (λ j. g.D.Disk.history j.a) (c.record_ops.ensures.none e).1,
+              ap (λ j. g.D.Disk.history j.b) (c.record_ops.ensures.none e).1,
+            ))
+            (λ some. (c.record_ops.ensures.any_moment some ha hb).during),
+      );
+      kept = λ unbroken. find_after _ _ _ _ c.self.inside.journal.content c.record_ops.new.journal.content c.deref.result.now
+          c.self.inside.core.machine.saved c.step.new.self.machine.saved first stands layout valid rebuilt
           (λ e. (
             ap (λ j. g.D.Disk.history j.a) (c.record_ops.ensures.none e).1,
             ap (λ j. g.D.Disk.history j.b) (c.record_ops.ensures.none e).1,
           ))
-          (λ some. c.record_ops.ensures.any_moment some ha hb),
-    ))
-
-pub returns-clause-kept : goal.returns-clause-kept
-returns-clause-kept g c =
-    let usable : c.self.inside.journal.is_spent ≡ false = ap (λ v. v.is_broken) c.self.view_is ∙ c.requires.usable in
-    let valid : AllByRecursion IsOp c.deref.result.now = c.record_ops.ensures.valid in
-    let applies : all_applied c.deref.result.now c.self.inside.core.machine.saved ≡ Some c.step.new.self.machine.saved =
-    rw c.deref.ensures.value c.in-Ok.ensures.rebuilt in
-    rw (← c.self.view_is) (λ ha hb unbroken.
-    find_after _ _ _ _ c.self.inside.journal.content c.record_ops.new.journal.content c.deref.result.now c.self.inside.core.machine.saved
-    c.step.new.self.machine.saved
-    (c.is_spent-spent.ensures.kept ha hb usable) (c.self.invariant.2 usable ha hb)
-    ((c.is_spent-spent.ensures.numbers ha hb usable).layout ∙ c.self.invariant.1 usable) valid applies
-    (λ e. (ap (λ j. g.D.Disk.history j.a) (c.record_ops.ensures.none e).1, ap (λ j. g.D.Disk.history j.b) (c.record_ops.ensures.none e).1))
-    (λ some. let held = c.in_ok-number.ensures.kept some ha hb in held.says)
-    (λ some. let held = c.in_ok-number.ensures.kept some ha hb in held.kept))
-
-pub returns-in-Err-clause-kept : goal.returns-in-Err-clause-kept
-returns-in-Err-clause-kept g c =
-    let same = c.in-Err.ensures.err in
-    rw (← c.self.view_is, same) (λ ha hb usable.
-    find_now (g.D.Disk.history c.self.inside.journal.a) (g.D.Disk.history c.self.inside.journal.b) c.self.inside.journal.content
-    c.self.inside.core.machine.saved (c.is_spent-spent.ensures.kept ha hb usable) (c.self.invariant.2 usable ha hb))
+          (λ some. let held = (c.in_ok-number.ensures.any_moment some ha hb).kept in held.says)
+          (λ some. let held = (c.in_ok-number.ensures.any_moment some ha hb).kept in held.kept);
+      content = subst (λ (ops : List Op). c.record_ops.new.journal.content ≡ recorded_content c.self.inside.journal.content ops) ops_are
+          (content_recorded c.self.inside.journal.content c.record_ops.new.journal.content c.deref.result.now
+          (λ e. ap (λ j. j.content) (c.record_ops.ensures.none e).1)
+          (λ some. let held = (c.in_ok-number.ensures.any_moment some ha hb).kept in held.says));
+    })
 
 pub returns-in-Err-clause-file : goal.returns-in-Err-clause-file
 returns-in-Err-clause-file g c = rw (← c.self.view_is, c.in-Err.ensures.err) (still_in_file _)
@@ -108,15 +123,3 @@ returns-clause-no_call g c =
     let empty = c.deref.ensures.value ∙ c.in-Ok.ensures.ok.ops ∙ (rw place at none) in
     let same = (c.record_ops.ensures.none empty).1 in
     no_call_made _ _ (ap (λ j. j.a) same) (ap (λ j. j.b) same))
-
-pub returns-clause-content : goal.returns-clause-content
-returns-clause-content g c =
-    let place : c.in-Ok.outcome.refused_at ≡ c.new.result.refused_at = sym (ap (λ t. t.refused_at) c.new.ensures) in
-    let asked : Option ℕ → Stepped = λ k. step c.self.inside.core c.args.event k in
-    let ops_are : c.deref.result.now ≡ (let now : Stepped = asked c.new.result.refused_at in now.ops) =
-    c.deref.ensures.value ∙ c.in-Ok.ensures.ok.ops ∙ ap (λ (k : Option ℕ). let now : Stepped = asked k in now.ops) place in
-    rw (← c.self.view_is) (λ ha hb.
-    subst (λ (ops : List Op). c.record_ops.new.journal.content ≡ recorded_content c.self.inside.journal.content ops) ops_are
-    (content_recorded c.self.inside.journal.content c.record_ops.new.journal.content c.deref.result.now
-    (λ e. ap (λ j. j.content) (c.record_ops.ensures.none e).1)
-    (λ some. let held = c.in_ok-number.ensures.kept some ha hb in held.says)))

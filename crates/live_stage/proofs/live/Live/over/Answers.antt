@@ -7,8 +7,8 @@ use Rattle.live_stage.proofs.live.Live.over.Goals as goal
 
 pub returns-clause-over : goal.returns-clause-over
 returns-clause-over g c = λ ha hb.
-    let ha' = c.in-Ok.ensures.later.a.honesty.0 ha in
-    let hb' = c.in-Ok.ensures.later.b.honesty.0 hb in
+    let ha' = c.in-Ok.ensures.disks.later.a.honesty.0 ha in
+    let hb' = c.in-Ok.ensures.disks.later.b.honesty.0 hb in
     let own = c.args.journal.content in
     let now = c.migrate.new.journal in
     let usable : now.is_spent ≡ false = c.in-Ok.ensures.layout.1 in

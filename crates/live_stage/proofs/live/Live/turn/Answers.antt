@@ -25,7 +25,7 @@ returns-in_err-turn-clause-any_moment g c = λ ha hb usable.
     let handled = c.handle.ensures in
     let ha' = got.later.a.honesty.0 ha in
     let hb' = got.later.b.honesty.0 hb in
-    let found = handled.any_moment ha' hb' ready.usable in (
+    let found = (handled.any_moment ha' hb').during in (
       found.0,
       search rules,
       found_in_both g.D.Disk.history (writes_to_b c.args.self.now) c.args.self.now c.make_ready.new.self c.handle.new.self c.args.event found.0
@@ -41,7 +41,7 @@ returns-clause-any_moment g c = λ ha hb usable.
     let handled = c.handle.ensures in
     let ha' = got.later.a.honesty.0 ha in
     let hb' = got.later.b.honesty.0 hb in
-    let found = c.in_ok-turn.ensures.any_moment ha' hb' ready.usable in (
+    let found = (c.in_ok-turn.ensures.any_moment ha' hb').during in (
       found.0,
       found.1,
       found_in_both g.D.Disk.history (writes_to_b c.args.self.now) c.args.self.now c.make_ready.new.self c.handle.new.self c.args.event found.0
