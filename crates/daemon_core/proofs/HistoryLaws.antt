@@ -2,7 +2,6 @@
 use Rattle.std.proofs.Common.{◌≡◌, ℕ, ◌<◌, Bool, true, false, ◌&&◌, ◌||◌, ◌==◌, List, [], ◌∷◌, ◌++◌, Option, Some, None, filter, map, cond}
 use Rattle.std.proofs.Common.{refl, sym, ◌∙◌, ap, arith, eq-eqb, ltb-true}
 use Rattle.std.specs.Prelude.{nat_lt, unwrap_or}
-use Rattle.std.specs.Option.{option_map}
 use Rattle.std.specs.List.{list_any, filter_map, AllByRecursion, cons_option}
 use Rattle.std.proofs.lemmas.Bool.{ne_eqb, false≢true}
 use Rattle.command_text.specs.Answer.{list_ok}
@@ -19,14 +18,14 @@ use Rattle.idle_masks.specs.declared.watch.Watched.{Watched}
 use Rattle.state_codec.specs.SavedState.{SavedState}
 use Rattle.daemon_core.specs.Agreement.{Rises, Agree, AgreeBut}
 use Rattle.daemon_core.specs.Pending.{Moment, connects, is_pending, pending_of}
-use Rattle.daemon_core.specs.Replay.{Entry, stepped, replay, moments, moment_of, told_waiting, reply}
+use Rattle.daemon_core.specs.Replay.{Entry, stepped, replay, moments, moment_of, report_if, reported_by, told_waiting, reply}
 use Rattle.daemon_core.specs.Run.{Ran, ran}
 use Rattle.daemon_core.specs.Session.{Acted, of_ran, runs, output, happened}
 use Rattle.daemon_core.specs.State.{State}
 use Rattle.machine_core.specs.Happening.{Happening}
 use Rattle.machine_core.specs.Reports.{when_fed, when_ended, when_broken}
 use Rattle.machine_core.specs.Scanning.{when_found, when_scanned}
-use Rattle.daemon_core.specs.Step.{connects_client, asked, asked_waiting, requested_by, waiting_of, acted, told, told_to, step}
+use Rattle.daemon_core.specs.Step.{connects_client, asked, asked_waiting, requested_by, waiting_of, acted, told_to, step}
 use Rattle.daemon_core.specs.declared.event.Event.{Event}
 use Rattle.daemon_core.specs.declared.event.Event.TheVariants as events
 use Rattle.daemon_core.specs.declared.outcome.Ending.{Ending}
@@ -243,19 +242,6 @@ rises_after (w ∷ ws) changed h = (above ws h.0, rises_after ws changed h.1)
     above [] a = tt
     above (v ∷ vs) a = (omega (arith, a.0, reported_number changed w, reported_number changed v), above vs a.1)
 
-pub holds : (kept : SavedState) (history : List Entry) → Holds kept history
-unfolding replay moments step
-holds kept [] = record { rises = tt; agree = tt }
-holds kept (entry ∷ earlier) =
-    let before = holds kept earlier in
-    let a : Acted = acted (replay kept earlier) entry.event entry.refused in
-    let k = keeps_acted (moments kept earlier) (replay kept earlier) entry.event entry.refused before.rises before.agree in
-    record {
-      rises = rises_after a.after.clients a.changed k.rises;
-      agree = agree_after (record { connected = a.connected; changed = a.changed; reports = reports_of (marked a.after.clients a.changed) })
-          (moments kept earlier) a.after.clients k.rises k.agree k.quiet refl;
-    }
-
 -- What is due to a waiting client is what is pending for it by the history.
 or_comm_false : (a b : Bool) → (a || b) ≡ (b || a)
 or_comm_false true true = refl
@@ -287,37 +273,38 @@ intersection-none s = set_ext _ _ (λ x.
     contains-set_of (λ y. contains s y && contains none y) x
     ∙ ap (λ b. contains s x && b) (contains-set_of (λ _. false) x) ∙ and_none (contains s x) ∙ sym (contains-set_of (λ _. false) x))
 
-map_cons_option : (o : Option Report) (rest : List Report) →
-    map told_to (cons_option o rest) ≡ cons_option (option_map told_to o) (map told_to rest)
-map_cons_option None rest = refl
-map_cons_option (Some r) rest = refl
-
-told_if : (c : ℕ) (due : Subsystems) (empty : Bool) →
-    option_map told_to (cond empty None (Some (record { client = c; changed = due }))) ≡ cond empty None (Some (output c (told due)))
-told_if c due true = refl
-told_if c due false = refl
-
 one_told : (so_far : List Moment) (changed : Subsystems) (w : Watched) (waiting : Option Subsystems) → w.waiting ≡ waiting →
     union w.pending changed ≡ pending_of so_far w.client →
-    option_map told_to (report_of (grown changed w)) ≡ told_waiting so_far w.client waiting
+    report_of (grown changed w) ≡ told_waiting so_far w.client waiting
 one_told so_far changed w None waits same =
-    ap (λ due. option_map told_to (cond (is_empty due) None (Some (record { client = w.client; changed = due }))))
+    ap (report_if w.client)
     (ap (λ mask. intersection (union w.pending changed) (unwrap_or mask none)) waits ∙ intersection-none (union w.pending changed))
 one_told so_far changed w (Some mask) waits same =
-    ap (λ due. option_map told_to (cond (is_empty due) None (Some (record { client = w.client; changed = due }))))
+    ap (report_if w.client)
     (ap (λ m. intersection (union w.pending changed) (unwrap_or m none)) waits ∙ ap (λ s. intersection s mask) same)
-    ∙ told_if w.client (intersection (pending_of so_far w.client) mask) (is_empty (intersection (pending_of so_far w.client) mask))
 
 all_told : (a : Acted) (earlier : List Moment) (ws : List Watched) → AgreeBut (moment_of a) earlier ws →
     ((c : ℕ) → connects c (moment_of a) ≡ true → a.changed ≡ none) →
-    map told_to (reports_of (marked ws a.changed)) ≡ filter_map (λ w. told_waiting (moment_of a ∷ earlier) w.client w.waiting) ws
+    reports_of (marked ws a.changed) ≡ filter_map (λ w. told_waiting (moment_of a ∷ earlier) w.client w.waiting) ws
 all_told a earlier [] agree quiet = refl
 all_told a earlier (w ∷ ws) agree quiet =
-    map_cons_option (report_of (grown a.changed w)) (reports_of (marked ws a.changed))
-    ∙ ap (λ o. cons_option o (map told_to (reports_of (marked ws a.changed))))
+    ap (λ o. cons_option o (reports_of (marked ws a.changed)))
     (one_told (moment_of a ∷ earlier) a.changed w w.waiting refl
     (grown_by_history (moment_of a) earlier w (connects w.client (moment_of a)) refl refl agree.0 (quiet w.client)))
     ∙ ap (cons_option (told_waiting (moment_of a ∷ earlier) w.client w.waiting)) (all_told a earlier ws agree.1 quiet)
+
+pub holds : (kept : SavedState) (history : List Entry) → Holds kept history
+unfolding replay moments step
+holds kept [] = record { rises = tt; agree = tt }
+holds kept (entry ∷ earlier) =
+    let before = holds kept earlier in
+    let a : Acted = acted (replay kept earlier) entry.event entry.refused in
+    let k = keeps_acted (moments kept earlier) (replay kept earlier) entry.event entry.refused before.rises before.agree in
+    record {
+      rises = rises_after a.after.clients a.changed k.rises;
+      agree = agree_after (record (moment_of a) { reports = reported_by (moments kept earlier) a }) (moments kept earlier) a.after.clients
+          k.rises k.agree k.quiet (sym (all_told a (moments kept earlier) a.after.clients k.agree k.quiet));
+    }
 
 pub outputs_are_replies : (kept : SavedState) (earlier : List Entry) (entry : Entry) →
     (stepped (replay kept earlier) entry).outputs ≡ reply kept earlier entry
@@ -326,4 +313,14 @@ outputs_are_replies kept earlier entry =
     let before = holds kept earlier in
     let a : Acted = acted (replay kept earlier) entry.event entry.refused in
     let k = keeps_acted (moments kept earlier) (replay kept earlier) entry.event entry.refused before.rises before.agree in
-    ap (λ outputs. a.answer ++ outputs) (all_told a (moments kept earlier) a.after.clients k.agree k.quiet)
+    ap (λ reports. a.answer ++ map told_to reports) (all_told a (moments kept earlier) a.after.clients k.agree k.quiet)
+
+pub moments_are_the_steps : (kept : SavedState) (earlier : List Entry) (entry : Entry) →
+    let now = stepped (replay kept earlier) entry in moments kept (entry ∷ earlier) ≡ now.moment ∷ moments kept earlier
+unfolding step moments
+moments_are_the_steps kept earlier entry =
+    let before = holds kept earlier in
+    let a : Acted = acted (replay kept earlier) entry.event entry.refused in
+    let k = keeps_acted (moments kept earlier) (replay kept earlier) entry.event entry.refused before.rises before.agree in
+    ap (λ reports. record { connected = a.connected; changed = a.changed; reports = reports } ∷ moments kept earlier)
+    (sym (all_told a (moments kept earlier) a.after.clients k.agree k.quiet))

@@ -11,8 +11,8 @@ use Rattle.daemon_core.specs.Agreement.{Agree}
 use Rattle.daemon_core.specs.Pending.{Moment, pending_of}
 use Rattle.daemon_core.specs.Quiet.{is_quiet, NobodyIsDue}
 use Rattle.daemon_core.specs.Replay.{Entry, replay, moments, told_waiting}
-use Rattle.daemon_core.specs.Session.{Acted, output}
-use Rattle.daemon_core.specs.Step.{acted, step, told}
+use Rattle.daemon_core.specs.Session.{Acted}
+use Rattle.daemon_core.specs.Step.{acted, step}
 use Rattle.daemon_core.proofs.HistoryLaws.{holds, intersection-none}
 
 -- a client that was told waits no more, and one that was not has nothing due
@@ -38,7 +38,7 @@ told_one : (so_far : List Moment) (w : Watched) (waiting : Option Subsystems) �
     w.pending ≡ pending_of so_far w.client → is_empty (due w) ≡ true → told_waiting so_far w.client waiting ≡ None
 told_one so_far w None waits agree quiet = refl
 told_one so_far w (Some mask) waits agree quiet =
-    ap (λ b. cond b None (Some (output w.client (told (intersection (pending_of so_far w.client) mask)))))
+    ap (λ b. cond b None (Some (record { client = w.client; changed = intersection (pending_of so_far w.client) mask })))
     (ap (λ s. is_empty (intersection s mask)) (sym agree)
     ∙ ap (λ m. is_empty (intersection w.pending (unwrap_or m none))) (sym waits) ∙ quiet)
 

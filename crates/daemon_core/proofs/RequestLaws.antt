@@ -422,7 +422,7 @@ pub lines_do : (c : ℕ) (place : Place) (between : List ℕ) (lines : List (Lis
     (end : RequestEnd) (handled : Handled) → fresh.text.items ≡ [] → fresh.ops.items ≡ [] → fresh.size ≡ 0 →
     RunsLines place between lines before.machine mid.machine fresh work end → mid.watch ≡ before.watch →
     Does (of_ran c (state_of mid) (ran_of mid.machine work end) end.ending) after handled →
-    Does (runs c (state_of before) (ran place between handled.refused_at 0 0 lines before.machine)) after handled
+    Does (runs c (state_of before) (ran place between handled.outcome.refused_at 0 0 lines before.machine)) after handled
 lines_do c place between lines before mid after fresh work end handled text ops size ran_so watch does =
     let r : Ran = ran place between end.refused_at 0 0 lines before.machine in
     let here : ran place between end.refused_at 0 fresh.size lines before.machine ≡ r =
@@ -437,7 +437,7 @@ lines_do c place between lines before mid after fresh work end handled text ops 
       ending = (ran_so.ending ∙ ap (λ x. x.ending) here) i;
       refused_at = (ran_so.refused_at ∙ ap (λ x. x.refused_at) here) i;
     } in
-    let at : handled.refused_at ≡ end.refused_at =
+    let at : handled.outcome.refused_at ≡ end.refused_at =
     does.refused_at ∙ of_ran_place c (state_of mid) (ran_of mid.machine work end) end.ending in
     subst (λ place_at. Does (runs c (state_of before) (ran place between place_at 0 0 lines before.machine)) after handled) (sym at)
     (subst (λ a. Does a after handled)
@@ -447,7 +447,7 @@ lines_do c place between lines before mid after fresh work end handled text ops 
 pub lines_place : (c : ℕ) (place : Place) (between : List ℕ) (lines : List (List ℕ)) (first t : MachineState) (mid after : CoreParts)
     (fresh work : Work) (end : RequestEnd) (handled : Handled) → RunsLines place between lines first t fresh work end →
     Does (of_ran c (state_of mid) (ran_of mid.machine work end) end.ending) after handled →
-    IfSome handled.refused_at (λ k. k < length lines)
+    IfSome handled.outcome.refused_at (λ k. k < length lines)
 lines_place c place between lines first t mid after fresh work end handled ran_so does =
     subst (λ at. IfSome at (λ k. k < length lines))
     (sym (does.refused_at ∙ of_ran_place c (state_of mid) (ran_of mid.machine work end) end.ending)) ran_so.within

@@ -253,19 +253,9 @@ halted_song Stop player = λ h. h
 halted_song Play player = λ h. refl
 halted_song Pause player = λ h. refl
 
--- the forms of a meaning
-pub says_song : (text : List ℕ) (m : MachineState) → KeepsSong m (says text m)
-says_song text m = λ h. h
-
-pub turns_song : (player : PlayerState) (m : MachineState) → Keeps m.player player → KeepsSong m (turns player m)
-turns_song player m keeps = keeps
-
 pub answers_song : (lines : Result (List ℕ) CommandRefusal) (m : MachineState) → KeepsSong m (answers lines m)
 answers_song (Ok text) m = λ h. h
 answers_song (Err refusal) m = tt
-
-pub begins_song : (job : Job) (text : List ℕ) (m : MachineState) → KeepsSong m (begins job text m)
-begins_song job text m = λ h. h
 
 pub then_song : {A : Type 0} (m : MachineState) (looked : Result A CommandRefusal) (rest : A → Meant) →
     ((found : A) → KeepsSong m (rest found)) → KeepsSong m (looked >>= rest)

@@ -20,17 +20,11 @@ use Rattle.daemon_core.specs.declared.parts.CoreParts.{CoreParts}
 use Rattle.daemon_core.proofs.RebuildLaws.{CommandsRebuild, step_rebuilds}
 
 pub is_outcome : (s : State) (event : Event) (p q : CoreParts) (handled : Handled) (outputs : Vec Output) →
-    Does (acted s event handled.refused_at) p handled →
-    outputs.items ≡ handled.outputs.items ++ map told_to (reports_of (marked p.watch handled.changed)) →
+    Does (acted s event handled.outcome.refused_at) p handled →
+    outputs.items ≡ handled.outcome.outputs.items ++ map told_to (reports_of (marked p.watch handled.changed)) →
     q.watch ≡ after_reports (marked p.watch handled.changed) → q.machine ≡ p.machine →
-    IfSome handled.refused_at (λ k. k < command_count event) →
-    IsOutcome s event (record {
-      outputs = outputs;
-      closes = handled.closes;
-      ops = handled.ops;
-      refused_at = handled.refused_at;
-      ended = handled.ended;
-    }) (state_of q)
+    IfSome handled.outcome.refused_at (λ k. k < command_count event) →
+    IsOutcome s event (record handled.outcome { outputs = outputs }) (state_of q)
 unfolding step
 is_outcome s event p q handled outputs does told watch machine place = record {
   after = (λ i. record { machine = machine i; clients = watch i })

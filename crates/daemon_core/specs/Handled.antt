@@ -12,31 +12,31 @@ use Rattle.daemon_core.specs.declared.parts.CoreParts.{CoreParts}
 -- it did this, and left room for what those clients are told
 pub record Does (a : Acted) (after : CoreParts) (handled : Handled) : Type 0 where
   pub state : state_of after ≡ a.after
-  pub answer : handled.outputs.items ≡ a.answer
-  pub closes : handled.closes.items ≡ a.closes
-  pub ops : handled.ops.items ≡ a.ops
-  pub refused_at : handled.refused_at ≡ a.refused_at
-  pub ended : handled.ended ≡ a.ended
+  pub answer : handled.outcome.outputs.items ≡ a.answer
+  pub closes : handled.outcome.closes.items ≡ a.closes
+  pub ops : handled.outcome.ops.items ≡ a.ops
+  pub refused_at : handled.outcome.refused_at ≡ a.refused_at
+  pub ended : handled.outcome.ended ≡ a.ended
   pub changed : handled.changed ≡ a.changed
-  pub one : vec_len handled.outputs ≤ 1
+  pub one : vec_len handled.outcome.outputs ≤ 1
   pub ready : IsReadyToTell after
 
 -- nothing is done, but there may be an output and clients that are closed
 pub record IsNothingBut (given : List Output) (closed : List ℕ) (handled : Handled) : Type 0 where
-  pub answer : handled.outputs.items ≡ given
-  pub one : vec_len handled.outputs ≤ 1
-  pub closes : handled.closes.items ≡ closed
-  pub ops : handled.ops.items ≡ []
-  pub refused_at : handled.refused_at ≡ None
-  pub ended : handled.ended ≡ false
+  pub answer : handled.outcome.outputs.items ≡ given
+  pub one : vec_len handled.outcome.outputs ≤ 1
+  pub closes : handled.outcome.closes.items ≡ closed
+  pub ops : handled.outcome.ops.items ≡ []
+  pub refused_at : handled.outcome.refused_at ≡ None
+  pub ended : handled.outcome.ended ≡ false
   pub changed : handled.changed ≡ none
 
 -- what an event of the player or of a scan did, and no more
 pub record IsOf (happened : Happened) (handled : Handled) : Type 0 where
-  pub answer : handled.outputs.items ≡ []
-  pub one : vec_len handled.outputs ≤ 1
-  pub closes : handled.closes.items ≡ []
-  pub ops : handled.ops.items ≡ happened.ops.items
-  pub refused_at : handled.refused_at ≡ None
-  pub ended : handled.ended ≡ false
+  pub answer : handled.outcome.outputs.items ≡ []
+  pub one : vec_len handled.outcome.outputs ≤ 1
+  pub closes : handled.outcome.closes.items ≡ []
+  pub ops : handled.outcome.ops.items ≡ happened.ops.items
+  pub refused_at : handled.outcome.refused_at ≡ None
+  pub ended : handled.outcome.ended ≡ false
   pub changed : handled.changed ≡ happened.changed

@@ -1,3 +1,4 @@
+// The daemon's state of one process life: the machine, its clients, and what is looked up in it without an event.
 ghost use Rattle.std.specs.Prelude.{◌≡◌, ◌↔◌, false, IfOk, IsTrue, option_map};
 ghost use Rattle.player_core.specs.declared.playing.PlayState.{PlayState};
 ghost use Rattle.player_core.specs.declared.order.Order.{Order as PlayOrder};

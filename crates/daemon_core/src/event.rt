@@ -1,3 +1,4 @@
+// The events of the one history: what clients, the player's output and the scan brought, in the order in which they are handled.
 use command_text::Request;
 use idle_masks::ClientId;
 use player_core::BrokenCause;

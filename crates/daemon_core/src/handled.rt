@@ -2,21 +2,16 @@
 ghost use Rattle.std.specs.Prelude.{◌≡◌, ◌∷◌, ◌<◌, ◌≤◌, [], vec_capacity, vec_len, IfOk};
 ghost use Rattle.daemon_core.specs.Session.{output};
 
-use crate::outcome::{Bytes, Output};
+use crate::outcome::{Bytes, Outcome, Output};
 use idle_masks::{ClientId, Subsystems};
 use machine_core::Happened;
 use no_memory::NoMemory;
-use state_codec::Op;
 use std::alloc::Global;
 
 #[derive(Drop)]
 pub struct Handled {
-    // The answer of the event's own client, if it has one.
-    pub(crate) outputs: Vec<Output>,
-    pub(crate) closes: Vec<ClientId>,
-    pub(crate) ops: Vec<Op>,
-    pub(crate) refused_at: Option<u32>,
-    pub(crate) ended: bool,
+    // Its outputs are the answer of the event's own client, if it has one.
+    pub(crate) outcome: Outcome,
     pub(crate) changed: Subsystems,
 }
 
@@ -28,12 +23,15 @@ impl Handled {
         requires { vec_len outputs ≤ 1 }
         ensures { IsNothingBut outputs.items closes.items result }
     {
-        Handled {
+        let outcome = Outcome {
             outputs,
             closes,
             ops: Vec::new(alloc),
             refused_at: None,
             ended: false,
+        };
+        Handled {
+            outcome,
             changed: Subsystems::none(),
         }
     }
@@ -49,14 +47,14 @@ impl Handled {
         ensures { IsOf happened result }
     {
         let Happened { ops, changed } = happened;
-        Handled {
+        let outcome = Outcome {
             outputs: Vec::new(alloc),
             closes: Vec::new(alloc),
             ops,
             refused_at: None,
             ended: false,
-            changed,
-        }
+        };
+        Handled { outcome, changed }
     }
 
     // A client gets an answer.

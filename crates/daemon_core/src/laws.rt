@@ -1,5 +1,5 @@
 //! Laws of the definitions, for the layers above: a call brings its clauses into their proofs.
-ghost use Rattle.std.specs.Prelude.{◌≡◌, ◌⊎◌, ℕ, List, [], Option, None, true, false, IfSome};
+ghost use Rattle.std.specs.Prelude.{◌≡◌, ◌⊎◌, ◌∷◌, ℕ, List, [], Option, None, true, false, IfSome};
 ghost use Rattle.std.specs.List.{AllByRecursion};
 ghost use Rattle.daemon_core.specs.Kill.{ends_daemon};
 ghost use Rattle.daemon_core.specs.Leaving.{missing, still_there, there, ClosesNoOther};
@@ -20,6 +20,12 @@ ghost use Rattle.state_codec.specs.SavedState.{SavedState, IsSavedState};
 pub fn outputs_are_replies()
     ensures { (kept : SavedState) (earlier : List Entry) (entry : Entry)
         → (stepped (replay kept earlier) entry).outputs ≡ reply kept earlier entry }
+{}
+
+/// What an event did to pending subsystems by the history, whom it told what among that, is what its step did.
+pub fn moments_are_the_steps()
+    ensures { (kept : SavedState) (earlier : List Entry) (entry : Entry)
+        → moments kept (entry ∷ earlier) ≡ (stepped (replay kept earlier) entry).moment ∷ moments kept earlier }
 {}
 
 /// A step names the place of refused memory that it was given where it comes to that command. Where it ends before, the place

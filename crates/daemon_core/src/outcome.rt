@@ -1,3 +1,4 @@
+// What the step of an event answers: outputs of clients, those that are closed, the ops, and how the daemon ended, if it did.
 ghost use Rattle.std.specs.Prelude.{◌≡◌};
 
 use idle_masks::{ClientId, Subsystems};

@@ -1,3 +1,4 @@
+// The state of a restart: the saved half of a snapshot with the ops that were recorded behind it.
 ghost use Rattle.std.specs.Prelude.{◌≡◌, Some, IfErr, OnOk};
 ghost use Rattle.state_codec.specs.Applied.{applied};
 ghost use Rattle.daemon_core.specs.Recovered.{number_of, IsStopAt, Recovers};
@@ -34,9 +35,6 @@ fn apply(alloc: Global, saved: &mut Saved, place: usize, op: &Op) -> Result<(), 
     ensures ok { OnOk result (applied op.now saved.old ≡ Some saved.new) }
     ensures err { IfErr result (IsStopAt place (applied op.now saved.old)) }
 {
-    let Ok(op) = op.try_clone(alloc) else {
-        return Err(RecoverError::NoMemory);
-    };
     match saved.apply(alloc, op) {
         Ok(()) => Ok(()),
         Err(ApplyError::Refused(_)) => Err(RecoverError::BadOp(place)),

@@ -1,12 +1,13 @@
 // The commands of a request, one after the other, and how it ends.
-ghost use Rattle.std.specs.Prelude.{◌≡◌, ◌<◌, ◌^◌, None, length};
+ghost use Rattle.std.specs.Prelude.{◌≡◌, ◌<◌, ◌^◌, true, length};
 ghost use Rattle.daemon_core.specs.Request.{stop_of_reading, RunsLine, RunsLines, AnswersStop};
 ghost use Rattle.daemon_core.specs.Run.{attempted, ending_of, performed, separator};
 ghost use Rattle.daemon_core.specs.Step.{is_noidle};
+ghost use Rattle.machine_core.specs.Memory.{takes_memory};
 ghost use Rattle.machine_core.specs.Work.{AddsText, HasRoom, ack_room, command_room};
 
 use crate::handled::Handled;
-use crate::outcome::{Bytes, Ending, Output};
+use crate::outcome::{Bytes, Ending, Outcome, Output};
 use crate::parts::CoreParts;
 use command_text::{
     Command, LinesRef, NamedCommand, Place, ReadError, Refusal, Request, SessionCommand,
@@ -122,9 +123,9 @@ impl CoreParts {
     ) -> Result<Handled, NoMemory>
         requires ready { IsReadyToTell self.old }
         requires closes { CanCloseAll self.old }
-        ensures ok { IfOk result (λ handled. Does (requested_by client handled.refused_at (state_of self.old) request
+        ensures ok { IfOk result (λ handled. Does (requested_by client handled.outcome.refused_at (state_of self.old) request
             (waiting_of (watched self.old.watch client))) self.new handled) }
-        ensures place { IfOk result (λ handled. IfSome handled.refused_at (λ k. k < commands_in request)) }
+        ensures place { IfOk result (λ handled. IfSome handled.outcome.refused_at (λ k. k < commands_in request)) }
         ensures err { OnErr result (state_of self.new ≡ state_of self.old) }
     {
         let waiting = match self.watch.get(client) {
@@ -163,8 +164,8 @@ impl CoreParts {
         requires closes { CanCloseAll self.old }
         requires known { IsSome (watched self.old.watch client) }
         ensures ok { IfOk result (λ handled. Does (runs client (state_of self.old)
-            (ran place (separator separated) handled.refused_at 0 0 lines.entry self.old.machine)) self.new handled) }
-        ensures place { IfOk result (λ handled. IfSome handled.refused_at (λ k. k < length lines.entry)) }
+            (ran place (separator separated) handled.outcome.refused_at 0 0 lines.entry self.old.machine)) self.new handled) }
+        ensures place { IfOk result (λ handled. IfSome handled.outcome.refused_at (λ k. k < length lines.entry)) }
         ensures err { OnErr result (state_of self.new ≡ state_of self.old) }
     {
         if lines.len() > MOST_COMMANDS {
@@ -202,50 +203,50 @@ impl CoreParts {
             Ending::Answered => {
                 let bytes = Bytes::new(text);
                 outputs.push_reserved(Output { client, bytes });
-                Handled {
+                let outcome = Outcome {
                     outputs,
                     closes: Vec::new(alloc),
                     ops,
                     refused_at,
                     ended: false,
-                    changed,
-                }
+                };
+                Handled { outcome, changed }
             }
             Ending::Closed => {
                 let mut closes = self.room.give_closes(alloc);
                 closes.push_reserved(client);
                 self.leave(client);
-                Handled {
+                let outcome = Outcome {
                     outputs,
                     closes,
                     ops,
                     refused_at,
                     ended: false,
-                    changed,
-                }
+                };
+                Handled { outcome, changed }
             }
             Ending::Killed => {
                 let mut closes = self.room.give_closes(alloc);
                 self.close_all(&mut closes);
-                Handled {
+                let outcome = Outcome {
                     outputs,
                     closes,
                     ops,
                     refused_at,
                     ended: true,
-                    changed,
-                }
+                };
+                Handled { outcome, changed }
             }
             Ending::Waits(mask) => {
                 self.wait(client, mask);
-                Handled {
+                let outcome = Outcome {
                     outputs,
                     closes: Vec::new(alloc),
                     ops,
                     refused_at,
                     ended: false,
-                    changed,
-                }
+                };
+                Handled { outcome, changed }
             }
         }
     }
@@ -316,7 +317,7 @@ fn run_line(
     }
 }
 
-// One command of a request. One that ends the request wants no memory.
+// One command of a request. Memory is refused to one that takes some alone.
 fn run_command(
     machine: &mut Machine,
     alloc: Global,
@@ -327,7 +328,7 @@ fn run_command(
     requires { HasRoom command_room work.old }
     ensures ran { RunsLine (separator separated) (performed work.old.size command.entry machine.old)
         machine.old machine.new work.old work.new result }
-    ensures memory { result ≡ Err Stop.NoMemory → ending_of command.entry.command ≡ None }
+    ensures memory { result ≡ Err Stop.NoMemory → takes_memory command.entry.command machine.old ≡ true }
 {
     let NamedCommand { name, command } = command;
     match ending_of(&command) {

@@ -27,8 +27,8 @@ impl CoreParts {
     fn handle(&mut self, alloc: Global, event: Event) -> Result<Handled, NoMemory>
         requires ready { IsReadyToTell self.old }
         requires closes { CanCloseAll self.old }
-        ensures ok { IfOk result (λ handled. Does (acted (state_of self.old) event handled.refused_at) self.new handled) }
-        ensures place { IfOk result (λ handled. IfSome handled.refused_at (λ k. k < command_count event)) }
+        ensures ok { IfOk result (λ handled. Does (acted (state_of self.old) event handled.outcome.refused_at) self.new handled) }
+        ensures place { IfOk result (λ handled. IfSome handled.outcome.refused_at (λ k. k < command_count event)) }
         ensures reported { IfOk result (λ handled. IsReported event self.old.machine) }
         ensures err { OnErr result (state_of self.new ≡ state_of self.old) }
     {
@@ -76,20 +76,10 @@ impl Core {
         laws::ops_rebuild_the_state();
         self.parts.take_room(alloc)?;
         let Handled {
-            outputs,
-            closes,
-            ops,
-            refused_at,
-            ended,
+            mut outcome,
             changed,
         } = self.parts.handle(alloc, event)?;
-        let outputs = self.parts.tell_waiting(alloc, changed, outputs);
-        Ok(Outcome {
-            outputs,
-            closes,
-            ops,
-            refused_at,
-            ended,
-        })
+        outcome.outputs = self.parts.tell_waiting(alloc, changed, outcome.outputs);
+        Ok(outcome)
     }
 }

@@ -9,21 +9,21 @@ use Rattle.daemon_core.proofs.daemon.Core.step.Goals as goal
 pub returns-clause-ok : goal.returns-clause-ok
 returns-clause-ok c =
     let taken = c.take_room.ensures in
-    is_outcome c.args.self.now c.args.event c.handle.new.self c.tell_waiting-outputs.new.self c.in_ok-outputs.field-0
-    c.tell_waiting-outputs.result
-    (subst (λ s. Does (acted s c.args.event c.in_ok-outputs.field-0.refused_at) c.handle.new.self c.in_ok-outputs.field-0)
-    ((λ i. record { machine = taken.machine i; clients = taken.watch i }) ∙ c.self.view_is) c.in_ok-outputs.ensures.ok)
-    c.tell_waiting-outputs.ensures.outputs c.tell_waiting-outputs.ensures.watch c.tell_waiting-outputs.ensures.machine
-    c.in_ok-outputs.ensures.place
+    is_outcome c.args.self.now c.args.event c.handle.new.self c.tell_waiting.new.self c.in_ok-outcome.field-0
+    c.tell_waiting.result
+    (subst (λ s. Does (acted s c.args.event c.in_ok-outcome.field-0.outcome.refused_at) c.handle.new.self c.in_ok-outcome.field-0)
+    ((λ i. record { machine = taken.machine i; clients = taken.watch i }) ∙ c.self.view_is) c.in_ok-outcome.ensures.ok)
+    c.tell_waiting.ensures.outputs c.tell_waiting.ensures.watch c.tell_waiting.ensures.machine
+    c.in_ok-outcome.ensures.place
 
 pub returns-clause-rebuilt : goal.returns-clause-rebuilt
 returns-clause-rebuilt c = rebuilt_by c.ops_rebuild_the_state.ensures _ _ _ _
     (subst (IsReported c.args.event) (c.take_room.ensures.machine ∙ ap (λ (s : State). s.machine) c.self.view_is)
-    c.in_ok-outputs.ensures.reported)
+    c.in_ok-outcome.ensures.reported)
     (returns-clause-ok c)
 
 pub returns-clause-fits : goal.returns-clause-fits
 returns-clause-fits c = fits_by c.ops_rebuild_the_state.ensures _ _ _ _
     (subst (IsReported c.args.event) (c.take_room.ensures.machine ∙ ap (λ (s : State). s.machine) c.self.view_is)
-    c.in_ok-outputs.ensures.reported)
+    c.in_ok-outcome.ensures.reported)
     (returns-clause-ok c)
