@@ -18,9 +18,6 @@ use Rattle.machine_core.specs.declared.work.Work.{Work}
 pub nothing_added : (w : Work) → AddsNothing w w
 nothing_added w = record { text = refl; room = omega arith; ops = refl; size = refl }
 
-pub wants_memory : (meant : Meant) (m : MachineState) (w : Work) → Performs {T = Unit {0}} meant m m w w (Err NoMemory)
-wants_memory meant m w = record { state = refl; nothing = nothing_added w; refusal = tt }
-
 pub is_refused : (refusal : CommandRefusal) (meant : Meant) (m : MachineState) (w : Work) → meant ≡ Err refusal
     → Performs {T = Unit {0}} meant m m w w (Err (Refused refusal))
 is_refused refusal meant m w e = subst (λ (x : Meant). Performs {T = Unit {0}} x m m w w (Err (Refused refusal))) (sym e)

@@ -66,15 +66,6 @@ name_is_bad T name e answer = by_cases (is_good_name name) refl answer where
   by_cases false bad h = bad
   by_cases true is h = absurd (false≢true h)
 
-pub name_is_bad_or_memory : (T : Type 0) (name : List ℕ) (e : StickersError) → e ≢ NoMemory
-    → AnswersIfMemory {T = T} (find_refusal name) (Err e)
-    → is_good_name name ≡ false
-name_is_bad_or_memory T name e other answer = by_cases (is_good_name name) refl answer where
-  by_cases : (b : Bool) → is_good_name name ≡ b → AnswersIfMemory {T = T} (if not b then Some BadStickerName else None) (Err e)
-      → is_good_name name ≡ false
-  by_cases false bad h = bad
-  by_cases true is h = absurd (other h)
-
 pub good_is_text : (name : List ℕ) → is_utf8 name ≡ true → is_good_name name ≡ true → is_text name ≡ true
 good_is_text name utf8 good = rw utf8 (grind (arith, common_steps))
 

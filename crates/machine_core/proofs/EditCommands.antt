@@ -19,9 +19,3 @@ performs_as meant named m n a work done b r e is_meant is_machine is_work is_res
     (subst (λ x. Performs named m x work done r) (sym is_machine)
     (subst (λ x. Performs named m a work x r) (sym is_work)
     (subst (λ x. Performs named m a work b x) (sym is_result) h)))
-
--- all entries were taken out
-pub cleared : (count : ℕ) (m n : MachineState) (work done : Work) (r : Result (Unit {0}) Failure) → count ≡ length m.saved.queue.entries →
-    Performs (edits (OfQueue (Delete 0 count)) [] m) m n work done r → Performs (queue_meaning queue.Clear m) m n work done r
-unfolding queue_meaning
-cleared count m n work done r is h = subst (λ x. Performs (edits (OfQueue (Delete 0 x)) [] m) m n work done r) is h

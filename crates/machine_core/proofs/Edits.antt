@@ -2,7 +2,7 @@
 use Rattle.std.proofs.Common.{◌≡◌, ℕ, ◌≤◌, Bool, true, false, not, [], Some, None}
 use Rattle.std.proofs.Common.{refl, sym, ◌∙◌, ap, subst, arith}
 use Rattle.std.proofs.lemmas.List.{append-nil}
-use Rattle.std.specs.Prelude.{Option, Result, Ok, Err, OnOk, IfErr, if◌then◌else◌}
+use Rattle.std.specs.Prelude.{Option, Result, Ok, Err, OnOk, OnErr, IfErr, if◌then◌else◌}
 use Rattle.std.specs.Result.{IsErrAnd, is_err}
 use Rattle.state_codec.specs.Applied.{refusal_of, changes_nothing, after, applied, unless_refused as unless_fit}
 use Rattle.state_codec.specs.Editing.{AnswersCheck}
@@ -54,6 +54,11 @@ pub was_ok : {E : Type 0} → (r : Result (Unit {0}) E) (P : Type 0) → is_err 
 was_ok (Ok x) P is h = h
 was_ok (Err e) P is h = absurd (cc)
 
+-- and of one that was
+pub was_err : {E : Type 0} → (r : Result (Unit {0}) E) (P : Type 0) → is_err r ≡ true → OnErr r P → P
+was_err (Ok x) P is h = absurd (cc)
+was_err (Err e) P is h = h
+
 -- what an op that isn't refused means, where it changes something or not
 abbrev pub meant_if : Op → MachineState → Bool → Meant
 meant_if op m changes = Ok (if changes then edited op [] (followed op m) m else stands [] m)
@@ -68,18 +73,6 @@ looked_at op m changes fits is =
     turned : (b : Bool) → Ok (if b then stands [] m else edited op [] (followed op m) m) ≡ meant_if op m (not b)
     turned true = refl
     turned false = refl
-
--- nothing was done, and nothing was to be done
-pub stood : (meant : Meant) (m : MachineState) (work : Work) → meant ≡ says [] m → HasRoom command_room work →
-    work.size ≤ max_request_bytes → Went meant m work work
-stood meant m work means room fits = record {
-  meaning = stands [] m;
-  means = means;
-  stands = refl;
-  text = sym (append-nil work.text.items);
-  ops = record { ops = sym (append-nil work.ops.items); size = omega arith; fits = fits };
-  room = room;
-}
 
 -- an op that isn't refused was applied
 pub applied_is : (op : Op) (s t : SavedState) → refusal_of op s ≡ None → applied op s ≡ Some t → after op s ≡ t

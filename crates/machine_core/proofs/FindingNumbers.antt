@@ -30,21 +30,6 @@ number_of_row rows i row rising within is =
     let in_range : nat_lt i (length rows) ≡ true = grind (arith, nat_tests) in
     rw (at, in_range) refl
 
-pub no_number : (rows : List Row) (uri : List ℕ) → row_at rows uri ≡ None → number_at rows uri ≡ None
-no_number rows uri none = by_cases (nat_lt place (length rows)) refl
-  where
-    place : ℕ
-    place = position_or_len (λ row. bytes_eq uri row.uri) rows
-
-    nothing : Some (get_or rows place no_row) ≡ None → ⊥
-    nothing e = cc
-
-    by_cases : (b : Bool) → nat_lt place (length rows) ≡ b → number_at rows uri ≡ None
-    by_cases false past = rw past refl
-    by_cases true within =
-        let below : place < length rows = grind (arith, nat_tests) in
-        absurd (nothing (sym (slice_get-get_or rows place no_row below) ∙ sym (find_at (λ row. bytes_eq uri row.uri) rows) ∙ none))
-
 -- the number of the next row stands behind those before it
 pub one_number : (songs : List Row) (row : Row) (rows : List Row) (i : ℕ) (numbers all : List ℕ) → number_at songs row.uri ≡ Some i
     → numbers ++ numbers_in songs (row ∷ rows) ≡ all → (numbers ++ i ∷ []) ++ numbers_in songs rows ≡ all

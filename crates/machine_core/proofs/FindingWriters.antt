@@ -68,9 +68,6 @@ abbrev pub Remains : List ℕ → List ℕ → Vec ℕ → Vec ℕ → Type 0
 Remains all left before now =
     (result : Result (Unit {0}) WantOfMemory) (after : Vec ℕ) → Writes left result now after → Writes all result before after
 
-pub all_remains : (all : List ℕ) (out : Vec ℕ) → Remains all all out out
-all_remains all out result after h = h
-
 pub same_remains : (all left other : List ℕ) (before now : Vec ℕ) → left ≡ other → Remains all left before now
     → Remains all other before now
 same_remains all left other before now same h result after k = h result after (rw same k)

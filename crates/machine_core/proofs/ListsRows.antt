@@ -19,9 +19,6 @@ use Rattle.machine_core.specs.Named.{numbers_of, numbers_under}
 no_row : Row
 no_row = record { uri = []; rate = 0; channels = 0; first_byte = 0; frames = 0; tags = [] }
 
-pub number_within : (rows : List Row) (uri : List ℕ) (n : ℕ) → number_at rows uri ≡ Some n → n < length rows
-number_within rows uri n is = (position-Some (λ row. bytes_eq uri row.uri) rows n no_row is).0
-
 -- a URI without a row has no number
 no_place : (rows : List Row) (uri : List ℕ) → row_at rows uri ≡ None → position_or_len (λ row. bytes_eq uri row.uri) rows ≡ length rows
 no_place [] uri none = refl

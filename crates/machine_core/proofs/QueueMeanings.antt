@@ -103,10 +103,6 @@ abbrev pub behind : List (ℕ × ℕ) → Result (List (ℕ × ℕ)) CommandRefu
 behind spans (Ok others) = Ok (spans ++ others)
 behind spans (Err refusal) = Err refusal
 
-pub behind_none : (r : Result (List (ℕ × ℕ)) CommandRefusal) → r ≡ behind [] r
-behind_none (Ok others) = refl
-behind_none (Err refusal) = refl
-
 behind_more : (spans : List (ℕ × ℕ)) (start end : ℕ) (r : Result (List (ℕ × ℕ)) CommandRefusal)
     → behind spans (r >>= λ others. Ok ((start, end) ∷ others)) ≡ behind (spans ++ (start, end) ∷ []) r
 behind_more spans start end (Ok others) = ap (λ (l : List (ℕ × ℕ)). Ok l) (sym (append_assoc spans ((start, end) ∷ []) others))

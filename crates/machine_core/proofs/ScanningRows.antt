@@ -71,22 +71,6 @@ count_step rows (Put row) database =
 count_step rows (Drop uri) database =
     count_drop rows uri (length (after_change rows (Drop uri))) (row_at rows uri) (length_after rows (Drop uri) database)
 
--- no change more
-pub kept_none : (rows : List Row) (told : List RowChange) (change : RowChange) (count : ℕ) (row : Option Row) → IsDatabase rows
-    → AreTold rows told count → row ≡ row_at (after_batch rows told) (uri_of change) → count_told count change row ≡ None
-    → told ≡ told ++ telling (after_batch rows told) (change ∷ [])
-kept_none rows told change count row database all is none =
-    let after : List Row = after_batch rows told in
-    let step = count_step after change (database_batch rows told database) in
-    let here : count_told (length after) change (row_at after (uri_of change)) ≡ None =
-    sym (λ i. count_told (all.count i) change (is i)) ∙ none in
-    let no : changes_a_row (effect_of after change) ≡ false = of (changes_a_row (effect_of after change)) _ (sym step ∙ here) in
-    rw no (sym (append-nil told))
-  where
-    of : (b : Bool) (n : ℕ) → (if b then Some n else None) ≡ None → b ≡ false
-    of true n h = absurd (cc)
-    of false n h = refl
-
 -- one change more
 pub kept_one : (rows : List Row) (told : List RowChange) (change : RowChange) (count next : ℕ) (row : Option Row) → IsDatabase rows
     → AreTold rows told count → row ≡ row_at (after_batch rows told) (uri_of change) → count_told count change row ≡ Some next

@@ -24,10 +24,6 @@ pub first_in : (entries : List Entry) → IfSome (first_id entries) (IsIn entrie
 first_in [] = tt
 first_in (entry ∷ entries) = here_in entry entries entry.id refl
 
--- the least in random order
-DrawnIn : List Entry → Option Drawn → Type 0
-DrawnIn entries drawn = IfSome drawn (λ one. IsIn entries one.0)
-
 drawn_first : (key : List ℕ) (order : ℕ) (entries : List Entry) →
     IfSome (first_drawn (in_order (map (drawn_by key order) entries))) (λ one. IsIn entries one.0)
 drawn_first key order [] = tt
@@ -54,10 +50,6 @@ least_in key order entries =
         → IfSome (option_map (λ (one : Drawn). one.0) drawn) (IsIn entries)
     of None h = tt
     of (Some one) h = h
-
--- choices
-ChoiceIn : List Entry → Choice → Type 0
-ChoiceIn entries choice = IfSome choice.id (IsIn entries)
 
 or_else_in : (entries : List Entry) (found : Option ℕ) (other : Choice) → IfSome found (IsIn entries) → IfSome other.id (IsIn entries)
     → IfSome (or_else found other).id (IsIn entries)

@@ -28,9 +28,9 @@ impl Machine {
         if !self.would_change(&op)? {
             return Ok(());
         }
-        work.admit_edit(None, &op)?;
+        let bytes = work.admit_edit(None, &op)?;
         self.apply(alloc, &op)?;
-        work.push_edit(None, op);
+        work.push_edit(None, op, bytes);
         Ok(())
     }
 
@@ -63,14 +63,14 @@ impl Machine {
             return Ok(());
         }
         let order = self.order_of_random(on);
-        work.admit_edit(order, &op)?;
+        let bytes = work.admit_edit(order, &op)?;
         if self.player.turn_random(on).is_err() {
             return Err(Failure::NoMemory);
         }
         begin_order(&mut self.saved, order);
         self.saved.set_option(Setting::Random(on));
         self.kept.forget();
-        work.push_edit(order, op);
+        work.push_edit(order, op, bytes);
         Ok(())
     }
 
@@ -98,7 +98,7 @@ impl Machine {
         let order = self
             .player
             .order_after_removal(entries, &settings, block, &[]);
-        work.admit_edit(order, &op)?;
+        let bytes = work.admit_edit(order, &op)?;
         if self
             .player
             .follow_removal(entries, &settings, block, &[])
@@ -109,7 +109,7 @@ impl Machine {
         begin_order(&mut self.saved, order);
         self.saved.delete_entries(start, end);
         self.kept.forget();
-        work.push_edit(order, op);
+        work.push_edit(order, op, bytes);
         Ok(())
     }
 
@@ -124,15 +124,14 @@ impl Machine {
         Ok(self.saved.check(op)?)
     }
 
-    // Applies a copy of an op that isn't refused.
+    // Applies an op that isn't refused.
     fn apply(&mut self, alloc: Global, op: &Op) -> Result<(), Failure>
         requires { refusal_of op.now self.old.saved ≡ None }
         ensures ok { OnOk result (self.new ≡ record self.old { saved = after op.now self.old.saved }) }
         ensures err { OnErr result (self.new ≡ self.old) }
         ensures memory { IsOkUnless result Failure.NoMemory }
     {
-        let copy = op.try_clone(alloc)?;
-        if self.saved.apply(alloc, copy).is_err() {
+        if self.saved.apply(alloc, op).is_err() {
             return Err(Failure::NoMemory);
         }
         if could_change_the_shown(op) {

@@ -1,3 +1,4 @@
+// What an event that is no request did to a machine: its ops, and which subsystems it changed.
 use idle_masks::Subsystems;
 use state_codec::Op;
 

@@ -1,3 +1,4 @@
+// The number of the last scan, the place that it looks at, and what became of it.
 use song_db::Uri;
 
 /// Numbers are shown as 31 bits.

@@ -1,3 +1,4 @@
+// A machine: the saved half of the state, the player over it, and the scan that runs.
 ghost use Rattle.std.specs.Prelude.{◌≡◌};
 ghost use Rattle.machine_core.specs.State.{started};
 

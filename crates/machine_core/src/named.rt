@@ -22,7 +22,6 @@ impl Machine {
         ensures { Finds (numbers_named self.now.saved.songs path.now) result }
     {
         let songs = self.saved.songs();
-        let _limit = songs.len();
         match songs.row_number(path) {
             Ok(number) => Ok(row_numbers(numbers_from(alloc, number, 1)?)),
             Err(_) => numbers_under(alloc, songs, Place::read(path)),
@@ -76,7 +75,6 @@ fn push_entry_number(
 ) -> Result<(), AllocError>
     ensures { OnOk result (numbers.new.items ≡ numbers.old.items ++ option_to_list (number_at songs.now entry.now.uri)) }
 {
-    let _limit = songs.len();
     if let Ok(number) = songs.number_of(&entry.uri) {
         numbers.push(number as u32)?;
     }
@@ -84,10 +82,13 @@ fn push_entry_number(
 }
 
 // Adds the number of a song's row, if it has one.
-fn push_number(songs: &SongDb, uri: &str, numbers: &mut Vec<u32>) -> Result<(), AllocError>
+pub(crate) fn push_number(
+    songs: &SongDb,
+    uri: &str,
+    numbers: &mut Vec<u32>,
+) -> Result<(), AllocError>
     ensures { OnOk result (numbers.new.items ≡ numbers.old.items ++ option_to_list (number_at songs.now uri.now)) }
 {
-    let _limit = songs.len();
     if let Ok(number) = songs.row_number(uri) {
         numbers.push(number as u32)?;
     }

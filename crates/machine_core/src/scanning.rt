@@ -4,8 +4,9 @@ ghost use Rattle.std.specs.Prelude.{IfOk, OnOk, OnErr};
 ghost use Rattle.idle_masks.specs.Subsystems.{none};
 ghost use Rattle.song_db.specs.Scan.{drops_of};
 ghost use Rattle.state_codec.specs.Applied.{refusal_of};
+ghost use Rattle.state_codec.specs.Changes.{AreChanges};
 ghost use Rattle.state_codec.specs.declared.op.Op.TheVariants.{Batch};
-ghost use Rattle.machine_core.specs.Followed.{followed, current_row, cut_to, no_block, of_step, step_as_they_leave};
+ghost use Rattle.machine_core.specs.Followed.{current_row, cut_to, no_block, of_step, step_as_they_leave};
 ghost use Rattle.machine_core.specs.Happening.{HasHappened};
 ghost use Rattle.machine_core.specs.Meaning.{order_ops};
 ghost use Rattle.machine_core.specs.Scanning.{is_running, when_scanned, when_found, changes_rows};
@@ -15,12 +16,12 @@ mod rows;
 use crate::current::current_entry;
 use crate::happened::Happened;
 use crate::machine::Machine;
-use crate::scanning::rows::{dropped_by, telling};
+use crate::scanning::rows::telling;
 use idle_masks::Subsystems;
 use no_memory::NoMemory;
 use player_core::{Block, Player};
 use song_db::{RowChange, SongRow};
-use state_codec::{Changes, Op, Saved};
+use state_codec::{Changes, Op, Saved, dropped_by};
 use std::alloc::Global;
 
 impl Machine {
@@ -72,24 +73,24 @@ impl Machine {
     {
         let before = self.before();
         let stickers = self.saved.stickers().len();
-        let mut ops = Vec::with_capacity(alloc, 2)?;
-        let order = self.make_batch(alloc, &changes)?;
-        push_ops(&mut ops, order, changes);
+        let ops = self.make_batch(alloc, changes)?;
         let mut changed = self.changed_since(&before, &ops);
         changed.sticker = stickers != self.saved.stickers().len();
         Ok(Happened { ops, changed })
     }
 
-    // Makes the op of a batch; the player follows, and the job remembers. It says which random order began, if one did.
-    fn make_batch(&mut self, alloc: Global, changes: &Changes) -> Result<Option<u64>, NoMemory>
-        requires { refusal_of (Batch changes.now) self.old.saved ≡ None }
-        ensures order { IfOk result (λ order. order ≡ (followed (Batch changes.now) self.old).order) }
-        ensures machine { OnOk result (self.new ≡ (changes_rows changes.now self.old).after) }
+    // Makes the op of a batch; the player follows, and the job remembers. It answers the ops that were made.
+    fn make_batch(&mut self, alloc: Global, changes: Changes) -> Result<Vec<Op>, NoMemory>
+        requires { refusal_of (Batch changes) self.old.saved ≡ None }
+        ensures ops { IfOk result (λ ops. ops.items ≡ (changes_rows changes self.old).ops) }
+        ensures machine { OnOk result (self.new ≡ (changes_rows changes self.old).after) }
+        ensures form { OnOk result (AreChanges changes) }
         ensures err { OnErr result (self.new ≡ self.old) }
     {
+        let mut ops = Vec::with_capacity(alloc, 2)?;
         let (mut player, order) = self.follow_batch(alloc, changes.as_slice())?;
-        let op = Op::Batch(changes.try_clone(alloc)?);
-        if self.saved.apply(alloc, op).is_err() {
+        let op = Op::Batch(changes);
+        if self.saved.apply(alloc, &op).is_err() {
             return Err(NoMemory);
         }
         cut_to_song(&self.saved, &mut player);
@@ -99,7 +100,8 @@ impl Machine {
         self.kept.forget();
         self.player = player;
         self.job.has_changed_a_row = true;
-        Ok(order)
+        push_ops(&mut ops, order, op);
+        Ok(ops)
     }
 
     // The player, as it is when the entries of dropped songs leave, and the random order that begins then, if one does.
@@ -134,14 +136,14 @@ fn nothing(alloc: Global) -> Happened
 }
 
 // The op of a batch, behind the new random order that begins before it, if one does.
-fn push_ops(ops: &mut Vec<Op>, order: Option<u64>, changes: Changes)
+fn push_ops(ops: &mut Vec<Op>, order: Option<u64>, op: Op)
     requires { vec_len ops.old + 2 ≤ vec_capacity ops.old }
-    ensures { ops.new.items ≡ ops.old.items ++ (order_ops order ++ Batch changes ∷ []) }
+    ensures { ops.new.items ≡ ops.old.items ++ (order_ops order ++ op ∷ []) }
 {
     if let Some(order) = order {
         ops.push_reserved(Op::SetOrder(order));
     }
-    ops.push_reserved(Op::Batch(changes));
+    ops.push_reserved(op);
 }
 
 // The frame position is cut to the frames of the current song.

@@ -1,3 +1,4 @@
+// What a request makes while its commands are performed: the bytes of its answers and its ops, within their limits.
 ghost use Rattle.std.specs.Prelude.{◌≤◌};
 
 use command_text::{CommandRefusal, Refusal, want_of_memory, write_ack, write_list_ok, write_ok};
@@ -123,8 +124,9 @@ impl Work {
         Ok(())
     }
 
-    // Takes the room for an op, and for the new random order before it, if one begins.
-    pub(crate) fn admit_edit(&mut self, order: Option<u64>, op: &Op) -> Result<(), Failure>
+    // Takes the room for an op, and for the new random order before it, if one begins. It answers how many bytes they take.
+    pub(crate) fn admit_edit(&mut self, order: Option<u64>, op: &Op) -> Result<usize, Failure>
+        ensures bytes { IfOk result (λ bytes. bytes ≡ length (ops_bytes (order_ops order ++ op.now ∷ []))) }
         ensures ok { OnOk result (let ops = order_ops order ++ op.now ∷ [] in Admits (length ops) (length (ops_bytes ops)) self.new) }
         ensures nothing { AddsNothing self.old self.new }
         ensures same { self.new.text ≡ self.old.text }
@@ -133,10 +135,14 @@ impl Work {
         let bytes = op.spelled_len();
         match order {
             Some(order) => {
-                let order_bytes = Op::SetOrder(order).spelled_len();
-                self.admit(2, bytes.saturating_add(order_bytes))
+                let both = bytes.saturating_add(Op::SetOrder(order).spelled_len());
+                self.admit(2, both)?;
+                Ok(both)
             }
-            None => self.admit(1, bytes),
+            None => {
+                self.admit(1, bytes)?;
+                Ok(bytes)
+            }
         }
     }
 
@@ -151,16 +157,18 @@ impl Work {
         self.ops.push_reserved(op);
     }
 
-    // Adds an op for which there is room, behind the new random order that begins before it.
-    pub(crate) fn push_edit(&mut self, order: Option<u64>, op: Op)
-        requires { let ops = order_ops order ++ op ∷ [] in Admits (length ops) (length (ops_bytes ops)) self.old }
+    // Adds an op for which there is room, behind the new random order that begins before it; they take so many bytes.
+    pub(crate) fn push_edit(&mut self, order: Option<u64>, op: Op, bytes: usize)
+        requires room { let ops = order_ops order ++ op ∷ [] in Admits (length ops) (length (ops_bytes ops)) self.old }
+        requires bytes { bytes ≡ length (ops_bytes (order_ops order ++ op ∷ [])) }
         ensures ops { AddsOps (order_ops order ++ op ∷ []) self.old self.new }
         ensures text { self.new.text ≡ self.old.text }
     {
+        self.size += bytes;
         if let Some(order) = order {
-            self.push(Op::SetOrder(order));
+            self.ops.push_reserved(Op::SetOrder(order));
         }
-        self.push(op);
+        self.ops.push_reserved(op);
     }
 
     // Takes the room for two ops, one after the other.

@@ -1,6 +1,6 @@
 -- Ops applied one after the other.
 use Rattle.std.proofs.Common.{◌≡◌, ℕ, suc, List, [], ◌∷◌, ◌++◌, Option, Some, None, Result, Ok, Err, refl, sym, subst}
-use Rattle.std.specs.Prelude.{IfSome}
+use Rattle.std.specs.Prelude.{IfSome, OnOk}
 use Rattle.std.specs.Option.{option_and_then, ok_or}
 use Rattle.std.specs.Result.{result_ok}
 use Rattle.std.specs.List.{AllByRecursion}
@@ -58,7 +58,7 @@ pub all_applied_in_range : (ops : List Op) (s : SavedState) → AllByRecursion I
 all_applied_in_range ops s fits good = from_in_range 0 ops s fits good
 
 -- what an edit leaves, refused or not
-pub kept_edit : (op : Op) (s t : SavedState) (r : Result (Unit {0}) ApplyError) → IsOp op → IsSavedState s
+pub kept_edit : (op : Op) (s t : SavedState) (r : Result (Unit {0}) ApplyError) → OnOk r (IsOp op) → IsSavedState s
     → IsEdit (refusal_of op s) (after op s) s t r → IsSavedState t
 kept_edit op s t (Err e) form saved edit = subst IsSavedState (sym edit.err) saved
 kept_edit op s t (Ok x) form saved edit = subst IsSavedState (sym edit.ok) (kept_after op s form saved (of (refusal_of op s) edit.answer))

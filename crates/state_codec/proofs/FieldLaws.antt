@@ -16,7 +16,7 @@ use Rattle.state_codec.specs.SavedState.{IsBytes, key_len}
 use Rattle.state_codec.specs.Text.{is_text}
 use Rattle.state_codec.specs.Steps.{◌>>=◌}
 use Rattle.state_codec.specs.SpellingFields.{byte_bytes, u32_bytes, u64_bytes, flag_bytes, single_bytes, text_bytes}
-use Rattle.state_codec.specs.Fields.{Field, made, such, both, byte_at, number_at, u32_at, u64_at, number_within, volume_at, flag_at}
+use Rattle.state_codec.specs.Fields.{Field, such, both, byte_at, number_at, u32_at, u64_at, number_within, volume_at, flag_at}
 use Rattle.state_codec.specs.Fields.{consume_at, single_at, key_at, text_at}
 
 pub IsBytes-drop : (n : ℕ) (bytes : List ℕ) → IsBytes bytes → IsBytes (drop n bytes)
@@ -129,24 +129,6 @@ such_again test at text Fits f a rest fits = rw (f.again a rest fits.0, fits.1) 
 pub such_is : {A : Type 0} (test : A → Bool) (at : List ℕ → Field A) (text : A → List ℕ) (Fits : A → Type 0) → IsField at text Fits
     → IsField (λ bytes. such test at bytes) text (λ a. Fits a × (test a ≡ true))
 such_is test at text Fits f = record { takes = such_take test at text Fits f; again = such_again test at text Fits f }
-
--- a value made of another
-pub image_is : {A B : Type 0} (f : A → B) (at : List ℕ → Field A) (text : A → List ℕ) (Fits : A → Type 0) (text2 : B → List ℕ) (Fits2 : B
-    → Type 0) → IsField at text Fits
-    → ((a : A) → Fits a → (text a ≡ text2 (f a)) × Fits2 (f a)) → ((b : B) → Fits2 b → (a : A) × Fits a × (f a ≡ b))
-    → IsField (λ bytes. made f (at bytes)) text2 Fits2
-image_is f at text Fits text2 Fits2 field there back = record {
-  takes = λ bytes x fits e.
-      let a = bind_ok (at bytes) _ x e in
-      let t = field.takes bytes a.0 fits a.1 in
-      let h = there a.0.0 t.1 in
-      subst (λ y. Takes bytes (text2 y.0) y.1 × Fits2 y.0) (ok_is (f a.0.0, a.0.1) x a.2)
-      (subst (λ s. Takes bytes s a.0.1) h.0 t.0, h.1);
-  again = λ b rest fits.
-      let a = back b fits in
-      subst (λ y. made f (at (text2 y ++ rest)) ≡ Ok (y, rest)) a.2
-      (subst (λ s. made f (at (s ++ rest)) ≡ Ok (f a.0, rest)) (there a.0 a.1).0 (ap (made f) (field.again a.0 rest a.1)));
-}
 
 -- a field with a weaker, or an equal, bound on its values
 pub fits_is : {A : Type 0} (at : List ℕ → Field A) (text : A → List ℕ) (Fits Fits2 : A → Type 0) → IsField at text Fits

@@ -43,10 +43,6 @@ all_placed P s (t ∷ ts) here all = of (compare s t) (all_placed P s ts here al
     of Equal rest = (here, all.1)
     of Greater rest = (all.0, rest)
 
-all_weaker : (P Q : Sticker → Type 0) (ts : List Sticker) → ((t : Sticker) → P t → Q t) → AllByRecursion P ts → AllByRecursion Q ts
-all_weaker P Q [] step all = tt
-all_weaker P Q (t ∷ ts) step all = (step t all.0, all_weaker P Q ts step all.1)
-
 -- whatever stickers go
 pub kept_filter : (songs : List Row) (all : List Sticker) (test : Sticker → Bool) → AreSavedStickers songs all
     → AreSavedStickers songs (filter test all)
@@ -73,8 +69,3 @@ kept_set songs all uri name value saved good here room = record {
     of : (b : Bool) → is_some (value_at all uri name) ≡ b → IsWithinLimits (with_sticker all uri name value)
     of true present = (counted_other all (length all) uri name value counted good present).within
     of false absent = (counted_new all (length all) uri name value counted good absent (room absent)).within
-
--- the same stickers beside other songs, where each still has its row
-pub kept_beside : (songs others : List Row) (all : List Sticker) → IsWithinLimits all → AllByRecursion (IsSavedSticker others) all
-    → AreSavedStickers others all
-kept_beside songs others all within each = record { within = within; each = each }

@@ -12,7 +12,7 @@ use Rattle.state_codec.specs.Laws.{is_batch, with_queue_of, with_parts_of, uses_
 use Rattle.state_codec.specs.OpsLists.{list_refusal, leaves_lists, after_list}
 use Rattle.state_codec.specs.OpsQueue.{queue_refusal, leaves_queue, after_queue}
 use Rattle.state_codec.specs.OpsSettings.{with_setting, same_flag, same_single, is_set}
-use Rattle.state_codec.specs.OpsStickers.{sticker_refusal, leaves_stickers, after_sticker}
+use Rattle.state_codec.specs.OpsStickers.{sticker_refusal, leaves_stickers}
 use Rattle.state_codec.specs.SavedState.{SavedState, IsSavedState}
 use Rattle.state_codec.specs.declared.op.Op.{Op}
 use Rattle.state_codec.specs.declared.op.Op.TheVariants.{SetOption, SetVolume, SetOrder, Queue, List as Lists, Sticker, Batch}
@@ -24,7 +24,6 @@ use Rattle.state_codec.specs.declared.op.list_op.ListOp.{ListOp}
 use Rattle.state_codec.specs.declared.op.list_op.ListOp.TheVariants as lists
 use Rattle.state_codec.specs.declared.op.sticker_op.StickerOp.{StickerOp}
 use Rattle.state_codec.specs.declared.op.sticker_op.StickerOp.TheVariants as stickers
-use Rattle.state_codec.specs.declared.refusal.OpRefusal.{OpRefusal}
 use Rattle.state_codec.proofs.QueueUnchanged.{queue_stays, queue_only, queue_version}
 use Rattle.state_codec.proofs.ListsUnchanged.{lists_stay, lists_only}
 use Rattle.state_codec.proofs.StickersUnchanged.{stickers_stay, stickers_only}

@@ -1,6 +1,6 @@
 -- A playlist that gets the songs of the queue in place of its own.
-use Rattle.std.proofs.Common.{◌≡◌, ◌≢◌, ◌↔◌, ℕ, suc, ◌+◌, ◌<◌, ◌≤◌, Bool, true, false, cond, not, ◌&&◌, ◌||◌, List, [], ◌∷◌, length, get_or}
-use Rattle.std.proofs.Common.{Option, Some, None, Result, Ok, Err, is_some, IsTrue, nat_le, ◌⊎◌, inl, inr, refl, sym, ap, ◌∙◌, subst, arith}
+use Rattle.std.proofs.Common.{◌≡◌, ◌≢◌, ◌↔◌, ℕ, suc, ◌+◌, ◌<◌, ◌≤◌, Bool, true, false, List, [], ◌∷◌, length, get_or}
+use Rattle.std.proofs.Common.{Option, Some, None, Result, Ok, Err, is_some, nat_le, ◌⊎◌, inl, inr, refl, sym, ap, ◌∙◌, subst, arith}
 use Rattle.std.specs.Str.{bytes_eq}
 use Rattle.std.proofs.lemmas.Bool.{cases_eq}
 use Rattle.std.proofs.lemmas.Bool.Decides.{nat_tests}
@@ -8,7 +8,7 @@ use Rattle.std.proofs.lemmas.List.{length-map, get_or-map, get_or_default}
 use Rattle.std.proofs.lemmas.Slice.Eq.{bytes_eq-Decides}
 use Rattle.play_queue.specs.declared.entry.Entry.{Entry}
 use Rattle.stored_lists.specs.Limits.{MAX_LISTS, MAX_ENTRIES}
-use Rattle.stored_lists.specs.Lists.{Stored, IsCounted, songs_of, songs_or_none, total, with_list, without_list, with_songs, is_full_for}
+use Rattle.stored_lists.specs.Lists.{Stored, IsCounted, songs_of, songs_or_none, total, without_list, with_songs, is_full_for}
 use Rattle.stored_lists.specs.Lists.{replace_refusal as list_replace_refusal}
 use Rattle.stored_lists.specs.Name.{is_good_name}
 use Rattle.stored_lists.specs.Songs.{Uris}

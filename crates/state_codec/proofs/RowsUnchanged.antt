@@ -1,6 +1,6 @@
 -- Which batches leave a state as it is.
-use Rattle.std.proofs.Common.{◌≡◌, ℕ, ◌+◌, ◌↔◌, Bool, true, false, cond, not, ◌==◌, ◌||◌, ◌&&◌, List, [], ◌∷◌, ◌++◌, filter}
-use Rattle.std.proofs.Common.{Option, Some, None, is_some, refl, sym, ap, ◌∙◌, arith}
+use Rattle.std.proofs.Common.{◌≡◌, ℕ, ◌↔◌, Bool, true, false, cond, not, ◌==◌, ◌&&◌, List, [], ◌∷◌}
+use Rattle.std.proofs.Common.{Option, Some, None, is_some, refl, sym, ap, ◌∙◌}
 use Rattle.std.specs.List.{All, AllByRecursion, list_any}
 use Rattle.std.specs.Str.{bytes_eq}
 use Rattle.std.proofs.lemmas.Slice.Eq.{bytes_eq-Decides}
@@ -10,13 +10,12 @@ use Rattle.play_queue.specs.Entries.{Uris, is_among, kept}
 use Rattle.play_queue.specs.Queue.{QueueState, is_same, is_unchanged, ruled}
 use Rattle.play_queue.proofs.Ruling.{is_same-itself}
 use Rattle.song_db.specs.Change.{IsDatabase, has_uri, after_change, after_batch, uri_of}
-use Rattle.song_db.specs.Effect.{effect_of, effects_of, put_effect, drop_effect, changes_a_row, is_left_out}
+use Rattle.song_db.specs.Effect.{effect_of, effects_of, drop_effect, changes_a_row, is_left_out}
 use Rattle.song_db.specs.Row.{Row, row_at}
 use Rattle.song_db.specs.Same.{same_row}
 use Rattle.song_db.specs.Scan.{drops_of}
 use Rattle.song_db.specs.declared.change.RowChange.{RowChange}
 use Rattle.song_db.specs.declared.change.RowChange.TheVariants.{Put, Drop}
-use Rattle.song_db.specs.declared.effect.Effect.TheVariants.{Nothing, Replaced}
 use Rattle.song_db.proofs.SameRows.{same_exactly}
 use Rattle.song_db.proofs.Turns.{database_after}
 use Rattle.state_codec.specs.Laws.{LeaveRows}

@@ -1,5 +1,5 @@
 -- Which ops of the stickers leave a state as it is.
-use Rattle.std.proofs.Common.{◌≡◌, ℕ, ◌+◌, ◌-◌, Bool, true, false, not, ◌==◌, ◌&&◌, List, [], ◌∷◌, length, filter, find}
+use Rattle.std.proofs.Common.{◌≡◌, ℕ, Bool, true, false, not, ◌==◌, ◌&&◌, List, [], ◌∷◌, length, find}
 use Rattle.std.proofs.Common.{Option, Some, None, is_some, refl, sym, ap, ◌∙◌, arith}
 use Rattle.std.specs.declared.cmp.Ordering.{Ordering}
 use Rattle.std.specs.declared.cmp.Ordering.TheVariants.{Less, Equal, Greater}
@@ -14,7 +14,7 @@ use Rattle.state_codec.specs.declared.op.sticker_op.StickerOp.{StickerOp}
 use Rattle.state_codec.specs.declared.op.sticker_op.StickerOp.TheVariants.{Set, Delete, DeleteAll}
 use Rattle.state_codec.proofs.KeptOps.{map_none, cond_none, not_none}
 use Rattle.stickers.specs.Sticker.{Sticker, compare, is_at, is_of_song, value_at, stickers_of, with_sticker, without_sticker, without_song}
-use Rattle.stickers.specs.Sticker.{AreRising, IsWithinLimits, get_refusal}
+use Rattle.stickers.specs.Sticker.{AreRising, get_refusal}
 use Rattle.stickers.proofs.Counted.{is_at-compare, none_after, below_later, counted_without_sticker}
 
 abbrev sticker_of : List ℕ → List ℕ → List ℕ → Sticker

@@ -1,6 +1,6 @@
 -- Which changes of a batch, and which deletions, change nothing.
-use Rattle.std.proofs.Common.{◌≡◌, ◌≢◌, ℕ, ◌+◌, ◌-◌, ◌<◌, ◌≤◌, Bool, true, false, cond, not, eqb, ◌==◌, ◌||◌, ◌&&◌, ◌⊎◌, inl, inr, List}
-use Rattle.std.proofs.Common.{[], ◌∷◌, ◌++◌, length, take, drop, Option, Some, None, is_some, nat_lt, refl, sym, ap, ◌∙◌, arith}
+use Rattle.std.proofs.Common.{◌≡◌, ◌≢◌, ℕ, ◌≤◌, Bool, true, false, cond, eqb, ◌==◌, ◌||◌, ◌&&◌, ◌⊎◌, inl, inr, List}
+use Rattle.std.proofs.Common.{[], ◌∷◌, length, take, drop, Option, Some, None, is_some, nat_lt, refl, sym, ap, ◌∙◌, arith}
 use Rattle.std.specs.declared.cmp.Ordering.{Ordering}
 use Rattle.std.specs.declared.cmp.Ordering.TheVariants.{Less, Equal, Greater}
 use Rattle.std.specs.Ordering.{match_ordering, is_eq}
@@ -14,7 +14,7 @@ use Rattle.play_queue.specs.declared.entry.Entry.{Entry}
 use Rattle.play_queue.specs.Entries.{Uris, deleted}
 use Rattle.play_queue.specs.Queue.{is_same, is_unchanged}
 use Rattle.play_queue.proofs.Ruling.{is_unchanged-itself}
-use Rattle.song_db.specs.Change.{IsDatabase, changed, fits, after_change}
+use Rattle.song_db.specs.Change.{IsDatabase, changed, after_change}
 use Rattle.song_db.specs.Effect.{effect_of, effects_of, put_effect, drop_effect, changes_a_row}
 use Rattle.song_db.specs.Limits.{MAX_ROWS}
 use Rattle.song_db.specs.Replaced.{by_text, IsRising}
@@ -26,7 +26,7 @@ use Rattle.song_db.specs.declared.effect.Effect.TheVariants.{Nothing, Came, Repl
 use Rattle.song_db.proofs.Batches.{behind_trans, flip}
 use Rattle.song_db.proofs.Rising.{texts, apart_less}
 use Rattle.song_db.proofs.SameRows.{row_same}
-use Rattle.song_db.proofs.Turns.{none_behind, database_after}
+use Rattle.song_db.proofs.Turns.{none_behind}
 
 -- a row that is there already
 put_again : (rows : List Row) (row : Row) → IsRising row_uri rows → row_at rows row.uri ≡ Some row → changed (Put row) rows ≡ rows

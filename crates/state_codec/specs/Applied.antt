@@ -1,7 +1,7 @@
 -- What an op does to the saved state.
 use Rattle.std.specs.Prelude.{ℕ, suc, Bool, ◌==◌, List, [], ◌∷◌, Option, Some, None, Result, Ok}
 use Rattle.std.specs.Option.{ok_or}
-use Rattle.std.specs.Result.{result_ok, result_err}
+use Rattle.std.specs.Result.{result_ok}
 use Rattle.state_codec.specs.declared.op.Op.{Op}
 use Rattle.state_codec.specs.declared.op.Op.TheVariants.{SetOption, SetVolume, SetOrder, Queue, List as Lists, Sticker, Batch}
 use Rattle.state_codec.specs.OpsLists.{list_refusal, after_list, leaves_lists}
@@ -61,9 +61,6 @@ applied_from i (op ∷ ops) s = do
 
 abbrev pub all_applied : List Op → SavedState → Option SavedState
 all_applied ops s = result_ok (applied_from 0 ops s)
-
-abbrev pub first_refused : List Op → SavedState → Option ℕ
-first_refused ops s = result_err (applied_from 0 ops s)
 
 -- the state after ops of which none is refused
 abbrev pub after_all : List Op → SavedState → SavedState

@@ -1,9 +1,9 @@
 -- What the laws of ops say.
-use Rattle.std.specs.Prelude.{◌≡◌, ◌↔◌, ℕ, Bool, true, false, List, [], ◌∷◌, None}
+use Rattle.std.specs.Prelude.{◌≡◌, Bool, true, false, List, [], ◌∷◌, None}
 use Rattle.song_db.specs.Change.{after_change}
 use Rattle.song_db.specs.Row.{Row}
 use Rattle.song_db.specs.declared.change.RowChange.{RowChange}
-use Rattle.state_codec.specs.Applied.{refusal_of, after, changes_nothing}
+use Rattle.state_codec.specs.Applied.{refusal_of}
 use Rattle.state_codec.specs.SavedState.{SavedState, IsSavedState}
 use Rattle.state_codec.specs.declared.op.Op.{Op}
 use Rattle.state_codec.specs.declared.op.Op.TheVariants.{SetOption, SetVolume, SetOrder, Queue, List as Lists, Sticker, Batch}

@@ -1,3 +1,4 @@
+// Reads the fields of ops and snapshots from bytes: numbers, flags, texts, each within its range.
 ghost use Rattle.std.specs.Prelude.{◌≡◌, ◌-◌, length, IfOk, IfSome, IsTrue, is_some};
 ghost use Rattle.std.specs.Int.{IsInRange, w16};
 ghost use Rattle.std.specs.Str.{is_utf8};

@@ -1,3 +1,4 @@
+// Reads ops and snapshots of each layout from bytes.
 ghost use Rattle.std.specs.Prelude.{◌≡◌, ◌-◌, List, IfOk, Ok, length};
 ghost use Rattle.state_codec.specs.Ops.{AreOps};
 ghost use Rattle.state_codec.specs.SavedState.{SavedState, IsSavedState};

@@ -1,3 +1,4 @@
+// Why an op can't be applied, with the numbers of the reasons.
 ghost use Rattle.std.specs.Prelude.{◌≡◌};
 ghost use Rattle.state_codec.specs.Refusal.{number_of_op, number_of_apply, number_of_codec, number_of_body};
 ghost use Rattle.state_codec.specs.Editing.{queue_told, songs_told, lists_told, stickers_told};

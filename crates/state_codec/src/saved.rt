@@ -1,3 +1,4 @@
+// The saved half of the state: what a restart finds again.
 ghost use Rattle.std.specs.Prelude.{◌≡◌, IfOk};
 ghost use Rattle.state_codec.specs.SavedState.{IsSavedState, fresh};
 ghost use Rattle.state_codec.specs.Stored.{state_of};
@@ -23,6 +24,7 @@ mod row_edits;
 mod sticker_edits;
 mod telling;
 
+pub use batch::dropped_by;
 pub use parts::SavedParts;
 
 /// The state that is kept on disk. Each URI of the queue and of a sticker has a row.

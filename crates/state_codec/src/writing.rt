@@ -1,3 +1,4 @@
+// Writes ops and the saved state as the bytes of a record and of a snapshot.
 ghost use Rattle.std.specs.Prelude.{◌≡◌, ◌+◌, ◌<◌, ◌↔◌, ◌++◌, length, vec_len, vec_capacity, OnOk, OnErr, IfOk, IsErr};
 ghost use Rattle.state_codec.specs.Ops.{IsOp};
 ghost use Rattle.state_codec.specs.SavedState.{IsSavedState};
@@ -24,7 +25,6 @@ pub fn put_op(out: &mut Vec<u8>, op: &Op) -> Result<(), NoMemory>
     ensures capacity { vec_capacity out.new ≡ vec_capacity out.old }
     ensures in_range { OnOk result (IsOp op.now) }
 {
-    op.keep_form();
     if out.capacity() - out.len() < op.spelled_len() {
         return Err(NoMemory);
     }

@@ -12,6 +12,7 @@ ghost use Rattle.machine_core.specs.Work.{HasRoom, Performs, command_room};
 use super::lists::list_name;
 use crate::answer::write_songs;
 use crate::machine::Machine;
+use crate::named::row_numbers;
 use crate::work::{Failure, Work};
 use command_text::{FindingCommand, NoMemory, Search, Window, write_counts};
 use filter_expr::{Case, Filter, SortOrder, window};
@@ -262,17 +263,6 @@ fn folded_numbers(alloc: Global, songs: &SongDb, filter: &Filter) -> Result<RowN
 {
     let numbers = all_numbers(alloc, songs, Case::Folded, filter)?;
     Ok(row_numbers(numbers))
-}
-
-// As an op has them. There are never more than rows.
-fn row_numbers(numbers: Vec<u32>) -> RowNumbers
-    requires { length numbers.items ≤ MAX_ROWS }
-    ensures { result ≡ numbers.items }
-{
-    match RowNumbers::new(numbers) {
-        Some(numbers) => numbers,
-        None => unreachable!(),
-    }
 }
 
 // The values of a tag, of all rows or of those that match.

@@ -1,16 +1,15 @@
 // Which changes of a batch change a row at their turn, told before any of them is made.
-ghost use Rattle.std.specs.Prelude.{◌≡◌, ◌<◌, ◌≤◌, ◌+◌, ◌++◌, ◌∷◌, [], false, length, vec_len, vec_capacity, IfOk, OnOk};
+ghost use Rattle.std.specs.Prelude.{◌≡◌, ◌<◌, ◌≤◌, ◌+◌, ◌++◌, ◌∷◌, [], false, length, vec_len, vec_capacity, IfOk};
 ghost use Rattle.std.specs.List.{list_any};
 ghost use Rattle.std.specs.Option.{option_copied};
 ghost use Rattle.song_db.specs.Change.{after_batch};
 ghost use Rattle.song_db.specs.Effect.{effects_of, is_left_out};
 ghost use Rattle.song_db.specs.Row.{row_at};
 ghost use Rattle.song_db.specs.declared.change.RowChange.TheVariants.{Put};
-ghost use Rattle.song_db.specs.Scan.{drops_of};
 ghost use Rattle.machine_core.specs.Scanning.{telling};
 ghost use Rattle.machine_core.specs.ScanningRows.{AreTold, count_told, row_left};
 
-use song_db::{MAX_ROWS, RowChange, SongDb, SongRow, Uri};
+use song_db::{MAX_ROWS, RowChange, SongDb, SongRow};
 use state_codec::Changes;
 use std::alloc::{AllocError, Global};
 
@@ -54,7 +53,6 @@ fn row_behind<'a>(songs: &'a SongDb, told: &'a [RowChange], uri: &str) -> Option
     requires { AreTold songs.now told.now (length (after_batch songs.now told.now)) }
     ensures { option_copied result ≡ row_at (after_batch songs.now told.now) uri.now }
 {
-    let _rows = songs.len();
     let mut row = songs.get(uri).ok();
     for change in told {
         if uri == change.uri() {
@@ -93,24 +91,4 @@ fn count_put(count: usize, new: &SongRow, row: Option<&SongRow>) -> Option<usize
         None if count < MAX_ROWS => Some(count + 1),
         None => None,
     }
-}
-
-// The URIs that changes drop, in memory of their own.
-pub(super) fn dropped_by(alloc: Global, changes: &[RowChange]) -> Result<Vec<Uri>, AllocError>
-    ensures { IfOk result (λ uris. uris.items ≡ drops_of changes.now) }
-{
-    let mut uris = Vec::new(alloc);
-    for change in changes {
-        push_dropped(alloc, change, &mut uris)?;
-    }
-    Ok(uris)
-}
-
-fn push_dropped(alloc: Global, change: &RowChange, uris: &mut Vec<Uri>) -> Result<(), AllocError>
-    ensures { OnOk result (uris.new.items ≡ uris.old.items ++ drops_of (change.now ∷ [])) }
-{
-    if let RowChange::Drop(uri) = change {
-        uris.push(uri.try_clone(alloc)?)?;
-    }
-    Ok(())
 }

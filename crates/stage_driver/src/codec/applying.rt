@@ -17,13 +17,13 @@ fn check(state: &Saved, op: &Op) -> Result<bool, OpRefusal> {
     state.check(op)
 }
 
-fn apply(state: &mut Saved, alloc: Global, op: Op) -> Result<(), ApplyError> {
+fn apply(state: &mut Saved, alloc: Global, op: &Op) -> Result<(), ApplyError> {
     state.apply(alloc, op)
 }
 
 fn apply_all(state: &mut Saved, alloc: Global, layout: u32, bytes: &[u8]) -> Result<(), Fault> {
     for op in read(alloc, layout, bytes)? {
-        apply(state, alloc, op).map_err(unapplied)?;
+        apply(state, alloc, &op).map_err(unapplied)?;
     }
     Ok(())
 }
@@ -40,13 +40,13 @@ impl Codec {
     /// The ops that the bytes spell are checked and applied one by one.
     pub(super) fn apply_given(&mut self, printer: &mut Printer) -> Result<(), Fault> {
         for op in read(self.alloc, self.layout, &self.given)? {
-            self.apply_op(printer, op);
+            self.apply_op(printer, &op);
         }
         Ok(())
     }
 
-    fn apply_op(&mut self, printer: &mut Printer, op: Op) {
-        if let Err(refusal) = check(&self.state, &op) {
+    fn apply_op(&mut self, printer: &mut Printer, op: &Op) {
+        if let Err(refusal) = check(&self.state, op) {
             printer.refused(refusal.number(), refusal);
         }
         match apply(&mut self.state, self.alloc, op) {

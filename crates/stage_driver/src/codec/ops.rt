@@ -3,7 +3,7 @@ use crate::fault::{Fault, unread};
 use crate::printer::Printer;
 use no_memory::NoMemory;
 use state_codec::{CodecError, Op, put_op, take_ops};
-use std::alloc::{AllocError, Global};
+use std::alloc::Global;
 
 // The next functions have no contract: the prover then reads the long ones here alone.
 
@@ -15,10 +15,6 @@ fn put(out: &mut Vec<u8>, op: &Op) -> Result<(), NoMemory> {
     put_op(out, op)
 }
 
-fn copy_of(alloc: Global, op: &Op) -> Result<Op, AllocError> {
-    op.try_clone(alloc)
-}
-
 /// The ops that bytes spell in a layout, where they spell some.
 pub fn read(alloc: Global, layout: u32, bytes: &[u8]) -> Result<Vec<Op>, Fault> {
     taken(alloc, layout, bytes).map_err(unread)
@@ -27,28 +23,6 @@ pub fn read(alloc: Global, layout: u32, bytes: &[u8]) -> Result<Vec<Op>, Fault> 
 /// What is wrong with ops, if anything is.
 pub fn fault_of(alloc: Global, layout: u32, bytes: &[u8]) -> Option<CodecError> {
     taken(alloc, layout, bytes).err()
-}
-
-/// Whether there was room for the bytes of an op.
-fn fits(out: &mut Vec<u8>, op: Op) -> bool {
-    put(out, &op).is_ok()
-}
-
-/// Adds the bytes of a copy of an op.
-fn add_copy(out: &mut Vec<u8>, alloc: Global, op: &Op) -> Result<(), Fault> {
-    if fits(out, copy_of(alloc, op)?) {
-        Ok(())
-    } else {
-        Err(Fault::NoMemory)
-    }
-}
-
-/// Adds those of all ops, for which there is room.
-fn add_copies(out: &mut Vec<u8>, alloc: Global, ops: &[Op]) -> Result<(), Fault> {
-    for op in ops {
-        add_copy(out, alloc, op)?;
-    }
-    Ok(())
 }
 
 /// Prints the bytes of an op in so much room, or that it is refused and how many bytes then stand there.
@@ -73,20 +47,17 @@ fn tell_op(printer: &mut Printer, op: &Op) -> Result<(), Fault> {
     tell_in_room(printer, op, len.saturating_sub(1))
 }
 
-fn tell_all(printer: &mut Printer, ops: &[Op], room: usize) -> Result<(), Fault> {
+fn tell_all(printer: &mut Printer, ops: &[Op]) -> Result<(), Fault> {
     for op in ops {
         tell_op(printer, op)?;
     }
-    let mut copies = Vec::with_capacity(printer.alloc, room)?;
-    add_copies(&mut copies, printer.alloc, ops)?;
-    printer.hex("copies", &copies);
     Ok(())
 }
 
-/// Prints the ops that the bytes spell in a layout: each of them and what it is spelled to, and then copies of them all.
+/// Prints the ops that the bytes spell in a layout: each of them, and what it is spelled to.
 pub fn tell_ops(printer: &mut Printer, layout: u32, bytes: &[u8]) -> Result<(), Fault> {
     match taken(printer.alloc, layout, bytes) {
-        Ok(ops) => tell_all(printer, &ops, bytes.len()),
+        Ok(ops) => tell_all(printer, &ops),
         Err(error) => {
             printer.refused(error.number(), error);
             Ok(())

@@ -1,3 +1,4 @@
+// The changes of rows that a batch of a scan brings: no more than a batch has, each of them sound.
 ghost use Rattle.std.specs.Prelude.{◌≡◌, ◌++◌, length, Some, None, if◌then◌else◌, IfOk, OnOk};
 ghost use Rattle.std.specs.List.{All};
 ghost use Rattle.state_codec.specs.Changes.{is_count, AreChanges, IsChange, IsSavedRow};

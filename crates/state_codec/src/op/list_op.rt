@@ -1,9 +1,6 @@
-ghost use Rattle.std.specs.Prelude.{◌≡◌, IfOk};
-ghost use Rattle.state_codec.specs.Ops.{IsListOp};
-
+// Changes of stored playlists.
 use crate::op::row_numbers::RowNumbers;
 use crate::op::text::Text;
-use std::alloc::{AllocError, Global};
 
 /// A change of the stored playlists. Positions count from 0; a range goes from `start` up to, but not including, `end`.
 #[derive(Debug, Drop)]
@@ -20,74 +17,4 @@ pub enum ListOp {
     Rename { from: Text, to: Text },
     /// The playlist is taken out.
     Drop { name: Text },
-}
-
-impl ListOp {
-    /// The same op once more, in memory of its own.
-    pub fn try_clone(&self, alloc: Global) -> Result<ListOp, AllocError>
-        ensures { IfOk result (λ copy. copy ≡ self.now) }
-    {
-        match self {
-            ListOp::Save { name } => Ok(ListOp::Save {
-                name: name.try_clone(alloc)?,
-            }),
-            ListOp::Add { name, rows } => Ok(ListOp::Add {
-                name: name.try_clone(alloc)?,
-                rows: rows.try_clone(alloc)?,
-            }),
-            ListOp::Remove { name, start, end } => Ok(ListOp::Remove {
-                name: name.try_clone(alloc)?,
-                start: *start,
-                end: *end,
-            }),
-            ListOp::Move { name, from, to } => Ok(ListOp::Move {
-                name: name.try_clone(alloc)?,
-                from: *from,
-                to: *to,
-            }),
-            ListOp::Clear { name } => Ok(ListOp::Clear {
-                name: name.try_clone(alloc)?,
-            }),
-            ListOp::Rename { from, to } => Ok(ListOp::Rename {
-                from: from.try_clone(alloc)?,
-                to: to.try_clone(alloc)?,
-            }),
-            ListOp::Drop { name } => Ok(ListOp::Drop {
-                name: name.try_clone(alloc)?,
-            }),
-        }
-    }
-
-    // Its numbers are in range and its texts have their form.
-    pub(crate) fn keep_form(&self)
-        ensures { IsListOp self.now }
-    {
-        match self {
-            ListOp::Save { name } => {
-                let _name = name.as_str();
-            }
-            ListOp::Add { name, rows } => {
-                let _name = name.as_str();
-                let _rows = rows.as_slice();
-            }
-            ListOp::Remove { name, start, end } => {
-                let _name = name.as_str();
-                let _range = (*start, *end);
-            }
-            ListOp::Move { name, from, to } => {
-                let _name = name.as_str();
-                let _places = (*from, *to);
-            }
-            ListOp::Clear { name } => {
-                let _name = name.as_str();
-            }
-            ListOp::Rename { from, to } => {
-                let _from = from.as_str();
-                let _to = to.as_str();
-            }
-            ListOp::Drop { name } => {
-                let _name = name.as_str();
-            }
-        }
-    }
 }

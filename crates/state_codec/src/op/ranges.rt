@@ -1,10 +1,10 @@
-ghost use Rattle.std.specs.Prelude.{◌≡◌, IfOk, Some, None, if◌then◌else◌};
+// Ranges of a queue's positions, each with its end behind its start.
+ghost use Rattle.std.specs.Prelude.{◌≡◌, Some, None, if◌then◌else◌};
 ghost use Rattle.std.specs.List.{list_all};
 ghost use Rattle.state_codec.specs.Numbers.{is_range, are_ranges, AreOpRanges};
 
 use crate::op::row_numbers::MAX_COUNT;
 use play_queue::Ranges;
-use std::alloc::{AllocError, Global};
 use std::marker::Model;
 
 /// Positions of the queue as ranges, in the order in which they were given: at most 4,294,967,295 of them, with ends
@@ -41,16 +41,6 @@ impl OpRanges {
         ensures within { AreOpRanges self.now }
     {
         &self.ranges
-    }
-
-    /// The same ranges once more, in memory of their own.
-    pub fn try_clone(&self, alloc: Global) -> Result<OpRanges, AllocError>
-        ensures { IfOk result (λ copy. copy ≡ self.now) }
-    {
-        let ranges = Vec::from_slice(alloc, self.ranges.as_slice())?;
-        Ok(OpRanges {
-            ranges: Ranges::new(alloc, ranges)?,
-        })
     }
 }
 

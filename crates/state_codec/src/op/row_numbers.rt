@@ -1,7 +1,7 @@
-ghost use Rattle.std.specs.Prelude.{◌≡◌, length, IfOk, Some, None, if◌then◌else◌};
+// Numbers of the song database's rows, as many as an op can have.
+ghost use Rattle.std.specs.Prelude.{◌≡◌, length, Some, None, if◌then◌else◌};
 ghost use Rattle.state_codec.specs.Numbers.{are_few, AreRowNumbers};
 
-use std::alloc::{AllocError, Global};
 use std::marker::Model;
 
 /// How many row numbers or ranges an op may have.
@@ -46,14 +46,5 @@ impl RowNumbers {
         ensures { result ≡ length self.now }
     {
         self.numbers.len()
-    }
-
-    /// The same numbers once more, in memory of their own.
-    pub fn try_clone(&self, alloc: Global) -> Result<RowNumbers, AllocError>
-        ensures { IfOk result (λ copy. copy ≡ self.now) }
-    {
-        Ok(RowNumbers {
-            numbers: Vec::from_slice(alloc, self.numbers.as_slice())?,
-        })
     }
 }

@@ -1,3 +1,4 @@
+// Changes of the playback options.
 use player_core::Single;
 
 /// A playback option with the value that it is set to.

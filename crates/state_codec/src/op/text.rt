@@ -1,3 +1,4 @@
+// A text as an op has it: UTF-8 of a bounded length.
 ghost use Rattle.std.specs.Prelude.{◌≡◌, IfOk, IsTrue, Some, None, if◌then◌else◌};
 ghost use Rattle.std.specs.Str.{is_utf8};
 ghost use Rattle.state_codec.specs.Text.{is_text};

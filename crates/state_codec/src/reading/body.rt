@@ -1,12 +1,14 @@
 // The body of a record, applied as it is read.
-ghost use Rattle.std.specs.Prelude.{◌≡◌, List, Ok, OnOk, length};
-ghost use Rattle.state_codec.specs.Applied.{applied_from};
+ghost use Rattle.std.specs.Prelude.{◌≡◌, List, Ok, Some, OnOk, length};
+ghost use Rattle.state_codec.specs.Applied.{refusal_of, applied, applied_from};
 ghost use Rattle.state_codec.specs.Body.{body_applied, body_applied_in, GivesBody, told_place, bad_op, not_applied};
+ghost use Rattle.state_codec.specs.Editing.{AnswersApply};
 ghost use Rattle.state_codec.specs.Reading.{ops_reading};
 ghost use Rattle.state_codec.specs.declared.op.Op.{Op as AnOp};
 
 use crate::fields::{ReadError, Reader};
 use crate::layout::{Layout, layout_of};
+use crate::op::Op;
 use crate::refusal::{ApplyError, BodyError};
 use crate::saved::Saved;
 use std::alloc::Global;
@@ -44,6 +46,14 @@ impl Saved {
         self.apply_all(alloc, layout_of(layout), body)
     }
 
+    // Applies an op that was read, and lets it go.
+    fn apply_read(&mut self, alloc: Global, op: Op) -> Result<(), ApplyError>
+        ensures ok { OnOk result (applied op self.old ≡ Some self.new) }
+        ensures answer { AnswersApply (refusal_of op self.old) result }
+    {
+        self.apply(alloc, &op)
+    }
+
     fn apply_all(&mut self, alloc: Global, layout: Layout, body: &[u8]) -> Result<(), BodyError>
         ensures { GivesBody result self.new (body_applied_in layout body.now self.old) }
     {
@@ -57,7 +67,7 @@ impl Saved {
                 Ok(op) => op,
                 Err(error) => return Err(bad_op(body, error)),
             };
-            match self.apply(alloc, op) {
+            match self.apply_read(alloc, op) {
                 Ok(()) => {}
                 Err(error) => return Err(not_applied(place, error)),
             }

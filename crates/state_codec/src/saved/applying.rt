@@ -1,27 +1,28 @@
+// Applies an op to the saved state.
 ghost use Rattle.std.specs.Prelude.{◌≡◌, Some, None, OnOk, OnErr};
 ghost use Rattle.state_codec.specs.Applied.{refusal_of, after, applied};
 ghost use Rattle.state_codec.specs.Editing.{AnswersApply, IsEdit};
+ghost use Rattle.state_codec.specs.Ops.{IsOp};
 ghost use Rattle.state_codec.specs.OpsQueue.{queue_refusal};
 ghost use Rattle.state_codec.specs.OpsSettings.{with_setting};
 ghost use Rattle.state_codec.specs.SavedState.{IsSavedState};
 ghost use Rattle.state_codec.specs.Stored.{state_of};
-ghost use Rattle.state_codec.specs.declared.op.Op.TheVariants.{SetOption, SetVolume, SetOrder, Queue};
+ghost use Rattle.state_codec.specs.declared.op.Op.TheVariants.{SetOption, SetOrder, Queue};
 ghost use Rattle.state_codec.specs.declared.op.queue_op.QueueOp.TheVariants.{Delete};
 
 use super::{Saved, SavedParts};
 use crate::op::{Op, Setting};
 use crate::refusal::ApplyError;
-use player_core::{Options, Volume};
+use player_core::Options;
 use std::alloc::Global;
 
 impl Saved {
     /// Applies an op. Refused where `check` refuses it, and else by want of memory alone; the state then stays as it was.
-    pub fn apply(&mut self, alloc: Global, op: Op) -> Result<(), ApplyError>
-        ensures ok { OnOk result (applied op self.old ≡ Some self.new) }
+    pub fn apply(&mut self, alloc: Global, op: &Op) -> Result<(), ApplyError>
+        ensures ok { OnOk result (applied op.now self.old ≡ Some self.new) }
         ensures err { OnErr result (self.new ≡ self.old) }
-        ensures answer { AnswersApply (refusal_of op self.old) result }
+        ensures answer { AnswersApply (refusal_of op.now self.old) result }
     {
-        op.keep_form();
         apply_to(&mut self.parts, alloc, op)
     }
 
@@ -40,14 +41,6 @@ impl Saved {
         set_option(&mut self.parts.options, setting);
     }
 
-    /// Sets the volume, as the op does.
-    pub fn set_volume(&mut self, volume: Volume)
-        ensures { self.new ≡ after (SetVolume volume) self.old }
-    {
-        let _percent = volume.percent();
-        self.parts.volume = volume;
-    }
-
     /// Sets the number of the random order, as the op does.
     pub fn set_order(&mut self, order: u64)
         ensures { self.new ≡ after (SetOrder order) self.old }
@@ -56,15 +49,19 @@ impl Saved {
     }
 }
 
-fn apply_to(parts: &mut SavedParts, alloc: Global, op: Op) -> Result<(), ApplyError>
+fn apply_to(parts: &mut SavedParts, alloc: Global, op: &Op) -> Result<(), ApplyError>
     requires { IsSavedState (state_of parts.old) }
-    ensures { IsEdit (refusal_of op (state_of parts.old)) (after op (state_of parts.old))
+    ensures edit { IsEdit (refusal_of op.now (state_of parts.old)) (after op.now (state_of parts.old))
         (state_of parts.old) (state_of parts.new) result }
+    ensures form { OnOk result (IsOp op.now) }
 {
     match op {
-        Op::SetOption(setting) => set_option(&mut parts.options, setting),
-        Op::SetVolume(volume) => parts.volume = volume,
-        Op::SetOrder(order) => parts.order = order,
+        Op::SetOption(setting) => set_option(&mut parts.options, *setting),
+        Op::SetVolume(volume) => {
+            let _percent = volume.percent();
+            parts.volume = *volume;
+        }
+        Op::SetOrder(order) => parts.order = *order,
         Op::Queue(op) => return parts.edit_queue(alloc, op),
         Op::List(op) => return parts.edit_list(alloc, op),
         Op::Sticker(op) => return parts.edit_sticker(alloc, op),

@@ -35,7 +35,6 @@ fn has_row(songs: &SongDb, changes: &[RowChange], uri: &str) -> bool
     requires { list_any is_left_out (effects_of songs.now changes.now) ≡ false }
     ensures { result ≡ has_uri (after_batch songs.now changes.now) uri.now }
 {
-    let _rows = songs.len();
     let mut there = songs.row_number(uri).is_ok();
     for change in changes {
         if uri == change.uri() {
@@ -68,8 +67,8 @@ fn count_after(count: usize, there: bool, change: &RowChange) -> Option<usize>
     }
 }
 
-// The URIs that a batch drops, in memory of their own.
-pub(super) fn dropped_by(alloc: Global, changes: &[RowChange]) -> Result<Vec<Uri>, AllocError>
+/// The URIs that changes drop, in their order, in memory of their own. Without memory nothing is left of them.
+pub fn dropped_by(alloc: Global, changes: &[RowChange]) -> Result<Vec<Uri>, AllocError>
     ensures { IfOk result (λ uris. uris.items ≡ drops_of changes.now) }
 {
     let mut uris = Vec::new(alloc);

@@ -3,6 +3,8 @@ ghost use Rattle.std.specs.Prelude.{◌≡◌, ◌++◌, IfOk, OnOk, IsOkUnless}
 ghost use Rattle.std.specs.Option.{option_to_list};
 ghost use Rattle.state_codec.specs.Applied.{after_all};
 ghost use Rattle.state_codec.specs.Editing.{IsEdit, ListsEdit};
+ghost use Rattle.state_codec.specs.Numbers.{AreRowNumbers};
+ghost use Rattle.state_codec.specs.Ops.{IsListOp};
 ghost use Rattle.state_codec.specs.OpsLists.{list_refusal, after_list, uris_of};
 ghost use Rattle.state_codec.specs.OpsSongs.{uri_at, uris_at};
 ghost use Rattle.state_codec.specs.Replacing.{replace_ops, replace_refusal};
@@ -19,23 +21,24 @@ use std::alloc::Global;
 use stored_lists::{ListsError, Songs};
 
 impl SavedParts {
-    pub(super) fn edit_list(&mut self, alloc: Global, op: ListOp) -> Result<(), ApplyError>
-        ensures { IsEdit (list_refusal op (state_of self.old)) (after_list op (state_of self.old))
+    pub(super) fn edit_list(&mut self, alloc: Global, op: &ListOp) -> Result<(), ApplyError>
+        ensures edit { IsEdit (list_refusal op.now (state_of self.old)) (after_list op.now (state_of self.old))
             (state_of self.old) (state_of self.new) result }
+        ensures form { OnOk result (IsListOp op.now) }
     {
         match op {
             ListOp::Save { name } => self.save_list(alloc, name.as_str()),
-            ListOp::Add { name, rows } => self.extend_list(alloc, name.as_str(), &rows),
+            ListOp::Add { name, rows } => self.extend_list(alloc, name.as_str(), rows),
             ListOp::Remove { name, start, end } => {
                 told(
                     self.lists
-                        .remove_at(name.as_str(), start as usize, end as usize),
+                        .remove_at(name.as_str(), *start as usize, *end as usize),
                 )
             }
             ListOp::Move { name, from, to } => {
                 told(
                     self.lists
-                        .move_at(name.as_str(), from as usize, to as usize),
+                        .move_at(name.as_str(), *from as usize, *to as usize),
                 )
             }
             ListOp::Clear { name } => told(self.lists.clear(name.as_str())),
@@ -78,8 +81,9 @@ impl SavedParts {
         name: &str,
         rows: &RowNumbers,
     ) -> Result<(), ApplyError>
-        ensures { IsEdit (list_refusal (Add name.now rows.now) (state_of self.old)) (after_list (Add name.now rows.now) (state_of self.old))
-            (state_of self.old) (state_of self.new) result }
+        ensures edit { IsEdit (list_refusal (Add name.now rows.now) (state_of self.old)) (after_list (Add name.now rows.now)
+            (state_of self.old)) (state_of self.old) (state_of self.new) result }
+        ensures form { AreRowNumbers rows.now }
     {
         check_rows_of(&self.songs, rows.as_slice())?;
         self.lists.check_add(name, rows.len())?;

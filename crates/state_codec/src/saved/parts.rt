@@ -1,3 +1,4 @@
+// The parts of a saved state, each by a name.
 use play_queue::Queue;
 use player_core::{Options, Volume};
 use song_db::SongDb;

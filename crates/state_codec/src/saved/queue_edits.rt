@@ -2,6 +2,8 @@
 ghost use Rattle.std.specs.Prelude.{◌≡◌, ◌++◌, IfOk, OnOk};
 ghost use Rattle.std.specs.Option.{option_to_list};
 ghost use Rattle.state_codec.specs.Editing.{IsEdit, QueueEdit};
+ghost use Rattle.state_codec.specs.Numbers.{AreRowNumbers};
+ghost use Rattle.state_codec.specs.Ops.{IsQueueOp};
 ghost use Rattle.state_codec.specs.OpsQueue.{queue_refusal, after_queue};
 ghost use Rattle.state_codec.specs.OpsSongs.{uri_at, uris_at};
 ghost use Rattle.state_codec.specs.Stored.{state_of};
@@ -17,32 +19,34 @@ use song_db::{RowUri, SongDb, SongRow};
 use std::alloc::{AllocError, Global};
 
 impl SavedParts {
-    pub(super) fn edit_queue(&mut self, alloc: Global, op: QueueOp) -> Result<(), ApplyError>
-        ensures { IsEdit (queue_refusal op (state_of self.old)) (after_queue op (state_of self.old))
+    pub(super) fn edit_queue(&mut self, alloc: Global, op: &QueueOp) -> Result<(), ApplyError>
+        ensures edit { IsEdit (queue_refusal op.now (state_of self.old)) (after_queue op.now (state_of self.old))
             (state_of self.old) (state_of self.new) result }
+        ensures form { OnOk result (IsQueueOp op.now) }
     {
         match op {
-            QueueOp::Add { at, rows } => self.add_songs(alloc, at, &rows),
+            QueueOp::Add { at, rows } => self.add_songs(alloc, *at, rows),
             QueueOp::Delete { start, end } => {
-                told(self.queue.delete_range(start as usize, end as usize))
+                told(self.queue.delete_range(*start as usize, *end as usize))
             }
             QueueOp::Move { start, end, to } => {
                 told(
                     self.queue
-                        .move_range(start as usize, end as usize, to as usize),
+                        .move_range(*start as usize, *end as usize, *to as usize),
                 )
             }
-            QueueOp::Swap { one, other } => told(self.queue.swap(one as usize, other as usize)),
-            QueueOp::Shuffle { start, end } => self.shuffle_songs(alloc, start, end),
+            QueueOp::Swap { one, other } => told(self.queue.swap(*one as usize, *other as usize)),
+            QueueOp::Shuffle { start, end } => self.shuffle_songs(alloc, *start, *end),
             QueueOp::Prio { priority, ranges } => {
-                told(self.queue.set_prio(ranges.ranges(), priority))
+                told(self.queue.set_prio(ranges.ranges(), *priority))
             }
         }
     }
 
     fn add_songs(&mut self, alloc: Global, at: u32, rows: &RowNumbers) -> Result<(), ApplyError>
-        ensures { IsEdit (queue_refusal (Add at rows.now) (state_of self.old)) (after_queue (Add at rows.now) (state_of self.old))
+        ensures edit { IsEdit (queue_refusal (Add at rows.now) (state_of self.old)) (after_queue (Add at rows.now) (state_of self.old))
             (state_of self.old) (state_of self.new) result }
+        ensures form { AreRowNumbers rows.now }
     {
         check_rows_of(&self.songs, rows.as_slice())?;
         self.queue.check_add(at as usize, rows.len())?;

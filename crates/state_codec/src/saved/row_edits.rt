@@ -1,5 +1,6 @@
 // A batch of the database.
 ghost use Rattle.std.specs.Prelude.{◌≡◌};
+ghost use Rattle.state_codec.specs.Changes.{AreChanges};
 ghost use Rattle.state_codec.specs.Editing.{IsEdit};
 ghost use Rattle.state_codec.specs.OpsRows.{rows_refusal, after_rows, without_songs};
 ghost use Rattle.state_codec.specs.SavedState.{IsSavedState};
@@ -16,15 +17,17 @@ use stickers::Stickers;
 
 impl SavedParts {
     // All memory is taken before anything changes.
-    pub(super) fn edit_rows(&mut self, alloc: Global, changes: Changes) -> Result<(), ApplyError>
+    pub(super) fn edit_rows(&mut self, alloc: Global, changes: &Changes) -> Result<(), ApplyError>
         requires { IsSavedState (state_of self.old) }
-        ensures { IsEdit (rows_refusal changes (state_of self.old)) (after_rows changes (state_of self.old))
+        ensures edit { IsEdit (rows_refusal changes.now (state_of self.old)) (after_rows changes.now (state_of self.old))
             (state_of self.old) (state_of self.new) result }
+        ensures form { AreChanges changes.now }
     {
         check_rows(&self.songs, changes.as_slice())?;
         let dropped = SortedUris::new(dropped_by(alloc, changes.as_slice())?);
         let changed = SortedUris::new(changed_by(alloc, &self.songs, changes.as_slice())?);
-        self.songs.apply_batch(alloc, changes.into_vec())?;
+        let copies = changes.try_clone(alloc)?;
+        self.songs.apply_batch(alloc, copies.into_vec())?;
         self.queue.follow_batch(&dropped, &changed);
         drop_songs(&mut self.stickers, dropped.as_slice());
         Ok(())

@@ -1,7 +1,9 @@
 // Ops, appended to room that was taken before.
-ghost use Rattle.std.specs.Prelude.{◌≡◌, ◌≤◌, ◌<◌, ◌^◌, ◌∷◌, length};
+ghost use Rattle.std.specs.Prelude.{◌≡◌, ◌≤◌, ◌<◌, ◌^◌, ◌∷◌, IsTrue, length};
 ghost use Rattle.std.specs.List.{All, flat_map};
-ghost use Rattle.state_codec.specs.Ops.{AreNumbers};
+ghost use Rattle.state_codec.specs.Numbers.{AreRowNumbers, AreOpRanges};
+ghost use Rattle.state_codec.specs.Ops.{AreNumbers, IsText, IsUri, IsQueueOp, IsListOp, IsStickerOp, IsOp};
+ghost use Rattle.state_codec.specs.Text.{is_sticker_text};
 ghost use Rattle.state_codec.specs.Appended.{HasRoom, Appends};
 ghost use Rattle.state_codec.specs.SpellingFields.{byte_bytes, u32_bytes, pair_bytes, flag_bytes, single_bytes, text_bytes};
 ghost use Rattle.state_codec.specs.SpellingOps.{setting_bytes, row_numbers_bytes, ranges_bytes, queue_kind, queue_fields};
@@ -62,7 +64,8 @@ fn row_numbers_len(rows: &RowNumbers) -> usize
 
 fn put_row_numbers(out: &mut Vec<u8>, rows: &RowNumbers)
     requires { HasRoom out.old (length (row_numbers_bytes rows.now)) }
-    ensures { Appends out.old out.new (row_numbers_bytes rows.now) }
+    ensures appended { Appends out.old out.new (row_numbers_bytes rows.now) }
+    ensures form { AreRowNumbers rows.now }
 {
     let numbers = rows.as_slice();
     put_u32(out, numbers.len() as u32);
@@ -96,7 +99,8 @@ fn ranges_len(ranges: &OpRanges) -> usize
 
 fn put_ranges(out: &mut Vec<u8>, ranges: &OpRanges)
     requires { HasRoom out.old (length (ranges_bytes ranges.now)) }
-    ensures { Appends out.old out.new (ranges_bytes ranges.now) }
+    ensures appended { Appends out.old out.new (ranges_bytes ranges.now) }
+    ensures form { AreOpRanges ranges.now }
 {
     let ranges = ranges.ranges().as_slice();
     put_u32(out, ranges.len() as u32);
@@ -130,7 +134,8 @@ fn queue_len(op: &QueueOp) -> usize
 
 fn put_queue_fields(out: &mut Vec<u8>, op: &QueueOp)
     requires { HasRoom out.old (length (queue_fields op.now)) }
-    ensures { Appends out.old out.new (queue_fields op.now) }
+    ensures appended { Appends out.old out.new (queue_fields op.now) }
+    ensures form { IsQueueOp op.now }
 {
     match op {
         QueueOp::Add { at, rows } => {
@@ -160,7 +165,8 @@ fn name_len(name: &Text) -> usize
 
 fn put_name(out: &mut Vec<u8>, name: &Text)
     requires { HasRoom out.old (length (text_bytes name.now)) }
-    ensures { Appends out.old out.new (text_bytes name.now) }
+    ensures appended { Appends out.old out.new (text_bytes name.now) }
+    ensures form { IsText name.now }
 {
     put_text(out, name.as_str());
 }
@@ -196,7 +202,8 @@ fn list_len(op: &ListOp) -> usize
 
 fn put_list_fields(out: &mut Vec<u8>, op: &ListOp)
     requires { HasRoom out.old (length (list_fields op.now)) }
-    ensures { Appends out.old out.new (list_fields op.now) }
+    ensures appended { Appends out.old out.new (list_fields op.now) }
+    ensures form { IsListOp op.now }
 {
     match op {
         ListOp::Save { name } => put_name(out, name),
@@ -242,7 +249,8 @@ pub(crate) fn uri_len(uri: &Uri) -> usize
 /// Appends a URI.
 pub(crate) fn put_uri(out: &mut Vec<u8>, uri: &Uri)
     requires { HasRoom out.old (length (text_bytes uri.now)) }
-    ensures { Appends out.old out.new (text_bytes uri.now) }
+    ensures appended { Appends out.old out.new (text_bytes uri.now) }
+    ensures form { IsUri uri.now }
 {
     put_text(out, uri.as_str());
 }
@@ -256,7 +264,8 @@ fn value_len(value: &StickerValue) -> usize
 
 fn put_value(out: &mut Vec<u8>, value: &StickerValue)
     requires { HasRoom out.old (length (text_bytes value.now)) }
-    ensures { Appends out.old out.new (text_bytes value.now) }
+    ensures appended { Appends out.old out.new (text_bytes value.now) }
+    ensures form { IsTrue (is_sticker_text value.now) }
 {
     put_text(out, value.as_str());
 }
@@ -274,7 +283,8 @@ fn sticker_len(op: &StickerOp) -> usize
 
 fn put_sticker_fields(out: &mut Vec<u8>, op: &StickerOp)
     requires { HasRoom out.old (length (sticker_fields op.now)) }
-    ensures { Appends out.old out.new (sticker_fields op.now) }
+    ensures appended { Appends out.old out.new (sticker_fields op.now) }
+    ensures form { IsStickerOp op.now }
 {
     match op {
         StickerOp::Set { uri, name, value } => {
@@ -307,10 +317,11 @@ impl Op {
     }
 }
 
-// Appends the spelling of an op.
+// Appends the spelling of an op, which has its numbers in range and its texts in their form.
 pub(crate) fn put_reserved(out: &mut Vec<u8>, op: &Op)
     requires { HasRoom out.old (length (op_bytes op.now)) }
-    ensures { Appends out.old out.new (op_bytes op.now) }
+    ensures appended { Appends out.old out.new (op_bytes op.now) }
+    ensures form { IsOp op.now }
 {
     match op {
         Op::SetOption(value) => {

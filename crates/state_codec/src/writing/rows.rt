@@ -3,7 +3,7 @@ ghost use Rattle.std.specs.Prelude.{◌≡◌, ◌≤◌, ◌++◌, [], IsTrue, 
 ghost use Rattle.std.specs.List.{All, flat_map, list_all};
 ghost use Rattle.song_db.specs.Row.{row_of, six_texts, is_good_tag};
 ghost use Rattle.state_codec.specs.Appended.{HasRoom, Appends};
-ghost use Rattle.state_codec.specs.Changes.{IsChange};
+ghost use Rattle.state_codec.specs.Changes.{IsChange, AreChanges};
 ghost use Rattle.state_codec.specs.SpellingRows.{tag_bytes, tags_bytes, row_fields_bytes, row_bytes, change_bytes, changes_bytes};
 
 use super::bytes::{put_byte, put_text, put_u32, put_u64, text_len};
@@ -171,7 +171,8 @@ fn put_all(out: &mut Vec<u8>, changes: &[RowChange])
 /// Appends the changes of a batch.
 pub(crate) fn put_changes(out: &mut Vec<u8>, changes: &Changes)
     requires { HasRoom out.old (length (changes_bytes changes.now)) }
-    ensures { Appends out.old out.new (changes_bytes changes.now) }
+    ensures appended { Appends out.old out.new (changes_bytes changes.now) }
+    ensures form { AreChanges changes.now }
 {
     let changes = changes.as_slice();
     put_byte(out, changes.len() as u8);

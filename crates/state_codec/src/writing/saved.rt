@@ -68,7 +68,6 @@ fn row_number(songs: &SongDb, uri: &RowUri) -> usize
     ensures number { number_at songs.now uri.now ≡ Some result }
     ensures within { result < 65536 }
 {
-    let _few = songs.len();
     match songs.number_of(uri) {
         Ok(number) => number,
         Err(_) => unreachable!(),

@@ -2,7 +2,7 @@
 ghost use Rattle.std.specs.Prelude.{◌≡◌, ◌≤◌, ◌∷◌, ◌++◌, [], length, map, slice_get, None, IfOk, IsTrue, OnOk, option_to_list};
 ghost use Rattle.std.specs.List.{filter_map};
 ghost use Rattle.song_db.specs.Limits.{MAX_ROWS};
-ghost use Rattle.song_db.specs.Query.{distinct_of, number_at, values_of, with_texts};
+ghost use Rattle.song_db.specs.Query.{distinct_of, values_of, with_texts};
 ghost use Rattle.song_db.specs.Replaced.{IsRising};
 ghost use Rattle.song_db.specs.Row.{row_uri};
 ghost use Rattle.filter_expr.specs.declared.case.Case.TheVariants.{Exact};
@@ -11,6 +11,7 @@ ghost use Rattle.wave_pcm.specs.Tag.{text_of};
 ghost use Rattle.machine_core.specs.Finding.{found, matching, numbers_in, part_of};
 
 use super::part::Part;
+use crate::named::push_number;
 use command_text::{NoMemory, Search};
 use filter_expr::{Case, Filter, SortOrder, sort_rows};
 use song_db::{SongDb, SongRow, Texts};
@@ -194,7 +195,6 @@ pub(super) fn numbers_by_uri(
     match search.window {
         None => all_numbers(alloc, songs, search.case, &search.filter),
         Some(_) => {
-            let _limit = songs.len();
             let rows = songs.rows();
             let part = Part::of_window(search.window, rows.len());
             matching_numbers(alloc, rows, search.case, &search.filter, part)
@@ -213,18 +213,7 @@ pub(super) fn numbers_of(
 {
     let mut numbers = Vec::new(alloc);
     for row in rows {
-        push_number(&mut numbers, songs, *row)?;
+        push_number(songs, row.uri(), &mut numbers)?;
     }
     Ok(numbers)
-}
-
-// Takes the number of a row, if the songs have it.
-fn push_number(numbers: &mut Vec<u32>, songs: &SongDb, row: &SongRow) -> Result<(), NoMemory>
-    ensures { OnOk result (numbers.new.items ≡ numbers.old.items ++ option_to_list (number_at songs.now row.now.uri)) }
-{
-    let _limit = songs.len();
-    match songs.row_number(row.uri()) {
-        Ok(number) => Ok(numbers.push(number as u32)?),
-        Err(_) => Ok(()),
-    }
 }

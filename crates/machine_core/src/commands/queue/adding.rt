@@ -57,7 +57,6 @@ impl Machine {
         ensures { result ≡ ok_or (number_at self.now.saved.songs uri.now) NoSuchUri }
     {
         let songs = self.saved.songs();
-        let _limit = songs.len();
         match songs.row_number(uri) {
             Ok(number) => Ok(number as u32),
             Err(_) => Err(CommandRefusal::NoSuchUri),

@@ -1,9 +1,6 @@
-use Rattle.std.proofs.Common.{◌≡◌, not, ◌==◌, length, ◌++◌, ◌∷◌, [], subst, ap, ◌∙◌}
-use Rattle.state_codec.specs.Changes.{AreChanges}
-use Rattle.state_codec.specs.declared.op.Op.TheVariants.{Batch}
+use Rattle.std.proofs.Common.{◌≡◌, not, ◌==◌, length, ap, ◌∙◌}
 use Rattle.machine_core.specs.Before.{changed_since}
 use Rattle.machine_core.specs.Followed.{follows_batch}
-use Rattle.machine_core.specs.Meaning.{order_ops}
 use Rattle.machine_core.specs.State.{MachineState}
 use Rattle.machine_core.proofs.ScanningLaws.{rows_changed}
 use Rattle.machine_core.proofs.ScanningSize.{batch_fits}
@@ -19,10 +16,10 @@ returns-clause-ok c =
     c.len-stickers.ensures.count ∙ ap length (c.stickers.ensures ∙ ap (λ (k : MachineState). k.saved.stickers) c.self.view_is) in
     let has : c.len.result ≡ length n.saved.stickers =
     c.len.ensures.count ∙ ap length (c.stickers-2.ensures ∙ ap (λ (k : MachineState). k.saved.stickers) c.self-2.view_is) in
-    rows_changed changes m n before _ c.requires c.in_ok-order.ensures.machine c.before-before.ensures.value
-    (c.push_ops.ensures ∙ (λ i. c.in_ok-ops.ensures.items i ++ (order_ops (c.in_ok-order.ensures.order i) ++ Batch changes ∷ [])))
+    rows_changed changes m n before _ c.requires c.in_ok-ops.ensures.machine c.before-before.ensures.value
+    c.in_ok-ops.ensures.ops
     ((λ i. record (c.changed_since-changed.ensures i) { sticker = not (had i == has i) })
     ∙ (λ i. record (changed_since before (c.deref.ensures.value i) n) {
       sticker = not (length m.saved.stickers == length n.saved.stickers);
     }))
-    (batch_fits changes (follows_batch changes m).order (subst AreChanges c.changes.view_is c.changes.invariant))
+    (batch_fits changes (follows_batch changes m).order c.in_ok-ops.ensures.form)

@@ -19,4 +19,5 @@ unfolding lists_meaning
 returns c =
     let m = c.args.self.now in
     also _ _ _ _ _ _ _
-    (found (list_name c.args.name.now) (λ good. edits (OfLists (Save good)) [] m) c.in_ok-name.name c.in_ok-name.ensures) c.edit.ensures.performs
+    (found (list_name c.args.name.now) (λ good. edits (OfLists (Save good)) [] m) c.in_ok-name.name c.in_ok-name.ensures)
+    c.edit.ensures.performs

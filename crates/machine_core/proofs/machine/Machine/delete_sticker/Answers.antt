@@ -45,4 +45,5 @@ returns c =
     let here : stickers_meaning (commands.Delete c.args.uri (Some c.args.name)) m ≡ stickers_meaning (commands.Delete uri (Some name)) m =
     λ i. stickers_meaning (commands.Delete (sym c.as_str.ensures i) (Some (sym c.as_str-2.ensures i))) m in
     also _ _ _ _ _ _ _
-    (here ∙ deleted m uri (Some name) song.0 ∙ (λ i. edits (OfSticker (Delete (sym song.1 i) (sym given.1 i))) [] m)) c.edit.ensures.performs
+    (here ∙ deleted m uri (Some name) song.0 ∙ (λ i. edits (OfSticker (Delete (sym song.1 i) (sym given.1 i))) [] m))
+    c.edit.ensures.performs

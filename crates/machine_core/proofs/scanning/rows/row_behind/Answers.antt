@@ -10,7 +10,7 @@ pub loop-change-preserved : goal.loop-change-preserved
 loop-change-preserved c =
     let uri = c.args.uri.now in
     let key = uri_of c.change-item.result in
-    let step = row_step c.args.songs.now c.args.told.now c.loop-change.change-index c.change-item.result uri c.len-rows.ensures.within
+    let step = row_step c.args.songs.now c.args.told.now c.loop-change.change-index c.change-item.result uri c.get.ensures.within
     c.requires.fit c.loop-change-test.true c.change-item.is in
     let told : c.eq.result ≡ bytes_eq uri key = c.eq.ensures ∙ ap (bytes_eq uri) c.uri.ensures in
     elim c.if-eq.branch [

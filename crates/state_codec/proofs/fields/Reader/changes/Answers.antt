@@ -1,4 +1,4 @@
-use Rattle.std.proofs.Common.{◌≡◌, [], length, true, ap, ◌∙◌, arith}
+use Rattle.std.proofs.Common.{◌≡◌, [], length, ap, ◌∙◌, arith}
 use Rattle.state_codec.specs.Changes.{is_count}
 use Rattle.state_codec.specs.ReadingRows.{change_at}
 use Rattle.state_codec.proofs.ItemLaws.{items_count}

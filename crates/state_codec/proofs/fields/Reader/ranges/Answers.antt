@@ -1,4 +1,4 @@
-use Rattle.std.proofs.Common.{◌≡◌, ℕ, List, [], true, ap, ◌∙◌, arith}
+use Rattle.std.proofs.Common.{◌≡◌, [], true, ap, ◌∙◌, arith}
 use Rattle.std.proofs.lemmas.Bool.{le-leb}
 use Rattle.state_codec.specs.Fields.{pair_at}
 use Rattle.state_codec.specs.Numbers.{are_few, are_ranges}

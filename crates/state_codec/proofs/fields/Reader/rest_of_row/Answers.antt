@@ -1,4 +1,4 @@
-use Rattle.std.proofs.Common.{◌≡◌, ℕ, Bool, true, false, cond, Some, None, Ok, ap, sym}
+use Rattle.std.proofs.Common.{◌≡◌, Bool, true, false, cond, Some, None, Ok, ap, sym}
 use Rattle.std.specs.Prelude.{Option}
 use Rattle.song_db.specs.Row.{Row, six_texts, is_within_limits}
 use Rattle.song_db.specs.Uri.{is_uri}

@@ -17,4 +17,4 @@ last_decides (row ∷ next ∷ rows) uri last is =
 pub returns-in-Some : goal.returns-in-Some
 returns-in-Some c = c.lt.ensures ∙ ap (λ (text : List ℕ). is_lt (slice_cmp nat_cmp text c.args.uri.now)) c.uri.ensures.text
     ∙ last_decides c.rows.result.now c.args.uri.now c.in-Some.last.now c.in-Some.ensures.value
-    ∙ ap (λ (rows : List Row). ends_before rows c.args.uri.now) c.rows.ensures
+    ∙ ap (λ (rows : List Row). ends_before rows c.args.uri.now) c.rows.ensures.rows

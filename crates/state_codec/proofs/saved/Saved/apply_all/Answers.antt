@@ -12,7 +12,7 @@ pub loop-reader-smaller : goal.loop-reader-smaller
 loop-reader-smaller c = falls c.args.layout _ _ _ _ c.in-Ok.op _ _ c.in-Ok.ensures c.loop-reader.invariant
 
 pub loop-reader-preserved : goal.loop-reader-preserved
-loop-reader-preserved c = goes_on c.args.layout _ _ _ _ _ c.in-Ok.op _ _ c.in-Ok.ensures c.in-Ok-apply.ensures.ok c.loop-reader.invariant
+loop-reader-preserved c = goes_on c.args.layout _ _ _ _ _ c.in-Ok.op _ _ c.in-Ok.ensures c.in-Ok-apply_read.ensures.ok c.loop-reader.invariant
 
 pub returns-in-Err : goal.returns-in-Err
 returns-in-Err c =
@@ -20,12 +20,12 @@ returns-in-Err c =
     let some_left : 0 < length c.loop-reader.reader.rest.now = omega (arith, eqb-false _ _ more) in
     rw c.bad_op.ensures (bad c.args.layout _ _ _ _ _ c.in-Err.error _ some_left c.in-Err.ensures c.loop-reader.invariant)
 
-pub returns-in-Err-apply : goal.returns-in-Err-apply
-returns-in-Err-apply c =
+pub returns-in-Err-apply_read : goal.returns-in-Err-apply_read
+returns-in-Err-apply_read c =
     let more : eqb (length c.loop-reader.reader.rest.now) 0 ≡ false = cc in
     let some_left : 0 < length c.loop-reader.reader.rest.now = omega (arith, eqb-false _ _ more) in
-    rw c.not_applied.ensures (refused c.args.layout _ _ _ _ _ c.in-Ok.op _ c.in-Err-apply.error _ some_left c.in-Ok.ensures
-    c.in-Err-apply.ensures.answer
+    rw c.not_applied.ensures (refused c.args.layout _ _ _ _ _ c.in-Ok.op _ c.in-Err-apply_read.error _ some_left c.in-Ok.ensures
+    c.in-Err-apply_read.ensures.answer
     c.loop-reader.invariant)
 
 pub returns : goal.returns

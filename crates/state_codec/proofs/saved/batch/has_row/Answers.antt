@@ -8,7 +8,7 @@ use Rattle.state_codec.proofs.saved.batch.has_row.Goals.{then-eq, else-eq}
 pub loop-change-preserved : goal.loop-change-preserved
 loop-change-preserved c =
     let step = has_step c.args.songs.now c.args.changes.now c.loop-change.change-index c.change-item.result c.args.uri.now
-    c.len-rows.ensures.within c.requires c.loop-change-test.true c.change-item.is in
+    c.row_number.ensures.within c.requires c.loop-change-test.true c.change-item.is in
     let told : c.eq.result ≡ bytes_eq c.args.uri.now (uri_of c.change-item.result) =
     c.eq.ensures ∙ ap (bytes_eq c.args.uri.now) c.uri.ensures in
     elim c.if-eq.branch [

@@ -13,7 +13,7 @@ returns c =
     let s = c.args.saved.now in
     let parts = parts_len s c.requires in
     let rows : c.rows_len-rows.result ≡ length (flat_map row_bytes s.songs) =
-    c.rows_len-rows.ensures.len ∙ ap (λ (rows : List Row). length (flat_map row_bytes rows)) (c.rows.ensures ∙ c.songs.ensures) in
+    c.rows_len-rows.ensures.len ∙ ap (λ (rows : List Row). length (flat_map row_bytes rows)) (c.rows.ensures.rows ∙ c.songs.ensures) in
     let entries : c.len-entries.result ≡ length s.queue.entries = cc in
     let lists : c.lists_len-lists.result ≡ length (flat_map playlist_bytes s.lists) =
     c.lists_len-lists.ensures.len ∙ ap (λ (lists : Stored). length (flat_map playlist_bytes lists)) c.lists.ensures in

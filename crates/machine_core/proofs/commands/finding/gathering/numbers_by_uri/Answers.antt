@@ -22,7 +22,7 @@ returns-in-Some c =
     let search = c.args.search.now in
     let rows = c.rows-rows.result.now in
     let is = ap (numbers_in rows) (found_by_uri search c.of_window-part.result rows c.requires c.of_window-part.ensures)
-    ∙ ap (λ (songs : List Row). numbers_in songs (found search songs)) c.rows-rows.ensures in
+    ∙ ap (λ (songs : List Row). numbers_in songs (found search songs)) c.rows-rows.ensures.rows in
     record {
       numbers = IfOk-weaker c.matching_numbers.result _ _ (λ numbers h. h ∙ is) c.matching_numbers.ensures.numbers;
       few = c.matching_numbers.ensures.few;

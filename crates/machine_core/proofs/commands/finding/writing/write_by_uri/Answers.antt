@@ -12,5 +12,5 @@ returns-in-Folded c =
     let rows = c.rows.result.now in
     writes_same _ _ _ _ _ c.write_matching.ensures (ap (flat_map song_lines)
     (found_by_uri search c.of_window-part.result rows c.requires
-    (λ some few. c.of_window-part.ensures some (omega (arith, few, c.len.ensures.count, ap length c.rows.ensures)))
-    ∙ ap (found search) c.rows.ensures))
+    (λ some few. c.of_window-part.ensures some (omega (arith, few, c.len.ensures.count, ap length c.rows.ensures.rows)))
+    ∙ ap (found search) c.rows.ensures.rows))

@@ -5,8 +5,8 @@ use Rattle.state_codec.specs.OpsSongs.{have_rows, uris_at}
 use Rattle.state_codec.proofs.Edits.{named_from, queue_none, refused_add, length-uris_at}
 use Rattle.state_codec.proofs.saved.parts.SavedParts.add_songs.Goals as goal
 
-pub returns-in_err-add_at : goal.returns-in_err-add_at
-returns-in_err-add_at c =
+pub returns-in_err-add_at-clause-edit : goal.returns-in_err-add_at-clause-edit
+returns-in_err-add_at-clause-edit c =
     let songs = c.args.self.now.songs in
     let q = c.args.self.now.queue in
     let p = err_from_is_err_and c.from_residual-in_err-add_at.result c.from_residual-in_err-add_at.ensures.1 in

@@ -10,20 +10,20 @@ use Rattle.state_codec.proofs.BatchFollowed.{queue_followed, stickers_followed}
 use Rattle.state_codec.proofs.Edits.{check_none}
 use Rattle.state_codec.proofs.saved.parts.SavedParts.edit_rows.Goals as goal
 
-pub returns : goal.returns
-returns c =
+pub returns-clause-edit : goal.returns-clause-edit
+returns-clause-edit c =
     let s : SavedState = state_of c.args.self.now in
-    let none : rows_refusal c.args.changes s ≡ None = check_none _ _ (rw c.as_slice.ensures.changes at c.in_ok-check_rows.ensures) in
-    let drops : IsPermutation (drops_of c.args.changes) c.new-dropped.result =
+    let none : rows_refusal c.args.changes.now s ≡ None = check_none _ _ (rw c.as_slice.ensures.changes at c.in_ok-check_rows.ensures) in
+    let drops : IsPermutation (drops_of c.args.changes.now) c.new-dropped.result =
     rw (c.in_ok-dropped_by.ensures, c.as_slice-2.ensures.changes) at c.new-dropped.ensures in
-    let others : IsPermutation (changed_by s.songs c.args.changes) c.new-changed.result =
+    let others : IsPermutation (changed_by s.songs c.args.changes.now) c.new-changed.result =
     rw (c.in_ok-changed_by.ensures, c.as_slice-3.ensures.changes) at c.new-changed.ensures in
-    let songs : c.apply_batch.new.self ≡ after_batch s.songs c.args.changes =
-    c.in_ok-apply_batch.ensures.rows ∙ ap (after_batch s.songs) c.into_vec.ensures.changes in
-    let queue : c.follow_batch.new.self ≡ with_batch s.queue (drops_of c.args.changes)
-    (changed_uris s.songs (after_batch s.songs c.args.changes)) = c.follow_batch.ensures
-    ∙ queue_followed s c.args.changes c.new-dropped.result c.new-changed.result c.requires drops others in
-    let stickers : c.drop_songs.new.stickers ≡ without_songs s.stickers (drops_of c.args.changes) =
+    let songs : c.apply_batch.new.self ≡ after_batch s.songs c.args.changes.now =
+    c.in_ok-apply_batch.ensures.rows ∙ ap (after_batch s.songs) (c.into_vec.ensures.changes ∙ c.in_ok-copies.ensures) in
+    let queue : c.follow_batch.new.self ≡ with_batch s.queue (drops_of c.args.changes.now)
+    (changed_uris s.songs (after_batch s.songs c.args.changes.now)) = c.follow_batch.ensures
+    ∙ queue_followed s c.args.changes.now c.new-dropped.result c.new-changed.result c.requires drops others in
+    let stickers : c.drop_songs.new.stickers ≡ without_songs s.stickers (drops_of c.args.changes.now) =
     c.drop_songs.ensures ∙ ap (without_songs s.stickers) c.as_slice-4.ensures
-    ∙ stickers_followed (drops_of c.args.changes) c.new-dropped.result s.stickers drops in
+    ∙ stickers_followed (drops_of c.args.changes.now) c.new-dropped.result s.stickers drops in
     rw none (record { ok = rw (songs, queue, stickers) refl; err = tt; answer = tt })

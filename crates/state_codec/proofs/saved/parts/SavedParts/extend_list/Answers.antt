@@ -5,8 +5,8 @@ use Rattle.state_codec.specs.OpsSongs.{have_rows, uris_at}
 use Rattle.state_codec.proofs.Edits.{named_from, lists_none, refused_extend, length-uris_at}
 use Rattle.state_codec.proofs.saved.parts.SavedParts.extend_list.Goals as goal
 
-pub returns-in_err-add : goal.returns-in_err-add
-returns-in_err-add c =
+pub returns-in_err-add-clause-edit : goal.returns-in_err-add-clause-edit
+returns-in_err-add-clause-edit c =
     let songs = c.args.self.now.songs in
     let lists = c.args.self.now.lists in
     let p = err_from_is_err_and c.from_residual-in_err-add.result c.from_residual-in_err-add.ensures.1 in
