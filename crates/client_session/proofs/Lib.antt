@@ -1,3 +1,4 @@
+pub mod ByteLaws
 pub mod Newlines
 pub mod Streams
 pub mod Steps

@@ -1,7 +1,7 @@
 -- Lines are read in one way, and that is how they are taken one by one.
 use Rattle.std.proofs.Common.{◌≡◌, ◌≢◌, ◌⊎◌, inl, inr, ℕ, ◌+◌, ◌<◌, ◌≤◌, Bool, true, false, cond, List, [], ◌∷◌, ◌++◌, length}
 use Rattle.std.proofs.Common.{Option, Some, None, refl, sym, ap, ◌∙◌, subst, arith, append_assoc, length-append}
-use Rattle.std.specs.List.{concat}
+use Rattle.std.specs.List.{concat, AllByRecursion}
 use Rattle.std.specs.Option.{option_to_list}
 use Rattle.std.proofs.lemmas.Bool.{le-leb, lt-ltb, and_from}
 use Rattle.std.proofs.lemmas.List.{append-nil}
@@ -14,8 +14,9 @@ use Rattle.command_text.specs.Control.{control_of_line}
 use Rattle.client_session.specs.declared.listing.Listing.{Listing}
 use Rattle.client_session.specs.declared.listing.Listing.TheVariants.{Outside, Inside, Overlong}
 use Rattle.client_session.specs.Lists.{command_limit, list_limit, has_room, list_of, begun, alone, ends_list, after_line, made_whole, IsList}
-use Rattle.client_session.specs.Reading.{Begins, Ends, AreCommands, IsLineOf, IsOpened, IsAsked, AreAsked, IsLeft, AreRead}
-use Rattle.client_session.specs.Requests.{after_lines, requests_in}
+use Rattle.client_session.specs.Reading.{Begins, Ends, AreCommands, IsLineOf, IsOpened, IsAsked, IsOfLines, AreAsked, IsLeft, AreRead}
+use Rattle.client_session.specs.Lines.{taken_lines}
+use Rattle.client_session.specs.Requests.{after_lines, brought, requests_in, requests_of}
 use Rattle.client_session.proofs.ListLaws.{one_more}
 
 -- ---- lines taken one by one
@@ -315,3 +316,31 @@ both_read (line ∷ lines) =
 
 pub are_read : (lines : List (List ℕ)) → AreRead lines (requests_in Outside lines) (after_lines Outside lines)
 are_read lines = (both_read lines).0
+
+-- ---- what each request of a stream is
+
+of_line : (request : Request) (line : List ℕ) → IsLineOf request line → IsOfLines request
+of_line request line (inl (is, named)) = subst IsOfLines (sym is) tt
+of_line request line (inr (is, not_noidle, no_begin, no_ok_begin)) = subst IsOfLines (sym is) (not_noidle, no_begin, no_ok_begin)
+
+of_list : (separated : Bool) (commands : List (List ℕ)) → AreCommands commands → IsList commands → IsOfLines (list_of separated commands)
+of_list false commands each within = (each, within)
+of_list true commands each within = (each, within)
+
+of_lines : (request : Request) (lines : List (List ℕ)) → IsAsked request lines → IsOfLines request
+of_lines request lines (inl (line, only, is)) = of_line request line is
+of_lines request lines (inr whole) =
+    subst IsOfLines (sym whole.asked) (of_list whole.separated whole.commands whole.opened.each whole.within)
+
+each_of_lines : (asked : List Request) (lines : List (List ℕ)) → AreAsked asked lines → AllByRecursion IsOfLines asked
+each_of_lines [] lines none = tt
+each_of_lines (request ∷ asked) lines (own, more, parts, first, others) = (of_lines request own first, each_of_lines asked more others)
+
+asked_of_lines : (asked : List Request) (lines : List (List ℕ)) (left : Listing) → AreRead lines asked left → AllByRecursion IsOfLines asked
+asked_of_lines asked lines left (front, rest, parts, read, remains) = each_of_lines asked front read
+
+pub stream_of_lines : (stream : List ℕ) → AllByRecursion IsOfLines (requests_of stream)
+unfolding brought
+stream_of_lines stream =
+    asked_of_lines (requests_in Outside (taken_lines stream)) (taken_lines stream) (after_lines Outside (taken_lines stream))
+    (are_read (taken_lines stream))

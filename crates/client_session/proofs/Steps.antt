@@ -1,9 +1,8 @@
 -- What the loop over a piece needs of the requests and what is left.
 use Rattle.std.proofs.Common.{◌≡◌, ℕ, ◌+◌, ◌-◌, ◌<◌, ◌≤◌, List, [], ◌∷◌, ◌++◌, length, take, drop, get_or, refl, sym, ◌∙◌, ap, subst, arith}
-use Rattle.std.proofs.Common.{append_assoc, length-append, Bool, true, false, cond, nat_lt, Option, Some, None, Result, Ok, Err}
+use Rattle.std.proofs.Common.{append_assoc, length-append, Bool, true, false, cond, nat_lt, Option, Some, None, Result, Err}
 use Rattle.std.specs.List.{flat_map}
 use Rattle.std.specs.Option.{option_to_list}
-use Rattle.std.specs.Result.{IsErrAnd}
 use Rattle.std.proofs.lemmas.List.{take_all, take-append-drop, drop_more, length-take-le, append-nil}
 use Rattle.command_text.specs.declared.request.Request.{Request}
 use Rattle.client_session.specs.declared.listing.Listing.{Listing}
@@ -12,7 +11,7 @@ use Rattle.client_session.specs.declared.refusal.SessionError.{SessionError}
 use Rattle.client_session.specs.declared.refusal.SessionError.TheVariants.{NoMemory, LineTooLong, ListTooLong, OutputTooLong}
 use Rattle.client_session.specs.Lines.{newline, line_limit, ended, taken_lines, HasNoNewline, IsLine, IsUnended, IsLineEnd}
 use Rattle.client_session.specs.Lists.{after_line, made_whole}
-use Rattle.client_session.specs.Requests.{after_lines, requests_in, rest_of, Unread, unread, brought, left_by, fault_behind, fault_of}
+use Rattle.client_session.specs.Requests.{after_lines, requests_in, rest_of, Unread, unread, brought, left_by, fault_behind}
 use Rattle.client_session.specs.Requests.{fault_before, fault_at, Meets}
 use Rattle.client_session.proofs.Newlines.{HasNoNewline-append, IsUnended-append}
 use Rattle.client_session.proofs.Streams.{taken_lines-line, taken_lines-unended, rest_behind}
@@ -74,10 +73,6 @@ pub record IsCut (left : Unread) (piece : List ℕ) (asked : List Request) (list
   pub unended : IsUnended pending
   pub requests : asked ++ brought (unread listing pending) rest ≡ brought left piece
   pub behind : left_by (unread listing pending) rest ≡ left_by left piece
-
-pub cut_start : (listing : Listing) (pending piece : List ℕ) → IsUnended pending
-    → IsCut (unread listing pending) piece [] listing pending piece
-cut_start listing pending piece h = record { unended = h; requests = refl; behind = refl }
 
 pub cut_step : (left : Unread) (piece : List ℕ) (asked : List Request) (listing : Listing) (pending rest : List ℕ) (k : ℕ)
     → IsCut left piece asked listing pending rest → IsLineEnd (length pending) rest k
@@ -154,8 +149,3 @@ meets_fault fault listing n NoMemory r same is answer = subst (Meets fault) (sym
 meets_fault fault listing n LineTooLong r same is answer = subst (Meets fault) (sym answer) (same ∙ is)
 meets_fault fault listing n ListTooLong r same is answer = subst (Meets fault) (sym answer) (same ∙ is)
 meets_fault fault listing n OutputTooLong r same is answer = absurd (no_output_fault listing n is)
-
--- a call that memory alone refused
-pub only_memory : {A : Type 0} (fault : Option SessionError) (r : Result A SessionError) → IsErrAnd r (λ e. e ≡ NoMemory) → Meets fault r
-only_memory fault (Ok x) h = absurd h
-only_memory {A = A} fault (Err e) h = subst (λ (v : SessionError). Meets {A = A} fault (Err v)) (sym h) tt

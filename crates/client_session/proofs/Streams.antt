@@ -1,5 +1,5 @@
 -- A stream is its lines and the rest, and a cut in it changes neither.
-use Rattle.std.proofs.Common.{◌≡◌, ◌≢◌, ℕ, zero, suc, ◌+◌, ◌≤◌, List, [], ◌∷◌, ◌++◌, length, take, drop, map, Bool, true, false, cond, ◌==◌}
+use Rattle.std.proofs.Common.{◌≡◌, ◌≢◌, ℕ, zero, suc, ◌+◌, ◌≤◌, List, [], ◌∷◌, ◌++◌, length, take, drop, Bool, true, false, cond, ◌==◌}
 use Rattle.std.proofs.Common.{nat_le, refl, sym, ◌∙◌, ap, subst, arith, append_assoc, length-append}
 use Rattle.std.specs.List.{AllByRecursion, take_while, flat_map}
 use Rattle.std.proofs.lemmas.Bool.{ne_eqb, eqb-true, eqb-false, le-leb, lt-leb, leb-true}
@@ -53,12 +53,6 @@ none_short (line ∷ lines) h = take_while-cons is_short line lines
 
 pub taken_lines-unended : (xs : List ℕ) → IsUnended xs → taken_lines xs ≡ []
 taken_lines-unended xs h = none_short (lines_of xs) (first_is_long (line_limit + 1) xs h)
-
--- each line that has ended, and what follows the last
-record Parts (s : List ℕ) : Type 0 where
-  rest : List ℕ
-  whole : s ≡ flat_map ended (lines_of s) ++ rest
-  each : AllByRecursion HasNoNewline (lines_of s)
 
 -- the same of a list of lines that isn't yet known to be those of the bytes
 record Covers (s : List ℕ) (lines : List (List ℕ)) : Type 0 where

@@ -1,4 +1,4 @@
--- What lines ask for, as a relation between lines, requests and what is left: each request stands on lines of its own, one behind the other.
+-- What lines ask for, as a relation between lines, requests and what is left: each request stands on lines of its own, one behind another.
 use Rattle.std.specs.Prelude.{◌≡◌, ◌≢◌, ◌⊎◌, ℕ, Bool, true, false, List, [], ◌∷◌, ◌++◌, Some}
 use Rattle.std.specs.List.{AllByRecursion}
 use Rattle.command_text.specs.declared.control.ControlLine.TheVariants.{ListBegin, OkListBegin, ListEnd, Noidle}
@@ -50,6 +50,14 @@ pub record IsWholeList (request : Request) (lines : List (List ℕ)) : Type 0 wh
 -- the lines of one request
 abbrev pub IsAsked : Request → List (List ℕ) → Type 0
 IsAsked request lines = ((line : List ℕ) × (lines ≡ line ∷ []) × IsLineOf request line) ⊎ IsWholeList request lines
+
+-- a request as lines make it: of a single line that neither begins a list nor is `noidle`; or of a list within its limits, none of whose lines ends one
+abbrev pub IsOfLines : Request → Type 0
+IsOfLines (requests.Single line) =
+    (control_of_line line ≢ Some Noidle) × (control_of_line line ≢ Some ListBegin) × (control_of_line line ≢ Some OkListBegin)
+IsOfLines (requests.List lines) = AreCommands lines × IsList lines
+IsOfLines (requests.OkList lines) = AreCommands lines × IsList lines
+IsOfLines requests.Noidle = Unit {0}
 
 -- lines that are whole requests, in their order
 abbrev pub AreAsked : List Request → List (List ℕ) → Type 0

@@ -1,3 +1,4 @@
+// Where the lines of a stream end, and what requests they make.
 ghost use Rattle.std.specs.Prelude.{◌≡◌, ◌+◌, ◌-◌, [], ◌++◌, take, option_to_list, MatchOption, IfOk, OnOk};
 ghost use Rattle.client_session.specs.Lines.{line_limit, HasNoNewline, IsUnended, IsLineEnd};
 ghost use Rattle.client_session.specs.Lists.{after_line, made_whole, IsWithinLimits};

@@ -1,8 +1,8 @@
 //! What holds of every stream.
 ghost use Rattle.std.specs.Prelude.{◌≡◌, ℕ, List, []};
-ghost use Rattle.std.specs.List.{concat};
+ghost use Rattle.std.specs.List.{concat, AllByRecursion};
 ghost use Rattle.client_session.specs.Lines.{taken_lines};
-ghost use Rattle.client_session.specs.Reading.{AreRead};
+ghost use Rattle.client_session.specs.Reading.{AreRead, IsOfLines};
 ghost use Rattle.client_session.specs.Requests.{after_lines, nothing, requests_in, requests_of, rest_of, requests_in_pieces, IsParted};
 ghost use Rattle.client_session.specs.declared.listing.Listing.{Listing};
 ghost use Rattle.client_session.specs.declared.listing.Listing.TheVariants.{Outside};
@@ -26,4 +26,10 @@ pub fn one_reading()
     ensures read { (lines : List (List ℕ)) → AreRead lines (requests_in Outside lines) (after_lines Outside lines) }
     ensures once { (lines : List (List ℕ)) (asked : List Request) (left : Listing) → AreRead lines asked left
         → (asked ≡ requests_in Outside lines) × (left ≡ after_lines Outside lines) }
+{}
+
+/// No request of a stream is a single line that begins a list or is `noidle`, and no line of a list ends one: these are the
+/// session's own.
+pub fn requests_have_own_lines()
+    ensures { (stream : List ℕ) → AllByRecursion IsOfLines (requests_of stream) }
 {}

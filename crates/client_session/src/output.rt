@@ -1,3 +1,4 @@
+// The bytes that are still to be sent.
 ghost use Rattle.std.specs.Prelude.{◌≡◌, ◌≤◌, length, drop};
 
 use bytes::BytesMut;

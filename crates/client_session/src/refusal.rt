@@ -1,3 +1,4 @@
+// Why a session was closed.
 ghost use Rattle.std.specs.Prelude.{◌≡◌};
 ghost use Rattle.client_session.specs.Refusal.{number_of};
 ghost use Rattle.client_session.specs.declared.refusal.SessionError.TheVariants.{NoMemory};

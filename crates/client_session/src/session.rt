@@ -1,7 +1,8 @@
-ghost use Rattle.std.specs.Prelude.{◌≡◌, ◌+◌, ◌<◌, ◌≤◌, ◌↔◌, [], ◌++◌, length, take, drop, None, IsTrue, IsSome, IfSome};
+// One client's side of a stream: what came, and what is to be sent.
+ghost use Rattle.std.specs.Prelude.{◌≡◌, ◌+◌, ◌<◌, ◌≤◌, ◌↔◌, [], ◌++◌, length, take, drop, None, IfSome};
 ghost use Rattle.std.specs.Prelude.{IfOk, IfErr, IsErrOf, OnOk, OnErr, ◌⊎◌};
 ghost use Rattle.std.specs.Io.KnownBytes.{Appends, Keeps, append_known};
-ghost use Rattle.client_session.specs.Requests.{brought, fault_at, left_by, left_of, nothing, requests_of, Continues, Meets, RefusesExactly};
+ghost use Rattle.client_session.specs.Requests.{brought, fault_at, left_by, left_of, requests_of, Continues, Meets, RefusesExactly};
 ghost use Rattle.client_session.specs.Session.{fresh, closed_by, output_limit, IsHeld};
 
 use crate::OUTPUT_LIMIT;
@@ -55,20 +56,6 @@ impl Session {
             output: BytesMut::new(alloc),
             closed: None,
         }
-    }
-
-    pub fn is_closed(&self) -> bool
-        ensures refused { IsTrue result ↔ IsSome self.now.closed }
-        ensures spent { IsSome self.now.closed → (self.now.left ≡ nothing) × (self.now.queued ≡ []) }
-    {
-        self.closed.is_some()
-    }
-
-    /// The refusal that closed the session; `None` while it is open.
-    pub fn refusal(&self) -> Option<SessionError>
-        ensures { result ≡ self.now.closed }
-    {
-        self.closed
     }
 
     /// How many bytes are still to be sent.

@@ -16,3 +16,6 @@ pub mod ControlLaws
 pub mod LinesLaws
 pub mod NameSearch
 mod WordsText
+mod SearchParts
+mod SearchCounts
+mod FilterFaults

@@ -7,7 +7,8 @@ use Rattle.std.proofs.lemmas.Bool.{or_cases, and_from, eqb-true}
 use Rattle.std.proofs.lemmas.List.{append-nil, get_or-append-add, length-append}
 use Rattle.std.proofs.lemmas.Str.{IsUtf8-append, IsUtf8-take, IsUtf8-drop, IsUtf8-from_is_utf8, is_utf8-from_IsUtf8}
 use Rattle.std.proofs.lemmas.Str.{IsCharBoundary-before_ascii, IsCharBoundary-after_ascii}
-use Rattle.command_text.specs.Words.{quote, backslash, carriage_return, is_blank, words_from, then_words, without_return, words_of, Standing}
+use Rattle.command_text.specs.Words.{quote, backslash, carriage_return, is_blank, words_from, then_words, without_return, words_of}
+use Rattle.command_text.specs.Words.{Standing}
 use Rattle.command_text.specs.Words.Standing.{Between, Plain, Quoted, Escaped, Closed}
 
 abbrev AreText : List (List ℕ) → Type 0

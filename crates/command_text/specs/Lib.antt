@@ -8,7 +8,9 @@ pub mod Stops
 pub mod Settings
 pub mod Database
 pub mod Queue
+pub mod BadFilters
 pub mod Finding
+pub mod Search
 pub mod Lists
 pub mod Stickers
 pub mod Playing

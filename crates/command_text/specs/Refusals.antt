@@ -1,4 +1,4 @@
--- The code, the text and the number of each refusal, one equation a refusal.
+-- The code, the number and the text of each refusal: one row a refusal of a command.
 use Rattle.std.specs.Prelude.{ℕ, List, [], ◌++◌, Option, Some, None, codes}
 use Rattle.std.specs.Fmt.{decimal}
 use Rattle.command_text.specs.declared.name.CommandName.{CommandName}
@@ -25,31 +25,58 @@ code_number UpdateAlready = 54
 code_number PlayerSync = 55
 code_number Exist = 56
 
+-- a text between double quotes, behind another
+abbrev pub quoting : List ℕ → List ℕ → List ℕ
+quoting before text = before ++ (codes "\"" ++ (text ++ codes "\""))
+
+-- what is told of a refusal of a command: its code, its number, where it has one, and its text at a command of this name
+pub record CommandRow : Type 0 where
+  pub code : AckCode
+  pub number : Option ℕ
+  pub text : CommandName → List ℕ
+
+-- a text that does not speak of the command
+abbrev pub row : AckCode → Option ℕ → List ℕ → CommandRow
+row code number text = record { code = code; number = number; text = λ name. text }
+
+abbrev pub row_of : CommandRefusal → CommandRow
+row_of command.NotAllowedInList = row Argument None (codes "not allowed in a command list")
+row_of command.NotInList = row NotList None (codes "not in a command list")
+row_of command.WrongCount = record {
+  code = Argument;
+  number = Some 37;
+  text = λ name. quoting (codes "wrong number of arguments for ") (name_text name);
+}
+row_of (command.BadArgument place) = row Argument (Some 38) (codes "bad argument " ++ decimal place)
+row_of command.BadFilter = row Argument (Some 19) (codes "bad filter")
+row_of (command.UnknownTag tag) = row Argument (Some 20) (quoting (codes "unknown tag ") tag)
+row_of command.FilterTooDeep = row Argument (Some 21) (codes "filter too deep")
+row_of command.BadIndex = row Argument (Some 22) (codes "Bad song index")
+row_of command.BadPlaylistName = row Argument (Some 26) (codes "bad playlist name")
+row_of command.BadStickerName = row Argument (Some 31) (codes "bad sticker name")
+row_of command.NoSuchUri = row NoExist (Some 17) (codes "No such file or directory")
+row_of command.NoSuchSong = row NoExist (Some 23) (codes "No such song")
+row_of command.NoSuchPlaylist = row NoExist (Some 27) (codes "No such playlist")
+row_of command.NoSuchSticker = row NoExist (Some 30) (codes "no such sticker")
+row_of command.NotPlaying = row PlayerSync (Some 33) (codes "Not playing")
+row_of command.NoCurrentSong = row PlayerSync None (codes "No current song")
+row_of command.PlaylistExists = row Exist (Some 28) (codes "Playlist already exists")
+row_of command.AlreadyUpdating = row UpdateAlready None (codes "already updating")
+row_of command.QueueFull = row PlaylistMax (Some 24) (codes "Queue is full")
+row_of command.IdsSpent = row PlaylistMax (Some 25) (codes "Song ids are spent")
+row_of command.PlaylistsFull = row PlaylistMax (Some 29) (codes "Too many playlists or entries")
+row_of command.StickersFull = row System (Some 32) (codes "Too many stickers")
+row_of command.RequestTooLarge = row System None (codes "request too large")
+row_of command.OutOfMemory = row System (Some 7) (codes "out of memory")
+
 abbrev pub command_code_of : CommandRefusal → AckCode
-command_code_of command.NotAllowedInList = Argument
-command_code_of command.NotInList = NotList
-command_code_of command.WrongCount = Argument
-command_code_of (command.BadArgument place) = Argument
-command_code_of command.BadFilter = Argument
-command_code_of (command.UnknownTag tag) = Argument
-command_code_of command.FilterTooDeep = Argument
-command_code_of command.BadIndex = Argument
-command_code_of command.BadPlaylistName = Argument
-command_code_of command.BadStickerName = Argument
-command_code_of command.NoSuchUri = NoExist
-command_code_of command.NoSuchSong = NoExist
-command_code_of command.NoSuchPlaylist = NoExist
-command_code_of command.NoSuchSticker = NoExist
-command_code_of command.NotPlaying = PlayerSync
-command_code_of command.NoCurrentSong = PlayerSync
-command_code_of command.PlaylistExists = Exist
-command_code_of command.AlreadyUpdating = UpdateAlready
-command_code_of command.QueueFull = PlaylistMax
-command_code_of command.IdsSpent = PlaylistMax
-command_code_of command.PlaylistsFull = PlaylistMax
-command_code_of command.StickersFull = System
-command_code_of command.RequestTooLarge = System
-command_code_of command.OutOfMemory = System
+command_code_of refusal = (row_of refusal).code
+
+abbrev pub command_number_of : CommandRefusal → Option ℕ
+command_number_of refusal = (row_of refusal).number
+
+abbrev pub command_text_of : CommandName → CommandRefusal → List ℕ
+command_text_of name refusal = (row_of refusal).text name
 
 abbrev pub code_of : Refusal → AckCode
 code_of line.InvalidUtf8 = Argument
@@ -58,36 +85,6 @@ code_of line.NoCommand = Unknown
 code_of (line.UnknownCommand word) = Unknown
 code_of line.OutOfMemory = System
 code_of (line.OfCommand name refusal) = command_code_of refusal
-
--- a text between double quotes, behind another
-abbrev pub quoting : List ℕ → List ℕ → List ℕ
-quoting before text = before ++ (codes "\"" ++ (text ++ codes "\""))
-
-abbrev pub command_text_of : CommandName → CommandRefusal → List ℕ
-command_text_of name command.NotAllowedInList = codes "not allowed in a command list"
-command_text_of name command.NotInList = codes "not in a command list"
-command_text_of name command.WrongCount = quoting (codes "wrong number of arguments for ") (name_text name)
-command_text_of name (command.BadArgument place) = codes "bad argument " ++ decimal place
-command_text_of name command.BadFilter = codes "bad filter"
-command_text_of name (command.UnknownTag tag) = quoting (codes "unknown tag ") tag
-command_text_of name command.FilterTooDeep = codes "filter too deep"
-command_text_of name command.BadIndex = codes "Bad song index"
-command_text_of name command.BadPlaylistName = codes "bad playlist name"
-command_text_of name command.BadStickerName = codes "bad sticker name"
-command_text_of name command.NoSuchUri = codes "No such file or directory"
-command_text_of name command.NoSuchSong = codes "No such song"
-command_text_of name command.NoSuchPlaylist = codes "No such playlist"
-command_text_of name command.NoSuchSticker = codes "no such sticker"
-command_text_of name command.NotPlaying = codes "Not playing"
-command_text_of name command.NoCurrentSong = codes "No current song"
-command_text_of name command.PlaylistExists = codes "Playlist already exists"
-command_text_of name command.AlreadyUpdating = codes "already updating"
-command_text_of name command.QueueFull = codes "Queue is full"
-command_text_of name command.IdsSpent = codes "Song ids are spent"
-command_text_of name command.PlaylistsFull = codes "Too many playlists or entries"
-command_text_of name command.StickersFull = codes "Too many stickers"
-command_text_of name command.RequestTooLarge = codes "request too large"
-command_text_of name command.OutOfMemory = codes "out of memory"
 
 abbrev pub text_of : Refusal → List ℕ
 text_of line.InvalidUtf8 = codes "invalid UTF-8"
@@ -111,33 +108,7 @@ abbrev pub braces : Option CommandName → List ℕ
 braces None = []
 braces (Some name) = name_text name
 
--- the numbers of the refusals, where they have one
-abbrev pub command_number_of : CommandRefusal → Option ℕ
-command_number_of command.NotAllowedInList = None
-command_number_of command.NotInList = None
-command_number_of command.WrongCount = Some 37
-command_number_of (command.BadArgument place) = Some 38
-command_number_of command.BadFilter = Some 19
-command_number_of (command.UnknownTag tag) = Some 20
-command_number_of command.FilterTooDeep = Some 21
-command_number_of command.BadIndex = Some 22
-command_number_of command.BadPlaylistName = Some 26
-command_number_of command.BadStickerName = Some 31
-command_number_of command.NoSuchUri = Some 17
-command_number_of command.NoSuchSong = Some 23
-command_number_of command.NoSuchPlaylist = Some 27
-command_number_of command.NoSuchSticker = Some 30
-command_number_of command.NotPlaying = Some 33
-command_number_of command.NoCurrentSong = None
-command_number_of command.PlaylistExists = Some 28
-command_number_of command.AlreadyUpdating = None
-command_number_of command.QueueFull = Some 24
-command_number_of command.IdsSpent = Some 25
-command_number_of command.PlaylistsFull = Some 29
-command_number_of command.StickersFull = Some 32
-command_number_of command.RequestTooLarge = None
-command_number_of command.OutOfMemory = Some 7
-
+-- the number of a refusal, where it has one
 abbrev pub number_of_refusal : Refusal → Option ℕ
 number_of_refusal line.InvalidUtf8 = None
 number_of_refusal line.BadQuoting = Some 35

@@ -1,3 +1,4 @@
+// Reads one argument of a command: switches, numbers, positions and ranges.
 ghost use Rattle.std.specs.Prelude.{◌≡◌, ◌≤◌, IfSome};
 ghost use Rattle.std.specs.Option.{option_map};
 ghost use Rattle.std.specs.Char.{is_ascii_digit};

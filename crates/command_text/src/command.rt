@@ -1,3 +1,4 @@
+// A command as its line says it, by topic.
 ghost use Rattle.std.specs.Prelude.{◌≡◌, Err, true};
 ghost use Rattle.command_text.specs.Reading.{Gives, MayWantMemory, command_of, command_with, in_place, of_command, is_allowed};
 ghost use Rattle.command_text.specs.Reading.{takes_memory, TellsUnknown, error_of};

@@ -1,3 +1,4 @@
+// The lines that a session acts on by itself: those that begin and end a command list, and `noidle`.
 ghost use Rattle.std.specs.Prelude.{◌≡◌};
 ghost use Rattle.command_text.specs.Control.{control_of_line, control_of_word, is_name};
 ghost use Rattle.command_text.specs.NextWord.{spelled};

@@ -1,3 +1,4 @@
+// Reads commands' arguments that come as often as one likes: ranges and ids.
 ghost use Rattle.std.specs.Prelude.{◌≡◌, ◌+◌, length};
 ghost use Rattle.command_text.specs.Arguments.{number_of, range_of};
 ghost use Rattle.command_text.specs.Counts.{each};

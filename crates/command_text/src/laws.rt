@@ -1,15 +1,24 @@
 //! Laws of the definitions that the contracts cite.
 
-ghost use Rattle.std.specs.Prelude.{◌≡◌, ◌<◌, ◌≤◌, ◌^◌, ◌↔◌, ℕ, List, Option, Some, Ok, Err, Contains, IsSorted, length, map, true};
+ghost use Rattle.std.specs.Prelude.{◌≡◌, ◌<◌, ◌≤◌, ◌^◌, ◌↔◌, ℕ, Bool, true, false, List, length, map, Contains, IsSorted};
+ghost use Rattle.std.specs.Prelude.{Option, Some, Result, Ok, Err};
 ghost use Rattle.std.specs.List.{list_all};
 ghost use Rattle.std.specs.Str.{is_utf8};
 ghost use Rattle.std.specs.Cmp.Lexicographic.{slice_cmp};
 ghost use Rattle.std.specs.Ordering.{nat_cmp};
+ghost use Rattle.filter_expr.specs.declared.case.Case.{Case};
 ghost use Rattle.command_text.specs.declared.command.NamedCommand.{NamedCommand};
+ghost use Rattle.command_text.specs.declared.command.finding.FindingCommand.{FindingCommand};
 ghost use Rattle.command_text.specs.declared.name.CommandName.{CommandName};
 ghost use Rattle.command_text.specs.declared.place.Place.{Place};
+ghost use Rattle.command_text.specs.declared.refusal.CommandRefusal.{CommandRefusal};
 ghost use Rattle.command_text.specs.declared.refusal.Refusal.{Refusal};
 ghost use Rattle.command_text.specs.Words.{AreWordsOfLine, words_of};
+ghost use Rattle.filter_expr.specs.Words.{Refusal as FilterRefusal, filter_of};
+ghost use Rattle.command_text.specs.BadFilters.{IsRefusedSo};
+ghost use Rattle.command_text.specs.Counts.{Word};
+ghost use Rattle.command_text.specs.Finding.{find_of, find_add_of};
+ghost use Rattle.command_text.specs.Search.{Parts, ArePartedSo, IsAnswer, found_by, added_by};
 ghost use Rattle.command_text.specs.Names.{name_text, all_names, named};
 ghost use Rattle.command_text.specs.Refusals.{name_of_refusal};
 ghost use Rattle.command_text.specs.Reading.{line_reading, name_of_line, want_of_memory};
@@ -25,6 +34,24 @@ pub fn words_are_the_grammar()
 pub fn words_are_text()
     ensures { (line : List ℕ) (words : List (List ℕ)) →
         is_utf8 line ≡ true → words_of line ≡ Some words → list_all is_utf8 words ≡ true }
+{}
+
+/// Each list of words behind `find`, `search`, `findadd` and `searchadd` is read in exactly one way: as a filter's words and, behind
+/// them, `sort`, `window` and, where songs are added, `position`, each with its value or left out, and what these say, a search or the
+/// first fault with its place; or as a wrong count, where they don't part so. That is what the definitions give.
+pub fn searches_have_one_reading()
+    ensures once { (adds : Bool) (words : List Word) (p q : Parts) →
+        ArePartedSo adds words p → ArePartedSo adds words q → p ≡ q }
+    ensures found { (case : Case) (words : List Word) (answer : Result FindingCommand CommandRefusal) →
+        (find_of case words ≡ answer) ↔ IsAnswer false (found_by case) words answer }
+    ensures added { (case : Case) (words : List Word) (answer : Result FindingCommand CommandRefusal) →
+        (find_add_of case words ≡ answer) ↔ IsAnswer true (added_by case) words answer }
+{}
+
+/// Where words are no filter, one word is the fault, and whatever stands behind it, they are refused in the same way and at the
+/// same place; or the fault is that no more words stand there.
+pub fn a_bad_filter_stays_bad()
+    ensures { (words : List Word) (refusal : FilterRefusal) → filter_of words ≡ Err refusal → IsRefusedSo words refusal }
 {}
 
 /// Each name is listed; the command is found by its text, and by no other word.

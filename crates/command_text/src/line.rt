@@ -1,3 +1,4 @@
+// Takes a line apart into words, and says which command it names.
 ghost use Rattle.std.specs.Prelude.{◌≡◌, is_some, true, Err};
 ghost use Rattle.std.specs.Str.{is_utf8};
 ghost use Rattle.command_text.specs.Reading.{GivesWords, line_words, name_of_line, want_of_memory};

@@ -1,3 +1,4 @@
+// Lines of a request, one behind the other in one buffer.
 ghost use Rattle.std.specs.Prelude.{◌≡◌, ◌≤◌, ◌∷◌, ◌++◌, [], length, None, IfSome, OnOk, OnErr};
 ghost use Rattle.std.specs.List.{concat};
 ghost use Rattle.command_text.specs.Lines.{cut, total};

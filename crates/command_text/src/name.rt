@@ -1,3 +1,4 @@
+// The names of the commands, and what holds of each.
 ghost use Rattle.std.specs.Prelude.{◌≡◌};
 ghost use Rattle.command_text.specs.Names.{name_text, all_names, is_control, is_listed, stands_in_lists, named};
 ghost use Rattle.command_text.specs.NextWord.{spelled};

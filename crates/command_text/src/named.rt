@@ -1,3 +1,4 @@
+// Reads what a client named: playlists, stickers, tags, filters and sort orders.
 ghost use Rattle.std.specs.Prelude.{◌≡◌};
 ghost use Rattle.command_text.specs.NameArguments.{playlist_name, sticker_name, sticker_value, told, filter_argument, tag_argument};
 ghost use Rattle.command_text.specs.Stops.{Reads, Tells, TellsTag};

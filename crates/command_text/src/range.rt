@@ -1,3 +1,4 @@
+// Positions and ranges of a list, and windows into one, as commands give them.
 ghost use Rattle.std.specs.Prelude.{◌≡◌};
 
 use std::marker::Model;

@@ -1,3 +1,4 @@
+// Why a line isn't a command, or a command isn't performed, with the protocol's codes.
 ghost use Rattle.std.specs.Prelude.{◌≡◌};
 ghost use Rattle.command_text.specs.Refusals.{code_number, code_of, command_code_of, command_number_of, name_of_refusal, number_of_error};
 ghost use Rattle.command_text.specs.Refusals.{number_of_refusal};

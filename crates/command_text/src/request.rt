@@ -1,3 +1,4 @@
+// A request of a client: one line, or the lines of a command list.
 ghost use Rattle.std.specs.Prelude.{◌≡◌, IfOk};
 
 use crate::lines::Lines;

@@ -1,3 +1,4 @@
+// Why the reading of a line stops: a refusal, or memory that isn't there.
 ghost use Rattle.std.specs.Prelude.{◌≡◌};
 ghost use Rattle.command_text.specs.declared.stop.Stop.TheVariants.{Refused, NoMemory};
 

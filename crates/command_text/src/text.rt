@@ -1,3 +1,4 @@
+// A word of a line that is UTF-8.
 ghost use Rattle.std.specs.Prelude.{◌≡◌, true, false, MatchOption};
 ghost use Rattle.std.specs.Str.{is_utf8};
 

@@ -1,3 +1,4 @@
+// Reads times of a song, in seconds and thousandths.
 ghost use Rattle.std.specs.Prelude.{◌≡◌};
 ghost use Rattle.command_text.specs.Arguments.{digit, milliseconds, thousandths, time_in, time_of, seek_time_of};
 

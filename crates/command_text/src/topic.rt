@@ -1,3 +1,4 @@
+// The topics of commands, and the names of each.
 ghost use Rattle.std.specs.Prelude.{◌≡◌};
 ghost use Rattle.command_text.specs.Topics.{topic_of};
 

@@ -1,3 +1,4 @@
+// A word of a line with the bytes of its own, and why bytes are no words.
 ghost use Rattle.std.specs.Prelude.{◌≡◌, ◌<◌, ◌≤◌, ℕ, List, [], Some, None, Err, length, slice_index, true, false, IfOk, MatchOption};
 ghost use Rattle.std.specs.Str.{bytes_eq};
 ghost use Rattle.command_text.specs.Words.{AreWordsOfLine, GivesWords, without_return, words_of, words_from, is_blank, is_plain};

@@ -1,3 +1,4 @@
+pub mod AsciiSong
 pub mod Folding
 pub mod Gives
 pub mod Grammar

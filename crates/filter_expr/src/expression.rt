@@ -1,4 +1,6 @@
-ghost use Rattle.std.specs.Prelude.{◌≡◌, true, IfOk, IfSome};
+// A filter's expression as a tree, and whether a song matches it.
+ghost use Rattle.std.specs.Prelude.{◌≡◌, true, IfOk, IfSome, IsOk};
+ghost use Rattle.filter_expr.specs.AsciiSong.{IsAsciiSong};
 ghost use Rattle.filter_expr.specs.Meaning.{denotes, is_match, is_at};
 ghost use Rattle.song_db.specs.Row.{Row};
 ghost use Rattle.song_db.specs.Valued.{has_value};
@@ -75,6 +77,7 @@ impl Expression {
     ) -> Result<bool, AllocError>
         ensures member { IfOk result (λ matched. matched ≡ denotes Folded (tree_of self.now) row.old) }
         ensures same { row.new ≡ row.old }
+        ensures ascii { IsAsciiSong row.old → IsOk result }
     {
         let mut left = self;
         while let Expression::And(others, last) = left {

@@ -1,7 +1,9 @@
+// A filter: read from the words of a command, and asked of songs.
 ghost use Rattle.std.specs.Prelude.{◌≡◌, IfOk, IsOk};
 ghost use Rattle.song_db.specs.Valued.{numbers_of};
 ghost use Rattle.filter_expr.specs.Words.{Gives, filter_of};
-ghost use Rattle.filter_expr.specs.Meaning.{is_match};
+ghost use Rattle.filter_expr.specs.AsciiSong.{IsAsciiSong};
+ghost use Rattle.filter_expr.specs.Meaning.{song_of, is_match};
 ghost use Rattle.filter_expr.specs.declared.case.Case.TheVariants.{Exact, Folded};
 
 use crate::case::Case;
@@ -46,10 +48,12 @@ impl Filter {
         })
     }
 
-    /// Whether a song is among those that the filter denotes. Where the case counts, it takes no memory and can't fail.
+    /// Whether a song is among those that the filter denotes. Where the case counts, it takes no memory and can't fail,
+    /// nor where the song's URI and tags are plain ASCII.
     pub fn matches(&self, alloc: Global, row: &SongRow, case: Case) -> Result<bool, NoMemory>
         ensures member { IfOk result (λ matched. matched ≡ is_match case self.now row.now) }
         ensures exact_never_fails { case ≡ Exact → IsOk result }
+        ensures ascii_never_fails { IsAsciiSong (song_of row.now) → IsOk result }
     {
         match case {
             Case::Exact => Ok(self.root.matches_exact(row)),
@@ -70,7 +74,6 @@ impl Filter {
         {
             return select_with(alloc, songs, &self.root, tag, value);
         }
-        let _limit = songs.len();
         select_of_all(alloc, songs.rows(), self, case)
     }
 }

@@ -1,6 +1,8 @@
-ghost use Rattle.std.specs.Prelude.{◌≡◌, Bool, IfOk, option_copied};
+// A song's texts without case, folded when one is asked for, and whether they pass a test.
+ghost use Rattle.std.specs.Prelude.{◌≡◌, Bool, IfOk, IsOk, option_copied};
 ghost use Rattle.std.specs.Str.{bytes_eq};
 ghost use Rattle.wave_pcm.specs.Tag.{text_of};
+ghost use Rattle.filter_expr.specs.AsciiSong.{IsAsciiText, IsAsciiSong};
 ghost use Rattle.filter_expr.specs.Folding.{folded};
 ghost use Rattle.filter_expr.specs.Meaning.{passes, compared, song_of, does_hold, any_passes};
 ghost use Rattle.filter_expr.specs.declared.case.Case.TheVariants.{Folded};
@@ -51,6 +53,7 @@ impl<'a> FoldedText<'a> {
     ) -> Result<bool, AllocError>
         ensures member { IfOk result (λ passed. passed ≡ passes Folded comparison value.now self.old) }
         ensures same { self.new ≡ self.old }
+        ensures ascii { IsAsciiText self.old → IsOk result }
     {
         let empty = value.text().is_empty();
         let Some(text) = self.text else {
@@ -139,6 +142,7 @@ impl<'a> FoldedRow<'a> {
     ) -> Result<bool, AllocError>
         ensures member { IfOk result (λ passed. passed ≡ does_hold Folded subject comparison value.now self.old) }
         ensures same { self.new ≡ self.old }
+        ensures ascii { IsAsciiSong self.old → IsOk result }
     {
         match subject {
             Subject::OfTag(tag) => self.tag_passes(alloc, tag, comparison, value),
@@ -156,6 +160,7 @@ impl<'a> FoldedRow<'a> {
     ) -> Result<bool, AllocError>
         ensures member { IfOk result (λ passed. passed ≡ passes Folded comparison value.now (text_of self.old.texts tag)) }
         ensures same { self.new ≡ self.old }
+        ensures ascii { IsAsciiText (text_of self.old.texts tag) → IsOk result }
     {
         match tag {
             Tag::Title => self.title.passes(alloc, comparison, value),
@@ -176,15 +181,25 @@ impl<'a> FoldedRow<'a> {
     ) -> Result<bool, AllocError>
         ensures member { IfOk result (λ passed. passed ≡ any_passes Folded comparison value.now self.old.texts) }
         ensures same { self.new ≡ self.old }
+        ensures ascii { IsAsciiSong self.old → IsOk result }
     {
         let settling = !value.text().is_empty();
-        if self.title.passes(alloc, comparison, value)? == settling
-            || self.artist.passes(alloc, comparison, value)? == settling
-            || self.album.passes(alloc, comparison, value)? == settling
-            || self.date.passes(alloc, comparison, value)? == settling
-            || self.genre.passes(alloc, comparison, value)? == settling
-            || self.comment.passes(alloc, comparison, value)? == settling
-        {
+        if self.title.passes(alloc, comparison, value)? == settling {
+            return Ok(settling);
+        }
+        if self.artist.passes(alloc, comparison, value)? == settling {
+            return Ok(settling);
+        }
+        if self.album.passes(alloc, comparison, value)? == settling {
+            return Ok(settling);
+        }
+        if self.date.passes(alloc, comparison, value)? == settling {
+            return Ok(settling);
+        }
+        if self.genre.passes(alloc, comparison, value)? == settling {
+            return Ok(settling);
+        }
+        if self.comment.passes(alloc, comparison, value)? == settling {
             return Ok(settling);
         }
         Ok(!settling)

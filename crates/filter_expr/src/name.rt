@@ -1,3 +1,4 @@
+// The names of tags and of a filter's other keys, in any case.
 ghost use Rattle.std.specs.Prelude.{◌≡◌, codes};
 ghost use Rattle.std.specs.Str.{str_eq_ignore_ascii_case};
 ghost use Rattle.filter_expr.specs.Names.{tag_named, key_named};

@@ -1,3 +1,4 @@
+// The small parts of an expression's text: blanks, words, quoted values.
 ghost use Rattle.std.specs.Prelude.{◌≡◌, ◌<◌, ◌≤◌, ◌==◌, ◌||◌, not, false, Some, None, length, take, drop, IfOk, option_map, string_bytes};
 ghost use Rattle.std.specs.Prelude.{if◌then◌else◌};
 ghost use Rattle.std.specs.Str.{is_utf8};

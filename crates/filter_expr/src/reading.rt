@@ -1,3 +1,4 @@
+// Reads an expression from its text.
 ghost use Rattle.std.specs.Prelude.{◌≡◌, ◌<◌, ◌≤◌, ℕ, length, IfOk, string_bytes};
 ghost use Rattle.filter_expr.specs.Gives.{Gives};
 ghost use Rattle.filter_expr.specs.Reading.{operator_at, test_of, test_tree, closed, test_at, negation_at, group_at, inside_at};

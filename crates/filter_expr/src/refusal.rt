@@ -1,3 +1,4 @@
+// Why words are no filter, with the numbers of the reasons.
 ghost use Rattle.std.specs.Prelude.{◌≡◌};
 ghost use Rattle.filter_expr.specs.Words.{number_of};
 ghost use Rattle.filter_expr.specs.declared.refusal.FilterError.TheVariants as errors;

@@ -1,3 +1,4 @@
+// Whether a song's texts pass a test as they stand, with their case.
 ghost use Rattle.std.specs.Prelude.{◌≡◌, Some, IfOk, option_copied};
 ghost use Rattle.song_db.specs.Row.{six_texts};
 ghost use Rattle.wave_pcm.specs.Tag.{text_of};

@@ -1,3 +1,4 @@
+// What a test looks at, and how it compares.
 use wave_pcm::Tag;
 
 /// What of a song a test looks at.

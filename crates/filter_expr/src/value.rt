@@ -1,3 +1,4 @@
+// A test's value, as it was given and folded.
 ghost use Rattle.std.specs.Prelude.{◌≡◌, IfOk, string_bytes};
 ghost use Rattle.song_db.specs.Valued.{has_value};
 ghost use Rattle.filter_expr.specs.Folding.{folded};

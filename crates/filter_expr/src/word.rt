@@ -1,3 +1,4 @@
+// A word of a line, lent or of its own.
 ghost use Rattle.std.specs.Prelude.{◌≡◌};
 
 use std::marker::Model;

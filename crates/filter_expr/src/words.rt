@@ -1,3 +1,4 @@
+// Reads a filter from words: one expression, or pairs of a tag and its value.
 ghost use Rattle.std.specs.Prelude.{◌≡◌, ◌+◌, ◌<◌, ◌^◌, Some, None, IfOk, option_map, string_bytes, if◌then◌else◌};
 ghost use Rattle.std.specs.Str.{is_utf8};
 ghost use Rattle.filter_expr.specs.Names.{key_named};

@@ -1,6 +1,6 @@
 -- There is one list of drawn entries that is in random order.
 use Rattle.std.proofs.Common.{◌≡◌, ℕ, suc, ◌+◌, ◌<◌, ◌≤◌, Bool, true, false, cond, eqb, ltb, ◌==◌, ◌||◌, ◌&&◌, ◌⊎◌, inl, inr}
-use Rattle.std.proofs.Common.{List, [], ◌∷◌, length, get_or, refl, sym, ap, ◌∙◌, subst, arith}
+use Rattle.std.proofs.Common.{List, [], ◌∷◌, length, get_or, filter, refl, sym, ap, ◌∙◌, subst, arith, true≢false}
 use Rattle.std.specs.List.{sum_by}
 use Rattle.std.specs.List.Sorted.{IsPermutation}
 use Rattle.std.specs.declared.cmp.Ordering.TheVariants.{Less, Equal, Greater}
@@ -247,3 +247,52 @@ goes_before-cmp one other = rw (eqb_sym one.1 other.1) (of (ltb other.1 one.1) (
     of false true false true true g = refl
     of false true false true false true = refl
     of false true false true false false = refl
+
+-- some of the entries keep their random order
+in_front-filter : (test : Drawn → Bool) (one : Drawn) (others : List Drawn) → InFront one others → InFront one (filter test others)
+in_front-filter test one [] all = tt
+in_front-filter test one (other ∷ others) all = of (in_front-filter test one others all.1) (test other)
+  where
+    of : InFront one (filter test others) → (b : Bool) → InFront one (cond b (other ∷ filter test others) (filter test others))
+    of rest true = (all.0, rest)
+    of rest false = rest
+
+rises-filter : (test : Drawn → Bool) (drawn : List Drawn) → Rises drawn → Rises (filter test drawn)
+rises-filter test [] up = tt
+rises-filter test (one ∷ others) up = of (rises-filter test others up.1) (test one)
+  where
+    of : Rises (filter test others) → (b : Bool) → Rises (cond b (one ∷ filter test others) (filter test others))
+    of rest true = (in_front-filter test one others up.0, rest)
+    of rest false = rest
+
+filter-counts : (test : Drawn → Bool) (one : Drawn) (drawn : List Drawn)
+    → counts_of one (filter test drawn) ≡ cond (test one) (counts_of one drawn) 0
+filter-counts test one [] = of (test one)
+  where
+    of : (b : Bool) → counts_of one [] ≡ cond b (counts_of one []) 0
+    of true = refl
+    of false = refl
+filter-counts test one (other ∷ others) =
+    first (test other) ∙ of (test other) (test one) (is_it one other) (λ is. ap test (sym (is_it-same one other is)))
+    (counts_of one (filter test others)) (counts_of one others) (filter-counts test one others)
+  where
+    first : (b : Bool) → counts_of one (cond b (other ∷ filter test others) (filter test others))
+        ≡ cond b (cond (is_it one other) 1 0 + counts_of one (filter test others)) (counts_of one (filter test others))
+    first true = refl
+    first false = refl
+
+    of : (a b e : Bool) → (e ≡ true → a ≡ b) → (n m : ℕ) → n ≡ cond b m 0
+        → cond a (cond e 1 0 + n) n ≡ cond b (cond e 1 0 + m) 0
+    of true true e same n m is = ap (λ k. cond e 1 0 + k) is
+    of true false true same n m is = absurd (true≢false (same refl))
+    of true false false same n m is = omega (arith, is)
+    of false true true same n m is = absurd (true≢false (sym (same refl)))
+    of false true false same n m is = omega (arith, is)
+    of false false e same n m is = is
+
+pub in_order-filter : (test : Drawn → Bool) (drawn : List Drawn) → in_order (filter test drawn) ≡ filter test (in_order drawn)
+in_order-filter test drawn =
+    one_order (in_order (filter test drawn)) (filter test (in_order drawn)) (in_order-rises (filter test drawn))
+    (rises-filter test (in_order drawn) (in_order-rises drawn)) (λ one. in_order-counts one (filter test drawn)
+    ∙ filter-counts test one drawn ∙ ap (λ n. cond (test one) n 0) (sym (in_order-counts one drawn))
+    ∙ sym (filter-counts test one (in_order drawn)))

@@ -8,9 +8,6 @@ use Rattle.player_core.specs.declared.block.Block.{Block}
 use Rattle.player_core.specs.Staying.{takes}
 use Rattle.player_core.specs.Player.{left_by, without}
 
-takes-inside : (block : Block) (at : ℕ) (entry : Entry) → block.start ≤ at → at < block.end → takes block [] at entry ≡ true
-takes-inside block at entry low high = rw (le-leb block.start at low, lt-ltb at block.end high) refl
-
 takes-before : (block : Block) (at : ℕ) (entry : Entry) → at < block.start → takes block [] at entry ≡ false
 takes-before block at entry low = rw (lt-leb block.start at low) refl
 
@@ -25,14 +22,6 @@ first-left : (block : Block) (at : ℕ) (entry : Entry) (entries : List Entry) (
     → takes block [] at entry ≡ b → left_by block [] at (entry ∷ entries) played
     ≡ left_by block [] (at + 1) entries (cond b (without entry.id played) played)
 first-left block at entry entries played b is = ap (λ t. left_by block [] (at + 1) entries (cond t (without entry.id played) played)) is
-
--- an entry of the block leaves
-pub left_by-inside : (block : Block) (at : ℕ) (entry : Entry) (entries : List Entry) (played : List ℕ) → at < length entries
-    → entry ≡ get_or entries at entry → block.start ≤ at → at < block.end
-    → left_by block [] at (drop at entries) played ≡ left_by block [] (at + 1) (drop (at + 1) entries) (without entry.id played)
-left_by-inside block at entry entries played within is low high =
-    ap (λ l. left_by block [] at l played) (drop_more entries at entry within ∙ ap (λ e. e ∷ drop (at + 1) entries) (sym is))
-    ∙ first-left block at entry (drop (at + 1) entries) played true (takes-inside block at entry low high)
 
 left_by-before : (block : Block) (at : ℕ) (entries : List Entry) (played : List ℕ) → at < block.start
     → left_by block [] at (drop at entries) played ≡ left_by block [] (at + 1) (drop (at + 1) entries) played

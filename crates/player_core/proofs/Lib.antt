@@ -4,4 +4,7 @@ pub mod Leaving
 pub mod LeftBlock
 pub mod Others
 pub mod DrawnOrder
+pub mod DrawnIds
+pub mod RoundIds
+pub mod Rounds
 pub mod MadeWords

@@ -59,7 +59,7 @@ fn is_counted(is_new: bool, current: u32, played: &IndexSet<u32>, entry: &Entry)
 // The id of the least, in random order, of the entries that stay: of all in a new round, else of those that
 // are neither the current one nor played.
 //
-// A word costs far less than a look into the played list, so this is asked only of an entry that goes before the best so far.
+// A look into the played list is made only for an entry that goes before the best so far.
 fn least(
     entries: &[Entry],
     block: Block,

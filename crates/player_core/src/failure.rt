@@ -1,3 +1,4 @@
+// Why a song could not be played on, and the error that the player shows of it.
 ghost use Rattle.std.specs.Prelude.{◌≡◌, IfOk, string_bytes};
 ghost use Rattle.player_core.specs.FailureText.{text_of};
 

@@ -9,6 +9,7 @@ mod commanded;
 pub mod drawing;
 pub mod failure;
 mod followed;
+pub mod laws;
 pub mod options;
 pub mod order;
 mod placing;

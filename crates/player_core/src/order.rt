@@ -1,3 +1,4 @@
+// What the output is told to do.
 use crate::volume::Volume;
 use song_db::Uri;
 

@@ -1,3 +1,4 @@
+// The player: what it keeps, how it begins, and its copy.
 ghost use Rattle.std.specs.Prelude.{◌≡◌, [], None, IfOk};
 ghost use Rattle.player_core.specs.Player.{PlayerState};
 ghost use Rattle.player_core.specs.declared.playing.PlayState.TheVariants.{Stop};

@@ -1,3 +1,4 @@
+// What plays, but for the songs that were played before.
 use crate::failure::PlayFailure;
 
 /// Whether something plays, as `state` in `status` of the MPD protocol reference 0.23 tells it.

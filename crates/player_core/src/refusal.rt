@@ -1,3 +1,4 @@
+// Why a call of the player is refused.
 ghost use Rattle.std.specs.Prelude.{◌≡◌};
 ghost use Rattle.player_core.specs.Refusal.{number_of};
 ghost use Rattle.player_core.specs.declared.refusal.PlayerError.TheVariants.{NoMemory};

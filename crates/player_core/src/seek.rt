@@ -1,3 +1,4 @@
+// Where in a song a seek goes.
 ghost use Rattle.std.specs.Prelude.{◌≡◌, ◌+◌, ◌^◌, ◌<◌, min};
 ghost use Rattle.player_core.specs.Seek.{frame_at, frame_from};
 

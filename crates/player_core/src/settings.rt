@@ -1,3 +1,4 @@
+// The saved settings that the rules of the player read.
 use crate::options::Options;
 
 /// The saved settings that the rules of the player read, beside the queue.

@@ -1,3 +1,4 @@
+// What `status` shows of the current song and the next one, and how it is kept.
 ghost use Rattle.std.specs.Prelude.{◌≡◌, Some, None};
 ghost use Rattle.std.specs.Option.{ForSome};
 ghost use Rattle.player_core.specs.Shown.{shown};
@@ -18,7 +19,7 @@ pub struct Shown {
 }
 
 /// What is shown, kept until the queue, the options, the played list, the current song or the order number
-/// change: the choice of the next song in random mode costs a word for each entry that was not played.
+/// change: the choice of the next song in random mode costs a word for each entry.
 #[derive(Debug, Drop)]
 pub struct KeptNext {
     kept: Option<Shown>,

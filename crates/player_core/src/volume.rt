@@ -1,3 +1,4 @@
+// The volume of the output.
 ghost use Rattle.std.specs.Prelude.{◌≡◌, ℕ, ◌≤◌, ◌↔◌, IsSome, IfSome};
 
 use std::marker::Model;

@@ -1,3 +1,4 @@
+// The words by which entries are put in random order.
 ghost use Rattle.std.specs.Prelude.{◌≡◌, map, IfOk};
 ghost use Rattle.player_core.specs.Words.{word, next_order};
 

@@ -39,9 +39,6 @@ AreBehind text key xs = AllByRecursion (λ x. texts key (text x) ≡ Less) xs
 pub flip : (a b : List ℕ) → texts a b ≡ Greater → texts b a ≡ Less
 flip a b greater = nat_list_cmp_total.antisymm b a ∙ ap ordering_reverse greater
 
-pub flip_less : (a b : List ℕ) → texts a b ≡ Less → texts b a ≡ Greater
-flip_less a b less = nat_list_cmp_total.antisymm b a ∙ ap ordering_reverse less
-
 pub behind_trans : {X : Type 0} (text : X → List ℕ) (key other : List ℕ) (xs : List X) → texts key other ≡ Less
     → AreBehind text other xs → AreBehind text key xs
 behind_trans text key other [] less behind = tt

@@ -1,7 +1,7 @@
 -- The rows below a folder all stand in it, so that a search may pass them by.
 use Rattle.std.proofs.Common.{◌≡◌, ◌⊎◌, inl, inr, ℕ, zero, suc, ◌+◌, ◌-◌, ◌<◌, ◌≤◌, ◌==◌, Bool, true, false, ◌&&◌, not}
 use Rattle.std.proofs.Common.{List, [], ◌∷◌, ◌++◌, length, take, drop, get_or, nat_eq, nat_lt, Some, None}
-use Rattle.std.proofs.Common.{filter, append_assoc, refl, sym, ap, ◌∙◌, arith, length-take, length-drop}
+use Rattle.std.proofs.Common.{filter, refl, sym, ap, ◌∙◌, arith, length-take, length-drop}
 use Rattle.std.specs.Prelude.{Option, option_map}
 use Rattle.std.specs.List.{position, position_or_len, filter_map}
 use Rattle.std.specs.List.Sorted.{IsPartitionPoint}
@@ -225,12 +225,3 @@ run_passed place rows folder at end row rising within bound is found below split
         let sum : at + (end - at) ≡ end = omega arith in
         rw sum at (picks_nothing (λ row. is_right_in place row.uri) rows (end - at) at (omega arith) (λ k low high. rw (run.1 k low
         (omega arith)) refl))
-
--- a song right in the place is picked
-pub song_picked : (place : Place) (rows picked total : List Row) (at : ℕ) (row : Row) → at < length rows
-    → row ≡ get_or rows at row → None ≡ folder_of place row.uri
-    → picked ++ filter (λ row. is_right_in place row.uri) (drop at rows) ≡ total
-    → (picked ++ row ∷ []) ++ filter (λ row. is_right_in place row.uri) (drop (at + 1) rows) ≡ total
-song_picked place rows picked total at row within is none told =
-    let here : drop at rows ≡ row ∷ drop (at + 1) rows = drop_more rows at row within ∙ ap (λ (r : Row). r ∷ drop (at + 1) rows) (sym is) in
-    append_assoc picked (row ∷ []) (filter (λ row. is_right_in place row.uri) (drop (at + 1) rows)) ∙ rw (here, ← none) at told

@@ -20,6 +20,7 @@ mod Ordered
 mod OwnSteps
 mod Picked
 mod Prefixes
+mod ReaderSteps
 mod ReadSteps
 pub mod Replaced
 pub mod Rising

@@ -190,17 +190,6 @@ picked_passed (uri ∷ uris) [] n within each unset = absurd (omega arith)
 picked_passed (uri ∷ uris) (m ∷ marks) zero within each unset = rw unset refl
 picked_passed (uri ∷ uris) (m ∷ marks) (suc n) within each unset = picked_passed uris marks n (omega arith) (omega arith) unset
 
-pub picked_end : (uris : List (List ℕ)) (marks : List Bool) (n : ℕ) → length uris ≤ n → picked (drop n uris) (drop n marks) ≡ []
-picked_end [] marks zero past = refl
-picked_end [] marks (suc n) past = refl
-picked_end (uri ∷ uris) marks zero past = absurd (omega arith)
-picked_end (uri ∷ uris) [] (suc n) past = none (drop n uris)
-  where
-    none : (us : List (List ℕ)) → picked us [] ≡ []
-    none [] = refl
-    none (u ∷ us) = refl
-picked_end (uri ∷ uris) (m ∷ marks) (suc n) past = picked_end uris marks n (omega arith)
-
 take_nil : (n : ℕ) → take {A = Bool} n [] ≡ []
 take_nil zero = refl
 take_nil (suc n) = refl

@@ -1,5 +1,5 @@
 -- A whole batch that was read from an honest folder.
-use Rattle.std.proofs.Common.{◌≡◌, ℕ, ◌<◌, Bool, true, false, ◌||◌, List, [], ◌∷◌, ◌++◌, Option, refl, sym, ap, ◌∙◌, arith}
+use Rattle.std.proofs.Common.{◌≡◌, ℕ, ◌<◌, Bool, true, false, ◌||◌, List, [], ◌∷◌, ◌++◌, Option, Some, refl, sym, ap, ◌∙◌, arith}
 use Rattle.std.specs.List.{All}
 use Rattle.std.specs.Str.{bytes_eq}
 use Rattle.std.proofs.lemmas.List.Elements.{All-cons, All-nil, All-same}
@@ -7,9 +7,9 @@ use Rattle.std.proofs.lemmas.List.Folds.{list_any-append}
 use Rattle.wave_pcm.specs.Folder.{File}
 use Rattle.song_db.specs.declared.change.RowChange.{RowChange}
 use Rattle.song_db.specs.Batch.{IsHonestBatch, IsWholeBatch}
-use Rattle.song_db.specs.Pending.{Pending, Walked, times_pending, still_pending, own_pending}
+use Rattle.song_db.specs.Pending.{Pending, times_pending}
 use Rattle.song_db.specs.Row.{Row}
-use Rattle.song_db.specs.Scan.{puts_of, drops_of, is_among, has_song, AreSongs, IsHonestRead, IsWholeRead}
+use Rattle.song_db.specs.Scan.{puts_of, drops_of, is_among, has_song, song_at, AreSongs, IsHonestRead, IsWholeRead}
 use Rattle.song_db.proofs.Counts.{bytes_self}
 
 pub honest_none : (files : List File) (place : Option (List ℕ)) (start : List Pending) (known : List (List ℕ)) (changes : List RowChange)
@@ -29,26 +29,8 @@ pub whole_none : (files : List File) (place : Option (List ℕ)) (start : List P
 whole_none files place start known changes none =
     rw none (record { read = λ uri song. omega arith; gone = λ uri none among. among })
 
--- a batch that begins with the job's own folder, or goes on
-pub honest_first : (files : List File) (b : Bool) (walked : Walked) (known : List (List ℕ)) (changes : List RowChange) → b ≡ false
-    → changes ≡ []
-    → IsHonestBatch files walked.place (still_pending b walked) known (own_pending walked.place) known changes
-honest_first files b walked known changes is none = rw is (honest_none files walked.place (own_pending walked.place) known changes none)
-
-pub honest_later : (files : List File) (b : Bool) (walked : Walked) (known : List (List ℕ)) (changes : List RowChange) → b ≡ true
-    → changes ≡ []
-    → IsHonestBatch files walked.place (still_pending b walked) known walked.pending known changes
-honest_later files b walked known changes is none = rw is (honest_none files walked.place walked.pending known changes none)
-
-pub whole_first : (files : List File) (b : Bool) (walked : Walked) (known : List (List ℕ)) (changes : List RowChange) → b ≡ false
-    → changes ≡ []
-    → IsWholeBatch files walked.place (still_pending b walked) known (own_pending walked.place) known changes
-whole_first files b walked known changes is none = rw is (whole_none files walked.place (own_pending walked.place) known changes none)
-
-pub whole_later : (files : List File) (b : Bool) (walked : Walked) (known : List (List ℕ)) (changes : List RowChange) → b ≡ true
-    → changes ≡ []
-    → IsWholeBatch files walked.place (still_pending b walked) known walked.pending known changes
-whole_later files b walked known changes is none = rw is (whole_none files walked.place walked.pending known changes none)
+pub no_songs : (files : List File) (changes : List RowChange) → changes ≡ [] → AreSongs files changes
+no_songs files changes none = rw none (All-nil (λ (row : Row). song_at files row.uri ≡ Some row))
 
 or_left : (a b : Bool) → a ≡ true → (a || b) ≡ true
 or_left true b h = refl
@@ -81,13 +63,13 @@ pub honest_end : (files : List File) (place : Option (List ℕ)) (start pending 
     (changes whole : List RowChange)
     → IsHonestBatch files place start known pending droppable changes → drops_of changes ≡ []
     → drops_of whole ++ left ≡ drops_of changes ++ droppable
-    → puts_of whole ≡ puts_of changes → AreSongs files whole → pending ≡ [] → IsHonestRead files place start pending known left whole
+    → puts_of whole ≡ puts_of changes → AreSongs files changes → pending ≡ [] → IsHonestRead files place start pending known left whole
 honest_end files place start pending known droppable left changes whole batch none drops puts songs end =
     let parts : drops_of whole ++ left ≡ droppable = parted changes whole droppable left none drops in
     record {
       read = λ uri. rw puts (batch.read uri);
       puts = All-same (λ (row : Row). has_song files place row.uri ≡ true) _ _ puts batch.puts;
-      songs = songs;
+      songs = All-same (λ (row : Row). song_at files row.uri ≡ Some row) _ _ puts songs;
       drops = λ careful. all_of (has_song files place) (drops_of whole) (λ uri among. no_song uri (has_song files place uri) refl
           (λ song. batch.careful careful uri song (ap (λ l. is_among l uri) (sym parts) ∙ among_left (drops_of whole) left uri among)));
       careful = λ careful uri song among. batch.careful careful uri song (ap (λ l. is_among l uri) (sym parts)

@@ -11,7 +11,7 @@ use Rattle.std.proofs.Math.ListN.{set}
 use Rattle.std.specs.List.{slice_get}
 use Rattle.song_db.specs.declared.change.RowChange.{RowChange}
 use Rattle.song_db.specs.declared.change.RowChange.TheVariants.{Put, Drop}
-use Rattle.song_db.specs.declared.effect.Effect.TheVariants.{Nothing, Came, Replaced, Went, LeftOut}
+use Rattle.song_db.specs.declared.effect.Effect.TheVariants.{Replaced}
 use Rattle.song_db.specs.Limits.{MAX_ROWS}
 use Rattle.song_db.specs.Change.{IsDatabase, changed, has_uri, fits, after_change}
 use Rattle.song_db.specs.Effect.{effect_of}
@@ -23,46 +23,13 @@ use Rattle.song_db.proofs.SameRows.{row_same}
 use Rattle.song_db.proofs.Batches.{AreBehind, behind_trans, rising_changed, length_replaced, flip}
 
 -- the effect of a row that comes, and what is there after it
-pub same_effect : (rows : List Row) (row old : Row) → Some old ≡ row_at rows row.uri → true ≡ same_row old row
-    → Nothing ≡ effect_of rows (Put row)
-same_effect rows row old there same = rw (← there, ← same) refl
-
 pub other_effect : (rows : List Row) (row old : Row) → Some old ≡ row_at rows row.uri → false ≡ same_row old row
     → Replaced old ≡ effect_of rows (Put row)
 other_effect rows row old there other = rw (← there, ← other) refl
 
-pub new_effect : (rows : List Row) (row : Row) → None ≡ row_at rows row.uri → length rows < MAX_ROWS → Came ≡ effect_of rows (Put row)
-new_effect rows row absent room =
-    let few : nat_lt (length rows) MAX_ROWS ≡ true = grind (arith, nat_tests) in
-    rw (← absent, few) refl
-
-pub full_effect : (rows : List Row) (row : Row) → None ≡ row_at rows row.uri → MAX_ROWS ≤ length rows
-    → LeftOut row ≡ effect_of rows (Put row)
-full_effect rows row absent full =
-    let many : nat_lt (length rows) MAX_ROWS ≡ false = grind (arith, nat_tests) in
-    rw (← absent, many) refl
-
 pub after_there : (rows : List Row) (row old : Row) → Some old ≡ row_at rows row.uri
     → after_change rows (Put row) ≡ replaced row_uri row.uri (row ∷ []) rows
 after_there rows row old there = rw (← there) refl
-
-pub after_new : (rows : List Row) (row : Row) → None ≡ row_at rows row.uri → length rows < MAX_ROWS
-    → after_change rows (Put row) ≡ replaced row_uri row.uri (row ∷ []) rows
-after_new rows row absent room =
-    let few : nat_lt (length rows) MAX_ROWS ≡ true = grind (arith, nat_tests) in
-    rw (← absent, few) refl
-
-pub after_full : (rows : List Row) (row : Row) → None ≡ row_at rows row.uri → MAX_ROWS ≤ length rows → rows ≡ after_change rows (Put row)
-after_full rows row absent full =
-    let many : nat_lt (length rows) MAX_ROWS ≡ false = grind (arith, nat_tests) in
-    rw (← absent, many) refl
-
--- the effect of a URI whose row goes
-pub went_effect : (rows : List Row) (uri : List ℕ) (old : Row) → Some old ≡ row_at rows uri → Went old ≡ effect_of rows (Drop uri)
-went_effect rows uri old there = rw (← there) refl
-
-pub absent_effect : (rows : List Row) (uri : List ℕ) → None ≡ row_at rows uri → Nothing ≡ effect_of rows (Drop uri)
-absent_effect rows uri absent = rw (← absent) refl
 
 slice_get_at : {X : Type 0} (xs : List X) (i : ℕ) (x : X) → i < length xs → x ≡ get_or xs i x → Some x ≡ slice_get xs i
 slice_get_at [] i x within is = absurd (omega arith)

@@ -44,22 +44,6 @@ is_left_out (Replaced old) = false
 is_left_out (Went old) = false
 is_left_out (LeftOut row) = true
 
--- the URI of the row that went
-abbrev pub dropped_uri : Effect → Option (List ℕ)
-dropped_uri Nothing = None
-dropped_uri Came = None
-dropped_uri (Replaced old) = None
-dropped_uri (Went old) = Some old.uri
-dropped_uri (LeftOut row) = None
-
--- the URI of a row that stayed and changed
-abbrev pub changed_uri : Effect → Option (List ℕ)
-changed_uri Nothing = None
-changed_uri Came = None
-changed_uri (Replaced old) = Some old.uri
-changed_uri (Went old) = None
-changed_uri (LeftOut row) = None
-
 -- the milliseconds that are lost with an old row
 abbrev pub loss_of : Effect → ℕ
 loss_of Nothing = 0

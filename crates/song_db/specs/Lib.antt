@@ -16,6 +16,7 @@ pub mod Order
 pub mod Pending
 pub mod Place
 pub mod Query
+pub mod Reader
 pub mod Refusal
 pub mod Replaced
 pub mod Row

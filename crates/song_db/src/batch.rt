@@ -1,3 +1,4 @@
+// The changes of a batch, made one after the other among the rows.
 ghost use Rattle.std.specs.Prelude.{◌≡◌, ◌<◌, ◌≤◌, ◌++◌, ◌+◌, length, vec_len, vec_capacity};
 ghost use Rattle.song_db.specs.Change.{IsDatabase, after_change, after_batch};
 ghost use Rattle.song_db.specs.Duration.{IsTimed};

@@ -1,3 +1,4 @@
+// A change of one row, as a batch has it.
 ghost use Rattle.std.specs.Prelude.{◌≡◌, ◌<◌, ◌^◌};
 ghost use Rattle.song_db.specs.Change.{uri_of};
 ghost use Rattle.song_db.specs.Gain.{gain_of};

@@ -1,11 +1,11 @@
-ghost use Rattle.std.specs.Prelude.{◌≡◌, ◌+◌, ◌<◌, ◌≤◌, ◌^◌, option_map};
+// What the changes of a batch did, each at its turn.
+ghost use Rattle.std.specs.Prelude.{◌≡◌, ◌+◌, ◌<◌, ◌≤◌, ◌^◌};
 ghost use Rattle.std.specs.List.{list_any};
-ghost use Rattle.song_db.specs.Effect.{changes_a_row, is_left_out, dropped_uri, changed_uri, loss_of, total_after};
+ghost use Rattle.song_db.specs.Effect.{is_left_out, loss_of, total_after};
 ghost use Rattle.song_db.specs.Refusal.{refusal_of};
 
 use crate::refusal::SongDbError;
 use crate::row::SongRow;
-use crate::uri::Uri;
 use std::marker::Model;
 
 /// What a change of a batch did at its turn.
@@ -24,39 +24,6 @@ pub enum Effect {
 }
 
 impl Effect {
-    /// Whether a row came, changed or went.
-    pub fn changes_a_row(&self) -> bool
-        ensures { result ≡ changes_a_row self.now }
-    {
-        match self {
-            Effect::Nothing => false,
-            Effect::Came => true,
-            Effect::Replaced(_) => true,
-            Effect::Went(_) => true,
-            Effect::LeftOut(_) => false,
-        }
-    }
-
-    /// The URI of the row that went, if one did.
-    pub fn dropped_uri(&self) -> Option<&Uri>
-        ensures { option_map (λ uri. uri.now) result ≡ dropped_uri self.now }
-    {
-        match self {
-            Effect::Went(old) => Some(old.as_uri()),
-            _ => None,
-        }
-    }
-
-    /// The URI of the row that another took the place of, if one did.
-    pub fn changed_uri(&self) -> Option<&Uri>
-        ensures { option_map (λ uri. uri.now) result ≡ changed_uri self.now }
-    {
-        match self {
-            Effect::Replaced(old) => Some(old.as_uri()),
-            _ => None,
-        }
-    }
-
     fn is_left_out(&self) -> bool
         ensures { result ≡ is_left_out self.now }
     {
@@ -103,13 +70,6 @@ impl Effects {
         ensures { result.now ≡ self.now }
     {
         self.effects.as_slice()
-    }
-
-    /// Whether any row came, changed or went.
-    pub fn change_a_row(&self) -> bool
-        ensures { result ≡ list_any changes_a_row self.now }
-    {
-        self.effects.iter().any(|effect| effect.changes_a_row())
     }
 
     /// Why changes were left out, if any were: `DbFull`.

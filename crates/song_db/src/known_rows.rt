@@ -1,3 +1,4 @@
+// The URIs of the rows in the place of a job.
 ghost use Rattle.std.specs.Prelude.{◌≡◌, ◌++◌, length, map, option_map, option_to_list, IfOk, OnOk};
 ghost use Rattle.song_db.specs.Known.{uris_in};
 ghost use Rattle.song_db.specs.Order.{AreKnown};

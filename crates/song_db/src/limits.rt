@@ -1,3 +1,5 @@
+//! The limits of the database and of scans.
+
 /// How many bytes of UTF-8 a URI may have.
 pub const MAX_URI_BYTES: usize = 1024;
 

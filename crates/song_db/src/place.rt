@@ -1,3 +1,4 @@
+// A place where songs are looked for: the root, or a folder.
 ghost use Rattle.std.specs.Prelude.{◌≡◌};
 ghost use Rattle.song_db.specs.Place.{place_of, is_under, is_below};
 

@@ -1,3 +1,4 @@
+// The errors of the database, with the numbers of its refusals.
 ghost use Rattle.std.specs.Prelude.{◌≡◌};
 ghost use Rattle.song_db.specs.Refusal.{number_of};
 ghost use Rattle.song_db.specs.declared.refusal.SongDbError.TheVariants.{NoMemory};

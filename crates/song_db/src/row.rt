@@ -1,3 +1,4 @@
+// A song of the database, within the limits of rates, channels and texts.
 ghost use Rattle.std.specs.Prelude.{◌≡◌, ◌↔◌, ◌<◌, ◌^◌, ◌&&◌, nat_le, IfOk, IsTrue, Some, None, if◌then◌else◌, option_copied};
 ghost use Rattle.std.specs.List.{list_all};
 ghost use Rattle.wave_pcm.specs.Tag.{text_of};

@@ -1,3 +1,4 @@
+// A song's URI with the number at which its row was last known to stand.
 ghost use Rattle.std.specs.Prelude.{◌≡◌, IfOk, IsTrue};
 ghost use Rattle.song_db.specs.Uri.{is_uri};
 

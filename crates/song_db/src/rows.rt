@@ -1,3 +1,4 @@
+// Rows that rise by URI: where one stands, by a binary search, and their copy.
 ghost use Rattle.std.specs.Prelude.{◌≡◌, ◌<◌, ◌≤◌, length, slice_get, option_and_then, None, IfSome, IfOk, IfErr};
 ghost use Rattle.std.specs.List.Sorted.{IsPartitionPoint};
 ghost use Rattle.std.specs.Ordering.{nat_cmp, is_lt};

@@ -1,3 +1,4 @@
+// The scan of a job, answer after answer.
 ghost use Rattle.std.specs.Prelude.{◌≡◌, true, false, Ok, None, IfOk, IfSome, OnErr, IsOkUnless};
 ghost use Rattle.song_db.specs.Pending.{own_pending};
 ghost use Rattle.song_db.specs.Scan.{IsAnswer, IsEnd, IsHonestAnswer, IsSameOrder, IsWholeAnswer, changes_in};

@@ -1,3 +1,4 @@
+// The database of songs, and what is asked of it.
 ghost use Rattle.std.specs.Prelude.{◌≡◌, ◌↔◌, ◌+◌, ◌≤◌, [], ◌∷◌, ◌++◌, length, map, take, drop, IsTrue, Some, is_some};
 ghost use Rattle.std.specs.Prelude.{IfOk, OnOk, OnErr, IsOkUnless};
 ghost use Rattle.song_db.specs.Change.{IsDatabase, after_batch};
@@ -99,7 +100,8 @@ impl SongDb {
 
     /// The songs by URI; a song's number is its place here, from 0 on.
     pub fn rows(&self) -> &[SongRow]
-        ensures { result.now ≡ self.now }
+        ensures rows { result.now ≡ self.now }
+        ensures within { IsDatabase self.now }
     {
         self.rows.as_slice()
     }
@@ -136,6 +138,7 @@ impl SongDb {
     pub fn get(&self, uri: &str) -> Result<&SongRow, SongDbError>
         ensures row { IfOk result (λ row. row_at self.now uri.now ≡ Some row.now) }
         ensures answer { AnswersExactlyIfThere (is_some (row_at self.now uri.now)) result }
+        ensures within { IsDatabase self.now }
     {
         match position(&self.rows, uri) {
             Some(at) => Ok(&self.rows[at]),
@@ -147,6 +150,7 @@ impl SongDb {
     pub fn row_number(&self, uri: &str) -> Result<usize, SongDbError>
         ensures number { IfOk result (λ at. number_at self.now uri.now ≡ Some at) }
         ensures answer { AnswersExactlyIfThere (is_some (row_at self.now uri.now)) result }
+        ensures within { IsDatabase self.now }
     {
         position(&self.rows, uri).ok_or(SongDbError::NoSuchUri)
     }
@@ -155,6 +159,7 @@ impl SongDb {
     pub fn row_of(&self, uri: &RowUri) -> Result<&SongRow, SongDbError>
         ensures row { IfOk result (λ row. row_at self.now uri.now ≡ Some row.now) }
         ensures answer { AnswersExactlyIfThere (is_some (row_at self.now uri.now)) result }
+        ensures within { IsDatabase self.now }
     {
         match position_near(&self.rows, uri.as_str(), uri.number()) {
             Some(number) => Ok(&self.rows[number]),
@@ -166,6 +171,7 @@ impl SongDb {
     pub fn number_of(&self, uri: &RowUri) -> Result<usize, SongDbError>
         ensures number { IfOk result (λ at. number_at self.now uri.now ≡ Some at) }
         ensures answer { AnswersExactlyIfThere (is_some (row_at self.now uri.now)) result }
+        ensures within { IsDatabase self.now }
     {
         position_near(&self.rows, uri.as_str(), uri.number()).ok_or(SongDbError::NoSuchUri)
     }

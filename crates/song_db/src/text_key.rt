@@ -1,3 +1,4 @@
+// Keys of texts, by which most texts that are not looked for are passed by.
 ghost use Rattle.std.specs.Prelude.{◌≡◌, ◌<◌, map, IsTrue, ◌↔◌, option_copied};
 ghost use Rattle.song_db.specs.Row.{six_texts};
 ghost use Rattle.song_db.specs.TextKey.{next_key, text_key, key_of};

@@ -1,3 +1,4 @@
+// Texts of the database in their order by bytes, each once.
 ghost use Rattle.std.specs.Prelude.{◌≡◌, ◌↔◌, [], ◌∷◌, length, map, IsTrue, IfOk, OnOk, OnErr};
 ghost use Rattle.std.specs.BTreeSet.{IsFromIterResult};
 ghost use Rattle.std.specs.Cmp.Lexicographic.{slice_cmp};

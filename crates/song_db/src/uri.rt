@@ -1,12 +1,11 @@
+// The form of a URI, and a URI in memory of its own.
 ghost use Rattle.std.specs.Prelude.{◌≡◌, IfOk, IsTrue, Some, None, if◌then◌else◌, string_bytes};
 ghost use Rattle.std.specs.List.{list_all};
 ghost use Rattle.std.specs.Ordering.{nat_cmp};
 ghost use Rattle.std.specs.Cmp.Lexicographic.{slice_cmp};
 ghost use Rattle.song_db.specs.Uri.{parts, is_good_part, is_uri};
-ghost use Rattle.song_db.specs.Place.{is_under};
 
 use crate::limits::MAX_URI_BYTES;
-use crate::place::Place;
 use std::alloc::{AllocError, Global};
 use std::cmp::Ordering;
 use std::marker::Model;
@@ -75,13 +74,6 @@ impl Uri {
         ensures { result ≡ slice_cmp nat_cmp self.now text.now }
     {
         self.text.as_str().cmp(text)
-    }
-
-    /// Whether it stands below a place, by whole parts: `a` is over `a/b`, and neither over `ab` nor over `a`.
-    pub fn is_under(&self, place: Place<'_>) -> bool
-        ensures { result ≡ is_under place.entry self.now }
-    {
-        place.is_over(self.text.as_str())
     }
 }
 

@@ -1,4 +1,6 @@
-ghost use Rattle.std.specs.Prelude.{◌≡◌, ◌==◌, true, [], ◌∷◌, length, map, filter, IsTrue, IfOk, OnOk, IfSome, option_copied, option_to_list};
+// The distinct values of a tag, and the folders and songs right in a place.
+ghost use Rattle.std.specs.Prelude.{◌≡◌, ◌==◌, true, [], ◌∷◌, length, map, filter};
+ghost use Rattle.std.specs.Prelude.{IsTrue, IfOk, OnOk, IfSome, option_copied, option_to_list};
 ghost use Rattle.std.specs.List.{filter_map, position};
 ghost use Rattle.song_db.specs.Kept.{AreKept};
 ghost use Rattle.song_db.specs.Place.{is_below};

@@ -1,3 +1,4 @@
+// The walk over the folders and songs below a place, by the bytes of their paths.
 ghost use Rattle.std.specs.Prelude.{◌≡◌, ◌<◌, ◌≤◌, ◌++◌, ◌∷◌, [], ◌==◌, length, take, slice_index, IsTrue, MatchOption};
 ghost use Rattle.std.specs.Prelude.{Some, None, option_copied, if◌then◌else◌};
 ghost use Rattle.std.specs.Iterator.{at_most};

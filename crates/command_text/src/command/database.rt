@@ -1,3 +1,4 @@
+// Reads the commands of the song database.
 ghost use Rattle.std.specs.Prelude.{◌≡◌, true, Err};
 ghost use Rattle.command_text.specs.Database.{scanned_place, path_argument, scan_of, database_of, keeps_place};
 ghost use Rattle.command_text.specs.declared.stop.Stop.TheVariants as stops;

@@ -1,3 +1,4 @@
+// Reads the commands of stored playlists.
 ghost use Rattle.std.specs.Prelude.{◌≡◌};
 ghost use Rattle.command_text.specs.Lists.{lists_of, one_name, load_of, rename_of, list_add_of, list_delete_of, list_move_of};
 ghost use Rattle.command_text.specs.Lists.{save_mode_of, save_of};

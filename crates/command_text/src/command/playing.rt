@@ -1,3 +1,4 @@
+// Reads the commands of playback.
 ghost use Rattle.std.specs.Prelude.{◌≡◌};
 ghost use Rattle.command_text.specs.Playing.{playing_of, selected, number_and_time};
 

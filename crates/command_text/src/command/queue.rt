@@ -1,3 +1,4 @@
+// Reads the commands of the queue.
 ghost use Rattle.std.specs.Prelude.{◌≡◌, true, Err};
 ghost use Rattle.command_text.specs.Queue.{queue_of, keeps_many, added, two_numbers, changes_since, shown_id, shown_range, move_of, move_id_of};
 ghost use Rattle.command_text.specs.Queue.{priority_of, priority_id_of};

@@ -1,3 +1,4 @@
+// Reads the commands of a client's own connection.
 ghost use Rattle.std.specs.Prelude.{◌≡◌};
 ghost use Rattle.command_text.specs.Session.{mask_with, idle_of, session_of};
 ghost use Rattle.idle_masks.specs.Subsystems.{none};

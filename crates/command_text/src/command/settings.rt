@@ -1,3 +1,4 @@
+// Reads the commands of the playback options and of the volume.
 ghost use Rattle.std.specs.Prelude.{◌≡◌};
 ghost use Rattle.command_text.specs.Settings.{settings_of, one_single, one_switch};
 ghost use Rattle.command_text.specs.Arguments.{number_to};

@@ -1,3 +1,4 @@
+// Reads the forms of `sticker`.
 ghost use Rattle.std.specs.Prelude.{◌≡◌};
 ghost use Rattle.command_text.specs.Stickers.{song, song_uri, song_sticker, get_of, set_of, delete_of, list_of, bound_of, find_of, form_of};
 ghost use Rattle.command_text.specs.Stickers.{stickers_of};

@@ -23,8 +23,8 @@ fn started_next(next: Option<Choice>) -> Option<u32>
 
 impl Player {
     /// The current song's position, and the position and the id of the song that its end would start in play,
-    /// if no random round begins with it. In random mode it draws a word for each entry that was not played:
-    /// `KeptNext` keeps what it answers.
+    /// if no random round begins with it. In random mode it draws a word for each entry: `KeptNext` keeps
+    /// what it answers.
     pub fn shown(&self, entries: &[Entry], settings: &PlaySettings) -> Shown
         ensures { result ≡ shown entries.now settings.now self.now }
     {

@@ -1,3 +1,4 @@
+// What stands under the name of a song, and the change that is made of it.
 ghost use Rattle.std.specs.Prelude.{◌≡◌, ◌<◌, ◌++◌, vec_len, vec_capacity, Ok, Err, Some, None, IfOk, IsOkUnless};
 ghost use Rattle.song_db.specs.Found.{found_of, IsKnown, IsOf, IsSongIn, changes_of, still_droppable};
 

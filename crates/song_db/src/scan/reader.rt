@@ -1,9 +1,11 @@
+// The reading of a scan: batch after batch, from the listings on the present path.
 ghost use Rattle.std.specs.Prelude.{◌≡◌, ℕ, ◌+◌, ◌<◌, ◌≤◌, true, false, List, [], ◌∷◌, ◌++◌, length, vec_len, vec_capacity, Err};
-ghost use Rattle.std.specs.Prelude.{IfOk, OnOk, IsOkUnless, IsTrue};
-ghost use Rattle.song_db.specs.Batch.{IsBatch, IsHonestBatch, IsRead, IsWholeBatch, after_listing, after_own, visit_after};
+ghost use Rattle.std.specs.Prelude.{IfOk, OnOk, IsOkUnless};
+ghost use Rattle.song_db.specs.Batch.{IsBatch, IsRead, after_listing, after_own, visit_after};
 ghost use Rattle.song_db.specs.Found.{IsVisitIn, visited};
-ghost use Rattle.song_db.specs.Pending.{Pending, listed_pending, own_pending, own_prefix, still_pending, times_pending};
-ghost use Rattle.song_db.specs.Scan.{is_in, AreSongs, IsHonestRead, IsWholeRead};
+ghost use Rattle.song_db.specs.Pending.{listed_pending, own_pending, own_prefix, still_pending, times_pending};
+ghost use Rattle.song_db.specs.Reader.{IsFilled, IsReadOn, IsSameFolder, IsSameScan};
+ghost use Rattle.song_db.specs.Scan.{is_in, IsHonestRead, IsWholeRead};
 
 use crate::change::RowChange;
 use crate::limits::MAX_CHANGES;
@@ -39,16 +41,12 @@ impl Reader {
         ensures last { IfOk result (λ changes. length changes.items < MAX_CHANGES →
             (self.new.walk.pending ≡ []) × (self.new.droppable ≡ [])) }
         ensures begun { IfOk result (λ changes. self.new.is_begun ≡ true) }
-        ensures honest_read { F.honest folder.old →
-            IfOk result (λ changes. AreSongs (F.files folder.old) changes.items → IsHonestRead (F.files folder.old) self.old.walk.place
+        ensures honest_read { F.honest folder.old → IfOk result (λ changes. IsHonestRead (F.files folder.old) self.old.walk.place
             (still_pending self.old.is_begun self.old.walk) self.new.walk.pending self.old.droppable self.new.droppable changes.items) }
         ensures whole_read { F.honest folder.old → F.steady folder.old →
             IfOk result (λ changes. IsWholeRead (F.files folder.old) self.old.walk.place
             (still_pending self.old.is_begun self.old.walk) self.new.walk.pending self.old.droppable self.new.droppable changes.items) }
-        ensures steady { F.steady folder.old → F.steady folder.new }
-        ensures songs { F.honest folder.old → IfOk result (λ changes. AreSongs (F.files folder.old) changes.items) }
-        ensures honest { F.honest folder.old → F.honest folder.new }
-        ensures files { F.honest folder.old → F.files folder.new ≡ F.files folder.old }
+        ensures folder { IsSameFolder F.honest F.steady F.files folder.old folder.new }
         ensures only { IsOkUnless result SongDbError.NoMemory }
     {
         let mut changes = Vec::with_capacity(alloc, MAX_CHANGES)?;
@@ -72,27 +70,15 @@ impl Reader {
     ) -> Result<(), SongDbError>
         requires room { vec_len changes.old < vec_capacity changes.old }
         requires pending { self.old.walk.pending ≡ [] }
-        ensures begun { self.new.is_begun ≡ self.old.is_begun }
-        ensures place { self.new.walk.place ≡ self.old.walk.place }
+        ensures scan { IsSameScan self.old self.new }
         ensures capacity { vec_capacity changes.new ≡ vec_capacity changes.old }
         ensures few { vec_len changes.new ≤ vec_len changes.old + 1 }
         ensures batch { (start : List (List ℕ)) → IsBatch self.old.walk.place start self.old.droppable changes.old.items →
             OnOk result (IsBatch self.old.walk.place start self.new.droppable changes.new.items) }
-        ensures songs { F.honest folder.old → AreSongs (F.files folder.old) changes.old.items →
-            OnOk result (AreSongs (F.files folder.old) changes.new.items) }
-        ensures honest_batch { (start : List Pending) (known : List (List ℕ)) → F.honest folder.old →
-            IsHonestBatch (F.files folder.old) self.old.walk.place start known
-            (own_pending self.old.walk.place) self.old.droppable changes.old.items →
-            OnOk result (IsHonestBatch (F.files folder.old) self.old.walk.place start known self.new.walk.pending
-            self.new.droppable changes.new.items) }
-        ensures whole_batch { (start : List Pending) (known : List (List ℕ)) → F.honest folder.old → F.steady folder.old →
-            IsWholeBatch (F.files folder.old) self.old.walk.place start known
-            (own_pending self.old.walk.place) self.old.droppable changes.old.items →
-            OnOk result (IsWholeBatch (F.files folder.old) self.old.walk.place start known self.new.walk.pending
-            self.new.droppable changes.new.items) }
-        ensures steady { F.steady folder.old → F.steady folder.new }
-        ensures honest { F.honest folder.old → F.honest folder.new }
-        ensures files { F.honest folder.old → F.files folder.new ≡ F.files folder.old }
+        ensures read { F.honest folder.old → OnOk result (IsReadOn (F.files folder.old) (F.steady folder.old) self.old.walk.place
+            (own_pending self.old.walk.place) self.old.droppable changes.old.items
+            self.new.walk.pending self.new.droppable changes.new.items) }
+        ensures folder { IsSameFolder F.honest F.steady F.files folder.old folder.new }
         ensures only { IsOkUnless result SongDbError.NoMemory }
     {
         let listing = folder.list(alloc, self.walk.path());
@@ -109,27 +95,16 @@ impl Reader {
     ) -> Result<bool, SongDbError>
         requires room { MAX_CHANGES ≤ vec_capacity changes.old }
         requires few { vec_len changes.old ≤ MAX_CHANGES }
-        ensures begun { self.new.is_begun ≡ self.old.is_begun }
-        ensures place { self.new.walk.place ≡ self.old.walk.place }
+        ensures scan { IsSameScan self.old self.new }
         ensures capacity { vec_capacity changes.new ≡ vec_capacity changes.old }
         ensures few { vec_len changes.new ≤ MAX_CHANGES }
-        ensures full { IfOk result (λ is_full. IsTrue is_full → vec_len changes.new ≡ MAX_CHANGES) }
-        ensures end { IfOk result (λ is_full. is_full ≡ false → self.new.walk.pending ≡ []) }
+        ensures filled { IfOk result (λ is_full. IsFilled is_full (vec_len changes.new) self.new.walk.pending) }
         ensures batch { (start : List (List ℕ)) → IsBatch self.old.walk.place start self.old.droppable changes.old.items →
             OnOk result (IsBatch self.old.walk.place start self.new.droppable changes.new.items) }
-        ensures songs { F.honest folder.old → AreSongs (F.files folder.old) changes.old.items →
-            OnOk result (AreSongs (F.files folder.old) changes.new.items) }
-        ensures honest_batch { (start : List Pending) (known : List (List ℕ)) → F.honest folder.old →
-            IsHonestBatch (F.files folder.old) self.old.walk.place start known self.old.walk.pending self.old.droppable changes.old.items →
-            OnOk result (IsHonestBatch (F.files folder.old) self.old.walk.place start known self.new.walk.pending
-            self.new.droppable changes.new.items) }
-        ensures whole_batch { (start : List Pending) (known : List (List ℕ)) → F.honest folder.old → F.steady folder.old →
-            IsWholeBatch (F.files folder.old) self.old.walk.place start known self.old.walk.pending self.old.droppable changes.old.items →
-            OnOk result (IsWholeBatch (F.files folder.old) self.old.walk.place start known self.new.walk.pending
-            self.new.droppable changes.new.items) }
-        ensures steady { F.steady folder.old → F.steady folder.new }
-        ensures honest { F.honest folder.old → F.honest folder.new }
-        ensures files { F.honest folder.old → F.files folder.new ≡ F.files folder.old }
+        ensures read { F.honest folder.old → OnOk result (IsReadOn (F.files folder.old) (F.steady folder.old) self.old.walk.place
+            self.old.walk.pending self.old.droppable changes.old.items
+            self.new.walk.pending self.new.droppable changes.new.items) }
+        ensures folder { IsSameFolder F.honest F.steady F.files folder.old folder.new }
         ensures only { IsOkUnless result SongDbError.NoMemory }
     {
         // A folder may list new folders for ever: then the scan is given up, and the rows that were not read stay.
@@ -168,27 +143,15 @@ impl Reader {
     ) -> Result<(), SongDbError>
         requires visit { IsVisitIn self.old.walk.place visit }
         requires room { vec_len changes.old < vec_capacity changes.old }
-        ensures begun { self.new.is_begun ≡ self.old.is_begun }
-        ensures place { self.new.walk.place ≡ self.old.walk.place }
+        ensures scan { IsSameScan self.old self.new }
         ensures capacity { vec_capacity changes.new ≡ vec_capacity changes.old }
         ensures few { vec_len changes.new ≤ vec_len changes.old + 1 }
         ensures batch { (start : List (List ℕ)) → IsBatch self.old.walk.place start self.old.droppable changes.old.items →
             OnOk result (IsBatch self.old.walk.place start self.new.droppable changes.new.items) }
-        ensures songs { F.honest folder.old → AreSongs (F.files folder.old) changes.old.items →
-            OnOk result (AreSongs (F.files folder.old) changes.new.items) }
-        ensures honest_batch { (start : List Pending) (known : List (List ℕ)) → F.honest folder.old →
-            IsHonestBatch (F.files folder.old) self.old.walk.place start known
-            (visited visit ++ self.old.walk.pending) self.old.droppable changes.old.items →
-            OnOk result (IsHonestBatch (F.files folder.old) self.old.walk.place start known self.new.walk.pending
-            self.new.droppable changes.new.items) }
-        ensures whole_batch { (start : List Pending) (known : List (List ℕ)) → F.honest folder.old → F.steady folder.old →
-            IsWholeBatch (F.files folder.old) self.old.walk.place start known
-            (visited visit ++ self.old.walk.pending) self.old.droppable changes.old.items →
-            OnOk result (IsWholeBatch (F.files folder.old) self.old.walk.place start known self.new.walk.pending
-            self.new.droppable changes.new.items) }
-        ensures steady { F.steady folder.old → F.steady folder.new }
-        ensures honest { F.honest folder.old → F.honest folder.new }
-        ensures files { F.honest folder.old → F.files folder.new ≡ F.files folder.old }
+        ensures read { F.honest folder.old → OnOk result (IsReadOn (F.files folder.old) (F.steady folder.old) self.old.walk.place
+            (visited visit ++ self.old.walk.pending) self.old.droppable changes.old.items
+            self.new.walk.pending self.new.droppable changes.new.items) }
+        ensures folder { IsSameFolder F.honest F.steady F.files folder.old folder.new }
         ensures only { IsOkUnless result SongDbError.NoMemory }
     {
         match visit {

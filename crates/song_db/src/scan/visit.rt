@@ -1,3 +1,4 @@
+// What a scan does at a path: it reads a song, goes into a folder, or passes by.
 ghost use Rattle.std.specs.Prelude.{◌≡◌};
 ghost use Rattle.song_db.specs.Found.{visit_of};
 ghost use Rattle.song_db.specs.Name.{ends_as_wave, folders_over, is_song};

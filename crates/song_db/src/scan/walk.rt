@@ -1,3 +1,4 @@
+// The folders that a scan is in, with what is left of their listings.
 ghost use Rattle.std.specs.Prelude.{◌≡◌, ℕ, ◌+◌, true, List, [], ◌∷◌, ◌++◌, IfOk, OnOk, IfSome, IsTrue, option_map, unwrap_or};
 ghost use Rattle.std.specs.String.{string_bytes};
 ghost use Rattle.song_db.specs.Found.{IsPrefixIn, IsTaken, IsVisitIn, visit_at};

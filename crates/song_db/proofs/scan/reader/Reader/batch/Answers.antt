@@ -1,8 +1,11 @@
 use Rattle.std.proofs.Common.{◌≡◌, refl}
 use Rattle.song_db.specs.Batch.{IsBatch, IsHonestBatch, IsWholeBatch}
 use Rattle.song_db.specs.Pending.{still_pending}
+use Rattle.song_db.specs.Reader.{IsReadOn, IsSameFolder}
+use Rattle.song_db.specs.Scan.{AreSongs}
 use Rattle.song_db.proofs.BatchSteps.{batch_none, batch_read}
-use Rattle.song_db.proofs.ReadSteps.{honest_first, honest_later, whole_first, whole_later, honest_end, honest_full, whole_end}
+use Rattle.song_db.proofs.ReaderSteps.{read_none, read_then}
+use Rattle.song_db.proofs.ReadSteps.{honest_none, whole_none, no_songs, honest_end, honest_full, whole_end}
 use Rattle.song_db.proofs.scan.reader.Reader.batch.Given.{Over}
 use Rattle.song_db.proofs.scan.reader.Reader.batch.Goals as goal
 use Rattle.song_db.proofs.scan.reader.Reader.batch.Goals.{then-not-self+in_ok-begin, else-not-self}
@@ -10,7 +13,7 @@ use Rattle.song_db.proofs.scan.reader.Reader.batch.Goals.{then-not-is_full+in_ok
 
 place_kept : (g : Over) (c : goal.Joined-not-is_full g) → c.if-not-self.self.walk.place ≡ c.args.self.now.walk.place
 place_kept g c = elim c.if-not-self.branch [
-  | then-not-self+in_ok-begin w ↦ rw w.self-is w.begin.ensures.place
+  | then-not-self+in_ok-begin w ↦ rw w.self-is w.begin.ensures.scan.place
   | else-not-self w ↦ rw w.self-is refl
 ]
 
@@ -37,81 +40,65 @@ returns-clause-read g c =
       | else-not-is_full w ↦ rw (w.self-is, w.changes-is) (batch_read place known _ _ _ _ (filled g c) refl refl)
     ]
 
-honest_then : (g : Over) (c : goal.Joined-not-is_full g) → g.F.Folder.honest c.args.folder.now → g.F.Folder.honest c.if-not-self.folder
-honest_then g c honest = elim c.if-not-self.branch [
-  | then-not-self+in_ok-begin w ↦ rw w.folder-is (w.begin.ensures.honest honest)
-  | else-not-self w ↦ rw w.folder-is honest
+folder_kept : (g : Over) (c : goal.Joined-not-is_full g)
+    → IsSameFolder g.F.Folder.honest g.F.Folder.steady g.F.Folder.files c.args.folder.now c.if-not-self.folder
+folder_kept g c = elim c.if-not-self.branch [
+  | then-not-self+in_ok-begin w ↦ rw w.folder-is w.begin.ensures.folder
+  | else-not-self w ↦ rw w.folder-is (record { honesty = λ is. is; same_files = λ is. refl; steadiness = λ is. is })
 ]
 
-steady_then : (g : Over) (c : goal.Joined-not-is_full g) → g.F.Folder.steady c.args.folder.now → g.F.Folder.steady c.if-not-self.folder
-steady_then g c steady = elim c.if-not-self.branch [
-  | then-not-self+in_ok-begin w ↦ rw w.folder-is (w.begin.ensures.steady steady)
-  | else-not-self w ↦ rw w.folder-is steady
-]
-
-files_then : (g : Over) (c : goal.Joined-not-is_full g) → g.F.Folder.honest c.args.folder.now
-    → g.F.Folder.files c.if-not-self.folder ≡ g.F.Folder.files c.args.folder.now
-files_then g c honest = elim c.if-not-self.branch [
-  | then-not-self+in_ok-begin w ↦ rw w.folder-is (w.begin.ensures.files honest)
-  | else-not-self w ↦ rw w.folder-is refl
-]
+read_filled : (g : Over) (c : goal.Joined-not-is_full g) → g.F.Folder.honest c.args.folder.now
+    → IsReadOn (g.F.Folder.files c.args.folder.now) (g.F.Folder.steady c.args.folder.now) c.args.self.now.walk.place
+    (still_pending c.args.self.now.is_begun c.args.self.now.walk) c.args.self.now.droppable c.in_ok-changes.changes.items
+    c.fill.new.self.walk.pending c.fill.new.self.droppable c.fill.new.changes.items
+read_filled g c honest =
+    let files = g.F.Folder.files c.args.folder.now in
+    let steady = g.F.Folder.steady c.args.folder.now in
+    let place = c.args.self.now.walk.place in
+    let known = c.args.self.now.droppable in
+    let start = still_pending c.args.self.now.is_begun c.args.self.now.walk in
+    let walk : c.if-not-self.self.walk.place ≡ place = place_kept g c in
+    let same = (folder_kept g c).same_files honest in
+    let begun : IsReadOn files steady place start known c.in_ok-changes.changes.items c.if-not-self.self.walk.pending
+    c.if-not-self.self.droppable c.if-not-self.changes.items = elim c.if-not-self.branch [
+      | then-not-self+in_ok-begin w ↦ rw (w.self-is, w.changes-is, w.if-not-self.true) (w.in_ok-begin.ensures.read honest)
+      | else-not-self w ↦ rw (w.self-is, w.changes-is, w.if-not-self.false)
+          (read_none files steady place c.args.self.now.walk.pending known c.in_ok-changes.changes.items)
+    ] in
+    read_then files steady _ place _ _ _ _ _ _ _ _ _ (folder_kept g c).steadiness begun
+    (rw (walk, same) at (c.in_ok-is_full.ensures.read ((folder_kept g c).honesty honest)))
 
 honest_filled : (g : Over) (c : goal.Joined-not-is_full g) → g.F.Folder.honest c.args.folder.now
     → IsHonestBatch (g.F.Folder.files c.args.folder.now) c.args.self.now.walk.place
     (still_pending c.args.self.now.is_begun c.args.self.now.walk)
     c.args.self.now.droppable c.fill.new.self.walk.pending c.fill.new.self.droppable c.fill.new.changes.items
-honest_filled g c honest =
-    let files = g.F.Folder.files c.args.folder.now in
-    let place = c.args.self.now.walk.place in
-    let known = c.args.self.now.droppable in
-    let start = still_pending c.args.self.now.is_begun c.args.self.now.walk in
-    let walk : c.if-not-self.self.walk.place ≡ place = place_kept g c in
-    let begun : IsHonestBatch files place start known c.if-not-self.self.walk.pending c.if-not-self.self.droppable
-    c.if-not-self.changes.items = elim c.if-not-self.branch [
-      | then-not-self+in_ok-begin w ↦ rw (w.self-is, w.changes-is) (w.in_ok-begin.ensures.honest_batch start known honest
-          (honest_first files c.args.self.now.is_begun c.args.self.now.walk known c.in_ok-changes.changes.items w.if-not-self.true
-          c.in_ok-changes.ensures.items))
-      | else-not-self w ↦ rw (w.self-is, w.changes-is)
-          (honest_later files c.args.self.now.is_begun c.args.self.now.walk known c.in_ok-changes.changes.items w.if-not-self.false
-          c.in_ok-changes.ensures.items)
-    ] in
-    rw (walk, files_then g c honest) at (c.in_ok-is_full.ensures.honest_batch start known (honest_then g c honest)
-    (rw (walk, files_then g c honest) begun))
+honest_filled g c honest = (read_filled g c honest).honest _ _ (honest_none (g.F.Folder.files c.args.folder.now)
+    c.args.self.now.walk.place _ _ c.in_ok-changes.changes.items c.in_ok-changes.ensures.items)
+
+songs_filled : (g : Over) (c : goal.Joined-not-is_full g) → g.F.Folder.honest c.args.folder.now
+    → AreSongs (g.F.Folder.files c.args.folder.now) c.fill.new.changes.items
+songs_filled g c honest = (read_filled g c honest).songs
+    (no_songs (g.F.Folder.files c.args.folder.now) c.in_ok-changes.changes.items c.in_ok-changes.ensures.items)
+
+pub returns-clause-honest_read : goal.returns-clause-honest_read
+returns-clause-honest_read g c = λ honest. elim c.if-not-is_full.branch [
+  | then-not-is_full+in_ok-drop_rest w ↦
+      rw (w.self-is, w.changes-is) (honest_end (g.F.Folder.files c.args.folder.now) c.args.self.now.walk.place _
+      c.fill.new.self.walk.pending c.args.self.now.droppable
+      c.fill.new.self.droppable _ c.fill.new.changes.items _ (honest_filled g c honest) (filled g c).no_drop w.in_ok-drop_rest.ensures.drops
+      w.in_ok-drop_rest.ensures.puts (songs_filled g c honest) (rw w.if-not-is_full.true at c.in_ok-is_full.ensures.filled))
+  | else-not-is_full w ↦
+      rw (w.self-is, w.changes-is) (honest_full (g.F.Folder.files c.args.folder.now) c.args.self.now.walk.place _
+      c.fill.new.self.walk.pending c.args.self.now.droppable
+      c.fill.new.self.droppable c.fill.new.changes.items (honest_filled g c honest) (filled g c).no_drop (songs_filled g c honest))
+]
 
 whole_filled : (g : Over) (c : goal.Joined-not-is_full g) → g.F.Folder.honest c.args.folder.now → g.F.Folder.steady c.args.folder.now
     → IsWholeBatch (g.F.Folder.files c.args.folder.now) c.args.self.now.walk.place
     (still_pending c.args.self.now.is_begun c.args.self.now.walk)
     c.args.self.now.droppable c.fill.new.self.walk.pending c.fill.new.self.droppable c.fill.new.changes.items
-whole_filled g c honest steady =
-    let files = g.F.Folder.files c.args.folder.now in
-    let place = c.args.self.now.walk.place in
-    let known = c.args.self.now.droppable in
-    let start = still_pending c.args.self.now.is_begun c.args.self.now.walk in
-    let walk : c.if-not-self.self.walk.place ≡ place = place_kept g c in
-    let begun : IsWholeBatch files place start known c.if-not-self.self.walk.pending c.if-not-self.self.droppable
-    c.if-not-self.changes.items = elim c.if-not-self.branch [
-      | then-not-self+in_ok-begin w ↦ rw (w.self-is, w.changes-is) (w.in_ok-begin.ensures.whole_batch start known honest steady
-          (whole_first files c.args.self.now.is_begun c.args.self.now.walk known c.in_ok-changes.changes.items w.if-not-self.true
-          c.in_ok-changes.ensures.items))
-      | else-not-self w ↦ rw (w.self-is, w.changes-is)
-          (whole_later files c.args.self.now.is_begun c.args.self.now.walk known c.in_ok-changes.changes.items w.if-not-self.false
-          c.in_ok-changes.ensures.items)
-    ] in
-    rw (walk, files_then g c honest) at (c.in_ok-is_full.ensures.whole_batch start known (honest_then g c honest) (steady_then g c steady)
-    (rw (walk, files_then g c honest) begun))
-
-pub returns-clause-honest_read : goal.returns-clause-honest_read
-returns-clause-honest_read g c = λ honest songs. elim c.if-not-is_full.branch [
-  | then-not-is_full+in_ok-drop_rest w ↦
-      rw (w.self-is, w.changes-is) (honest_end (g.F.Folder.files c.args.folder.now) c.args.self.now.walk.place _
-      c.fill.new.self.walk.pending c.args.self.now.droppable
-      c.fill.new.self.droppable _ c.fill.new.changes.items _ (honest_filled g c honest) (filled g c).no_drop w.in_ok-drop_rest.ensures.drops
-      w.in_ok-drop_rest.ensures.puts (rw w.changes-is at songs) (c.in_ok-is_full.ensures.end w.if-not-is_full.true))
-  | else-not-is_full w ↦
-      rw (w.self-is, w.changes-is) (honest_full (g.F.Folder.files c.args.folder.now) c.args.self.now.walk.place _
-      c.fill.new.self.walk.pending c.args.self.now.droppable
-      c.fill.new.self.droppable c.fill.new.changes.items (honest_filled g c honest) (filled g c).no_drop (rw w.changes-is at songs))
-]
+whole_filled g c honest steady = (read_filled g c honest).whole _ _ steady (whole_none (g.F.Folder.files c.args.folder.now)
+    c.args.self.now.walk.place _ _ c.in_ok-changes.changes.items c.in_ok-changes.ensures.items)
 
 pub returns-clause-whole_read : goal.returns-clause-whole_read
 returns-clause-whole_read g c = λ honest steady. elim c.if-not-is_full.branch [

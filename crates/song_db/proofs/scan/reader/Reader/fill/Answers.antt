@@ -1,34 +1,25 @@
 use Rattle.std.proofs.Common.{◌≡◌, ◌∙◌, arith}
-use Rattle.song_db.proofs.HonestSteps.{honest_taken, whole_taken}
+use Rattle.song_db.proofs.ReaderSteps.{folder_then, read_taken, read_then}
 use Rattle.song_db.proofs.scan.reader.Reader.fill.Goals as goal
 
 pub loop-preserved : goal.loop-preserved
 loop-preserved g c =
-    let place : c.next.new.self.place ≡ c.args.self.now.walk.place = c.next.ensures.place ∙ c.loop.invariant.place in
+    let first = c.args.self.now.walk.place in
+    let place : c.next.new.self.place ≡ first = c.next.ensures.place ∙ c.loop.invariant.scan.place in
     record {
-      place = c.make.ensures.place ∙ place;
-      begun = c.make.ensures.begun ∙ c.loop.invariant.begun;
+      scan = record { place = c.make.ensures.scan.place ∙ place; begun = c.make.ensures.scan.begun ∙ c.loop.invariant.scan.begun };
       capacity = c.make.ensures.capacity ∙ c.loop.invariant.capacity;
       few = omega arith;
       batch = λ start batch. rw place at (c.in_ok-make.ensures.batch start (rw place (c.loop.invariant.batch start batch)));
-      songs = λ honest songs. rw (c.loop.invariant.files honest) at (c.in_ok-make.ensures.songs (c.loop.invariant.honest honest)
-          (rw (c.loop.invariant.files honest) (c.loop.invariant.songs honest songs)));
-      honest_batch = λ start known honest batch. rw (place, c.loop.invariant.files honest)
-          at (c.in_ok-make.ensures.honest_batch start known (c.loop.invariant.honest honest)
-          (rw (place, c.loop.invariant.files honest)
-          (honest_taken (g.F.Folder.files c.args.folder.now) c.args.self.now.walk.place start known
-          c.loop.self.walk.pending c.next.new.self.pending c.in_ok-visit.visit c.loop.self.droppable c.loop.changes.items
-          c.in_ok-visit.ensures.taken
-          (c.loop.invariant.honest_batch start known honest batch))));
-      whole_batch = λ start known honest steady batch. rw (place, c.loop.invariant.files honest)
-          at (c.in_ok-make.ensures.whole_batch start known (c.loop.invariant.honest honest)
-          (c.loop.invariant.steady steady)
-          (rw (place, c.loop.invariant.files honest)
-          (whole_taken (g.F.Folder.files c.args.folder.now) c.args.self.now.walk.place start known
-          c.loop.self.walk.pending c.next.new.self.pending c.in_ok-visit.visit c.loop.self.droppable c.loop.changes.items
-          c.in_ok-visit.ensures.taken
-          (c.loop.invariant.whole_batch start known honest steady batch))));
-      steady = λ steady. c.make.ensures.steady (c.loop.invariant.steady steady);
-      honest = λ honest. c.make.ensures.honest (c.loop.invariant.honest honest);
-      files = λ honest. c.make.ensures.files (c.loop.invariant.honest honest) ∙ c.loop.invariant.files honest;
+      read = λ honest.
+          let files = g.F.Folder.files c.args.folder.now in
+          let steady = g.F.Folder.steady c.args.folder.now in
+          let made = rw (place, c.loop.invariant.folder.same_files honest)
+          at (c.in_ok-make.ensures.read (c.loop.invariant.folder.honesty honest)) in
+          read_then files steady _ first _ _ _ _ _ _ _ _ _ c.loop.invariant.folder.steadiness
+          (read_then files steady steady first _ _ _ _ _ _ _ _ _ (λ is. is) (c.loop.invariant.read honest)
+          (read_taken files steady first c.loop.self.walk.pending c.next.new.self.pending c.in_ok-visit.visit c.loop.self.droppable
+          c.loop.changes.items c.in_ok-visit.ensures.taken))
+          made;
+      folder = folder_then g.F.Folder.honest g.F.Folder.steady g.F.Folder.files _ _ _ c.loop.invariant.folder c.make.ensures.folder;
     }

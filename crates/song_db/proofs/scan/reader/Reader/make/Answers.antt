@@ -5,14 +5,9 @@ use Rattle.wave_pcm.specs.declared.folder.FolderFault.TheVariants.{NoMemory}
 use Rattle.song_db.specs.declared.refusal.SongDbError.{SongDbError}
 use Rattle.song_db.specs.declared.refusal.SongDbError.TheVariants.{NoMemory as MemoryRefused}
 use Rattle.song_db.proofs.BatchSteps.{batch_settled, songs_settled, batch_listed}
-use Rattle.song_db.proofs.HonestSteps.{found_tells, found_known, honest_told, whole_told}
-use Rattle.song_db.proofs.ListedSteps.{honest_listed, whole_listed}
+use Rattle.song_db.proofs.HonestSteps.{found_tells, found_known}
+use Rattle.song_db.proofs.ReaderSteps.{read_listed, read_none, read_told, then_ok}
 use Rattle.song_db.proofs.scan.reader.Reader.make.Goals as goal
-
--- where an answer is Ok, what holds then gives what holds then
-then_ok : {T E : Type 0} {P Q : Type 0} (r : Result T E) → OnOk r P → (P → Q) → OnOk r Q
-then_ok (Ok x) p f = f p
-then_ok (Err e) p f = tt
 
 -- a steady folder's listing fails only for want of memory, which is refused
 sure : {T A : Type 0} (r : Result T SongDbError) (listing : Result A FolderFault) → IsOkUnless listing NoMemory
@@ -22,6 +17,11 @@ sure (Ok x) (Ok l) unless memory = tt
 sure (Ok x) (Err fault) unless memory =
     absurd (let m : ◌≡◌ {A = Result _ SongDbError} (Ok x) (Err MemoryRefused) = memory (ap Err unless) in cc)
 sure (Err e) listing unless memory = tt
+
+-- what is so where something else is, of a result that may have failed
+under : {T E : Type 0} (P Q : Type 0) (r : Result T E) → (P → OnOk r Q) → OnOk r (P → Q)
+under P Q (Ok x) h = h
+under P Q (Err e) h = tt
 
 both_ok : {T E : Type 0} (P Q : Type 0) (r : Result T E) → OnOk r P → OnOk r Q → OnOk r (P × Q)
 both_ok P Q (Ok x) p q = (p, q)
@@ -33,42 +33,26 @@ returns-in_ok-found-in-File-clause-batch g c = λ start batch.
     (batch_settled c.args.self.now.walk.place start c.args.self.now.droppable c.args.changes.now.items c.in-File.uri
     c.in_ok-found-in-File.found batch (rw c.in-File.is at c.requires.visit).0 c.in_ok-found-in-File.ensures.of)
 
-pub returns-in_ok-found-in-File-clause-songs : goal.returns-in_ok-found-in-File-clause-songs
-returns-in_ok-found-in-File-clause-songs g c = λ honest before.
-    rw c.settle.ensures.changes
-    (songs_settled {S = g.row.F-File.Denot} g.F.File.Source.bytes g.F.File.Source.honest (g.F.Folder.files c.args.folder.now)
-    c.in-File.uri c.args.changes.now.items c.open-opened.result c.in_ok-found-in-File.found c.found_in.result
-    c.in_ok-found-in-File.was (rw c.as_str.ensures.text at (c.open-opened.ensures.opened honest)) c.found_in.ensures.fault
-    c.found_in.ensures.none c.found_in.ensures.memory c.in_ok-found-in-File.ensures.of c.in_ok-found-in-File.ensures.song before)
-
-pub returns-in_ok-found-in-File-clause-honest_batch : goal.returns-in_ok-found-in-File-clause-honest_batch
-returns-in_ok-found-in-File-clause-honest_batch g c = λ start known honest batch.
-    let visit = rw c.in-File.is at c.requires.visit in
-    rw (c.settle.ensures.changes, c.settle.ensures.droppable)
-    (honest_told (g.F.Folder.files c.args.folder.now) c.args.self.now.walk.place start known c.args.self.now.walk.pending
-    c.args.self.now.droppable c.args.changes.now.items c.in-File.uri c.in_ok-found-in-File.found
-    (found_tells {S = g.row.F-File.Denot} g.F.File.Source.bytes g.F.File.Source.honest (g.F.Folder.files c.args.folder.now)
-    c.args.self.now.walk.place c.in-File.uri c.open-opened.result c.in_ok-found-in-File.found c.found_in.result visit.0 visit.1
-    c.in_ok-found-in-File.was (rw c.as_str.ensures.text at (c.open-opened.ensures.opened honest)) c.found_in.ensures.fault
-    c.found_in.ensures.none c.found_in.ensures.memory c.in_ok-found-in-File.ensures.of c.in_ok-found-in-File.ensures.song)
-    (rw c.in-File.is at batch))
-
-pub returns-in_ok-found-in-File-clause-whole_batch : goal.returns-in_ok-found-in-File-clause-whole_batch
-returns-in_ok-found-in-File-clause-whole_batch g c = λ start known honest steady batch.
+pub returns-in_ok-found-in-File-clause-read : goal.returns-in_ok-found-in-File-clause-read
+returns-in_ok-found-in-File-clause-read g c = λ honest.
+    let files = g.F.Folder.files c.args.folder.now in
     let visit = rw c.in-File.is at c.requires.visit in
     let opened = rw c.as_str.ensures.text at (c.open-opened.ensures.opened honest) in
-    rw (c.settle.ensures.changes, c.settle.ensures.droppable)
-    (whole_told (g.F.Folder.files c.args.folder.now) c.args.self.now.walk.place start known c.args.self.now.walk.pending
+    rw (c.in-File.is, c.settle.ensures.changes, c.settle.ensures.droppable)
+    (read_told files (g.F.Folder.steady c.args.folder.now) c.args.self.now.walk.place c.args.self.now.walk.pending
     c.args.self.now.droppable c.args.changes.now.items c.in-File.uri c.in_ok-found-in-File.found
-    (found_tells {S = g.row.F-File.Denot} g.F.File.Source.bytes g.F.File.Source.honest (g.F.Folder.files c.args.folder.now)
+    (songs_settled {S = g.row.F-File.Denot} g.F.File.Source.bytes g.F.File.Source.honest files
+    c.in-File.uri c.args.changes.now.items c.open-opened.result c.in_ok-found-in-File.found c.found_in.result
+    c.in_ok-found-in-File.was opened c.found_in.ensures.fault
+    c.found_in.ensures.none c.found_in.ensures.memory c.in_ok-found-in-File.ensures.of c.in_ok-found-in-File.ensures.song)
+    (found_tells {S = g.row.F-File.Denot} g.F.File.Source.bytes g.F.File.Source.honest files
     c.args.self.now.walk.place c.in-File.uri c.open-opened.result c.in_ok-found-in-File.found c.found_in.result visit.0 visit.1
     c.in_ok-found-in-File.was opened c.found_in.ensures.fault
     c.found_in.ensures.none c.found_in.ensures.memory c.in_ok-found-in-File.ensures.of c.in_ok-found-in-File.ensures.song)
-    (found_known {S = g.row.F-File.Denot} g.F.File.Source.honest g.F.File.Source.steady (g.F.Folder.files c.args.folder.now)
+    (λ steady. found_known {S = g.row.F-File.Denot} g.F.File.Source.honest g.F.File.Source.steady files
     g.F.File.Source.bytes c.in-File.uri c.open-opened.result c.in_ok-found-in-File.found c.found_in.result c.in_ok-found-in-File.was
     opened (c.open-opened.ensures.steady steady).0 (c.open-opened.ensures.unfailing steady) c.found_in.ensures.none
-    c.found_in.ensures.memory c.found_in.ensures.known)
-    (rw c.in-File.is at batch))
+    c.found_in.ensures.memory c.found_in.ensures.known))
 
 pub returns-in-Folder-clause-batch : goal.returns-in-Folder-clause-batch
 returns-in-Folder-clause-batch g c = λ start batch.
@@ -76,22 +60,18 @@ returns-in-Folder-clause-batch g c = λ start batch.
     (batch_listed c.args.self.now.walk.place start c.args.self.now.droppable c.args.changes.now.items c.in-Folder.uri
     c.list-listing.result batch))
 
-pub returns-in-Folder-clause-honest_batch : goal.returns-in-Folder-clause-honest_batch
-returns-in-Folder-clause-honest_batch g c = λ start known honest batch.
-    then_ok c.take_listing.result (both_ok _ _ c.take_listing.result c.take_listing.ensures.droppable c.take_listing.ensures.pending)
-    (λ told. rw told.0
-    (honest_listed (g.F.Folder.files c.args.folder.now) c.args.self.now.walk.place start known c.args.self.now.walk.pending
-    c.take_listing.new.self.walk.pending c.args.self.now.droppable c.args.changes.now.items c.in-Folder.uri c.list-listing.result
-    c.as_str-in-Folder.ensures.form (rw c.as_str-in-Folder.ensures.text at (c.list-listing.ensures.listed honest)) told.1
-    (rw c.in-Folder.is at batch)))
-
-pub returns-in-Folder-clause-whole_batch : goal.returns-in-Folder-clause-whole_batch
-returns-in-Folder-clause-whole_batch g c = λ start known honest steady batch.
+pub returns-in-Folder-clause-read : goal.returns-in-Folder-clause-read
+returns-in-Folder-clause-read g c = λ honest.
     then_ok c.take_listing.result (both_ok _ _ c.take_listing.result c.take_listing.ensures.droppable (both_ok _ _ c.take_listing.result
-    c.take_listing.ensures.pending (sure c.take_listing.result c.list-listing.result (c.list-listing.ensures.steady steady).0
-    c.take_listing.ensures.memory)))
-    (λ told. rw told.0
-    (whole_listed (g.F.Folder.files c.args.folder.now) c.args.self.now.walk.place start known c.args.self.now.walk.pending
-    c.take_listing.new.self.walk.pending c.args.self.now.droppable c.args.changes.now.items c.in-Folder.uri c.list-listing.result
-    c.as_str-in-Folder.ensures.form told.1.1 (rw c.as_str-in-Folder.ensures.text at (c.list-listing.ensures.listed honest)) told.1.0
-    (rw c.in-Folder.is at batch)))
+    c.take_listing.ensures.pending (under _ _ c.take_listing.result (λ steady. sure c.take_listing.result c.list-listing.result
+    (c.list-listing.ensures.steady steady).0 c.take_listing.ensures.memory))))
+    (λ told. rw (c.in-Folder.is, told.0)
+    (read_listed (g.F.Folder.files c.args.folder.now) (g.F.Folder.steady c.args.folder.now) c.args.self.now.walk.place
+    c.args.self.now.walk.pending c.take_listing.new.self.walk.pending c.args.self.now.droppable c.args.changes.now.items
+    c.in-Folder.uri c.list-listing.result c.as_str-in-Folder.ensures.form
+    (rw c.as_str-in-Folder.ensures.text at (c.list-listing.ensures.listed honest)) told.1.1 told.1.0))
+
+pub returns-in-Nothing-clause-read : goal.returns-in-Nothing-clause-read
+returns-in-Nothing-clause-read g c = λ honest.
+    rw c.in-Nothing.is (read_none (g.F.Folder.files c.args.folder.now) (g.F.Folder.steady c.args.folder.now) c.args.self.now.walk.place
+    c.args.self.now.walk.pending c.args.self.now.droppable c.args.changes.now.items)
