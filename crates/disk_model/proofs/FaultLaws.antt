@@ -1,5 +1,5 @@
 -- The count of faults over several calls.
-use Rattle.std.proofs.Common.{ℕ, ◌<◌, ◌≤◌, Result, Ok, Err, refl, arith}
+use Rattle.std.proofs.Common.{ℕ, ◌≤◌, Result, Ok, Err, refl, arith}
 use Rattle.std.specs.Prelude.{OnErr, IsErrOf}
 use Rattle.disk_model.specs.declared.refusal.DiskError.{DiskError}
 use Rattle.disk_model.specs.declared.refusal.DiskError.TheVariants.{DiskFault, OutOfRange}
@@ -8,10 +8,6 @@ use Rattle.disk_model.specs.Faults.{HasGrown, IsCounted}
 -- calls before the fault
 pub grown_before : (first before now : ℕ) → first ≤ before → HasGrown before now → HasGrown first now
 grown_before first before now later grown below = omega (arith, grown below)
-
--- calls after it
-pub grown_after : (before between now : ℕ) → between ≤ now → HasGrown before between → HasGrown before now
-grown_after before between now later grown below = let fault : before < between = grown (omega arith) in omega arith
 
 -- a call in range that fails is a fault
 pub grown_in_range : {T : Type 0} (e : DiskError) (before now : ℕ) → (IsErrOf {T = T} (Err e) OutOfRange → ⊥)

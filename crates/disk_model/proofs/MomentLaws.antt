@@ -1,5 +1,5 @@
 -- Crashes at the moments of a run: now, since a moment, and over two runs.
-use Rattle.std.proofs.Common.{◌⊎◌, inl, inr, ℕ, ◌≤◌, List, [], ◌∷◌, ◌++◌, length, length-append, append_assoc, arith, refl, sym, ap, subst}
+use Rattle.std.proofs.Common.{◌⊎◌, inl, inr, ℕ, List, [], ◌∷◌, ◌++◌, length, length-append, append_assoc, arith, refl, sym, ap, subst}
 use Rattle.std.proofs.Common.{◌∙◌}
 use Rattle.disk_model.specs.Calls.{IsSameOrAdds}
 use Rattle.disk_model.specs.History.{Change}
@@ -16,11 +16,6 @@ now_only (change ∷ earlier) image (inr before) = absurd (omega (arith, before.
 pub counts_now : (history : List Change) (t : ℕ) (image : List ℕ) → IsImage (window history) image → LeftSince history t image
 counts_now [] t image now = now
 counts_now (change ∷ earlier) t image now = inl now
-
--- a call goes on from what was possible before it
-pub left_before : (change : Change) (earlier : List Change) (t : ℕ) (image : List ℕ) → t ≤ length earlier → LeftSince earlier t image
-    → LeftSince (change ∷ earlier) t image
-left_before change earlier t image within left = inr (within, left)
 
 -- a run begins
 pub all_begin : (P : List ℕ → Type 0) (history : List Change) → AllNow P history → AllSince P history (length history)
@@ -68,17 +63,6 @@ all_join P old new t run before during image left =
 pub continues_same : (history : List Change) → Continues history history
 continues_same history = ([], refl)
 
-pub continues_step : (change : Change) (old new : List Change) → Continues old new → Continues old (change ∷ new)
-continues_step change old new run = (change ∷ run.0, ap (λ h. change ∷ h) run.1)
-
-pub continues_step_or : (change : Change) (old before new : List Change) → IsSameOrAdds change before new → Continues old before
-    → Continues old new
-continues_step_or change old before new (inl same) run = subst (λ h. Continues old h) (sym same) run
-continues_step_or change old before new (inr adds) run = subst (λ h. Continues old h) (sym adds) (continues_step change old before run)
-
 pub continues_join : (old between new : List Change) → Continues old between → Continues between new → Continues old new
 continues_join old between new first second =
     (second.0 ++ first.0, second.1 ∙ ap (λ h. second.0 ++ h) first.1 ∙ sym (append_assoc second.0 first.0 old))
-
-pub continues_length : (old new : List Change) → Continues old new → length old ≤ length new
-continues_length old new run = rw run.1 (omega (arith, length-append run.0 old))

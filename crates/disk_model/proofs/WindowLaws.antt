@@ -1,9 +1,8 @@
 -- What a crash may leave after one call or a few since a sync.
-use Rattle.std.proofs.Common.{◌≡◌, inl, inr, ℕ, ◌+◌, ◌<◌, ◌≤◌, max, List, [], ◌∷◌, ◌++◌, length, length-append, length-drop, take, drop}
-use Rattle.std.proofs.Common.{drop-cons, add-one, get_or, arith, refl, sym, ap, subst, ◌∙◌}
-use Rattle.std.proofs.Math.Seq.{drop-append-add}
+use Rattle.std.proofs.Common.{◌≡◌, inl, inr, ℕ, ◌+◌, ◌<◌, ◌≤◌, max, List, [], ◌∷◌, ◌++◌, length, length-drop, take, drop}
+use Rattle.std.proofs.Common.{get_or, arith, refl, sym, ap, subst, ◌∙◌}
 use Rattle.std.proofs.lemmas.Grind.{common_steps, same_number_lists}
-use Rattle.std.proofs.lemmas.List.{length-take-le, take-append-drop, take_at, get_or-drop}
+use Rattle.std.proofs.lemmas.List.{length-take-le, get_or-drop}
 use Rattle.disk_model.specs.Behind.{IsBehind}
 use Rattle.disk_model.specs.Calls.{IsSameOrAdds}
 use Rattle.disk_model.specs.History.{Change, Wrote, CutTo, Synced}
@@ -24,40 +23,12 @@ pub settled_all : (P : List ℕ → Type 0) (history : List Change) (bytes : Lis
 settled_all P history bytes is_settled holds image left =
     subst P (sym (settled_only bytes image (subst (λ w. IsImage w image) is_settled left))) holds
 
--- and a read gives its bytes
-pub settled_content : (history : List Change) (bytes content : List ℕ) → window history ≡ settled bytes
-    → IsImage (window history) content → content ≡ bytes
-settled_content history bytes content is_settled image = settled_only bytes content (subst (λ w. IsImage w content) is_settled image)
-
--- a sync settles what a read gives
-pub synced_settled : (old new : List Change) (bytes : List ℕ) → new ≡ Synced bytes ∷ old → window new ≡ settled bytes
-synced_settled old new bytes made = ap window made
-
 -- so a run goes on by a sync whose bytes have P
 pub all_synced : (P : List ℕ → Type 0) (old new : List Change) (bytes : List ℕ) (t : ℕ) → new ≡ Synced bytes ∷ old → P bytes
     → AllSince P old t → AllSince P new t
 all_synced P old new bytes t made holds since =
     subst (λ history. AllSince P history t) (sym made)
     (all_step P (Synced bytes) old t (settled_all P (Synced bytes ∷ old) bytes refl holds) since)
-
--- a write or a cut takes no image away
-pub write_keeps : (history : List Change) (at count : ℕ) (image : List ℕ) → IsImage (window history) image
-    → IsImage (window (Wrote at count ∷ history)) image
-write_keeps history at count image left = record {
-  bytes = left.bytes;
-  no_shorter = left.no_shorter;
-  no_longer = omega (arith, left.no_longer);
-  kept = λ i below free. left.kept i below free.1;
-}
-
-pub cut_keeps : (history : List Change) (len : ℕ) (image : List ℕ) → IsImage (window history) image
-    → IsImage (window (CutTo len ∷ history)) image
-cut_keeps history len image left = record {
-  bytes = left.bytes;
-  no_shorter = omega (arith, left.no_shorter);
-  no_longer = left.no_longer;
-  kept = λ i below free. left.kept i (omega arith) free;
-}
 
 -- a window that leaves alone the first k of these bytes
 record KeepsFront (k : ℕ) (bytes : List ℕ) (w : Window) : Type 0 where
@@ -134,31 +105,6 @@ pub write_tears : (history : List Change) (at count : ℕ) (bytes image : List �
     → IsImage (window (Wrote at count ∷ history)) image → Torn at count bytes image
 write_tears history at count bytes image is_settled within left =
     tears at count bytes image within (subst (λ w. IsImage (one_write at count w) image) is_settled left)
-
--- A write of one byte over another leaves some byte there, and nothing else changed.
-pub one_byte : (history : List Change) (at : ℕ) (bytes image : List ℕ) → window history ≡ settled bytes → at < length bytes
-    → IsImage (window (Wrote at 1 ∷ history)) image → (byte : ℕ) × (byte < 256) × (image ≡ take at bytes ++ byte ∷ drop (at + 1) bytes)
-one_byte history at bytes image is_settled within left =
-    let torn = write_tears history at 1 bytes image is_settled (omega arith) left in
-    let inside : at < length image = omega (arith, torn.no_shorter) in
-    let parts : image ≡ take at image ++ get_or image at 0 ∷ drop (at + 1) image =
-    rw (add-one, ← drop-cons image at 0) (sym (take-append-drop at image)) in
-    (get_or image at 0, left.bytes at 0 inside, parts ∙ rw (torn.before, torn.after) refl)
-
--- The same law where the bytes are given in parts.
-pub one_byte_at : (history : List Change) (front rest : List ℕ) (old : ℕ) (image : List ℕ)
-    → window history ≡ settled (front ++ old ∷ rest) → IsImage (window (Wrote (length front) 1 ∷ history)) image
-    → (byte : ℕ) × (byte < 256) × (image ≡ front ++ byte ∷ rest)
-one_byte_at history front rest old image is_settled left =
-    let bytes : List ℕ = front ++ old ∷ rest in
-    let torn = one_byte history (length front) bytes image is_settled (omega (arith, length-append front (old ∷ rest))) left in
-    let before : take (length front) bytes ≡ front = take_at front (old ∷ rest) (length front) refl in
-    let after : drop (length front + 1) bytes ≡ rest = drop-append-add front (old ∷ rest) 1 in (
-      torn.0,
-      torn.1,
-      torn.2 ∙ ap (λ part. part ++ torn.0 ∷ drop (length front + 1) bytes) before
-          ∙ ap (λ part. front ++ torn.0 ∷ part) after,
-    )
 
 torn_itself : (at count : ℕ) (bytes : List ℕ) → Torn at count bytes bytes
 torn_itself at count bytes = record { before = refl; after = refl; no_shorter = omega arith; no_longer = omega arith }

@@ -1,5 +1,5 @@
-ghost use Rattle.std.specs.Prelude.{◌≡◌, ℕ, ◌≤◌, ◌↔◌, List, [], length, vec_capacity, IsTrue, IfOk};
-ghost use Rattle.std.specs.Slice.Iter.{iter_rest};
+// What clients are told, and the memory for it.
+ghost use Rattle.std.specs.Prelude.{◌≡◌, ℕ, ◌≤◌, List, [], length, vec_capacity, IfOk};
 ghost use Rattle.idle_masks.specs.Watched.{IsRising, AreRising, reports_of, after_reports};
 
 use crate::ClientId;
@@ -7,7 +7,6 @@ use crate::subsystem::Subsystems;
 use crate::watch::Watched;
 use std::alloc::{AllocError, Global};
 use std::marker::Model;
-use std::slice;
 
 /// What an answer to `idle` tells one client.
 #[derive(Clone, Copy, Debug, PartialEq, Eq)]
@@ -33,40 +32,10 @@ impl Model for Reports {
 }
 
 impl Reports {
-    pub fn len(&self) -> usize
-        ensures { result ≡ length self.now }
-    {
-        self.reports.len()
-    }
-
-    pub fn is_empty(&self) -> bool
-        ensures { IsTrue result ↔ (self.now ≡ []) }
-    {
-        self.reports.is_empty()
-    }
-
     pub fn as_slice(&self) -> &[Report]
         ensures { result.now ≡ self.now }
     {
         self.reports.as_slice()
-    }
-
-    pub fn iter(&self) -> slice::Iter<'_, Report>
-        ensures { iter_rest result ≡ self.now }
-    {
-        self.reports.iter()
-    }
-}
-
-impl<'a> IntoIterator for &'a Reports {
-    type Item = &'a Report;
-
-    type IntoIter = slice::Iter<'a, Report>;
-
-    ghost into_iter_gives = { λ reports it. iter_rest it ≡ reports.now };
-
-    fn into_iter(self) -> Self::IntoIter {
-        self.iter()
     }
 }
 

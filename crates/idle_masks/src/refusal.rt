@@ -1,3 +1,4 @@
+// Why calls of this crate are refused.
 ghost use Rattle.std.specs.Prelude.{◌≡◌};
 ghost use Rattle.idle_masks.specs.Refusal.{number_of};
 ghost use Rattle.idle_masks.specs.declared.refusal.WatchError.TheVariants.{NoMemory};

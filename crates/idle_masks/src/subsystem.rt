@@ -1,3 +1,4 @@
+// The subsystems, and sets of them.
 ghost use Rattle.std.specs.Prelude.{◌≡◌, Some};
 ghost use Rattle.idle_masks.specs.Subsystem.{name_of, subsystem_named};
 ghost use Rattle.idle_masks.specs.Subsystems.{none, every, only, contains, union, intersection, difference, is_empty, mask_named};

@@ -1,6 +1,6 @@
-ghost use Rattle.std.specs.Prelude.{◌≡◌, ◌≤◌, ◌↔◌, List, [], length, None, Some, IsTrue, IsOk, IsSome, IsOkUnless, IfOk, IfErr, OnOk};
+// The clients that are watched, and who is to be told.
+ghost use Rattle.std.specs.Prelude.{◌≡◌, ◌≤◌, ◌↔◌, List, [], length, None, Some, IsOk, IsSome, IsOkUnless, IfOk, IfErr, OnOk};
 ghost use Rattle.std.specs.Prelude.{OnErr};
-ghost use Rattle.std.specs.Slice.Iter.{iter_rest};
 ghost use Rattle.idle_masks.specs.Subsystems.{none};
 ghost use Rattle.idle_masks.specs.Watched.{IsRising, IsAt, IsGapFor, watched, joined, left, grown, marked, with_waiting, due, report_of};
 ghost use Rattle.idle_masks.specs.Watched.{reported, reports_of, after_reports, AreRising};
@@ -11,7 +11,6 @@ use crate::refusal::WatchError;
 use crate::subsystem::Subsystems;
 use std::alloc::Global;
 use std::marker::Model;
-use std::slice;
 
 /// What is kept for one client.
 #[derive(Clone, Copy, Debug, PartialEq, Eq)]
@@ -94,23 +93,10 @@ impl Watch {
         self.clients.len()
     }
 
-    pub fn is_empty(&self) -> bool
-        ensures { IsTrue result ↔ (self.now ≡ []) }
-    {
-        self.clients.is_empty()
-    }
-
     /// The clients by rising number.
-    pub fn iter(&self) -> slice::Iter<'_, Watched>
-        ensures all { iter_rest result ≡ self.now }
-        ensures rising { IsRising self.now }
-    {
-        self.clients.iter()
-    }
-
-    /// The same as a slice.
     pub fn as_slice(&self) -> &[Watched]
-        ensures { result.now ≡ self.now }
+        ensures all { result.now ≡ self.now }
+        ensures rising { IsRising self.now }
     {
         self.clients.as_slice()
     }

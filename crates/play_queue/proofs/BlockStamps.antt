@@ -1,18 +1,18 @@
 -- The latest stamps of blocks of positions.
-use Rattle.std.proofs.Common.{◌≡◌, ◌≢◌, ℕ, suc, ◌+◌, ◌-◌, ◌*◌, ◌/◌, ◌<◌, ◌≤◌, min, Bool, true, false, cond, ◌||◌, ◌⊎◌, inl, inr, nat_lt, List, [], ◌∷◌}
-use Rattle.std.proofs.Common.{◌++◌, length, get_or, set, map, filter, take, drop, slice_range, refl, sym, ap, ◌∙◌, arith}
+use Rattle.std.proofs.Common.{◌≡◌, ℕ, suc, ◌+◌, ◌-◌, ◌*◌, ◌/◌, ◌<◌, ◌≤◌, min, Bool, true, false, cond, ◌||◌, ◌⊎◌, inl, inr, nat_lt, List, [], ◌∷◌}
+use Rattle.std.proofs.Common.{◌++◌, length, get_or, map, filter, take, drop, slice_range, refl, sym, ap, ◌∙◌, arith}
 use Rattle.std.specs.List.{enumerate_from}
-use Rattle.std.proofs.lemmas.Bool.{cases_eq, cases_lt, le-ltb, lt-ltb}
+use Rattle.std.proofs.lemmas.Bool.{cases_lt, le-ltb, lt-ltb}
 use Rattle.std.proofs.lemmas.Bool.Decides.{nat_tests}
-use Rattle.std.proofs.lemmas.List.{get_or-set_same, get_or-set_other, append_assoc, map-append}
-use Rattle.std.proofs.lemmas.List.{get_or_default, length-set, append-nil, take_min, take-take, take-append-drop, length-take-le}
+use Rattle.std.proofs.lemmas.List.{append_assoc, map-append}
+use Rattle.std.proofs.lemmas.List.{append-nil, take_min, take-take, take-append-drop, length-take-le}
 use Rattle.std.proofs.lemmas.List.Edits.{between_more, length-between, get_or-between}
 use Rattle.std.proofs.lemmas.Nat.{div-mul-add}
 use Rattle.std.proofs.lemmas.Slice.{between_is}
 use Rattle.std.proofs.lemmas.List.Elements.{filter-append}
 use Rattle.play_queue.specs.declared.entry.Entry.{Entry}
 use Rattle.play_queue.specs.Limits.{BLOCKS, SPAN}
-use Rattle.play_queue.specs.Latest.{latest_at, AreLatest, AreRaised, Between, later_than}
+use Rattle.play_queue.specs.Latest.{latest_at, AreLatest, later_than}
 use Rattle.play_queue.specs.Queue.{QueueState, IsQueue, changed_since}
 
 -- blocks that have come to a stamp, from a position on up to a block
@@ -20,56 +20,6 @@ pub record RaisedTo (first latest : List ℕ) (start block stamp : ℕ) : Type 0
   pub long : length latest ≡ BLOCKS
   pub grown : (k : ℕ) → latest_at first k ≤ latest_at latest k
   pub raised : (k : ℕ) → start ≤ k → k / SPAN < block → stamp ≤ latest_at latest k
-
--- one more block
-pub raised_more : (first latest : List ℕ) (start block stamp x : ℕ) → block < BLOCKS → get_or latest block 0 ≤ x → stamp ≤ x
-    → RaisedTo first latest start block stamp → RaisedTo first (set latest block x) start (block + 1) stamp
-raised_more first latest start block stamp x within grows comes before = record {
-  long = length-set latest block x ∙ before.long;
-  grown = λ k. grown k (cases_eq (k / SPAN) block);
-  raised = λ k from below. raised k from below (cases_eq (k / SPAN) block);
-}
-  where
-    here : get_or (set latest block x) block 0 ≡ x
-    here = get_or-set_same latest block x 0 (omega (arith, before.long))
-
-    grown : (k : ℕ) → (k / SPAN ≡ block) ⊎ (k / SPAN ≢ block) → latest_at first k ≤ latest_at (set latest block x) k
-    grown k (inl same) =
-        let was : latest_at latest k ≡ get_or latest block 0 = ap (λ b. get_or latest b 0) same in
-        let is : latest_at (set latest block x) k ≡ x = ap (λ b. get_or (set latest block x) b 0) same ∙ here in
-        omega (arith, before.grown k)
-    grown k (inr other) =
-        let is : latest_at (set latest block x) k ≡ latest_at latest k = get_or-set_other latest block (k / SPAN) x 0 other in
-        omega (arith, before.grown k)
-
-    raised : (k : ℕ) → start ≤ k → k / SPAN < block + 1 → (k / SPAN ≡ block) ⊎ (k / SPAN ≢ block)
-        → stamp ≤ latest_at (set latest block x) k
-    raised k from below (inl same) =
-        let is : latest_at (set latest block x) k ≡ x = ap (λ b. get_or (set latest block x) b 0) same ∙ here in
-        omega arith
-    raised k from below (inr other) =
-        let is : latest_at (set latest block x) k ≡ latest_at latest k = get_or-set_other latest block (k / SPAN) x 0 other in
-        omega (arith, before.raised k from (omega arith))
-
--- one more entry
-pub latest_more : (entries : List Entry) (latest later : List ℕ) (at stamp : ℕ) → stamp ≡ (get_or entries at (record {
-  id = 0;
-  uri = [];
-  priority = 0;
-  stamp = 0;
-})).stamp → AreRaised latest later (Between at (at + 1)) stamp
-    → ((k : ℕ) (d : Entry) → k < at → (get_or entries k d).stamp ≤ latest_at latest k) → (k : ℕ) (d : Entry) → k < at + 1
-    → k < length entries → (get_or entries k d).stamp ≤ latest_at later k
-latest_more entries latest later at stamp is raised before k d below within = by_cases (cases_lt k at)
-  where
-    by_cases : (k < at) ⊎ (at ≤ k) → (get_or entries k d).stamp ≤ latest_at later k
-    by_cases (inl earlier) = omega (arith, before k d earlier, raised.grown k)
-    by_cases (inr later_on) =
-        let here : k ≡ at = omega arith in
-        let stamp_is : (get_or entries k d).stamp ≡ stamp =
-        ap (λ (e : Entry). e.stamp) (get_or_default entries k d (record { id = 0; uri = []; priority = 0; stamp = 0 }) within)
-        ∙ ap (λ j. (get_or entries j (record { id = 0; uri = []; priority = 0; stamp = 0 })).stamp) here ∙ sym is in
-        omega (arith, raised.raised k (omega arith, omega arith))
 
 -- the positions of two parts
 pub later-append : (version first : ℕ) (front back : List Entry)

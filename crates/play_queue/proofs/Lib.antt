@@ -11,7 +11,6 @@ mod Marked
 mod Merged
 pub mod Near
 pub mod OwnIds
-pub mod Saved
 pub mod Searched
 pub mod Prioritized
 pub mod Ruling

@@ -97,10 +97,6 @@ found_then-in_front : (positions : List ℕ) (at : ℕ) (others : Result (List �
 found_then-in_front positions at (Ok others) = ap (λ l. Ok l) (append_assoc positions (at ∷ []) others)
 found_then-in_front positions at (Err id) = refl
 
-pub found_then-none : (others : Result (List ℕ) ℕ) → found_then [] others ≡ others
-found_then-none (Ok others) = refl
-found_then-none (Err id) = refl
-
 -- one more id that has a position
 pub found_more : (entries : List Entry) (ids positions : List ℕ) (k at : ℕ) → k < length ids
     → position_of entries (get_or ids k 0) ≡ Some at

@@ -30,10 +30,6 @@ or_assoc : (a b c : Bool) → (a || (b || c)) ≡ ((a || b) || c)
 or_assoc true b c = refl
 or_assoc false b c = refl
 
-or_false : (b : Bool) → (b || false) ≡ b
-or_false true = refl
-or_false false = refl
-
 -- a range that another one goes on
 pub grown : (start end : ℕ) (range : ℕ × ℕ) (at : ℕ) → start ≤ range.0 → range.0 ≤ end
     → is_in_range (start, max end range.1) at ≡ (is_in_range (start, end) at || is_in_range range at)
@@ -51,18 +47,6 @@ grown start end range at low fits =
         at parts.0 (omega (arith, parts.1))
     back (inr second) = let parts = range_parts range at second in in_range-from (start, max end range.1)
         at (omega (arith, parts.0)) (omega (arith, parts.1))
-
--- an empty range has no position
-pub empty_range : (range : ℕ × ℕ) (at : ℕ) → range.1 ≤ range.0 → is_in_range range at ≡ false
-empty_range range at none = of (is_in_range range at) refl
-  where
-    of : (b : Bool) → is_in_range range at ≡ b → b ≡ false
-    of false is = refl
-    of true is = let parts = range_parts range at is in absurd (omega (arith, parts.0, parts.1))
-
-pub not_pushed : (ranges : List (ℕ × ℕ)) (range : ℕ × ℕ) (at : ℕ) → range.1 ≤ range.0
-    → is_in_some ranges at ≡ (is_in_some ranges at || is_in_range range at)
-not_pushed ranges range at none = sym (rw (empty_range range at none) (or_false (is_in_some ranges at)))
 
 -- one more range of a list is looked at: it goes on the last one, or the last one is added
 pub grow_more : (sorted merged : List (ℕ × ℕ)) (start end i at : ℕ) (d : ℕ × ℕ) → i < length sorted → start ≤ (get_or sorted i d).0

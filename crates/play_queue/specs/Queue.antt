@@ -1,7 +1,7 @@
 -- The queue, and the rule by which its version and the stamps of its entries follow a change.
-use Rattle.std.specs.Prelude.{◌≡◌, ◌≢◌, ◌↔◌, ℕ, ◌+◌, ◌<◌, ◌≤◌, Bool, true, false, not, ◌==◌, ◌&&◌, ◌||◌, nat_lt, nat_le}
+use Rattle.std.specs.Prelude.{◌≡◌, ◌≢◌, ◌↔◌, ℕ, ◌+◌, ◌<◌, ◌≤◌, Bool, true, false, not, ◌==◌, ◌&&◌, ◌||◌, nat_lt}
 use Rattle.std.specs.Prelude.{filter, List, [], ◌∷◌, length, map, if◌then◌else◌}
-use Rattle.std.specs.List.{All, AllPairs, list_all, enumerate_from}
+use Rattle.std.specs.List.{All, AllPairs, enumerate_from}
 use Rattle.std.specs.Str.{bytes_eq}
 use Rattle.play_queue.specs.declared.entry.Entry.{Entry}
 use Rattle.play_queue.specs.Limits.{MAX_ENTRIES, MAX_ID, MAX_VERSION}
@@ -79,17 +79,3 @@ VersionTellsChanges before =
 abbrev pub changed_since : QueueState → ℕ → List ℕ
 changed_since queue version =
     map (λ at. at.0) (filter (λ at. nat_lt queue.version version || nat_lt version at.1.stamp) (enumerate_from 0 queue.entries))
-
--- an entry, by the same bounds
-abbrev pub is_entry : ℕ → ℕ → Entry → Bool
-is_entry next_id version entry = nat_le 1 entry.id && (nat_lt entry.id next_id && (nat_le 1 entry.stamp && nat_le entry.stamp version))
-
--- a version and a next id that a queue may have
-abbrev pub are_numbers : ℕ → ℕ → Bool
-are_numbers version next_id = nat_le 1 version && (nat_le version MAX_VERSION && (nat_le 1 next_id && nat_le next_id (MAX_ID + 1)))
-
--- all that a queue keeps but for the ids that differ
-abbrev pub is_bounded : QueueState → Bool
-is_bounded queue =
-    nat_le (length queue.entries) MAX_ENTRIES
-    && (are_numbers queue.version queue.next_id && list_all (is_entry queue.next_id queue.version) queue.entries)

@@ -1,3 +1,4 @@
+// Edits of the list of entries alone, without stamps.
 ghost use Rattle.std.specs.Prelude.{◌≡◌, ◌+◌, ◌^◌, ◌≤◌, ◌<◌, ◌++◌, length, take, drop, slice_range};
 ghost use Rattle.std.specs.Prelude.{OnOk, vec_len, vec_capacity};
 ghost use Rattle.play_queue.specs.Entries.{deleted, added, new_entries};

@@ -1,3 +1,4 @@
+// One entry of the queue.
 ghost use Rattle.std.specs.Prelude.{◌≡◌, IfOk};
 
 use song_db::RowUri;

@@ -1,3 +1,4 @@
+// The entries in order, with what stands beside them for look-ups and changes.
 ghost use Rattle.std.specs.Prelude.{◌≡◌, ℕ, ◌<◌, ◌≤◌, ◌+◌, ◌-◌, ◌^◌, ◌==◌, [], ◌++◌, length, take, drop, swap, position, Some};
 ghost use Rattle.std.specs.Prelude.{IfOk, OnOk, OnErr, IfSome, slice_get};
 ghost use Rattle.std.specs.Option.{option_copied};

@@ -8,7 +8,6 @@ mod hints;
 mod latest;
 pub mod limits;
 mod marks;
-mod parts;
 mod places;
 mod priority;
 pub mod queue;

@@ -1,3 +1,4 @@
+// Priorities that are set on the entries of ranges, and what they stamp.
 ghost use Rattle.std.specs.Prelude.{◌≡◌, ◌≢◌, ℕ, ◌≤◌, ◌<◌, true, length, map, replicate, slice_index_or};
 ghost use Rattle.std.specs.Bool.{OnTrue, OnFalse};
 ghost use Rattle.play_queue.specs.Entries.{is_in_some};

@@ -1,8 +1,9 @@
-ghost use Rattle.std.specs.Prelude.{◌≡◌, ◌↔◌, ◌+◌, ◌-◌, ◌<◌, ◌≤◌, ◌==◌, [], length, swap, position, unwrap_or};
-ghost use Rattle.std.specs.Prelude.{OnOk, OnErr, IfOk, IfSome, IsSome};
+// The queue and its edits.
+ghost use Rattle.std.specs.Prelude.{◌≡◌, ◌+◌, ◌-◌, ◌<◌, ◌≤◌, ◌==◌, [], length, swap, position, unwrap_or};
+ghost use Rattle.std.specs.Prelude.{OnOk, OnErr, IfOk};
 ghost use Rattle.std.specs.List.Sorted.{IsPermutation};
 ghost use Rattle.play_queue.specs.Entries.{deleted, moved, added, new_entries, kept, prioritized};
-ghost use Rattle.play_queue.specs.Queue.{IsQueue, ids_of, ruled};
+ghost use Rattle.play_queue.specs.Queue.{ids_of, ruled};
 ghost use Rattle.play_queue.specs.Refusal.{Answers, AnswersIfMemory};
 ghost use Rattle.play_queue.specs.Refused.{range_refusal, move_refusal, swap_refusal, add_refusal, id_refusal, ranges_refusal};
 ghost use Rattle.play_queue.specs.Restamp.{exchanged};
@@ -10,15 +11,13 @@ ghost use Rattle.play_queue.specs.Shuffle.{shuffled};
 
 use crate::entry::Entry;
 use crate::entry_list::EntryList;
-use crate::hints::Hints;
-use crate::parts::{have_own_ids, is_bounded};
 use crate::priority::has_other;
 use crate::ranges::Ranges;
 use crate::refusal::QueueError;
 use crate::rows::{before_first, has_any};
 use crate::uris::SortedUris;
 use song_db::RowUri;
-use std::alloc::{AllocError, Global};
+use std::alloc::Global;
 use std::marker::Model;
 
 mod builder;
@@ -62,39 +61,6 @@ impl Queue {
             version: 1,
             next_id: 1,
         }
-    }
-
-    /// The queue of these entries, version and next id, as they were saved; `None` where they break what a queue
-    /// keeps: at most 65,536 entries, a version from 1 to 2147483647, a next id from 1 to 2147483648, ids that differ,
-    /// from 1 and below the next id, and stamps from 1 to the version.
-    ///
-    /// For the test of the ids it takes memory, 4 bytes an entry, which it gives back. What it keeps for look-ups by id is
-    /// 32 KiB.
-    pub fn from_parts(
-        alloc: Global,
-        entries: Vec<Entry>,
-        version: u32,
-        next_id: u32,
-    ) -> Result<Option<Queue>, AllocError>
-        ensures made { IfOk result (λ queue. IfSome queue (λ queue.
-            queue ≡ record { entries = entries.items; version = version; next_id = next_id })) }
-        ensures where_sound { IfOk result (λ queue.
-            IsSome queue ↔ IsQueue (record { entries = entries.items; version = version; next_id = next_id })) }
-    {
-        if !is_bounded(&entries, version, next_id) {
-            return Ok(None);
-        }
-        let own = have_own_ids(alloc, &entries)?;
-        if !own {
-            return Ok(None);
-        }
-        let mut hints = Hints::new(alloc);
-        hints.reserve(entries.len())?;
-        Ok(Some(Queue {
-            entries: EntryList::from_parts(entries, hints),
-            version,
-            next_id,
-        }))
     }
 
     /// The entries from `start` up to, but not including, `end` are taken out. Refused by `BadIndex` where the range

@@ -1,3 +1,4 @@
+// Positions that a request names as ranges.
 ghost use Rattle.std.specs.Prelude.{◌≡◌, ℕ, ◌||◌, IfOk, OnOk};
 ghost use Rattle.play_queue.specs.Entries.{is_in_some};
 ghost use Rattle.play_queue.specs.Ranges.{is_in_range, AreByStart, AreNotEmpty, AreMerged};

@@ -1,3 +1,4 @@
+// Why calls of this crate are refused.
 ghost use Rattle.std.specs.Prelude.{◌≡◌};
 ghost use Rattle.play_queue.specs.Refusal.{number_of};
 ghost use Rattle.play_queue.specs.declared.refusal.QueueError.TheVariants.{NoMemory};

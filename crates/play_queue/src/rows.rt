@@ -1,3 +1,4 @@
+// What a batch of the database does to the entries.
 ghost use Rattle.std.specs.Prelude.{◌≡◌, ◌+◌, ◌≤◌, ◌==◌, ◌++◌, not, length, map, take, drop, if◌then◌else◌};
 ghost use Rattle.std.specs.List.{list_any, prefix_len};
 ghost use Rattle.play_queue.specs.Entries.{is_among, kept};

@@ -1,3 +1,4 @@
+// Stamps of the entries that an edit has changed.
 ghost use Rattle.std.specs.Prelude.{◌≡◌, ◌≢◌, ℕ, ◌+◌, ◌-◌, ◌≤◌, ◌<◌, ◌==◌, ◌||◌, ◌++◌, length, map, take, drop, slice_range, slice_index};
 ghost use Rattle.std.specs.Bool.{OnTrue, OnFalse};
 ghost use Rattle.play_queue.specs.Latest.{AreRestamped, Between, Either};

@@ -1,3 +1,4 @@
+// A position that is named by itself or from the current song on.
 ghost use Rattle.std.specs.Prelude.{◌≡◌, ◌+◌};
 ghost use Rattle.play_queue.specs.Target.{resolved, up_to};
 

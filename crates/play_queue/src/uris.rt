@@ -1,3 +1,4 @@
+// URIs that many entries are looked up among.
 ghost use Rattle.std.specs.Prelude.{◌≡◌, ◌↔◌, [], IsTrue};
 ghost use Rattle.std.specs.List.Sorted.{IsPermutation};
 ghost use Rattle.play_queue.specs.Entries.{is_among};

@@ -1,5 +1,5 @@
 -- What a map under texts does, seen by the bytes of its keys.
-use Rattle.std.proofs.Common.{◌≡◌, ℕ, Bool, true, false, List, [], ◌∷◌, cond, map, string_bytes, refl, ap}
+use Rattle.std.proofs.Common.{◌≡◌, ℕ, Bool, true, false, List, [], ◌∷◌, cond, string_bytes, refl}
 use Rattle.std.specs.declared.string.String.{String}
 use Rattle.std.specs.declared.alloc.Global.{Global}
 use Rattle.std.specs.declared.cmp.Ordering.{Ordering}
@@ -66,7 +66,3 @@ pub sorted-by_name : {X : Type 0} (es : List (String Global × X)) → IsStrictl
 unfolding IsStrictlySortedBy
 sorted-by_name [] sorted = tt
 sorted-by_name (e ∷ es) sorted = (all_by_name e.0 es sorted.0, sorted-by_name es sorted.1)
-
-pub keys-by_name : {X : Type 0} (es : List (String Global × X)) → map string_bytes (keys_of es) ≡ keys_of (by_name es)
-keys-by_name [] = refl
-keys-by_name (e ∷ es) = ap (λ names. string_bytes e.0 ∷ names) (keys-by_name es)

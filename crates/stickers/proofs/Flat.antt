@@ -11,10 +11,10 @@ use Rattle.std.specs.List.{AllByRecursion}
 use Rattle.std.specs.Str.{bytes_eq}
 use Rattle.std.proofs.lemmas.List.{append-nil}
 use Rattle.std.proofs.lemmas.Map.Text.{is_eq-slice_cmp}
-use Rattle.stickers.specs.Named.{Values, Songs, IsRising, under, with_name, with_other, without_name, with_value, with_value_in}
+use Rattle.stickers.specs.Named.{Values, Songs, IsRising, under, with_name, without_name}
 use Rattle.stickers.specs.Sticker.{Sticker, sticker, in_song, flat, compare, placed, is_of_song, is_at, with_sticker, without_sticker}
 use Rattle.stickers.specs.Sticker.{without_song, value_at, stickers_of}
-use Rattle.stickers.proofs.Named.{IsBefore, before_tail, before_trans, rising_tail, under_before, with_name_there, same_name}
+use Rattle.stickers.proofs.Named.{with_other, IsBefore, before_tail, before_trans, rising_tail, under_before, with_name_there, same_name}
 
 -- all stickers come after this one
 abbrev IsFirst : Sticker → List Sticker → Type 0
@@ -109,16 +109,6 @@ flat-with_other (song ∷ songs) uri name value vs rising found =
         absurd (cc)
     by_cases false same found Greater is rest = ap (λ l. in_song song ++ l) (rest found)
         ∙ sym (placed_past (sticker uri (name, value)) song.0 song.1 (flat songs) is)
-
--- the stickers after a value is set
-pub flat-with_value : (songs : Songs) (uri name value : List ℕ) → IsRising songs
-    → flat (with_value songs uri name value) ≡ with_sticker (flat songs) uri name value
-flat-with_value songs uri name value rising = by_cases (under songs uri) refl
-  where
-    by_cases : (o : Option Values) → under songs uri ≡ o
-        → flat (with_value_in o songs uri name value) ≡ with_sticker (flat songs) uri name value
-    by_cases None none = flat-with_name songs uri name value rising none
-    by_cases (Some vs) found = flat-with_other songs uri name value vs rising found
 
 -- a search and a filter over the stickers of a song and what follows
 of_song_true : (uri : List ℕ) (vs : Values) (ts : List Sticker) (other : List ℕ) → bytes_eq other uri ≡ true

@@ -6,4 +6,3 @@ pub mod Counted
 mod FoundSongs
 mod Flat
 mod Named
-mod Would

@@ -6,11 +6,15 @@ use Rattle.std.specs.Ordering.{nat_cmp, match_ordering, is_eq}
 use Rattle.std.specs.Cmp.Lexicographic.{slice_cmp, nat_list_cmp_total}
 use Rattle.std.specs.List.{AllByRecursion}
 use Rattle.std.specs.Str.{bytes_eq}
-use Rattle.std.specs.Map.{keys_of, remove_entry}
+use Rattle.std.specs.Map.{keys_of, remove_entry, set_value}
 use Rattle.std.proofs.lemmas.Map.Text.{is_eq-slice_cmp}
 use Rattle.std.proofs.lemmas.Map.Keys.{sorted_head, sorted_tail}
 use Rattle.std.proofs.lemmas.Slice.Eq.{bytes_eq-Decides}
-use Rattle.stickers.specs.Named.{IsRising, under, with_name, with_other, without_name}
+use Rattle.stickers.specs.Named.{IsRising, under, with_name, without_name}
+
+-- with something else under a name that is there
+abbrev pub with_other : {X : Type 0} → List (List ℕ × X) → List ℕ → X → List (List ℕ × X)
+with_other named name x = set_value (bytes_eq name) named x
 
 -- the name is below all of them
 abbrev pub IsBefore : {X : Type 0} → List ℕ → List (List ℕ × X) → Type 0

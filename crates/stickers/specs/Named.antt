@@ -1,9 +1,9 @@
 -- What stands under texts, rising by their bytes: the values of one song, and the songs.
-use Rattle.std.specs.Prelude.{ℕ, not, List, [], ◌∷◌, filter, Option, Some, None}
+use Rattle.std.specs.Prelude.{ℕ, not, List, filter, Option}
 use Rattle.std.specs.Cmp.Lexicographic.{slice_cmp}
 use Rattle.std.specs.Ordering.{nat_cmp}
 use Rattle.std.specs.List.Sorted.{IsStrictlySortedBy}
-use Rattle.std.specs.Map.{keys_of, lookup, set_value}
+use Rattle.std.specs.Map.{keys_of, lookup}
 use Rattle.std.specs.BTreeMap.{insert_entry}
 use Rattle.std.specs.Str.{bytes_eq}
 
@@ -19,10 +19,6 @@ under named name = lookup (bytes_eq name) named
 abbrev pub with_name : {X : Type 0} → List (List ℕ × X) → List ℕ → X → List (List ℕ × X)
 with_name named name x = insert_entry (slice_cmp nat_cmp) named name x
 
--- with something else under a name that is there
-abbrev pub with_other : {X : Type 0} → List (List ℕ × X) → List ℕ → X → List (List ℕ × X)
-with_other named name x = set_value (bytes_eq name) named x
-
 -- without a name
 abbrev pub without_name : {X : Type 0} → List (List ℕ × X) → List ℕ → List (List ℕ × X)
 without_name named name = filter (λ e. not (bytes_eq name e.0)) named
@@ -34,19 +30,3 @@ Values = List (List ℕ × List ℕ)
 -- the values of all songs under their URIs
 abbrev pub Songs : Type 0
 Songs = List (List ℕ × Values)
-
--- with a value under a URI and a name
-abbrev pub with_value_in : Option Values → Songs → List ℕ → List ℕ → List ℕ → Songs
-with_value_in None songs uri name value = with_name songs uri ((name, value) ∷ [])
-with_value_in (Some values) songs uri name value = with_other songs uri (with_name values name value)
-
-abbrev pub with_value : Songs → List ℕ → List ℕ → List ℕ → Songs
-with_value songs uri name value = with_value_in (under songs uri) songs uri name value
-
--- without a value under a URI and a name
-abbrev pub without_value_in : Option Values → Songs → List ℕ → List ℕ → Songs
-without_value_in None songs uri name = songs
-without_value_in (Some values) songs uri name = with_other songs uri (without_name values name)
-
-abbrev pub without_value : Songs → List ℕ → List ℕ → Songs
-without_value songs uri name = without_value_in (under songs uri) songs uri name

@@ -1,3 +1,4 @@
+// The stickers of all songs, song by song.
 ghost use Rattle.std.specs.Prelude.{◌≡◌, [], length, OnOk, OnErr, option_map, MatchOption, IfOk, string_bytes};
 ghost use Rattle.stickers.specs.Find.{found_in};
 ghost use Rattle.stickers.specs.Sticker.{flat, in_song, value_at, stickers_of, with_sticker, without_sticker, without_song};

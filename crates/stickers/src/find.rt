@@ -1,3 +1,4 @@
+// What a search for stickers asks, and what it finds.
 ghost use Rattle.std.specs.Prelude.{◌≡◌, ℕ, ◌↔◌, List, [], length, map, IsTrue};
 ghost use Rattle.std.specs.Slice.Iter.{iter_rest};
 ghost use Rattle.stickers.specs.Find.{passes, pair_of};

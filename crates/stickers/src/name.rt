@@ -1,3 +1,4 @@
+// The names that stickers may have.
 ghost use Rattle.std.specs.Prelude.{◌≡◌, ◌==◌, IsTrue, OnOk};
 ghost use Rattle.std.specs.List.{list_any};
 ghost use Rattle.stickers.specs.Name.{is_good_name};

@@ -1,3 +1,4 @@
+// Why calls of this crate are refused.
 ghost use Rattle.std.specs.Prelude.{◌≡◌};
 ghost use Rattle.stickers.specs.Refusal.{number_of};
 ghost use Rattle.stickers.specs.declared.refusal.StickersError.TheVariants.{NoMemory};

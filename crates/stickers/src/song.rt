@@ -1,3 +1,4 @@
+// The stickers of one song, by their names.
 ghost use Rattle.std.specs.Prelude.{◌≡◌, ℕ, ◌↔◌, List, [], ◌∷◌, length, IsTrue, IfOk, OnOk, OnErr, option_map, string_bytes};
 ghost use Rattle.stickers.specs.Named.{IsRising, under, with_name, without_name};
 

@@ -1,3 +1,4 @@
+// The stickers of all songs, with their limit.
 ghost use Rattle.std.specs.Prelude.{◌≡◌, ◌↔◌, [], length, IsTrue, Some, IfOk, OnOk, OnErr, MatchOption, option_copied};
 ghost use Rattle.song_db.specs.Uri.{is_uri};
 ghost use Rattle.stickers.specs.Find.{passing, found_in};

@@ -1,3 +1,4 @@
+// The values that stickers may have.
 ghost use Rattle.std.specs.Prelude.{◌≡◌, IsTrue, IfOk, Some, None, if◌then◌else◌};
 ghost use Rattle.stickers.specs.Value.{is_good_value};
 

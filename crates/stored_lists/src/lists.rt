@@ -1,3 +1,4 @@
+// The stored playlists, with their limits.
 ghost use Rattle.std.specs.Prelude.{◌≡◌, ◌↔◌, [], ◌∷◌, ◌++◌, length, IsTrue, Some, None, IfOk, OnOk, OnErr};
 ghost use Rattle.stored_lists.specs.Refusal.{Answers, AnswersIfMemory, AnswersUnless};
 ghost use Rattle.stored_lists.specs.Songs.{without_range, moved};

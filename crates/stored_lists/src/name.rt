@@ -1,3 +1,4 @@
+// The names that playlists may have.
 ghost use Rattle.std.specs.Prelude.{◌≡◌, ◌==◌};
 ghost use Rattle.std.specs.List.{list_any};
 ghost use Rattle.stored_lists.specs.Name.{is_good_name};

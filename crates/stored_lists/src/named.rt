@@ -1,3 +1,4 @@
+// The songs of playlists under their names.
 ghost use Rattle.std.specs.Prelude.{◌≡◌, ◌≤◌, ◌<◌, [], ◌++◌, length, IfOk, OnOk, OnErr, None, IsSome, is_some, option_map, string_bytes};
 ghost use Rattle.stored_lists.specs.Part.{is_last};
 ghost use Rattle.stored_lists.specs.Songs.{without_range, moved};

@@ -1,3 +1,4 @@
+// Why calls of this crate are refused.
 ghost use Rattle.std.specs.Prelude.{◌≡◌};
 ghost use Rattle.stored_lists.specs.Refusal.{number_of};
 ghost use Rattle.stored_lists.specs.declared.refusal.ListsError.TheVariants.{NoMemory};

@@ -1,3 +1,4 @@
+// The songs of one playlist.
 ghost use Rattle.std.specs.Prelude.{◌≡◌, ◌≢◌, ◌<◌, ◌≤◌, ◌↔◌, [], ◌∷◌, ◌++◌, length, take, drop, slice_range};
 ghost use Rattle.std.specs.Prelude.{not, IsTrue, IfOk, IsOkUnless, OnOk, OnErr, option_copied, slice_get};
 ghost use Rattle.std.specs.Bool.{OnTrue, OnFalse};

@@ -1,6 +1,6 @@
+// `song_output`: what an output gets for orders, also from files and outputs that fail, and how often a file is opened and read.
 ghost use Rattle.std.specs.Prelude.{[]};
 
-// `song_output`: what an output gets for orders, also from files and outputs that fail, and how often a file is opened and read.
 use crate::assertions::{equal, same_bytes, uri};
 use crate::waves::WAVE_A;
 use no_memory::NoMemory;

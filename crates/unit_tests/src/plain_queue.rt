@@ -1,7 +1,7 @@
 // `play_queue` beside a plain queue, which is the definition as a program: each edit makes the list anew, and the stamp rule looks at both
 // lists whole. Both take the same random edits, and are compared row by row.
 use crate::assertions::{equal, uri};
-use play_queue::{Entry, MAX_VERSION, Queue, Ranges, SortedUris};
+use play_queue::{Entry, MAX_VERSION, Queue, QueueBuilder, Ranges, SortedUris};
 use song_db::RowUri;
 use std::alloc::{AllocError, Global};
 use std::process::Abort;
@@ -308,9 +308,11 @@ fn same_positions(rt: &impl Abort, left: &[usize], right: &[usize]) {
 
 /// Both without an entry, at this version.
 fn two_without_entries(alloc: Global, version: u32, seed: u64) -> Result<Pair, Fail> {
-    let queue = Queue::from_parts(alloc, Vec::new(alloc), version, 1)?;
+    let builder = QueueBuilder::new(alloc, version, 1)
+        .ok()
+        .ok_or("a version was refused")?;
     Ok(Pair {
-        queue: queue.ok_or("no queue")?,
+        queue: builder.finish(),
         plain: Plain {
             rows: Vec::new(alloc),
             version,

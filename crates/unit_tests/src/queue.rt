@@ -1,33 +1,29 @@
-// `play_queue`: a queue that is made of its parts at once.
+// `play_queue`: calls that no program makes.
 use crate::assertions::{equal, uri};
-use play_queue::{Entry, Queue};
+use play_queue::{Entry, Queue, QueueBuilder};
 use song_db::RowUri;
 use std::alloc::Global;
 use std::test::Fail;
 
-/// Entries of a.wav with the ids 7 and 3.
-fn two_entries(alloc: Global) -> Result<Vec<Entry>, Fail> {
-    let mut entries = Vec::new(alloc);
+/// A queue at version 9 with entries of a.wav, whose ids are 7 and 3.
+fn restored(alloc: Global) -> Result<Queue, Fail> {
+    let mut builder = QueueBuilder::new(alloc, 9, 8)
+        .ok()
+        .ok_or("a version or a next id was refused")?;
     for (id, stamp) in [(7, 2), (3, 9)] {
-        let uri = RowUri::new(uri(alloc, "a.wav")?, 0);
-        entries.push(Entry {
+        let entry = Entry {
             id,
-            uri,
+            uri: RowUri::new(uri(alloc, "a.wav")?, 0),
             priority: 0,
             stamp,
-        })?;
+        };
+        builder.push(entry).ok().ok_or("an entry was refused")?;
     }
-    Ok(entries)
-}
-
-/// The queue of them. (This has no contract: the prover then reads the long one here alone, and in no test.)
-fn restored(alloc: Global) -> Result<Queue, Fail> {
-    let queue = Queue::from_parts(alloc, two_entries(alloc)?, 9, 8)?;
-    Ok(queue.ok_or("no queue")?)
+    Ok(builder.finish())
 }
 
 #[test]
-fn queue_of_parts(rt: HostRuntime) -> Result<(), Fail> {
+fn calls_of_no_program(rt: HostRuntime) -> Result<(), Fail> {
     let mut queue = restored(rt.alloc())?;
     equal(&rt, (queue.version(), queue.next_id()), (9, 8));
     equal(&rt, (queue.pos_of(7), queue.pos_of(3)), (Some(0), Some(1)));

@@ -1,9 +1,11 @@
+// `song_db`: scans of a folder that fails, the order of what a scan tells, the values that a database keeps, and a full database.
 ghost use Rattle.std.specs.Prelude.{[]};
 
-// `song_db`: scans of a folder that fails, the order of what a scan tells, and the values that a database keeps.
 use crate::assertions::{equal, same_text, uri};
 use crate::waves::WAVE_A;
-use song_db::{RowChange, Scan, ScanOrder, SongDb, SongDbError, SongRow, Uri};
+use song_db::{
+    Effect, Effects, MAX_ROWS, RowChange, Scan, ScanOrder, SongDb, SongDbError, SongRow, Uri,
+};
 use std::alloc::Global;
 use std::process::Abort;
 use std::test::Fail;
@@ -259,5 +261,70 @@ fn values_that_are_kept(rt: HostRuntime) -> Result<(), Fail> {
     changes.push(RowChange::Put(row_of(alloc, "c.wav", "M")?))?;
     songs.apply_batch(alloc, changes)?;
     has_artists(&rt, alloc, &mut songs, "M Z")?;
+    Ok(())
+}
+
+/// As many songs as there may be: `100000.wav`, `100001.wav` and so on.
+fn full_database(alloc: Global) -> Result<SongDb, Fail> {
+    let mut songs = SongDb::new(alloc);
+    for number in 100_000..100_000 + MAX_ROWS {
+        let path = format!(in alloc; "{number}.wav")?;
+        songs.push_last(row_of(alloc, path.as_str(), "Z")?)?;
+    }
+    Ok(songs)
+}
+
+/// A song of this URI comes, or takes the place of the one there.
+fn put(alloc: Global, changes: &mut Vec<RowChange>, path: &str) -> Result<(), Fail> {
+    changes.push(RowChange::Put(row_of(alloc, path, "A")?))?;
+    Ok(())
+}
+
+/// What a change did: the URI of the old row behind `=` or `-`, that of a row left out behind `!`, `+` where a row came, `0` for nothing.
+fn told(effect: &Effect) -> (char, &str) {
+    match effect {
+        Effect::Nothing => ('0', ""),
+        Effect::Came => ('+', ""),
+        Effect::Replaced(old) => ('=', old.uri()),
+        Effect::Went(old) => ('-', old.uri()),
+        Effect::LeftOut(row) => ('!', row.uri()),
+    }
+}
+
+/// The changes of a batch did this, and it was refused so.
+fn did(rt: &impl Abort, effects: &Effects, want: &[(char, &str)], refusal: Option<SongDbError>) {
+    equal(rt, effects.as_slice().len(), want.len());
+    for (effect, wanted) in effects.as_slice().iter().zip(want) {
+        equal(rt, told(effect), *wanted);
+    }
+    equal(rt, effects.refusal(), refusal);
+}
+
+/// A batch names the rows that it leaves out of a full database, and those that gave way.
+#[test]
+fn rows_left_out(rt: HostRuntime) -> Result<(), Fail> {
+    let alloc = rt.alloc();
+    let mut songs = full_database(alloc)?;
+    let mut changes = Vec::new(alloc);
+    put(alloc, &mut changes, "a.wav")?;
+    changes.push(RowChange::Drop(uri(alloc, "100000.wav")?))?;
+    put(alloc, &mut changes, "b.wav")?;
+    put(alloc, &mut changes, "100001.wav")?;
+    put(alloc, &mut changes, "c.wav")?;
+    let effects = songs.apply_batch(alloc, changes)?;
+    let want = [
+        ('!', "a.wav"),
+        ('-', "100000.wav"),
+        ('+', ""),
+        ('=', "100001.wav"),
+        ('!', "c.wav"),
+    ];
+    did(&rt, &effects, &want, Some(SongDbError::DbFull));
+    let mut changes = Vec::new(alloc);
+    put(alloc, &mut changes, "b.wav")?;
+    changes.push(RowChange::Drop(uri(alloc, "a.wav")?))?;
+    let effects = songs.apply_batch(alloc, changes)?;
+    did(&rt, &effects, &[('0', ""), ('0', "")], None);
+    equal(&rt, songs.len(), MAX_ROWS);
     Ok(())
 }

@@ -1,8 +1,7 @@
 -- The first part that passes a test, by the heads.
-use Rattle.std.proofs.Common.{◌≡◌, ℕ, List, [], ◌∷◌, Bool, true, false, cond, map, ap, ◌∙◌, sym, refl, All, Some, None, take, length}
-use Rattle.std.specs.Prelude.{Option, option_map, option_and_then, IfSome, ◌||◌, nat_lt, Err, if◌then◌else◌}
+use Rattle.std.proofs.Common.{◌≡◌, ℕ, List, [], ◌∷◌, Bool, true, false, cond, map, ap, ◌∙◌, sym, refl, Some, None, take, length}
+use Rattle.std.specs.Prelude.{Option, option_map, option_and_then, ◌||◌, nat_lt, Err, if◌then◌else◌}
 use Rattle.std.specs.List.{find}
-use Rattle.std.proofs.lemmas.List.Elements.{All-head, All-tail}
 use Rattle.std.proofs.lemmas.List.{take-map, length-map}
 use Rattle.wave_pcm.specs.Parts.{is_text, is_data, is_format}
 use Rattle.wave_pcm.specs.Format.{format_from}
@@ -18,14 +17,6 @@ pub find-map : {X Y : Type 0} (f : X → Y) (q : Y → Bool) (xs : List X) → f
 find-map f q [] = refl
 find-map f q (x ∷ xs) = elim (q (f x)) as (λ b. cond b (Some (f x)) (find q (map f xs)) ≡ option_map f (cond b (Some x) (find (λ y.
     q (f y)) xs))) [ true ↦ refl | false ↦ find-map f q xs ]
-
-pub find_passes : {X : Type 0} (P : X → Type 0) (q : X → Bool) (xs : List X) → All P xs → IfSome (find q xs) P
-find_passes P q [] each = tt
-find_passes P q (x ∷ xs) each = elim (q x) as (λ b. IfSome (cond b (Some x) (find q xs)) P) [
-  | true ↦ All-head P x xs each
-  | false ↦
-      find_passes P q xs (All-tail P x xs each)
-]
 
 -- the text of a tag, by the head that was found
 pub text_found : (file : List ℕ) (heads : List PartHead) (tag : Tag) (found : Option PartHead)

@@ -10,7 +10,7 @@ use Rattle.std.specs.Str.Pattern.{LacksTextAt}
 use Rattle.std.specs.String.{string_bytes}
 use Rattle.std.proofs.lemmas.Bool.Decides.{nat_tests}
 use Rattle.std.proofs.lemmas.List.{take_more, take_all}
-use Rattle.std.proofs.lemmas.List.Elements.{All-head, All-push, All-nil}
+use Rattle.std.proofs.lemmas.List.Elements.{All-head, All-push}
 use Rattle.std.proofs.lemmas.List.Folds.{list_any-append, list_any_at}
 use Rattle.std.proofs.lemmas.List.Sums.{sum_by_push, sum_by-cons}
 use Rattle.std.proofs.lemmas.Slice.Eq.{bytes_eq-Decides}
@@ -58,10 +58,6 @@ behind_splits (f ∷ folder) (p ∷ path) rest h = by_cases (nat_eq f p) refl h 
 some_folder : (folder path : List ℕ) → nat_eq (length folder) 0 ≡ false → behind folder path ≡ behind_folder folder path
 some_folder [] path some = absurd (cc)
 some_folder (f ∷ folder) path some = refl
-
-pub root_behind : (folder path : List ℕ) → nat_eq (length folder) 0 ≡ true → behind folder path ≡ Some path
-root_behind [] path none = refl
-root_behind (f ∷ folder) path none = absurd (grind (arith, nat_tests))
 
 pub not_behind : (folder path : List ℕ) → nat_eq (length folder) 0 ≡ false → LacksTextAt folder path 0 → None ≡ behind folder path
 not_behind folder path some lacks = by_result (behind_folder folder path) refl ∙ sym (some_folder folder path some)
@@ -150,25 +146,6 @@ first_plain (b ∷ path) = by_cases (nat_eq b 47) refl (first_plain path)
 pub first_name : (path : List ℕ) → bytes_eq (first_part path) [] ≡ false → is_name (first_part path) ≡ true
 first_name path some = rw (some, first_plain path) refl
 
-not_empty : (n : List ℕ) → is_name n ≡ true → n ≡ [] → ⊥
-not_empty [] is none = absurd (cc)
-not_empty (b ∷ n) is none = absurd (cc)
-
-pub none_added : (entries : List FolderEntry) (name : List ℕ) (kind : Bool) → bytes_eq name [] ≡ true → IsAdded entries entries name kind
-none_added entries name kind empty = record { names = λ names. names; each = each; once = λ few. few }
-  where
-    apart : (n : List ℕ) → is_name n ≡ true → bytes_eq name n ≡ true → ⊥
-    apart n is same =
-        let none : name ≡ [] = (bytes_eq-Decides name []).0 empty in
-        let this : name ≡ n = (bytes_eq-Decides name n).0 same in
-        let empty : n ≡ [] = sym this ∙ none in
-        not_empty n is empty
-
-    each : (n : List ℕ) → is_name n ≡ true → (k : Bool)
-        → list_any (is_entry n k) entries ≡ (list_any (is_entry n k) entries || (bytes_eq name n && same_kind kind k))
-    each n is k = or_same (list_any (is_entry n k) entries) (bytes_eq name n && same_kind kind k)
-        (λ h. absurd (apart n is (both (bytes_eq name n) (same_kind kind k) h).0))
-
 -- what is there isn't added again
 pub there_added : (entries : List FolderEntry) (name : List ℕ) (kind : Bool) → list_any (is_entry name kind) entries ≡ true
     → IsAdded entries entries name kind
@@ -218,14 +195,6 @@ pushed old entry name kind name_is kind_is is absent = record { names = names; e
             let step : count_by (is_entry n k) (old ++ entry ∷ []) ≡ count_by (is_entry n k) old + cond (is_entry n k entry) 1 0 =
             sum_by_push (λ x. cond (is_entry n k x) 1 0) old entry in
             rw (step, one, count_none (is_entry n k) old none) (omega arith)
-
-pub listed_none : (folder : List ℕ) → IsListing [] folder []
-listed_none folder = record {
-  names = All-nil (λ (e : FolderEntry). is_name (string_bytes e.name) ≡ true);
-  each = λ n is k. refl;
-  once =
-      λ n k. omega arith;
-}
 
 -- one file more
 first_more : (files : List File) (folder : List ℕ) (i : ℕ) (file : File) (n : List ℕ) (k : Bool) → i < length files

@@ -11,7 +11,6 @@ use Rattle.std.specs.List.{find}
 use Rattle.wave_pcm.specs.PartHead.{part_at, parts_at}
 use Rattle.wave_pcm.specs.Reading.{◌>>=◌, format_of, data_of, texts_of, data_at, format_at, is_key, reading_of}
 use Rattle.wave_pcm.specs.Reading.{is_wave, wave_reading, info_of, Refuses, IsVerdict}
-use Rattle.wave_pcm.specs.WaveError.{Fails}
 use Rattle.wave_pcm.specs.Tag.{Texts}
 use Rattle.wave_pcm.specs.declared.parts.PartHead.{PartHead}
 use Rattle.wave_pcm.specs.declared.format.Format.{Format}
@@ -59,16 +58,6 @@ refuses_verdict reading fault TooManyTurns v h = h
 pub refuses_data : (parts : List Part) (fault : Type 0) (format : Format) (e : WaveError) → IsVerdict e
     → format_of parts ≡ Ok format → data_of parts ≡ Err e → Refuses (reading_of parts) fault e
 refuses_data parts fault format e v f d = refuses_verdict (reading_of parts) fault e v (no_data parts format e f d)
-
-pub refuses_failing : {A : Type 0} (reading : Result A WaveError) (fault more : Type 0) (e : WaveError) → (fault → more)
-    → Fails fault e → Refuses reading more e
-refuses_failing reading fault more NoMemory up h = tt
-refuses_failing reading fault more NotWave up h = absurd h
-refuses_failing reading fault more NoFormat up h = absurd h
-refuses_failing reading fault more (Unsupported tag bits channels) up h = absurd h
-refuses_failing reading fault more NoData up h = absurd h
-refuses_failing reading fault more ReadFault up h = up h
-refuses_failing reading fault more TooManyTurns up h = absurd h
 
 abbrev made : Format → PartHead → Texts → ℕ → WaveInfo
 made format head texts frames = record {

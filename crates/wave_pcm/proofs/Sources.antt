@@ -1,5 +1,5 @@
 -- What a source keeps over several reads.
-use Rattle.std.proofs.Common.{◌≡◌, ℕ, ◌≤◌, List, arith, ◌∙◌, refl}
+use Rattle.std.proofs.Common.{◌≡◌, ℕ, ◌≤◌, List, arith, ◌∙◌}
 use Rattle.wave_pcm.specs.Source.{Keeps, Grows}
 
 pub keeps_then : {S : Type 0} {bytes : S → List ℕ} {honest : S → Type 0} {faults : S → ℕ} {steady : S → Type 0} {a b c : S}
@@ -12,10 +12,6 @@ keeps_then first next = record {
   stays = λ told. next.stays (first.stays told);
 }
 
-pub keeps_same : {S : Type 0} {bytes : S → List ℕ} {honest : S → Type 0} {faults : S → ℕ} {steady : S → Type 0} {a : S}
-    → honest a → Keeps bytes honest faults steady a a
-keeps_same told = record { is_honest = told; same = refl; counted = omega arith; stays = λ steady. steady }
-
 -- a source that has no fault before and after has none between
 pub grows_not : (a b : ℕ) → Grows a b → b ≡ 0 → ⊥
 grows_not a b more none = omega arith
@@ -23,7 +19,3 @@ grows_not a b more none = omega arith
 -- a fault after other reads
 pub grows_after : (a b c : ℕ) → a ≤ b → Grows b c → Grows a c
 grows_after a b c le more = omega arith
-
--- and before others
-pub grows_before : (a b c : ℕ) → Grows a b → b ≤ c → Grows a c
-grows_before a b c more le = omega arith

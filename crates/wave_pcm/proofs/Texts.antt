@@ -30,17 +30,8 @@ third true true n = refl
 third true false n = refl
 third false b n = refl
 
-fourth : (a b u : Bool) → (a && b && u && false) ≡ false
-fourth true true true = refl
-fourth true true false = refl
-fourth true false u = refl
-fourth false b u = refl
-
 pub bad_utf8 : (text : List ℕ) → is_utf8 text ≡ false → is_tag_text text ≡ false
 bad_utf8 text bad = rw bad (third (nat_lt 0 (length text)) (nat_le (length text) 512) (not (has_control text)))
-
-pub with_control : (text : List ℕ) → has_control text ≡ true → is_tag_text text ≡ false
-with_control text has = rw has (fourth (nat_lt 0 (length text)) (nat_le (length text) 512) (is_utf8 text))
 
 false_by : (b : Bool) → (b ≡ true → ⊥) → b ≡ false
 false_by true never = absurd (never refl)

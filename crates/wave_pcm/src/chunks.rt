@@ -1,3 +1,4 @@
+// The heads of chunks.
 ghost use Rattle.std.specs.Prelude.{◌≡◌, ◌+◌, ◌-◌, ◌<◌, ◌≤◌, ◌^◌, length, take, min, IfOk, IfSome, OnErr, IsOkUnless};
 ghost use Rattle.wave_pcm.specs.Source.{Grows, Keeps};
 ghost use Rattle.wave_pcm.specs.Chunks.{chunks_in, size_in, padded};

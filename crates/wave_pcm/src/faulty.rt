@@ -1,3 +1,4 @@
+// A source that fails on purpose, for tests.
 ghost use Rattle.std.specs.Prelude.{List, ℕ};
 
 use crate::{MemSource, Source, SourceFault};

@@ -1,3 +1,4 @@
+// A folder that fails on purpose, for tests.
 ghost use Rattle.std.specs.Prelude.{List};
 ghost use Rattle.wave_pcm.specs.Folder.{File};
 

@@ -1,3 +1,4 @@
+// What a folder lists and opens.
 ghost use Rattle.std.specs.Prelude.{◌≡◌, List, None, Some, IfOk, IfSome, IsOkUnless, MatchOption};
 ghost use Rattle.wave_pcm.specs.Folder.{File, bytes_at};
 ghost use Rattle.wave_pcm.specs.Listing.{IsListing, IsNoFile, entries_of};

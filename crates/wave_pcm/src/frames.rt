@@ -1,3 +1,4 @@
+// Frames that are read and decoded.
 ghost use Rattle.std.specs.Prelude.{◌≡◌, ◌+◌, ◌*◌, ◌-◌, ◌%◌, ◌<◌, ◌≤◌, ◌^◌, ◌++◌, length, min, slice_range, IfOk, OnOk};
 ghost use Rattle.std.specs.Prelude.{OnErr, IfErr, IsErrOf, IfSome, Some, None, Err};
 ghost use Rattle.wave_pcm.specs.Source.{Grows, Keeps};

@@ -1,3 +1,4 @@
+// The head of a WAVE file, read as a whole.
 ghost use Rattle.std.specs.Prelude.{◌≡◌, ◌+◌, ◌<◌, ◌≤◌, ◌^◌, ◌&&◌, length, List, ℕ, Err, ◌*◌, slice_range, option_map};
 ghost use Rattle.std.specs.Prelude.{string_bytes, Ok, IfOk, OnOk, IfErr, OnErr, IsErrOf, IsTrue, IsOkUnless};
 ghost use Rattle.wave_pcm.specs.Source.{Grows, Keeps};

@@ -1,3 +1,4 @@
+// What a head tells.
 use crate::Tags;
 
 /// What the head of a WAVE file tells: how to find its frames, and its tags.

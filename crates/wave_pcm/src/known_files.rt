@@ -1,3 +1,4 @@
+// Names that a listing had as files.
 ghost use Rattle.std.specs.Prelude.{◌≡◌, ℕ, List, false, string_bytes, IfOk};
 ghost use Rattle.std.specs.HashSet.{contains_text};
 ghost use Rattle.std.specs.List.{list_any};

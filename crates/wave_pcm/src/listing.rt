@@ -1,3 +1,4 @@
+// The chunks of a file, those inside lists too.
 ghost use Rattle.std.specs.Prelude.{◌≡◌, ◌^◌, slice_range, IsTrue, ℕ, ◌+◌, ◌<◌, ◌≤◌, ◌++◌, ◌||◌, nat_lt, IfSome};
 ghost use Rattle.std.specs.Prelude.{length, take, map, vec_len, All, IfOk, OnOk, IfErr, OnErr, IsOkUnless};
 ghost use Rattle.wave_pcm.specs.Source.{Grows, Keeps};

@@ -1,3 +1,4 @@
+// Folders of files in memory.
 ghost use Rattle.std.specs.Prelude.{◌≡◌, [], ◌∷◌, ◌++◌, OnOk, OnErr, option_copied};
 ghost use Rattle.wave_pcm.specs.Added.{IsAdded};
 ghost use Rattle.wave_pcm.specs.Folder.{File, bytes_at};

@@ -1,3 +1,4 @@
+// What a chunk is to the reader, and where its data stand.
 ghost use Rattle.std.specs.Prelude.{◌≡◌, ◌+◌, ◌<◌, ◌≤◌, ◌++◌, length, take, vec_len, All, IfOk, OnOk, OnErr, IfErr};
 ghost use Rattle.wave_pcm.specs.Parts.{file_kind, text_kind, is_info, is_format, is_data, is_nested, is_text};
 

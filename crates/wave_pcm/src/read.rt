@@ -1,3 +1,4 @@
+// Reads that fill a buffer.
 ghost use Rattle.std.specs.Prelude.{◌≡◌, ◌+◌, ◌^◌, ◌<◌, ◌≤◌, length, slice_range, OnOk, OnErr, IsOkUnless};
 ghost use Rattle.wave_pcm.specs.Source.{Grows, Keeps};
 

@@ -1,3 +1,4 @@
+// Why a WAVE file is refused.
 ghost use Rattle.std.specs.Prelude.{◌≡◌};
 ghost use Rattle.wave_pcm.specs.WaveError.{number_of};
 ghost use Rattle.wave_pcm.specs.declared.refusal.WaveError.TheVariants.{NoMemory};

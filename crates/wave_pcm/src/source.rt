@@ -1,3 +1,4 @@
+// Bytes that are read at offsets.
 ghost use Rattle.std.specs.Prelude.{◌≡◌, ℕ, ◌+◌, ◌-◌, ◌<◌, ◌≤◌, List, length, take, drop, min, slice_range};
 ghost use Rattle.std.specs.Prelude.{Ok, IfOk, OnErr, refl};
 ghost use Rattle.wave_pcm.specs.Source.{Grows, Keeps};

@@ -1,3 +1,4 @@
+// The six tags of a song.
 ghost use Rattle.std.specs.Prelude.{◌≡◌, ◌<◌, List, ℕ, Option, map, option_map, option_copied, string_bytes, IfOk};
 ghost use Rattle.wave_pcm.specs.TagName.{name_of};
 ghost use Rattle.wave_pcm.specs.Tag.{place_of, text_of, with_text, no_texts, is_tag};

@@ -1,3 +1,4 @@
+// The texts of tags.
 ghost use Rattle.std.specs.Prelude.{◌≡◌, ◌+◌, ◌<◌, ◌≤◌, ◌^◌, length, option_map, string_bytes, slice_range, IfOk};
 ghost use Rattle.std.specs.Prelude.{IfErr, min, option_copied, position, ◌==◌};
 ghost use Rattle.wave_pcm.specs.Source.{Grows, Keeps};

@@ -1,3 +1,4 @@
+// Samples at a volume.
 ghost use Rattle.std.specs.Prelude.{◌≡◌, ◌≤◌, map};
 ghost use Rattle.wave_pcm.specs.Pcm.{at_volume};
 

@@ -4,7 +4,7 @@ ghost use Rattle.play_queue.specs.Changes.{TellsMove, TellsSwap, TellsPriority};
 ghost use Rattle.play_queue.specs.Fits.{IsRange, IsMove, ArePositions, HasRoom};
 ghost use Rattle.play_queue.specs.Refusal.{Answers};
 ghost use Rattle.play_queue.specs.Restamp.{AreRanges};
-ghost use Rattle.play_queue.specs.Refused.{range_refusal, move_refusal, swap_refusal, add_refusal, id_refusal, ranges_refusal};
+ghost use Rattle.play_queue.specs.Refused.{range_refusal, move_refusal, swap_refusal, add_refusal, ranges_refusal};
 
 use super::Queue;
 use crate::limits::{MAX_ENTRIES, MAX_ID};
@@ -76,16 +76,6 @@ impl Queue {
             return Err(QueueError::BadIndex);
         }
         Ok(())
-    }
-
-    /// What `delete_id` would be refused for.
-    pub fn check_id(&self, id: u32) -> Result<(), QueueError>
-        ensures { Answers (id_refusal self.now.entries id) result }
-    {
-        match self.pos_of(id) {
-            Some(_) => Ok(()),
-            None => Err(QueueError::NoSuchSong),
-        }
     }
 
     /// Whether `move_range`, where it isn't refused, would change anything: not where the block is empty or stays where it is.

@@ -1,9 +1,8 @@
-// What edits are refused for, and whether they would change anything. No call takes memory.
-ghost use Rattle.std.specs.Prelude.{◌≡◌, ◌≢◌, OnOk};
-ghost use Rattle.std.specs.Bool.{OnTrue, OnFalse};
+// What edits are refused for. No call takes memory.
+ghost use Rattle.std.specs.Prelude.{OnOk};
 ghost use Rattle.stickers.specs.Fits.{HasRoom};
 ghost use Rattle.stickers.specs.Refusal.{Answers};
-ghost use Rattle.stickers.specs.Sticker.{with_sticker, get_refusal, set_refusal, delete_all_refusal};
+ghost use Rattle.stickers.specs.Sticker.{get_refusal, set_refusal, delete_all_refusal};
 
 use super::Stickers;
 use crate::limits::MAX_STICKERS;
@@ -38,17 +37,6 @@ impl Stickers {
         match self.songs.song(uri) {
             Some(song) if !song.is_empty() => Ok(()),
             _ => Err(StickersError::NoSuchSticker),
-        }
-    }
-
-    /// Whether `set` would change anything: not where the sticker has the value already.
-    pub fn would_set(&self, uri: &str, name: &str, value: &str) -> bool
-        ensures changes { OnTrue result (with_sticker self.now uri.now name.now value.now ≢ self.now) }
-        ensures stays { OnFalse result (with_sticker self.now uri.now name.now value.now ≡ self.now) }
-    {
-        match self.songs.value(uri, name) {
-            Some(old) => old.as_str() != value,
-            None => true,
         }
     }
 }

@@ -1,6 +1,7 @@
 use Rattle.std.proofs.Common.{◌≡◌, ◌∙◌, ap, sym, Some, None}
 use Rattle.stickers.specs.ByName.{by_name}
-use Rattle.stickers.specs.Named.{under, with_other}
+use Rattle.stickers.specs.Named.{under}
+use Rattle.stickers.proofs.Named.{with_other}
 use Rattle.stickers.specs.Sticker.{flat, without_sticker}
 use Rattle.stickers.proofs.ByName.{lookup-by_name, set_value-by_name, sorted-by_name}
 use Rattle.stickers.proofs.Flat.{none_without, flat-without_sticker}

@@ -1,7 +1,8 @@
 use Rattle.std.proofs.Common.{◌≡◌, ◌∙◌, ap, sym, Some, None}
 use Rattle.std.proofs.lemmas.Map.Steps.{set_value_same}
 use Rattle.stickers.specs.ByName.{by_name}
-use Rattle.stickers.specs.Named.{under, with_name, with_other}
+use Rattle.stickers.specs.Named.{under, with_name}
+use Rattle.stickers.proofs.Named.{with_other}
 use Rattle.stickers.specs.Sticker.{flat, with_sticker}
 use Rattle.stickers.proofs.ByName.{lookup-by_name, set_value-by_name, sorted-by_name}
 use Rattle.stickers.proofs.Flat.{none_of_song, flat-with_other, on_err}
