@@ -9,6 +9,7 @@ Each file `tests/scripts/TOPIC/NAME.txt` is a script, run in a folder of its own
     wave NAME FRAMES [ID=TEXT ..]   writes a WAVE file of so many silent frames, 8,000 a second, one channel, 16 bits; with a LIST
                                 INFO of these sub-chunks behind them, as INAM=Hi; _ stands for a space
     waves NAME COUNT FRAMES     writes so many such files into a folder, 00001.wav and so on
+    texts NAME COUNT            writes so many files that are no songs into a folder, 00001.txt and so on
     pipe NAME                   makes a named pipe
     odd NAME HEX                writes an empty file into a folder, whose name is these bytes
     remove NAME                 removes a file, a link, or a folder with what stands in it
@@ -167,6 +168,9 @@ def prepare(line, folder):
     elif word == "waves":
         for number in range(1, int(words[1]) + 1):
             write(f"{path}/{number:05}.wav", wave(int(words[2]), []))
+    elif word == "texts":
+        for number in range(1, int(words[1]) + 1):
+            write(f"{path}/{number:05}.txt", b"")
     elif word == "pipe":
         os.makedirs(os.path.dirname(path), exist_ok=True)
         os.mkfifo(path)
