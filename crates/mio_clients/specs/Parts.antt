@@ -6,9 +6,12 @@ use Rattle.daemon_core.specs.declared.event.Event.TheVariants as stage_events
 use Rattle.daemon_core.specs.declared.outcome.Output.{Output}
 use Rattle.stage_workers.specs.declared.served.Served.{Served as ServedEvent}
 use Rattle.stage_workers.specs.PassState.{PassState}
+use Rattle.stage_workers.specs.declared.refusal.StageError.{StageError}
+use Rattle.stage_workers.specs.declared.refusal.StageError.TheVariants as errors
 use Rattle.mio_clients.specs.declared.part.Part.{Part}
 use Rattle.mio_clients.specs.declared.part.Part.TheVariants.{Served, Collected, Refused}
 use Rattle.mio_clients.specs.declared.event.ClientEvent.{ClientEvent}
+use Rattle.mio_clients.specs.declared.event.ClientEvent.TheVariants as events
 use Rattle.mio_clients.specs.declared.turning.Kept.{Kept}
 use Rattle.mio_clients.specs.declared.turning.Kept.TheVariants as kept
 use Rattle.mio_clients.specs.Events.{asked_in, asked_by_event, AsksNothing}
@@ -109,6 +112,20 @@ pub record Serves {S D : Type 0} (remaining contents : S → Option (List ℕ)) 
   pub refused : RefusesLast added
   pub unrefused : goes_on ≡ true → refuses added ≡ false
   pub told : goes_on ≡ false → refuses added ≡ true
+
+-- what the stage is handed of what a client did
+abbrev pub stage_event_of : ClientEvent → Event
+stage_event_of (events.Connect client) = stage_events.Connect client
+stage_event_of (events.Request client request) = stage_events.Request client request
+stage_event_of (events.Gone client) = stage_events.Gone client
+
+-- whether a turn goes on behind an event that was refused: where a request found no memory, or no number
+abbrev pub goes_on_behind : StageError → Kept → Bool
+goes_on_behind error (kept.Event event) = false
+goes_on_behind errors.NoMemory (kept.Client client) = true
+goes_on_behind errors.NumbersSpent (kept.Client client) = true
+goes_on_behind errors.Broken (kept.Client client) = false
+goes_on_behind (errors.Rewound seen found) (kept.Client client) = false
 
 -- what is kept of an event: itself, unless it is a request, of which its client's number is
 abbrev pub IsKeptOf : ClientEvent → Kept → Type 0

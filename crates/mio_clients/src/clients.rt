@@ -136,8 +136,8 @@ impl<S: Stream, L: Listener<S>, P: Ready<S>> Clients<S, L, P> {
     /// Reads what the client under a key sent, until there is nothing to be read or for 65,536 calls, and gathers its requests. Nothing is
     /// read as long as something is queued for it.
     ///
-    /// A client whose stream has failed, or for which memory was refused, is let go of, and its end is gathered; one whose line or list
-    /// is too long, or that sends nothing more, once it was sent all that it asked for before.
+    /// A client whose stream has failed, or for which memory was refused, is let go of, and its end is gathered, unless the stage closed
+    /// it; one whose line or list is too long, or that sends nothing more, once it was sent all that it asked for before.
     pub fn read_ready(&mut self, alloc: Global, key: usize) -> Result<(), ClientsError>
         ensures later { AllGoOn S.remaining S.contents no_bytes no_requests self.old self.new }
         ensures fault { IfErr result (λ e. IsFault S.remaining S.contents S.failed key e self.old self.new) }
@@ -150,7 +150,7 @@ impl<S: Stream, L: Listener<S>, P: Ready<S>> Clients<S, L, P> {
 
     /// Writes what is queued for the client under a key, until nothing is or the stream takes no more.
     ///
-    /// A client whose stream has failed, or takes no byte, is let go of, and its end is gathered.
+    /// A client whose stream has failed, or takes no byte, is let go of, and its end is gathered, unless the stage closed it.
     pub fn write_ready(&mut self, key: usize) -> Result<(), ClientsError>
         ensures later { AllGoOn S.remaining S.contents no_bytes no_requests self.old self.new }
         ensures quiet { StaysQuiet self.old.events self.new.events }

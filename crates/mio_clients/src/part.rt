@@ -9,6 +9,6 @@ pub enum Part<D> {
     /// What events of the player and of scans left for the clients, behind the events that were served.
     Collected(Outbox),
     /// The last part: an event was refused with this number, 42 or 44, or one that is no request with 43 or 49; or there was no
-    /// memory for a further part, 43. The events that were not served stay gathered.
+    /// memory for a further part, 43. What was not served stays gathered, but a request that was refused: its client is let go of.
     Refused(u8),
 }

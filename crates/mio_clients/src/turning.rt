@@ -6,6 +6,7 @@ ghost use Rattle.mio_clients.specs.Waiting.{QuietBehind, StaysQuiet, TakesFirst}
 ghost use Rattle.mio_clients.specs.Later.{no_bytes, no_requests, AllGoOn, IsLater};
 ghost use Rattle.mio_clients.specs.Parts.{bytes_in, requests_in, served_count, refuses, RefusesLast, IsServedAll};
 ghost use Rattle.mio_clients.specs.Parts.{sent_by, sent_by_all, sent_by_served, asked_of, IsKeptOf, IsKeptAs, KeepsNoRequest, Serves};
+ghost use Rattle.mio_clients.specs.Parts.{stage_event_of, goes_on_behind};
 
 use crate::clients::Clients;
 use crate::event::ClientEvent;
@@ -33,6 +34,7 @@ enum Kept {
 impl ClientEvent {
     // The event as the stage takes it, and what is kept of it.
     fn handed_over(self) -> (Event, Kept)
+        ensures event { result.0 ≡ stage_event_of self }
         ensures asked { (c : ℕ) → asked_of c result.0 ≡ asked_by_event c self }
         ensures kept { IsKeptOf self result.1 }
     {
@@ -178,6 +180,7 @@ impl<S: Stream, L: Listener<S>, P: Ready<S>> Clients<S, L, P> {
         requires room { slab_len self.old.clients + 1 ≤ self.old.room }
         requires no_request { KeepsNoRequest kept }
         ensures kept { IsKeptAs S.remaining S.contents kept self.old self.new }
+        ensures goes_on { result ≡ goes_on_behind error kept }
         ensures quiet { result ≡ true → StaysQuiet self.old.events self.new.events }
     {
         match kept {

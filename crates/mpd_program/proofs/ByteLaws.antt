@@ -14,9 +14,6 @@ pub record SentSoFar (all left : List ℕ) (first now : Option (List ℕ)) : Typ
   pub parts : sent ++ left ≡ all
   pub appended : Appends first now sent
 
-pub sent_none : (all : List ℕ) (first : Option (List ℕ)) → SentSoFar all all first first
-sent_none all first = record { sent = []; parts = refl; appended = appends_nothing first }
-
 pub sent_more : (all left : List ℕ) (n : ℕ) (first now after : Option (List ℕ)) → SentSoFar all left first now
     → Appends now after (take n left) → SentSoFar all (drop n left) first after
 sent_more all left n first now after far more = record {
@@ -24,17 +21,6 @@ sent_more all left n first now after far more = record {
   parts = append_assoc far.sent (take n left) (drop n left) ∙ ap (λ v. far.sent ++ v) (take-append-drop n left) ∙ far.parts;
   appended = appends_twice first now after far.sent (take n left) far.appended more;
 }
-
-pub sent_all : (all left : List ℕ) (first now after : Option (List ℕ)) → left ≡ [] → SentSoFar all left first now → Keeps now after
-    → Appends first after all
-sent_all all left first now after none far kept =
-    let whole : far.sent ≡ all = sym (append-nil far.sent) ∙ ap (λ v. far.sent ++ v) (sym none) ∙ far.parts in
-    subst (Appends first after) whole (appends_kept first now after far.sent far.appended kept)
-
-pub sent_front : (all left : List ℕ) (first now after : Option (List ℕ)) → SentSoFar all left first now → Keeps now after
-    → WritesFront all first after
-sent_front all left first now after far kept =
-    record { written = far.sent; unwritten = left; parts = far.parts; appended = appends_kept first now after far.sent far.appended kept }
 
 -- nothing was written of these bytes, or all
 pub front_none : (bytes : List ℕ) (first after : Option (List ℕ)) → Keeps first after → WritesFront bytes first after
