@@ -11,10 +11,11 @@ The scripts are those of a driver (drivers.py), with a line of their own:
 and in a line that must be printed
 
     %sound{NAME FIRST COUNT PERCENT}        stands for the hex digits of so many frames of that file, from a frame on, at a volume
+    %wave{NAME FIRST COUNT PERCENT}         stands for those of a WAVE file of these frames at the file's rate and channels
     %numbers{FIRST LAST}                    stands for the numbers from one to another, with spaces between them
 
 crates/workers_driver/README.md has the lines of the input. The sound is what Python's own reader of WAVE files finds in the file, each sample
-scaled by the volume and rounded toward zero.
+scaled by the volume and rounded toward zero; a WAVE file is what Python's own writer makes of it.
 """
 
 import array
@@ -28,6 +29,7 @@ sys.path.insert(0, os.path.dirname(os.path.abspath(__file__)))
 import drivers
 
 SOUND = re.compile(r"%sound\{(\S+) (\d+) (\d+) (\d+)\}")
+WAVE = re.compile(r"%wave\{(\S+) (\d+) (\d+) (\d+)\}")
 NUMBERS = re.compile(r"%numbers\{(\d+) (\d+)\}")
 
 
@@ -36,13 +38,24 @@ def wave_file(rate, channels, frames, seed):
     samples = array.array("h", ((it * 7919 + seed * 104729) % 65536 - 32768 for it in range(frames * channels)))
     if sys.byteorder == "big":
         samples.byteswap()
+    return wave_of(rate, channels, samples.tobytes())
+
+
+def wave_of(rate, channels, sound):
+    """A WAVE file of these samples, as Python writes it."""
     file = io.BytesIO()
     with wave.open(file, "wb") as writer:
         writer.setnchannels(channels)
         writer.setsampwidth(2)
         writer.setframerate(rate)
-        writer.writeframes(samples.tobytes())
+        writer.writeframes(sound)
     return file.getvalue()
+
+
+def piece_of(data, first, count, percent):
+    """A WAVE file of frames of a WAVE file at a volume."""
+    with wave.open(io.BytesIO(data)) as reader:
+        return wave_of(reader.getframerate(), reader.getnchannels(), sound_of(data, first, count, percent))
 
 
 def sound_of(data, first, count, percent):
@@ -74,6 +87,7 @@ class Script(drivers.Script):
             line = f"file {name} {self.waves[name].hex()}"
         elif word == "<":
             line = SOUND.sub(lambda it: sound_of(self.waves[it[1]], *map(int, it.groups()[1:])).hex(), line)
+            line = WAVE.sub(lambda it: piece_of(self.waves[it[1]], *map(int, it.groups()[1:])).hex(), line)
             line = NUMBERS.sub(lambda it: " ".join(map(str, range(int(it[1]), int(it[2]) + 1))), line)
         super().take(number, line)
 

@@ -1,0 +1,119 @@
+#!/usr/bin/env python3
+"""Programs of this checkout, made from source with run-time checks in place of proofs, in the folder out/checked.
+
+    tests/lib/builds.py NAME            builds this program of crates.txt, and prints its path
+    tests/lib/builds.py --tests NAME    builds the tests of this crate and runs them
+
+Beside each stands the sum of all that it was made of, so that nothing is built twice, and `./start` and the tests share theirs. Where
+something can't be built, the compiler's own lines are printed. A build takes one processor and up to 1.4 GB. It exits with 1 where something
+is wrong.
+"""
+
+import contextlib
+import hashlib
+import os
+import subprocess
+import sys
+import tempfile
+
+ROOT = os.path.dirname(os.path.dirname(os.path.dirname(os.path.abspath(__file__))))
+# How much is done to make them quick: from 0 on, each level takes longer to build. At 0 the scripts take ten times as long.
+LEVEL = 1
+SECONDS = 60
+
+
+def crates_of(name):
+    """The names of this crate and of all below it, as crates.txt has them."""
+    with open(f"{ROOT}/crates.txt", encoding="utf-8") as file:
+        listed = dict(line.strip().split(":", 1) for line in file if line.strip())
+    found = [name]
+    for it in found:
+        found += [below for below in listed[it].split() if below in listed and below not in found]
+    return found
+
+
+def sum_of_sources(name):
+    """A sum of all that a program is made of: the toolchain, what crates.txt and HANDLES say, and the files of the crates."""
+    said = subprocess.run(["rt", "version"], capture_output=True, check=True).stdout
+    whole = hashlib.sha256(said)
+    paths = [f"{ROOT}/crates.txt", f"{ROOT}/HANDLES"]
+    for crate in crates_of(name):
+        for part in ("src", "specs", "proofs"):
+            for at, folders, files in os.walk(f"{ROOT}/crates/{crate}/{part}"):
+                folders.sort()
+                paths += [f"{at}/{it}" for it in sorted(files)]
+    for path in paths:
+        with open(path, "rb") as file:
+            text = file.read()
+        whole.update(f"{os.path.relpath(path, ROOT)} {len(text)}\n".encode() + text)
+    return whole.hexdigest()
+
+
+class Built:
+    """A program in the folder `out`, with the sum of its sources beside it."""
+
+    def __init__(self, path, stamp):
+        self.path, self.stamp = path, stamp
+
+    def is_there(self):
+        try:
+            with open(f"{self.path}.stamp", encoding="utf-8") as file:
+                return file.read() == self.stamp and os.access(self.path, os.X_OK)
+        except OSError:
+            return False
+
+    def forget(self):
+        with contextlib.suppress(FileNotFoundError):
+            os.remove(f"{self.path}.stamp")
+
+    def note(self):
+        with open(f"{self.path}.stamp", "w", encoding="utf-8") as file:
+            file.write(self.stamp)
+        return True
+
+
+def build(built, make, crate):
+    """Builds it where it isn't there; whether it is there then."""
+    if built.is_there():
+        return True
+    built.forget()
+    with tempfile.TemporaryFile("w+", errors="replace") as log:
+        if make(crate, LEVEL, built.path, log):
+            return built.note()
+        log.seek(0)
+        print(log.read()[-4000:])
+    print(f"{crate.name} was not built, or doesn't answer its own file stdin by its file stdout")
+    return False
+
+
+def answers(program, words, path):
+    """Whether it answers its crate's own file stdin by its file stdout, which may have changed since it was built."""
+    given = {"input": program.stream("stdin") or b"", "stdout": subprocess.PIPE, "stderr": subprocess.DEVNULL}
+    with tempfile.TemporaryDirectory(prefix="answers-") as room:
+        ran = subprocess.run([path, *words], cwd=room, timeout=SECONDS, check=False, **given)
+    return ran.returncode == 0 and ran.stdout == (program.stream("stdout") or b"")
+
+
+def main(words):
+    if len(words) != 1 + (words[:1] == ["--tests"]):
+        sys.exit(__doc__.strip())
+    import toolchain
+
+    is_tests, name = len(words) == 2, words[-1]
+    if not os.path.isdir(f"{ROOT}/crates/{name}"):
+        sys.exit(f"there is no crate {name}")
+    crate = toolchain.program_of(ROOT, name)
+    built = Built(f"{ROOT}/out/checked/{name}{'_tests' if is_tests else ''}", sum_of_sources(name))
+    if is_tests:
+        return 0 if build(built, toolchain.build_tests, crate) and toolchain.run_tests(built.path) == 0 else 1
+    if not build(built, toolchain.build_checked, crate):
+        return 1
+    if not answers(crate, toolchain.words_of(crate), built.path):
+        print(f"{name} doesn't answer its own file stdin by its file stdout")
+        return 1
+    print(built.path)
+    return 0
+
+
+if __name__ == "__main__":
+    sys.exit(main(sys.argv[1:]))
