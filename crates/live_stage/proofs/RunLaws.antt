@@ -15,18 +15,23 @@ use Rattle.daemon_core.proofs.HistoryLaws.{outputs_are_replies}
 use Rattle.live_stage.specs.declared.refusal.LiveError.{LiveError}
 use Rattle.live_stage.specs.declared.refusal.LiveError.TheVariants.{Broken, NoMemory, NumbersSpent}
 use Rattle.live_stage.specs.Answer.{Answer, IsTurn, IsNumbered}
-use Rattle.live_stage.specs.Numbers.{Numbers, FileNumbers, next_numbers, is_due, most_records, recorded, AreSpent}
+use Rattle.live_stage.specs.Numbers.{Numbers, FileNumbers, next_numbers, is_due, most_bytes, record_bytes, recorded, AreSpent}
 use Rattle.live_stage.specs.Turns.{WritesOneFile, RefusesInOrder, IsReady, IsStill, writes_to_b}
 use Rattle.state_codec.specs.declared.op.Op.{Op}
 use Rattle.live_stage.specs.LiveState.{LiveState}
 use Rattle.live_stage.specs.Found.{found_state, AllFindNow, AllFindSince}
 use Rattle.live_stage.specs.Transcript.{entry_of, history_of, replayed, numbers_after, IsTranscript, broken_by, broken_after}
-use Rattle.live_stage.specs.Transcript.{FileGoesOn, AreNumbersSpent, SpendsNumbers}
+use Rattle.live_stage.specs.Transcript.{FileGoesOn, AreNumbersSpent, SpendsNumbers, HasRoomFor, bytes_after}
 use Rattle.live_stage.specs.Transcript.{AreReplies, StaysBroken, first_broken, IsWhole, FindsWhole, FindsPrefix}
-use Rattle.live_stage.proofs.TurnLaws.{IsOtherKept, other_same, other_join, one_file, join_pairs, undue, ready_same, recorded_one}
+use Rattle.live_stage.proofs.TurnLaws.{IsOtherKept, other_same, other_join, one_file, join_pairs, undue, undue_makes_none, ready_same}
+use Rattle.live_stage.proofs.TurnLaws.{recorded_one}
 
 abbrev Reply : Type 0
 Reply = Result Answer LiveError
+
+broken_or_not : (was : Bool) → (was ≡ true) ⊎ (was ≡ false)
+broken_or_not true = inl refl
+broken_or_not false = inr refl
 
 -- ---- one event more
 
@@ -69,11 +74,11 @@ spends_more : {D : Type 0} (first : LiveState D) (earlier : List Entry) (was : B
     → SpendsNumbers first earlier was file between events answers
     → (broken_after was answers ≡ false
     → ((answer ≡ Err NumbersSpent) ↔ AreNumbersSpent first (history_of earlier events answers) between))
-    → FileGoesOn between answer last
+    → FileGoesOn (replayed first.state (history_of earlier events answers)) event between answer last
     → SpendsNumbers first earlier was file last (events ++ event ∷ []) (answers ++ answer ∷ [])
 spends_more first earlier was file between last [] [] event answer same so_far one goes = (
   λ fine. subst (λ (f : FileNumbers). (answer ≡ Err NumbersSpent) ↔ AreNumbersSpent first earlier f) so_far (one fine),
-  (last, subst (λ (f : FileNumbers). FileGoesOn f answer last) so_far goes, refl),
+  (last, subst (λ (f : FileNumbers). FileGoesOn (replayed first.state earlier) event f answer last) so_far goes, refl),
 )
 spends_more first earlier was file between last [] (a ∷ answers) event answer same so_far one goes = absurd (omega arith)
 spends_more first earlier was file between last (e ∷ events) [] event answer same so_far one goes = absurd (omega arith)
@@ -127,7 +132,7 @@ pub record IsTurnMade {D : Type 0} (honest : D → Type 0) (history : D → List
       → AllFindNow (λ f. f ≡ Some new.state.machine.saved) (history new.a) (history new.b)
   pub usable : OnOk answer (new.is_broken ≡ false)
   pub one_file : WritesOneFile old new answer
-  pub file : FileGoesOn old.file answer new.file
+  pub file : FileGoesOn old.state event old.file answer new.file
   pub broken : old.is_broken ≡ true → (answer ≡ Err Broken) × (new ≡ old)
   pub breaks : answer ≡ Err Broken → new.is_broken ≡ true
   pub nothing_done : answer ≡ Err NumbersSpent → new ≡ old
@@ -143,11 +148,12 @@ pub record IsTurnMade {D : Type 0} (honest : D → Type 0) (history : D → List
 turn_in_file : {D : Type 0} (honest : D → Type 0) (history : D → List Change) (old new : LiveState D) (event : Event) (answer : Reply)
     → IsTurnMade honest history old new event answer → is_due old.file ≡ false → IsOtherKept old.is_in_b old new
 turn_in_file honest history old new event answer m is =
-    subst (λ in_b. IsOtherKept in_b old new) (let same : writes_to_b old ≡ old.is_in_b = (rw is refl) in same) m.one_file.other_file
+    let one = m.one_file.other_file in
+    subst (λ in_b. IsOtherKept in_b old new) (let same : writes_to_b one.0 old ≡ old.is_in_b = (rw is refl) in same) one.2
 
 -- how the numbers of the file go on by a turn
 pub file_goes_on : {D : Type 0} (old new : LiveState D) (event : Event) (answer : Reply) → IfOk answer (λ t. IsTurn old event t new)
-    → RefusesInOrder old new answer → FileGoesOn old.file answer new.file
+    → RefusesInOrder old new answer → FileGoesOn old.state event old.file answer new.file
 file_goes_on old new event (Ok t) made refuses = made.file
 file_goes_on old new event (Err Broken) made refuses = tt
 file_goes_on old new event (Err NoMemory) made refuses = elim (refuses.stays (λ is. cc)) [
@@ -158,14 +164,17 @@ file_goes_on old new event (Err NumbersSpent) made refuses = ap (λ v. v.file) (
 
 -- ---- a run so far
 
--- A run in which no checkpoint can be due writes to one file, in which a record stands for each event at most.
-pub record IsInFile {D : Type 0} (first now : LiveState D) (events : List Event) : Type 0 where
+-- its history
+abbrev pub whole_of : List Event → List Reply → List Entry
+whole_of events answers = history_of [] events answers
+
+-- A run in which no checkpoint can be due writes to one file, in which a record stands for each event at most, and no bytes but theirs.
+pub record IsInFile {D : Type 0} (first now : LiveState D) (events : List Event) (answers : List Reply) : Type 0 where
   pub other_file : MatchBool first.is_in_b (now.a ≡ first.a) (now.b ≡ first.b)
   pub same_file : now.is_in_b ≡ first.is_in_b
   pub few : now.is_broken ≡ false → now.file.records ≤ first.file.records + length events
-
-abbrev pub HasRoomFor : {D : Type 0} → LiveState D → List Event → Type 0
-HasRoomFor first events = first.file.records + length events ≤ most_records
+  pub short : now.is_broken ≡ false → now.file.bytes ≤ first.file.bytes + bytes_after first.state (whole_of events answers)
+  pub behind : now.is_broken ≡ false → now.file.snapshot_len ≡ first.file.snapshot_len
 
 pub record IsRunSoFar {D : Type 0} (honest : D → Type 0) (history : D → List Change) (first now : LiveState D) (events : List Event)
     (answers : List Reply) : Type 0 where
@@ -178,21 +187,18 @@ pub record IsRunSoFar {D : Type 0} (honest : D → Type 0) (history : D → List
   pub spends : SpendsNumbers first [] first.is_broken first.file now.file events answers
   pub event : now.numbers.event ≡ first.numbers.event + length (history_of [] events answers)
   pub numbers : now.is_broken ≡ false → now.numbers ≡ numbers_after first.state first.numbers (history_of [] events answers)
-  pub in_file : HasRoomFor first events → IsInFile first now events
+  pub in_file : HasRoomFor first events answers → IsInFile first now events answers
   pub kept : honest first.a → honest first.b → now.is_broken ≡ false
       → AllFindNow (λ f. f ≡ Some now.state.machine.saved) (history now.a) (history now.b)
   pub given_out : honest first.a → honest first.b → first.is_broken ≡ false → now.is_broken ≡ true
       → AllFindNow (FindsWhole first.state events answers) (history now.a) (history now.b)
-  pub any_moment : honest first.a → honest first.b → first.is_broken ≡ false → HasRoomFor first events
+  pub any_moment : honest first.a → honest first.b → first.is_broken ≡ false → HasRoomFor first events answers
       → AllFindSince (FindsPrefix first.state events answers) (history now.a) (length (history first.a)) (history now.b)
       (length (history first.b))
   pub continues_a : honest first.a → Continues (history first.a) (history now.a)
   pub continues_b : honest first.b → Continues (history first.b) (history now.b)
   pub honest_a : honest first.a ↔ honest now.a
   pub honest_b : honest first.b ↔ honest now.b
-
-abbrev whole_of : List Event → List Reply → List Entry
-whole_of events answers = history_of [] events answers
 
 pub finds_prefix_of_whole : (s : State) (events : List Event) (answers : List Reply) (f : Option SavedState) → FindsWhole s events answers f
     → FindsPrefix s events answers f
@@ -214,7 +220,13 @@ begins honest history first kept = record {
   spends = refl;
   event = omega arith;
   numbers = λ is. refl;
-  in_file = λ room. record { other_file = other_same first.is_in_b first; same_file = refl; few = λ is. omega arith };
+  in_file = λ room. record {
+    other_file = other_same first.is_in_b first;
+    same_file = refl;
+    few = λ is. omega arith;
+    short = λ is. omega arith;
+    behind = λ is. refl;
+  };
   kept = kept;
   given_out = λ ha hb usable broken. absurd cc;
   any_moment = λ ha hb usable room x y at_x at_y.
@@ -299,14 +311,35 @@ counts_on : (events : List Event) (answers : List Reply) (event : Event) (answer
     → length (answers ++ answer ∷ []) ≡ length (events ++ event ∷ [])
 counts_on events answers event answer same = omega (arith, same, length-append answers (answer ∷ []), length-append events (event ∷ []))
 
-less_room : {D : Type 0} (first : LiveState D) (events : List Event) (event : Event) → HasRoomFor first (events ++ event ∷ [])
-    → HasRoomFor first events
-less_room first events event room = omega (arith, room, length-append events (event ∷ []))
+-- an event adds bytes, or none
+bytes_more : (s : State) (earlier : List Entry) (event : Event) (answer : Reply)
+    → bytes_after s earlier ≤ bytes_after s (history_of earlier (event ∷ []) (answer ∷ []))
+bytes_more s earlier event (Ok t) = omega arith
+bytes_more s earlier event (Err e) = omega arith
+
+less_bytes : (s : State) (events : List Event) (answers : List Reply) (event : Event) (answer : Reply) → length answers ≡ length events
+    → bytes_after s (whole_of events answers) ≤ bytes_after s (whole_of (events ++ event ∷ []) (answers ++ answer ∷ []))
+less_bytes s events answers event answer same =
+    subst (λ (h : List Entry). bytes_after s (whole_of events answers) ≤ bytes_after s h) (sym (history_more [] events answers event answer same))
+    (bytes_more s (whole_of events answers) event answer)
+
+less_room : {D : Type 0} (first : LiveState D) (events : List Event) (answers : List Reply) (event : Event) (answer : Reply)
+    → length answers ≡ length events → HasRoomFor first (events ++ event ∷ []) (answers ++ answer ∷ []) → HasRoomFor first events answers
+less_room first events answers event answer same room = record {
+  records = omega (arith, room.records, length-append events (event ∷ []));
+  bytes = omega (arith, room.bytes, less_bytes first.state events answers event answer same);
+}
 
 -- where a run has room for one event more, no checkpoint is due
-room_undue : {D : Type 0} (first old : LiveState D) (events : List Event) (event : Event) → HasRoomFor first (events ++ event ∷ [])
-    → (old.file.records ≤ first.file.records + length events) → is_due old.file ≡ false
-room_undue first old events event room few = undue old.file (omega (arith, room, few, length-append events (event ∷ [])))
+room_undue : {D : Type 0} (first old : LiveState D) (events : List Event) (answers : List Reply) (event : Event) (answer : Reply)
+    → length answers ≡ length events → old.is_broken ≡ false → HasRoomFor first (events ++ event ∷ []) (answers ++ answer ∷ [])
+    → IsInFile first old events answers → is_due old.file ≡ false
+room_undue first old events answers event answer same usable room was =
+    let few = was.few usable in
+    let short = was.short usable in
+    let limit : most_bytes old.file.snapshot_len ≡ most_bytes first.file.snapshot_len = ap most_bytes (was.behind usable) in
+    undue old.file (omega (arith, room.records, few, length-append events (event ∷ [])))
+    (omega (arith, room.bytes, short, limit, less_bytes first.state events answers event answer same))
 
 -- an event that changed nothing was refused
 refused_still : {D : Type 0} (honest : D → Type 0) (history : D → List Change) (first old : LiveState D) (events : List Event)
@@ -332,17 +365,20 @@ refused_still honest history first old events answers event e r so_broken was_br
       event = r.event ∙ ap (λ (h : List Entry). first.numbers.event + length h) longer;
       numbers = λ is. r.numbers is ∙ ap (numbers_after first.state first.numbers) longer;
       in_file = λ room.
-          let was = r.in_file (less_room first events event room) in
+          let was = r.in_file (less_room first events answers event (Err e) r.counted room) in
           record {
             other_file = was.other_file;
             same_file = was.same_file;
             few = λ is. (let few = was.few is in omega (arith, few, length-append events (event ∷ [])));
+            short = λ is.
+                (let short = was.short is in omega (arith, short, less_bytes first.state events answers event (Err e) r.counted));
+            behind = was.behind;
           };
       kept = r.kept;
       given_out = λ ha hb usable b x y at_x at_y. whole_kept_refused first.state events answers event e _ r.counted
           (r.given_out ha hb usable b x y at_x at_y);
       any_moment = λ ha hb usable room x y at_x at_y. prefix_refused first.state events answers event e _ r.counted
-          (r.any_moment ha hb usable (less_room first events event room) x y at_x at_y);
+          (r.any_moment ha hb usable (less_room first events answers event (Err e) r.counted room) x y at_x at_y);
       continues_a = r.continues_a;
       continues_b = r.continues_b;
       honest_a = r.honest_a;
@@ -361,6 +397,17 @@ refused {D} honest history first old new events answers event e same r so_broken
     (subst (λ (v : LiveState D). SpendsNumbers first [] first.is_broken first.file v.file (events ++ event ∷ []) (answers ++ Err e ∷ [])) same
     spends))
 
+-- the file goes on by the state that the history has
+file_goes : {D : Type 0} (honest : D → Type 0) (history : D → List Change) (first old new : LiveState D) (events : List Event)
+    (answers : List Reply) (event : Event) (answer : Reply)
+    → IsRunSoFar honest history first old events answers → IsTurnMade honest history old new event answer
+    → FileGoesOn (replayed first.state (whole_of events answers)) event old.file answer new.file
+file_goes honest history first old new events answers event answer r m = elim (broken_or_not old.is_broken) [
+  | inl was ↦ subst (λ (a : Reply). FileGoesOn (replayed first.state (whole_of events answers)) event old.file a new.file)
+      (sym (m.broken was).0) tt
+  | inr usable ↦ subst (λ (s : State). FileGoesOn s event old.file answer new.file) (r.state usable) m.file
+]
+
 -- the numbers of the last event and the last record are those of the history, as long as no disk failed
 spends_now : {D : Type 0} (honest : D → Type 0) (history : D → List Change) (first old new : LiveState D) (events : List Event)
     (answers : List Reply) (event : Event) (answer : Reply)
@@ -371,7 +418,7 @@ spends_now honest history first old new events answers event answer r m =
     (λ fine.
     let usable = r.broken ∙ fine in
     subst (λ (n : Numbers). (answer ≡ Err NumbersSpent) ↔ AreSpent n old.file) (r.numbers usable) (m.numbers_spent usable))
-    m.file
+    (file_goes honest history first old new events answers event answer r m)
 
 -- the state before an event, as the history has it, is that from before or after it
 found_before : {D : Type 0} (first old : LiveState D) (whole : List Entry) (f : Option SavedState) → old.state ≡ replayed first.state whole
@@ -384,45 +431,69 @@ found_after : {D : Type 0} (first old : LiveState D) (whole : List Entry) (event
 found_after first old whole event k f is found =
     found ∙ ap (λ (s : State). let now : Stepped = step s event k in Some now.after.machine.saved) is
 
+-- what an event adds to the file, where no checkpoint is due before it
+record AddsOne {D : Type 0} (first old new : LiveState D) (events : List Event) (answers : List Reply) (event : Event) (answer : Reply)
+    : Type 0 where
+  few : new.file.records ≤ old.file.records + 1
+  short : new.file.bytes + bytes_after first.state (whole_of events answers)
+      ≤ old.file.bytes + bytes_after first.state (whole_of (events ++ event ∷ []) (answers ++ answer ∷ []))
+  behind : new.file.snapshot_len ≡ old.file.snapshot_len
+
 -- a turn more in a run that has room for it
 in_file_on : {D : Type 0} (honest : D → Type 0) (history : D → List Change) (first old new : LiveState D) (events : List Event)
     (answers : List Reply) (event : Event) (answer : Reply)
     → old.is_broken ≡ false → IsRunSoFar honest history first old events answers → IsTurnMade honest history old new event answer
-    → HasRoomFor first (events ++ event ∷ [])
-    → (new.is_broken ≡ false → is_due old.file ≡ false → new.file.records ≤ old.file.records + 1)
-    → IsInFile first new (events ++ event ∷ [])
+    → HasRoomFor first (events ++ event ∷ []) (answers ++ answer ∷ [])
+    → (new.is_broken ≡ false → is_due old.file ≡ false → AddsOne first old new events answers event answer)
+    → IsInFile first new (events ++ event ∷ []) (answers ++ answer ∷ [])
 in_file_on honest history first old new events answers event answer usable r m room one =
-    let was = r.in_file (less_room first events event room) in
+    let was = r.in_file (less_room first events answers event answer r.counted room) in
     let few = was.few usable in
-    let is : is_due old.file ≡ false = room_undue first old events event room few in
+    let short = was.short usable in
+    let is : is_due old.file ≡ false = room_undue first old events answers event answer r.counted usable room was in
     record {
       other_file = other_join first.is_in_b first old new was.other_file
           (subst (λ in_b. IsOtherKept in_b old new) was.same_file (turn_in_file honest history old new event answer m is));
       same_file = m.one_file.same_file is ∙ was.same_file;
-      few = λ fine. (let grown = one fine is in omega (arith, few, grown, length-append events (event ∷ [])));
+      few = λ fine. (let grown = one fine is in omega (arith, few, grown.few, length-append events (event ∷ [])));
+      short = λ fine. (let grown = one fine is in omega (arith, short, grown.short));
+      behind = λ fine. (let grown = one fine is in grown.behind ∙ was.behind usable);
     }
 
 -- an event that was answered adds one record at most, where no checkpoint was due
 answered_few : {D : Type 0} (honest : D → Type 0) (history : D → List Change) (first old new : LiveState D) (events : List Event)
     (answers : List Reply) (event : Event) (t : Answer)
-    → IsRunSoFar honest history first old events answers → IsTurnMade honest history old new event (Ok t)
-    → new.is_broken ≡ false → is_due old.file ≡ false → new.file.records ≤ old.file.records + 1
-answered_few honest history first old new events answers event t r m fine is =
-    let after : new.file ≡ recorded old.file t.receipt.number = m.file ∙ ap (λ (f : FileNumbers). recorded f t.receipt.number) (ready_same old.file is) in
-    let one = recorded_one old.file t.receipt.number in
-    omega (arith, one, ap (λ (f : FileNumbers). f.records) after)
+    → old.is_broken ≡ false → IsRunSoFar honest history first old events answers → IsTurnMade honest history old new event (Ok t)
+    → new.is_broken ≡ false → is_due old.file ≡ false → AddsOne first old new events answers event (Ok t)
+answered_few honest history first old new events answers event t usable r m fine is =
+    let whole : List Entry = whole_of events answers in
+    let now : Stepped = step old.state event t.refused_at in
+    let asked : Stepped = stepped (replayed first.state whole) (entry_of event t) in
+    let after : new.file ≡ recorded old.file now.ops =
+    m.file ∙ ap (λ (f : FileNumbers). recorded f now.ops) (ready_same t.is_overdue old.state.machine.saved old.file is) in
+    let one = recorded_one old.file now.ops in
+    let same : record_bytes now.ops ≡ record_bytes asked.ops =
+    ap (λ (s : State). let made : Stepped = step s event t.refused_at in record_bytes made.ops) (r.state usable) in
+    let longer : bytes_after first.state (whole_of (events ++ event ∷ []) (answers ++ Ok t ∷ []))
+    ≡ bytes_after first.state whole + record_bytes asked.ops =
+    ap (bytes_after first.state) (history_more [] events answers event (Ok t) r.counted) in
+    record {
+      few = omega (arith, one.few, ap (λ (f : FileNumbers). f.records) after);
+      short = omega (arith, one.short, ap (λ (f : FileNumbers). f.bytes) after, same, longer);
+      behind = ap (λ (f : FileNumbers). f.snapshot_len) after ∙ one.behind;
+    }
 
 -- memory was refused behind a checkpoint, or for it
 refused_ready : {D : Type 0} (honest : D → Type 0) (history : D → List Change) (first old new : LiveState D) (events : List Event)
     (answers : List Reply) (event : Event)
-    → old.is_broken ≡ false → IsReady old new → IsRunSoFar honest history first old events answers
+    → old.is_broken ≡ false → IsReady false old new → IsRunSoFar honest history first old events answers
     → IsTurnMade honest history old new event (Err NoMemory)
     → IsRunSoFar honest history first new (events ++ event ∷ []) (answers ++ Err NoMemory ∷ [])
 refused_ready {D} honest history first old new events answers event usable ready r m =
     let longer = sym (history_more [] events answers event (Err NoMemory) r.counted) in
-    let same : HasRoomFor first (events ++ event ∷ []) → new ≡ old = λ room.
-    let was = r.in_file (less_room first events event room) in
-    ready.nothing_due (room_undue first old events event room (was.few usable)) in
+    let same : HasRoomFor first (events ++ event ∷ []) (answers ++ Err NoMemory ∷ []) → new ≡ old = λ room.
+    let was = r.in_file (less_room first events answers event (Err NoMemory) r.counted room) in
+    ready.nothing_made (undue_makes_none false old.file (room_undue first old events answers event (Err NoMemory) r.counted usable room was)) in
     record {
       counted = counts_on events answers event (Err NoMemory) r.counted;
       transcript = transcript_more first [] events answers event (Err NoMemory) r.transcript tt;
@@ -438,17 +509,20 @@ refused_ready {D} honest history first old new events answers event usable ready
           );
       numbers = λ is. ready.numbers ∙ r.numbers usable ∙ ap (numbers_after first.state first.numbers) longer;
       in_file = λ room.
-          let was = r.in_file (less_room first events event room) in
+          let was = r.in_file (less_room first events answers event (Err NoMemory) r.counted room) in
           let few = was.few usable in
-          subst (λ v. IsInFile first v (events ++ event ∷ [])) (sym (same room)) (record {
+          let short = was.short usable in
+          subst (λ v. IsInFile first v (events ++ event ∷ []) (answers ++ Err NoMemory ∷ [])) (sym (same room)) (record {
             other_file = was.other_file;
             same_file = was.same_file;
             few = λ is. omega (arith, few, length-append events (event ∷ []));
+            short = λ is. omega (arith, short, less_bytes first.state events answers event (Err NoMemory) r.counted);
+            behind = was.behind;
           });
       kept = λ ha hb is. m.kept (r.honest_a.0 ha) (r.honest_b.0 hb) is;
       given_out = λ ha hb first_usable b. (let not = ready.usable in absurd cc);
       any_moment = λ ha hb first_usable room x y at_x at_y.
-          let was = r.any_moment ha hb first_usable (less_room first events event room) x y in
+          let was = r.any_moment ha hb first_usable (less_room first events answers event (Err NoMemory) r.counted room) x y in
           prefix_refused first.state events answers event NoMemory (found_state x y) r.counted
           (was (subst (λ (v : LiveState D). LeftSince (history v.a) (length (history first.a)) x) (same room) at_x)
           (subst (λ (v : LiveState D). LeftSince (history v.b) (length (history first.b)) y) (same room) at_y));
@@ -511,7 +585,7 @@ broke {D} honest history first old new events answers event usable r m =
           (history new.a) (history first.b) (history old.b) (history new.b)
           (r.continues_a ha) (m.continues_a (r.honest_a.0 ha)) (r.continues_b hb) (m.continues_b (r.honest_b.0 hb)) one
           (λ still x y at_x at_y. prefix_refused first.state events answers event Broken (found_state x y) r.counted
-          (r.any_moment ha hb first_usable (less_room first events event room) x y at_x at_y))
+          (r.any_moment ha hb first_usable (less_room first events answers event (Err Broken) r.counted room) x y at_x at_y))
           (λ x y at_x at_y. finds_prefix_of_whole first.state (events ++ event ∷ []) (answers ++ Err Broken ∷ []) (found_state x y)
           (finds turn.0 (found_state x y) (turn.2 x y at_x at_y)));
       continues_a = λ ha. continues_join (history first.a) (history old.a) (history new.a) (r.continues_a ha)
@@ -589,18 +663,18 @@ answered {D} honest history first old new events answers event t usable r m =
           ∙ ap (λ (st : Stepped). next_numbers (numbers_after first.state first.numbers whole) st.ops) same
           ∙ ap (numbers_after first.state first.numbers) longer;
       in_file = λ room. in_file_on honest history first old new events answers event (Ok t) usable r m room
-          (answered_few honest history first old new events answers event t r m);
+          (answered_few honest history first old new events answers event t usable r m);
       kept = λ ha hb is. m.kept (r.honest_a.0 ha) (r.honest_b.0 hb) is;
       given_out = λ ha hb first_usable b. (let not = m.usable in absurd cc);
       any_moment = λ ha hb first_usable room.
           let turn = m.any_moment (r.honest_a.0 ha) (r.honest_b.0 hb) usable in
           let one = one_file history first.is_in_b first new (in_file_on honest history first old new events answers event (Ok t) usable r m room
-          (answered_few honest history first old new events answers event t r m)).other_file in
+          (answered_few honest history first old new events answers event t usable r m)).other_file in
           join_pairs (FindsPrefix first.state (events ++ event ∷ []) (answers ++ Ok t ∷ [])) (history first.a) (history old.a)
           (history new.a) (history first.b) (history old.b) (history new.b)
           (r.continues_a ha) (m.continues_a (r.honest_a.0 ha)) (r.continues_b hb) (m.continues_b (r.honest_b.0 hb)) one
           (λ still x y at_x at_y. prefix_answered first.state events answers event t (found_state x y) r.counted (r.unbroken usable).0
-          (r.any_moment ha hb first_usable (less_room first events event room) x y at_x at_y))
+          (r.any_moment ha hb first_usable (less_room first events answers event (Ok t) r.counted room) x y at_x at_y))
           (λ x y at_x at_y. finds turn.0 (found_state x y) turn.1 (turn.2 x y at_x at_y));
       continues_a = λ ha. continues_join (history first.a) (history old.a) (history new.a) (r.continues_a ha)
           (m.continues_a (r.honest_a.0 ha));
@@ -613,10 +687,6 @@ answered {D} honest history first old new events answers event t usable r m =
 not_broken : (was : Bool) → (was ≡ true → ⊥) → was ≡ false
 not_broken true h = absurd (h refl)
 not_broken false h = refl
-
-broken_or_not : (was : Bool) → (was ≡ true) ⊎ (was ≡ false)
-broken_or_not true = inl refl
-broken_or_not false = inr refl
 
 ok_is_no_err : (t : Answer) (r : Reply) → r ≡ Ok t → r ≡ Err Broken → ⊥
 ok_is_no_err t r is is_not = cc

@@ -1,6 +1,6 @@
 -- Two files as a stage is made or opened over them.
 use Rattle.std.proofs.Common.{◌≡◌, inl, inr, ℕ, ◌+◌, ◌-◌, ◌^◌, ◌<◌, ◌≤◌, min, List, [], ◌∷◌, length, length-append, Some, None, Result}
-use Rattle.std.proofs.Common.{Ok, Err, false, refl, sym, ap, ◌∙◌, arith}
+use Rattle.std.proofs.Common.{Ok, Err, false, refl, ap, ◌∙◌, arith}
 use Rattle.std.specs.Prelude.{IsSome, flat_map}
 use Rattle.std.specs.Option.{ok_or}
 use Rattle.std.specs.Result.{result_ok}
@@ -28,7 +28,7 @@ use Rattle.state_codec.proofs.SavedLaws.{snapshot_again}
 use Rattle.live_stage.specs.declared.refusal.StartError.{StartError}
 use Rattle.live_stage.specs.declared.refusal.StartError.TheVariants.{NotEmpty, NoJournal, Damaged, NoMemory, NumbersSpent, Broken}
 use Rattle.live_stage.specs.Decoding.{GivesState}
-use Rattle.live_stage.specs.Numbers.{Numbers, FileNumbers, numbers_found, file_found}
+use Rattle.live_stage.specs.Numbers.{Numbers, numbers_found}
 use Rattle.live_stage.specs.declared.refusal.LiveError.TheVariants as turns
 use Rattle.live_stage.specs.Errors.{IsCause, start_error, checkpoint_error}
 use Rattle.live_stage.specs.Found.{after_record, records_reading, stored_reading, content_reading, state_of, found_state, FindsAsBefore}
@@ -229,12 +229,6 @@ numbers_are content base count is_base is_count small =
     let numbers : ℕ → Numbers = λ last. record { event = 0; last_record = last } in
     let last : min (base + count) (2 ^ 64 - 1) ≡ content.base + length content.records = omega (arith, is_base, is_count, small) in
     ap (λ (n : ℕ). numbers n) last
-
-pub file_is : (content : Content) (count generation : ℕ) → length content.records ≡ count → content.generation ≡ generation
-    → record { generation = generation; records = count } ≡ file_found content
-file_is content count generation is_count is_generation =
-    let numbers : ℕ → ℕ → FileNumbers = λ of_file so_many. record { generation = of_file; records = so_many } in
-    ap (λ (n : ℕ). numbers n count) (sym is_generation) ∙ ap (λ (n : ℕ). numbers content.generation n) (sym is_count)
 
 -- ---- a checkpoint
 

@@ -1,37 +1,153 @@
 -- A turn in two phases: it makes the checkpoint that is due, if one is, and then handles its event. Both write to the same file alone.
-use Rattle.std.proofs.Common.{◌≡◌, ◌⊎◌, inl, inr, ℕ, ◌+◌, ◌<◌, ◌≤◌, Bool, true, false, List, ◌++◌, length, length-append, Option, Some, None}
-use Rattle.std.proofs.Common.{Result, Err, refl, sym, ap, subst, ◌∙◌, arith}
+use Rattle.std.proofs.Common.{◌≡◌, ◌⊎◌, inl, inr, ℕ, ◌+◌, ◌<◌, ◌≤◌, min, Bool, true, false, List, [], ◌∷◌, ◌++◌, length, length-append}
+use Rattle.std.proofs.Common.{Option, Some}
+use Rattle.std.proofs.Common.{Result, Ok, Err, refl, sym, ap, subst, ◌∙◌, arith}
 use Rattle.std.specs.Prelude.{MatchBool}
-use Rattle.std.proofs.lemmas.Bool.{lt-leb}
+use Rattle.std.proofs.lemmas.Bool.{lt-leb, le-ltb, leb-false, ltb-false, or_from, or_parts, and_left, and_right}
 use Rattle.std.proofs.lemmas.List.{nil_from_length}
 use Rattle.disk_model.specs.History.{Change}
 use Rattle.disk_model.specs.Moments.{LeftSince, Continues}
 use Rattle.disk_model.proofs.MomentLaws.{now_only, left_split}
+use Rattle.play_journal.specs.Calls.{IsNextGeneration, AreItsNumbers, StaysInFile as StaysInItsFile}
 use Rattle.play_journal.specs.Content.{Content, IsOldOrNew}
+use Rattle.play_journal.specs.File.{longest_body}
+use Rattle.play_journal.specs.JournalState.{JournalState}
 use Rattle.play_journal.specs.Pair.{AllPairsNow, AllPairsSince}
+use Rattle.state_codec.specs.declared.op.Op.{Op}
 use Rattle.state_codec.specs.SavedState.{SavedState}
+use Rattle.state_codec.specs.Spelling.{ops_bytes}
 use Rattle.daemon_core.specs.declared.event.Event.{Event}
 use Rattle.daemon_core.specs.State.{State}
+use Rattle.daemon_core.specs.Step.{Stepped, step}
 use Rattle.live_stage.specs.declared.refusal.LiveError.{LiveError}
-use Rattle.live_stage.specs.Answer.{IsBeforeOrAfter}
+use Rattle.live_stage.specs.Answer.{Answer, IsBeforeOrAfter, IsHandled, IsTurn, IsTurnOf, HasNoOps}
 use Rattle.live_stage.specs.Found.{AllFindNow, AllFindSince}
 use Rattle.live_stage.specs.LiveState.{LiveState}
-use Rattle.live_stage.specs.Numbers.{FileNumbers, is_due, most_records, ready_file, recorded}
-use Rattle.live_stage.specs.Turns.{IsStill, StaysInFile, MakesNoCall}
+use Rattle.live_stage.specs.Numbers.{Numbers, FileNumbers, is_due, makes_checkpoint, most_records, most_bytes, longest_record, next_file}
+use Rattle.live_stage.specs.Numbers.{greatest, ready_file, record_bytes, recorded, file_found, snapshot_size}
+use Rattle.live_stage.specs.Turns.{IsReady, IsStill, IsStored, IsWritten, StaysInFile, MakesNoCall, WritesAlone, WritesOneFile}
+use Rattle.live_stage.specs.Turns.{ready_content, recorded_content, writes_to_b}
+use Rattle.live_stage.specs.Writing.{file_of}
 
 -- ---- what is due
 
--- below the limit nothing is
-pub undue : (file : FileNumbers) → file.records < most_records → is_due file ≡ false
-undue file few = lt-leb most_records file.records few
+-- below the limits nothing is
+pub undue : (file : FileNumbers) → file.records < most_records → file.bytes ≤ most_bytes file.snapshot_len → is_due file ≡ false
+undue file few short =
+    or_from _ _ (lt-leb most_records file.records few) (le-ltb (most_bytes file.snapshot_len) file.bytes short)
 
--- an event adds one record at most
-pub recorded_one : (file : FileNumbers) (number : Option ℕ) → (let after : FileNumbers = recorded file number in after.records ≤ file.records + 1)
-recorded_one file None = omega arith
-recorded_one file (Some number) = omega arith
+-- a file at which no checkpoint is due keeps to the limits
+pub record KeepsTo (file : FileNumbers) : Type 0 where
+  pub few : file.records < most_records
+  pub short : file.bytes ≤ most_bytes file.snapshot_len
 
-pub ready_same : (file : FileNumbers) → is_due file ≡ false → ready_file file ≡ file
-ready_same file is = rw is refl
+keeps_to : (file : FileNumbers) → is_due file ≡ false → KeepsTo file
+keeps_to file is =
+    let both = or_parts _ _ is in
+    record {
+      few = leb-false most_records file.records both.0;
+      short = ltb-false (most_bytes file.snapshot_len) file.bytes both.1;
+    }
+
+-- where none is due, and where it is overdue, none is made
+pub undue_makes_none : (is_overdue : Bool) (file : FileNumbers) → is_due file ≡ false → makes_checkpoint is_overdue file ≡ false
+undue_makes_none is_overdue file is = and_left _ _ is
+
+pub overdue_makes_none : (file : FileNumbers) → makes_checkpoint true file ≡ false
+overdue_makes_none file = and_right _ _ refl
+
+pub ready_same : (is_overdue : Bool) (s : SavedState) (file : FileNumbers) → is_due file ≡ false → ready_file is_overdue s file ≡ file
+ready_same is_overdue s file is = rw is refl
+
+-- ---- records
+
+-- a file with the record of these ops, if there are any
+pub record IsOneMore (before after : FileNumbers) (ops : List Op) : Type 0 where
+  pub few : after.records ≤ before.records + 1
+  pub short : after.bytes ≤ before.bytes + record_bytes ops
+  pub behind : after.snapshot_len ≡ before.snapshot_len
+
+pub recorded_one : (file : FileNumbers) (ops : List Op) → IsOneMore file (recorded file ops) ops
+recorded_one file [] = record { few = omega arith; short = omega arith; behind = refl }
+recorded_one file (op ∷ ops) = record { few = omega arith; short = omega arith; behind = refl }
+
+pub record_short : (ops : List Op) → length (ops_bytes ops) ≤ longest_body → record_bytes ops ≤ longest_record
+record_short [] short = omega arith
+record_short (op ∷ ops) short = omega (arith, short)
+
+-- the file of a journal behind a record
+pub file_recorded : {D : Type 0} (old new : JournalState D) (ops : List Op) → (ops ≡ [] → ⊥) → StaysInItsFile old new
+    → new.count ≡ old.count + 1 → new.bytes ≡ min (old.bytes + (5 + length (ops_bytes ops))) greatest
+    → file_of new ≡ recorded (file_of old) ops
+file_recorded old new [] some stays count bytes = absurd (some refl)
+file_recorded old new (op ∷ ops) some stays count bytes =
+    let numbers : ℕ → ℕ → ℕ → ℕ → FileNumbers = λ generation snapshot_len records bytes. record {
+      generation = generation;
+      snapshot_len = snapshot_len;
+      records = records;
+      bytes = bytes;
+    } in
+    ap (λ (n : ℕ). numbers n new.snapshot_len new.count new.bytes) stays.generation
+    ∙ ap (λ (n : ℕ). numbers old.generation n new.count new.bytes) stays.snapshot_len
+    ∙ ap (λ (n : ℕ). numbers old.generation old.snapshot_len n new.bytes) count
+    ∙ ap (λ (n : ℕ). numbers old.generation old.snapshot_len (old.count + 1) n) bytes
+
+pub file_kept : {D : Type 0} (old new : JournalState D) (ops : List Op) → ops ≡ [] → new ≡ old → file_of new ≡ recorded (file_of old) ops
+file_kept {D} old new ops none same = ap (λ (j : JournalState D). file_of j) same ∙ ap (λ (o : List Op). recorded (file_of old) o) (sym none)
+
+-- the file that a checkpoint lays down
+pub file_laid : {D : Type 0} (old new : JournalState D) (s : SavedState) → IsNextGeneration old new (snapshot_size s)
+    → file_of new ≡ next_file s (file_of old)
+file_laid old new s is =
+    let numbers : ℕ → ℕ → ℕ → ℕ → FileNumbers = λ generation snapshot_len records bytes. record {
+      generation = generation;
+      snapshot_len = snapshot_len;
+      records = records;
+      bytes = bytes;
+    } in
+    ap (λ (n : ℕ). numbers n new.snapshot_len new.count new.bytes) is.generation
+    ∙ ap (λ (n : ℕ). numbers (old.generation + 1) n new.count new.bytes) is.snapshot_len
+    ∙ ap (λ (n : ℕ). numbers (old.generation + 1) (snapshot_size s) n new.bytes) is.count
+    ∙ ap (λ (n : ℕ). numbers (old.generation + 1) (snapshot_size s) 0 n) is.bytes
+
+-- the file that a journal's content says
+pub file_is : {D : Type 0} (journal : JournalState D) → AreItsNumbers journal → file_of journal ≡ file_found journal.content
+file_is journal is =
+    let content = journal.content in
+    let numbers : ℕ → ℕ → ℕ → ℕ → FileNumbers = λ generation snapshot_len records bytes. record {
+      generation = generation;
+      snapshot_len = snapshot_len;
+      records = records;
+      bytes = bytes;
+    } in
+    ap (λ (n : ℕ). numbers n journal.snapshot_len journal.count journal.bytes) (sym is.generation)
+    ∙ ap (λ (n : ℕ). numbers content.generation n journal.count journal.bytes) (sym is.measured.snapshot)
+    ∙ ap (λ (n : ℕ). numbers content.generation (length content.snapshot) n journal.bytes) (sym is.count)
+    ∙ ap (λ (n : ℕ). numbers content.generation (length content.snapshot) (length content.records) n) (sym is.measured.records)
+
+-- behind a turn that made the checkpoint that was due, if one was
+pub record IsBounded (file : FileNumbers) : Type 0 where
+  pub few : file.records ≤ most_records
+  pub short : file.bytes ≤ most_bytes file.snapshot_len + longest_record
+
+pub bounded : (b : Bool) (s : SavedState) (file after : FileNumbers) (ops : List Op) → is_due file ≡ b
+    → after ≡ recorded (ready_file false s file) ops → record_bytes ops ≤ longest_record → IsBounded after
+bounded true s file after ops is made small =
+    let ready : ready_file false s file ≡ next_file s file = rw is refl in
+    let is_after : after ≡ recorded (next_file s file) ops = made ∙ ap (λ (f : FileNumbers). recorded f ops) ready in
+    let one = recorded_one (next_file s file) ops in
+    subst IsBounded (sym is_after) (record {
+      few = omega (arith, one.few);
+      short = omega (arith, one.short, small);
+    })
+bounded false s file after ops is made small =
+    let is_after : after ≡ recorded file ops = made ∙ ap (λ (f : FileNumbers). recorded f ops) (ready_same false s file is) in
+    let one = recorded_one file ops in
+    let kept = keeps_to file is in
+    subst IsBounded (sym is_after) (record {
+      few = omega (arith, one.few, kept.few);
+      short = omega (arith, one.short, small, kept.short, ap most_bytes one.behind);
+    })
 
 -- ---- one file
 
@@ -152,3 +268,100 @@ still_usable old new usable (inr ready) = ready.usable
 
 pub error_is : {T : Type 0} (e f : LiveError) → (let r : Result T LiveError = Err e in r ≡ Err f) → e ≡ f
 error_is e f is = cc
+
+-- ---- a turn, of its two phases
+
+-- what the files say behind an answer
+written_by : {D : Type 0} (history : D → List Change) (is_overdue said : Bool) (old ready new : LiveState D) (ops : List Op)
+    → said ≡ is_overdue → ready.content ≡ ready_content is_overdue old → new.content ≡ recorded_content ready.content ops
+    → new.file ≡ recorded (ready_file said old.state.machine.saved old.file) ops → record_bytes ops ≤ longest_record
+    → IsStored history new → IsWritten history said old new ops
+written_by history is_overdue said old ready new ops same first more file small stored =
+    let bounds : said ≡ false → IsBounded new.file = λ made.
+    bounded (is_due old.file) old.state.machine.saved old.file new.file ops refl
+    (file ∙ ap (λ (b : Bool). recorded (ready_file b old.state.machine.saved old.file) ops) made) small in
+    record {
+      says = more ∙ ap (λ (k : Content). recorded_content k ops) first
+          ∙ ap (λ (b : Bool). recorded_content (ready_content b old) ops) (sym same);
+      stored = stored;
+      few = λ made. subst (λ (f : FileNumbers). f.records ≤ most_records) stored.file (bounds made).few;
+      short = λ made.
+          subst (λ (f : FileNumbers). f.bytes ≤ most_bytes f.snapshot_len + longest_record) stored.file (bounds made).short;
+    }
+
+module _ {D : Type 0} (old ready new : LiveState D) (is_overdue : Bool) (event : Event) (got : IsReady is_overdue old ready) where
+  pub turn_made : (t : Answer) → t.is_overdue ≡ is_overdue → IsHandled ready event t new → IsTurn old event t new
+  turn_made t said made =
+      let asked : State → Stepped = λ (s : State). step s event t.refused_at in
+      let file : ready.file ≡ ready_file t.is_overdue old.state.machine.saved old.file =
+      got.file ∙ ap (λ (b : Bool). ready_file b old.state.machine.saved old.file) (sym said) in
+      subst (λ (s : State). IsTurnOf (asked s) old.numbers (ready_file t.is_overdue old.state.machine.saved old.file) t new) got.state
+      (subst (λ (n : Numbers). IsTurnOf (asked ready.state) n (ready_file t.is_overdue old.state.machine.saved old.file) t new) got.numbers
+      (subst (λ (f : FileNumbers). IsTurnOf (asked ready.state) ready.numbers f t new) file made))
+
+  pub written : (history : D → List Change) (t : Answer) → t.is_overdue ≡ is_overdue → IsHandled ready event t new
+      → ready.content ≡ ready_content is_overdue old
+      → (let now : Stepped = step ready.state event t.refused_at in new.content ≡ recorded_content ready.content now.ops)
+      → (let now : Stepped = step ready.state event t.refused_at in record_bytes now.ops ≤ longest_record)
+      → IsStored history new → (let now : Stepped = step old.state event t.refused_at in IsWritten history t.is_overdue old new now.ops)
+  written history t said made first more small stored =
+      let asked : State → List Op = λ (s : State). (let now : Stepped = step s event t.refused_at in now.ops) in
+      let same : asked ready.state ≡ asked old.state = ap asked got.state in
+      written_by history is_overdue t.is_overdue old ready new (asked old.state) said first
+      (more ∙ ap (λ (ops : List Op). recorded_content ready.content ops) same) (turn_made t said made).file
+      (subst (λ (ops : List Op). record_bytes ops ≤ longest_record) same small) stored
+
+  pub none_called : (t : Answer) → t.is_overdue ≡ is_overdue → (HasNoOps ready event t → MakesNoCall ready new)
+      → makes_checkpoint t.is_overdue old.file ≡ false → HasNoOps old event t → MakesNoCall old new
+  none_called t said none made no_ops =
+      let same : ready ≡ old = got.nothing_made (ap (λ (b : Bool). makes_checkpoint b old.file) (sym said) ∙ made) in
+      subst (λ (v : LiveState D). MakesNoCall v new) same (none (subst (λ (v : LiveState D). HasNoOps v event t) (sym same) no_ops))
+
+  pub one_file_written : (t : Answer) → t.is_overdue ≡ is_overdue → WritesAlone is_overdue old ready → StaysInFile ready new
+      → WritesOneFile old new (Ok t)
+  one_file_written t said first stays = record {
+    in_use = stays.same_file ∙ got.in_b ∙ ap (λ (b : Bool). writes_to_b b old) (sym said);
+    same_file = λ is. stays.same_file ∙ ap (λ (v : LiveState D). v.is_in_b) (got.nothing_made (undue_makes_none is_overdue old.file is));
+    other_file = (
+      is_overdue,
+      said,
+      other_join (writes_to_b is_overdue old) old ready new first
+          (subst (λ (in_b : Bool). IsOtherKept in_b ready new) got.in_b stays.other_file),
+    );
+    was_due = λ over. got.was_due (sym said ∙ over);
+  }
+
+  pub one_file_refused : (e : LiveError) → WritesAlone is_overdue old ready → StaysInFile ready new → WritesOneFile old new (Err e)
+  one_file_refused e first stays = record {
+    in_use = tt;
+    same_file = λ is. stays.same_file ∙ ap (λ (v : LiveState D). v.is_in_b) (got.nothing_made (undue_makes_none is_overdue old.file is));
+    other_file = (
+      is_overdue,
+      tt,
+      other_join (writes_to_b is_overdue old) old ready new first
+          (subst (λ (in_b : Bool). IsOtherKept in_b ready new) got.in_b stays.other_file),
+    );
+    was_due = tt;
+  }
+
+pub one_file_still : {D : Type 0} (v : LiveState D) (e : LiveError) → WritesOneFile v v (Err e)
+one_file_still v e = record {
+  in_use = tt;
+  same_file = λ is. refl;
+  other_file = (false, tt, other_same (writes_to_b false v) v);
+  was_due = tt;
+}
+
+-- the checkpoint that was due met a fault
+pub one_file_failed : {D : Type 0} (old new : LiveState D) (e : LiveError) → (is_due old.file ≡ false → ⊥) → WritesAlone false old new
+    → WritesOneFile old new (Err e)
+one_file_failed old new e due first = record {
+  in_use = tt;
+  same_file = λ is. absurd (due is);
+  other_file = (false, tt, first);
+  was_due = tt;
+}
+
+pub still_on : {D : Type 0} (is_overdue : Bool) (old ready new : LiveState D) → IsReady is_overdue old ready → new ≡ ready → IsStill old new
+still_on true old ready new got same = inl (same ∙ got.nothing_made (overdue_makes_none old.file))
+still_on {D} false old ready new got same = inr (subst (λ (v : LiveState D). IsReady false old v) (sym same) got)

@@ -1,18 +1,24 @@
 -- The numbers by which a stage counts, and which can be spent.
-use Rattle.std.specs.Prelude.{◌≡◌, ◌⊎◌, ℕ, ◌+◌, ◌-◌, ◌^◌, Bool, true, List, [], ◌∷◌, length, Option, Some, None, nat_le}
-use Rattle.std.specs.Prelude.{if◌then◌else◌}
+use Rattle.std.specs.Prelude.{◌≡◌, ◌⊎◌, ℕ, ◌+◌, ◌-◌, ◌^◌, min, max, Bool, true, not, ◌&&◌, ◌||◌, List, [], ◌∷◌, length}
+use Rattle.std.specs.Prelude.{Option, Some, None, nat_le, nat_lt, if◌then◌else◌}
 use Rattle.state_codec.specs.declared.op.Op.{Op}
+use Rattle.state_codec.specs.SavedState.{SavedState}
+use Rattle.state_codec.specs.Spelling.{ops_bytes, saved_bytes}
 use Rattle.play_journal.specs.Content.{Content, last_record}
+use Rattle.play_journal.specs.File.{longest_body, records_len}
 
 -- How many events there were since the stage was made or opened, and the number of the last record in file and snapshot.
 pub record Numbers : Type 0 where
   pub event : ℕ
   pub last_record : ℕ
 
--- The generation of the file to which records go, and how many records stand behind its snapshot.
+-- The generation of the file to which records go, the length of its snapshot, how many records stand behind that, and how many bytes
+-- they take.
 pub record FileNumbers : Type 0 where
   pub generation : ℕ
+  pub snapshot_len : ℕ
   pub records : ℕ
+  pub bytes : ℕ
 
 -- no number is greater
 abbrev pub greatest : ℕ
@@ -22,15 +28,25 @@ greatest = 2 ^ 64 - 1
 abbrev pub first_numbers : Numbers
 first_numbers = record { event = 0; last_record = 0 }
 
-abbrev pub first_file : FileNumbers
-first_file = record { generation = 1; records = 0 }
+-- the length of a state's snapshot
+abbrev pub snapshot_size : SavedState → ℕ
+snapshot_size s = length (saved_bytes s)
+
+abbrev pub first_file : SavedState → FileNumbers
+first_file s = record { generation = 1; snapshot_len = snapshot_size s; records = 0; bytes = 0 }
 
 -- those of a stage that was just opened over files that give this
 abbrev pub numbers_found : Content → Numbers
 numbers_found content = record { event = 0; last_record = last_record content }
 
 abbrev pub file_found : Content → FileNumbers
-file_found content = record { generation = content.generation; records = length content.records }
+file_found content =
+    record {
+      generation = content.generation;
+      snapshot_len = length content.snapshot;
+      records = length content.records;
+      bytes = records_len content.records;
+    }
 
 -- The numbers after an event with these ops: it is counted, and so is its record, where its ops make one.
 abbrev pub next_numbers : Numbers → List Op → Numbers
@@ -42,26 +58,44 @@ abbrev pub record_number : ℕ → List Op → Option ℕ
 record_number last [] = None
 record_number last (op ∷ ops) = Some (last + 1)
 
--- so many records stand behind a snapshot at most
+-- where so many records stand behind a snapshot, a checkpoint is due
 abbrev pub most_records : ℕ
 most_records = 4096
 
--- whether the next turn makes a checkpoint first
+-- and where more than so many bytes of records do: 4 MiB, or as many as a longer snapshot has
+abbrev pub most_bytes : ℕ → ℕ
+most_bytes snapshot_len = max 4194304 snapshot_len
+
+-- how many bytes a record takes at most, with its gate and its length
+abbrev pub longest_record : ℕ
+longest_record = 5 + longest_body
+
+-- whether the next turn makes a checkpoint first, if it finds memory
 abbrev pub is_due : FileNumbers → Bool
-is_due file = nat_le most_records file.records
+is_due file = nat_le most_records file.records || nat_lt (most_bytes file.snapshot_len) file.bytes
 
--- those of the file that a checkpoint lays down
-abbrev pub next_file : FileNumbers → FileNumbers
-next_file file = record { generation = file.generation + 1; records = 0 }
+-- whether a turn makes a checkpoint first: one is due, and isn't overdue for want of memory
+abbrev pub makes_checkpoint : Bool → FileNumbers → Bool
+makes_checkpoint is_overdue file = is_due file && not is_overdue
 
--- those of the file to which a turn's record goes
-abbrev pub ready_file : FileNumbers → FileNumbers
-ready_file file = if is_due file then next_file file else file
+-- those of the file that a checkpoint of this state lays down
+abbrev pub next_file : SavedState → FileNumbers → FileNumbers
+next_file s file = record { generation = file.generation + 1; snapshot_len = snapshot_size s; records = 0; bytes = 0 }
 
--- with one record more, where there is one of this number
-abbrev pub recorded : FileNumbers → Option ℕ → FileNumbers
-recorded file None = file
-recorded file (Some number) = record { generation = file.generation; records = file.records + 1 }
+-- those of the file to which a turn's record goes, before which the state is this
+abbrev pub ready_file : Bool → SavedState → FileNumbers → FileNumbers
+ready_file is_overdue s file = if makes_checkpoint is_overdue file then next_file s file else file
+
+-- how many bytes the record of these ops takes, if there are any: its gate, its length and its body
+abbrev pub record_bytes : List Op → ℕ
+record_bytes [] = 0
+record_bytes (op ∷ ops) = 5 + length (ops_bytes (op ∷ ops))
+
+-- with the record of these ops, if there are any; bytes are counted up to the greatest number, which no honest disk comes to
+abbrev pub recorded : FileNumbers → List Op → FileNumbers
+recorded file [] = file
+recorded file (op ∷ ops) =
+    record file { records = file.records + 1; bytes = min (file.bytes + record_bytes (op ∷ ops)) greatest }
 
 -- the last event or the last record has the greatest number
 abbrev pub AreCountsSpent : Numbers → Type 0

@@ -1,16 +1,17 @@
 -- A run over many events.
-use Rattle.std.specs.Prelude.{◌≡◌, ◌⊎◌, ◌↔◌, ℕ, ◌+◌, List, [], ◌∷◌, ◌++◌, length, Bool, true, false, Option, Some, None, Result}
+use Rattle.std.specs.Prelude.{◌≡◌, ◌⊎◌, ◌↔◌, ◌≤◌, ℕ, ◌+◌, List, [], ◌∷◌, ◌++◌, length, Bool, true, false, Option, Some, None, Result}
 use Rattle.std.specs.Prelude.{Ok, Err}
 use Rattle.daemon_core.specs.declared.event.Event.{Event}
 use Rattle.state_codec.specs.SavedState.{SavedState}
 use Rattle.daemon_core.specs.State.{State}
-use Rattle.daemon_core.specs.Step.{Stepped}
+use Rattle.daemon_core.specs.Step.{Stepped, step}
 use Rattle.daemon_core.specs.Replay.{Entry, stepped, reply, replay}
 use Rattle.live_stage.specs.declared.refusal.LiveError.{LiveError}
 use Rattle.live_stage.specs.declared.refusal.LiveError.TheVariants.{Broken, NoMemory, NumbersSpent}
 use Rattle.live_stage.specs.Answer.{Answer, IsNumbered}
 use Rattle.live_stage.specs.LiveState.{LiveState}
-use Rattle.live_stage.specs.Numbers.{Numbers, FileNumbers, next_numbers, ready_file, recorded, AreSpent}
+use Rattle.live_stage.specs.Numbers.{Numbers, FileNumbers, next_numbers, ready_file, recorded, record_bytes, most_bytes, most_records}
+use Rattle.live_stage.specs.Numbers.{AreSpent}
 
 -- an event in the history, with the refused place that its answer names
 abbrev pub entry_of : Event → Answer → Entry
@@ -34,6 +35,11 @@ abbrev pub numbers_after : State → Numbers → List Entry → Numbers
 numbers_after s first [] = first
 numbers_after s first (entry ∷ earlier) =
     let now = stepped (replayed s earlier) entry in next_numbers (numbers_after s first earlier) now.ops
+
+-- how many bytes the records take of a history that began with this state
+abbrev pub bytes_after : State → List Entry → ℕ
+bytes_after s [] = 0
+bytes_after s (entry ∷ earlier) = bytes_after s earlier + (let now = stepped (replayed s earlier) entry in record_bytes now.ops)
 
 -- an answer is that of a step, where the run began so and this history of it went before
 pub record IsStepOf {D : Type 0} (first : LiveState D) (earlier : List Entry) (st : Stepped) (t : Answer) : Type 0 where
@@ -74,13 +80,14 @@ abbrev pub broken_after : Bool → List (Result Answer LiveError) → Bool
 broken_after was [] = was
 broken_after was (answer ∷ answers) = broken_after (broken_by was answer) answers
 
--- How the numbers of the file go on by an answer. Where memory was refused, the checkpoint that was due may stand or not; after a disk
--- fault nothing is said.
-abbrev pub FileGoesOn : FileNumbers → Result Answer LiveError → FileNumbers → Type 0
-FileGoesOn file (Ok t) next = next ≡ recorded (ready_file file) t.receipt.number
-FileGoesOn file (Err Broken) next = Unit {0}
-FileGoesOn file (Err NoMemory) next = (next ≡ file) ⊎ (next ≡ ready_file file)
-FileGoesOn file (Err NumbersSpent) next = next ≡ file
+-- How the numbers of the file go on by the answer to an event, before which the state was this. Where memory was refused, the checkpoint
+-- that was due may stand or not; after a disk fault nothing is said.
+abbrev pub FileGoesOn : State → Event → FileNumbers → Result Answer LiveError → FileNumbers → Type 0
+FileGoesOn s event file (Ok t) next =
+    let now = step s event t.refused_at in next ≡ recorded (ready_file t.is_overdue s.machine.saved file) now.ops
+FileGoesOn s event file (Err Broken) next = Unit {0}
+FileGoesOn s event file (Err NoMemory) next = (next ≡ file) ⊎ (next ≡ ready_file false s.machine.saved file)
+FileGoesOn s event file (Err NumbersSpent) next = next ≡ file
 
 -- the numbers are spent, where the run began so, this history of it went before, and the file has these
 abbrev pub AreNumbersSpent : {D : Type 0} → LiveState D → List Entry → FileNumbers → Type 0
@@ -94,8 +101,13 @@ SpendsNumbers first earlier was file last [] answers = last ≡ file
 SpendsNumbers first earlier was file last (event ∷ events) [] = last ≡ file
 SpendsNumbers first earlier was file last (event ∷ events) (answer ∷ answers) =
     (was ≡ false → ((answer ≡ Err NumbersSpent) ↔ AreNumbersSpent first earlier file))
-    × ((next : FileNumbers) × FileGoesOn file answer next
+    × ((next : FileNumbers) × FileGoesOn (replayed first.state earlier) event file answer next
     × SpendsNumbers first (history_of earlier (event ∷ []) (answer ∷ [])) (broken_by was answer) next last events answers)
+
+-- The records of these answers keep to the bounds of the file that is in use, so no checkpoint is due before any of the events.
+pub record HasRoomFor {D : Type 0} (first : LiveState D) (events : List Event) (answers : List (Result Answer LiveError)) : Type 0 where
+  pub records : first.file.records + length events ≤ most_records
+  pub bytes : first.file.bytes + bytes_after first.state (history_of [] events answers) ≤ most_bytes first.file.snapshot_len
 
 -- from the first disk fault on, or from the start where the stage was broken, each answer is `Broken`
 abbrev pub StaysBroken : Bool → List (Result Answer LiveError) → Type 0

@@ -1,10 +1,11 @@
 -- How a stage goes on from one call to the next.
 use Rattle.std.specs.Prelude.{◌≡◌, ◌≢◌, ◌⊎◌, ◌↔◌, ◌≤◌, true, false, not, Bool, ℕ, ◌+◌, ◌==◌, List, [], ◌∷◌, length, Some, Result, Err}
-use Rattle.std.specs.Prelude.{OnOk, OnErr, IfErr, MatchBool, if◌then◌else◌}
+use Rattle.std.specs.Prelude.{IfOk, OnOk, OnErr, IfErr, MatchBool, if◌then◌else◌}
 use Rattle.disk_model.specs.History.{Change}
 use Rattle.disk_model.specs.Later.{HasFailed}
 use Rattle.play_journal.specs.Calls.{SameFaults}
 use Rattle.play_journal.specs.Content.{Content, last_record, present_layout, with_record, with_snapshot, IsOldOrNew}
+use Rattle.play_journal.specs.File.{records_len}
 use Rattle.play_journal.specs.JournalState.{JournalState}
 use Rattle.play_journal.specs.Pair.{AllPairsNow, AllPairsSince}
 use Rattle.state_codec.specs.declared.op.Op.{Op}
@@ -13,9 +14,11 @@ use Rattle.state_codec.specs.Spelling.{ops_bytes, saved_bytes}
 use Rattle.daemon_core.specs.State.{start}
 use Rattle.live_stage.specs.declared.refusal.LiveError.{LiveError}
 use Rattle.live_stage.specs.declared.refusal.LiveError.TheVariants.{Broken, NoMemory, NumbersSpent}
+use Rattle.live_stage.specs.Answer.{Answer}
 use Rattle.live_stage.specs.Found.{state_of}
 use Rattle.live_stage.specs.LiveState.{LiveState}
-use Rattle.live_stage.specs.Numbers.{AreSpent, greatest, is_due, most_records, next_file, ready_file, file_found, numbers_found}
+use Rattle.live_stage.specs.Numbers.{AreSpent, greatest, is_due, makes_checkpoint, most_records, most_bytes, longest_record, next_file}
+use Rattle.live_stage.specs.Numbers.{ready_file, file_found, numbers_found}
 
 -- a stage that begins with what was kept, and had no event yet
 pub record IsBegun {D : Type 0} (kept : SavedState) (live : LiveState D) : Type 0 where
@@ -57,7 +60,7 @@ snapshot_of live = saved_bytes live.state.machine.saved
 pub record IsCheckpointed {D : Type 0} (old new : LiveState D) : Type 0 where
   pub state : new.state ≡ old.state
   pub numbers : new.numbers ≡ old.numbers
-  pub file : new.file ≡ next_file old.file
+  pub file : new.file ≡ next_file old.state.machine.saved old.file
   pub other_file : new.is_in_b ≡ not old.is_in_b
   pub usable : new.is_broken ≡ false
 
@@ -94,42 +97,50 @@ pub record RefusesCheckpoint {D T : Type 0} (old new : LiveState D) (result : Re
 
 -- ---- turns
 
--- whether a turn writes to file b: it is in use, or the other one is and a checkpoint is due
-abbrev pub writes_to_b : {D : Type 0} → LiveState D → Bool
-writes_to_b live = if is_due live.file then not live.is_in_b else live.is_in_b
+-- whether a turn writes to file b: it is in use, or the other one is and a checkpoint is made
+abbrev pub writes_to_b : {D : Type 0} → Bool → LiveState D → Bool
+writes_to_b is_overdue live = if makes_checkpoint is_overdue live.file then not live.is_in_b else live.is_in_b
 
 -- what the files say when a turn's record is written
-abbrev pub ready_content : {D : Type 0} → LiveState D → Content
-ready_content live = if is_due live.file then with_snapshot live.content (snapshot_of live) else live.content
+abbrev pub ready_content : {D : Type 0} → Bool → LiveState D → Content
+ready_content is_overdue live =
+    if makes_checkpoint is_overdue live.file then with_snapshot live.content (snapshot_of live) else live.content
 
 -- the same with the record of these ops, if there are any
 abbrev pub recorded_content : Content → List Op → Content
 recorded_content content [] = content
 recorded_content content (op ∷ ops) = with_record content (ops_bytes (op ∷ ops))
 
--- What a turn does before it handles its event: it makes the checkpoint that is due, if one is.
-pub record IsReady {D : Type 0} (old ready : LiveState D) : Type 0 where
+-- What a turn does before it handles its event: it makes the checkpoint that is due, if one is; where that finds no memory, nothing is
+-- done, and it is overdue.
+pub record IsReady {D : Type 0} (is_overdue : Bool) (old ready : LiveState D) : Type 0 where
   pub state : ready.state ≡ old.state
   pub numbers : ready.numbers ≡ old.numbers
-  pub file : ready.file ≡ ready_file old.file
-  pub in_b : ready.is_in_b ≡ writes_to_b old
+  pub file : ready.file ≡ ready_file is_overdue old.state.machine.saved old.file
+  pub in_b : ready.is_in_b ≡ writes_to_b is_overdue old
   pub usable : ready.is_broken ≡ false
-  pub nothing_due : is_due old.file ≡ false → ready ≡ old
+  pub nothing_made : makes_checkpoint is_overdue old.file ≡ false → ready ≡ old
+  pub was_due : is_overdue ≡ true → is_due old.file ≡ true
 
 -- nothing was done, or the checkpoint that was due
 abbrev pub IsStill : {D : Type 0} → LiveState D → LiveState D → Type 0
-IsStill old new = (new ≡ old) ⊎ IsReady old new
+IsStill old new = (new ≡ old) ⊎ IsReady false old new
 
 -- records go to the same file as before, and the other file isn't touched
 pub record StaysInFile {D : Type 0} (old new : LiveState D) : Type 0 where
   pub same_file : new.is_in_b ≡ old.is_in_b
   pub other_file : MatchBool old.is_in_b (new.a ≡ old.a) (new.b ≡ old.b)
 
--- A turn writes to one file alone, to which records go once it has answered.
-pub record WritesOneFile {D T : Type 0} (old new : LiveState D) (result : Result T LiveError) : Type 0 where
-  pub in_use : OnOk result (new.is_in_b ≡ writes_to_b old)
+-- a turn, or what it does before its event, writes to one file alone, by whether its checkpoint is overdue
+abbrev pub WritesAlone : {D : Type 0} → Bool → LiveState D → LiveState D → Type 0
+WritesAlone is_overdue old new = MatchBool (writes_to_b is_overdue old) (new.a ≡ old.a) (new.b ≡ old.b)
+
+-- A turn writes to one file alone, to which records go once it has answered. Its checkpoint is overdue only where one was due.
+pub record WritesOneFile {D : Type 0} (old new : LiveState D) (result : Result Answer LiveError) : Type 0 where
+  pub in_use : IfOk result (λ t. new.is_in_b ≡ writes_to_b t.is_overdue old)
   pub same_file : is_due old.file ≡ false → new.is_in_b ≡ old.is_in_b
-  pub other_file : MatchBool (writes_to_b old) (new.a ≡ old.a) (new.b ≡ old.b)
+  pub other_file : (is_overdue : Bool) × IfOk result (λ t. t.is_overdue ≡ is_overdue) × WritesAlone is_overdue old new
+  pub was_due : IfOk result (λ t. t.is_overdue ≡ true → is_due old.file ≡ true)
 
 -- `Broken` is told only where one of the two disks has failed, or the stage was broken, and any other answer only where neither has.
 pub record TellsFaults {D T : Type 0} (honest : D → Type 0) (faults : D → ℕ) (old new : LiveState D) (result : Result T LiveError)
@@ -142,12 +153,13 @@ pub record MakesNoCall {D : Type 0} (old new : LiveState D) : Type 0 where
   pub same_a : new.a ≡ old.a
   pub same_b : new.b ≡ old.b
 
--- From its `Ok` on whatever a crash leaves says the record of its ops, behind the snapshot that was due, if one was; and there are at
--- most so many records.
-pub record IsWritten {D : Type 0} (history : D → List Change) (old new : LiveState D) (ops : List Op) : Type 0 where
-  pub says : new.content ≡ recorded_content (ready_content old) ops
+-- From its `Ok` on whatever a crash leaves says the record of its ops, behind the snapshot that was due, if one was. Unless that is overdue,
+-- there are at most so many records, and they take no more bytes than the bound and one record.
+pub record IsWritten {D : Type 0} (history : D → List Change) (is_overdue : Bool) (old new : LiveState D) (ops : List Op) : Type 0 where
+  pub says : new.content ≡ recorded_content (ready_content is_overdue old) ops
   pub stored : IsStored history new
-  pub few : length new.content.records ≤ most_records
+  pub few : is_overdue ≡ false → length new.content.records ≤ most_records
+  pub short : is_overdue ≡ false → records_len new.content.records ≤ most_bytes (length new.content.snapshot) + longest_record
 
 -- A disk fault breaks a stage, any other refusal leaves it as it was, and no refused event is counted.
 pub record LeavesAsIs {D T : Type 0} (old new : LiveState D) (result : Result T LiveError) : Type 0 where

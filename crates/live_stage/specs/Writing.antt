@@ -16,7 +16,7 @@ use Rattle.live_stage.specs.declared.refusal.LiveError.TheVariants.{Broken}
 use Rattle.live_stage.specs.Answer.{Answer, IsBeforeOrAfter}
 use Rattle.live_stage.specs.Found.{AllFindNow, AllFindSince}
 use Rattle.live_stage.specs.LiveState.{LiveState}
-use Rattle.live_stage.specs.Numbers.{record_number}
+use Rattle.live_stage.specs.Numbers.{FileNumbers, longest_record, record_bytes, record_number, recorded}
 use Rattle.live_stage.specs.Turns.{recorded_content}
 
 -- Stopped at any moment of the call, the files give what they gave before or this content, which they give from its `Ok` on.
@@ -42,10 +42,21 @@ pub record TakesRecord {D : Type 0} (journal : JournalState D) (size : ℕ) : Ty
   pub numbers : journal.base + journal.count < 2 ^ 64 - 1
   pub fits : size ≤ longest_body
 
+-- the numbers of the file that is in use
+abbrev pub file_of : {D : Type 0} → JournalState D → FileNumbers
+file_of journal =
+    record {
+      generation = journal.generation;
+      snapshot_len = journal.snapshot_len;
+      records = journal.count;
+      bytes = journal.bytes;
+    }
+
 -- the record of these ops was written, if there are any, and this is its number
 pub record HasRecorded {D : Type 0} (old new : JournalState D) (ops : List Op) (number : Option ℕ) : Type 0 where
   pub is_next : number ≡ record_number (old.base + old.count) ops
   pub count : ops ≢ [] → new.count ≡ old.count + 1
+  pub file : file_of new ≡ recorded (file_of old) ops
   pub usable : new.is_spent ≡ false
 
 -- a record is refused by a disk fault alone, which spends the journal
@@ -56,7 +67,8 @@ pub record RefusesRecording {D T : Type 0} (new : JournalState D) (result : Resu
 -- ---- events
 
 -- While an event is handled a restart finds the state from before it or the one after it, with one refused place throughout, which is
--- that of the answer. Then it finds the state of a stage that isn't broken, and the files say the record of the event's ops.
+-- that of the answer. Then it finds the state of a stage that isn't broken, and the files say the record of the event's ops, which isn't
+-- longer than the longest.
 pub record KeepsEvent {D : Type 0} (history : D → List Change) (old new : LiveState D) (event : Event) (result : Result Answer LiveError)
     : Type 0 where
   pub during : (k : Option ℕ) × IfOk result (λ t. t.refused_at ≡ k) × AllFindSince (IsBeforeOrAfter old.state event k)
@@ -64,3 +76,4 @@ pub record KeepsEvent {D : Type 0} (history : D → List Change) (old new : Live
   pub kept : new.is_broken ≡ false → AllFindNow (λ f. f ≡ Some new.state.machine.saved) (history new.a) (history new.b)
   pub content : IfOk result (λ t.
       let now = step old.state event t.refused_at in new.content ≡ recorded_content old.content now.ops)
+  pub short : IfOk result (λ t. let now = step old.state event t.refused_at in record_bytes now.ops ≤ longest_record)

@@ -5,6 +5,7 @@ ghost use Rattle.play_journal.specs.Content.{with_snapshot};
 ghost use Rattle.state_codec.specs.SavedState.{IsSavedState};
 ghost use Rattle.state_codec.specs.Spelling.{saved_bytes};
 ghost use Rattle.live_stage.specs.Errors.{checkpoint_error};
+ghost use Rattle.live_stage.specs.Numbers.{snapshot_size};
 ghost use Rattle.live_stage.specs.Turns.{CallsAtMost, RefusesSnapshot};
 ghost use Rattle.live_stage.specs.Writing.{GoesOver, CallsDisks};
 
@@ -25,7 +26,7 @@ pub(crate) fn write_snapshot<D: Disk>(
     ensures any_moment { D.honest journal.old.a → D.honest journal.old.b
         → GoesOver D.history journal.old journal.new (with_snapshot journal.old.content (saved_bytes saved.now)) result }
     ensures in_range { IsSavedState saved.now }
-    ensures next { OnOk result (IsNextGeneration journal.old journal.new) }
+    ensures next { OnOk result (IsNextGeneration journal.old journal.new (snapshot_size saved.now)) }
     ensures refuses { RefusesSnapshot journal.old journal.new result }
     ensures disks { CallsDisks D.honest D.history D.faults journal.old journal.new LiveError.Broken result }
     ensures calls { D.honest journal.old.a → D.honest journal.old.b → OnOk result (CallsAtMost 9 (D.history journal.old.a)

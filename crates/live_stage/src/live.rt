@@ -11,10 +11,10 @@ ghost use Rattle.daemon_core.specs.State.{start};
 ghost use Rattle.daemon_core.specs.Step.{step};
 ghost use Rattle.live_stage.specs.Answer.{IsTurn, IsHandled, IsBeforeOrAfter, HasNoOps};
 ghost use Rattle.live_stage.specs.Errors.{IsRefusalOfCreate, IsRefusalOfOpen, IsCause, start_error};
-ghost use Rattle.live_stage.specs.Numbers.{first_numbers, first_file, greatest, is_due, AreCountsSpent, AreSpent};
+ghost use Rattle.live_stage.specs.Numbers.{first_numbers, first_file, greatest, is_due, makes_checkpoint, AreCountsSpent, AreSpent};
 ghost use Rattle.live_stage.specs.Turns.{IsBegun, IsOver, IsStored, IsCheckpointed, IsCheckpointing, HoldsSnapshot, RefusesCheckpoint};
 ghost use Rattle.live_stage.specs.Turns.{CallsAtMost, IsReady, IsWritten, StaysInFile, WritesOneFile, MakesNoCall, LeavesAsIs};
-ghost use Rattle.live_stage.specs.Turns.{TellsFaults, RefusesInOrder, ready_content, writes_to_b};
+ghost use Rattle.live_stage.specs.Turns.{TellsFaults, RefusesInOrder, WritesAlone, ready_content};
 ghost use Rattle.live_stage.specs.Writing.{KeepsEvent};
 ghost use Rattle.live_stage.specs.Found.{found_state, AllFindNow, AllFindSince, KeepsFoundState};
 
@@ -34,8 +34,11 @@ use std::snapshot::Snapshot;
 mod looks;
 mod opening;
 
-/// So many records stand behind a snapshot at most: a turn that finds them makes a checkpoint first.
+/// A turn that finds so many records behind the snapshot makes a checkpoint first.
 const MOST_RECORDS: u64 = 4_096;
+
+/// So does one that finds more bytes of records than these, 4 MiB, and than the snapshot has.
+const MOST_BYTES: u64 = 4_194_304;
 
 /// The daemon's state, and the journal that keeps it: what an event changes is on the disk when its answer is given out.
 ///
@@ -54,6 +57,7 @@ impl<D: Disk> Model for Live<D> {
     ghost use Rattle.play_journal.specs.Content.{present_layout};
     ghost use Rattle.live_stage.specs.LiveState.{LiveState};
     ghost use Rattle.live_stage.specs.Found.{state_of};
+    ghost use Rattle.live_stage.specs.Writing.{file_of};
 
     ghost Value = { LiveState D };
 
@@ -65,7 +69,7 @@ impl<D: Disk> Model for Live<D> {
         event = v.event;
         last_record = min (v.journal.base + v.journal.count) (2 ^ 64 - 1);
       };
-      file = record { generation = v.journal.generation; records = v.journal.count };
+      file = file_of v.journal;
       content = v.journal.content;
       is_in_b = v.journal.is_in_b;
       is_broken = v.journal.is_spent;
@@ -88,7 +92,8 @@ impl<D: Disk> Live<D> {
         ensures kept { D.honest a → D.honest b
             → IfOk result (λ live. AllFindNow (λ f. f ≡ Some (fresh key)) (D.history live.a) (D.history live.b)) }
         ensures begun { IfOk result (λ live. IsBegun (fresh key) live) }
-        ensures numbers { IfOk result (λ live. (live.numbers ≡ first_numbers) × (live.file ≡ first_file) × (live.was_migrated ≡ false)) }
+        ensures numbers { IfOk result (λ live.
+            (live.numbers ≡ first_numbers) × (live.file ≡ first_file (fresh key)) × (live.was_migrated ≡ false)) }
 
         ensures not_empty { D.honest a → D.honest b
             → (IsErrAnd result (λ e. e.error ≡ StartError.NotEmpty) ↔ ((D.content a ≢ []) ⊎ (D.content b ≢ []))) }
@@ -178,11 +183,13 @@ impl<D: Disk> Live<D> {
     }
 
     /// Handles one event. If it changes what is saved, that is one record, and it is on the disk when the answer is given
-    /// out; any other event makes no call of a disk. Where 4,096 or more records stand behind the snapshot, a checkpoint is made
-    /// first, whatever the event.
+    /// out; any other event makes no call of a disk. Where 4,096 or more records stand behind the snapshot, or more bytes of them than
+    /// 4 MiB and than the snapshot has, a checkpoint is made first, whatever the event. Where that finds no memory, the event is
+    /// handled without it, the answer says so, and the next turn tries it again.
     ///
     /// It refuses in the order `Broken` (from before), `NumbersSpent`, `NoMemory`, `Broken` (by a disk fault now). After the
     /// last the event may be kept or not: open the files again. A checkpoint that was made stands after `NoMemory`.
+    #[tactic(auto, using(crate::proofs::TurnLaws::one_file_still, crate::proofs::TurnLaws::one_file_failed, crate::proofs::TurnLaws::one_file_refused, crate::proofs::TurnLaws::still_on))]
     pub fn turn(&mut self, alloc: Global, event: Event) -> Result<Turn<D>, LiveError>
         // The answer and the state are those of the step.
         ensures step { IfOk result (λ t. IsTurn self.old event t self.new) }
@@ -198,10 +205,11 @@ impl<D: Disk> Live<D> {
         ensures kept { D.honest self.old.a → D.honest self.old.b → self.new.is_broken ≡ false
             → AllFindNow (λ f. f ≡ Some self.new.state.machine.saved) (D.history self.new.a) (D.history self.new.b) }
 
-        // The files then say the record of the event's ops, and at most 4,096 records.
+        // The files then say the record of the event's ops, and no more records than the bounds allow, unless the checkpoint is overdue.
         ensures stored { D.honest self.old.a → D.honest self.old.b → IfOk result (λ t.
-            let now = step self.old.state event t.refused_at in IsWritten D.history self.old self.new now.ops) }
-        ensures no_call { is_due self.old.file ≡ false → IfOk result (λ t. HasNoOps self.old event t → MakesNoCall self.old self.new) }
+            let now = step self.old.state event t.refused_at in IsWritten D.history t.is_overdue self.old self.new now.ops) }
+        ensures no_call { IfOk result (λ t. makes_checkpoint t.is_overdue self.old.file ≡ false
+            → HasNoOps self.old event t → MakesNoCall self.old self.new) }
         ensures file { WritesOneFile self.old self.new result }
 
         ensures refuses { RefusesInOrder self.old self.new result }
@@ -214,8 +222,8 @@ impl<D: Disk> Live<D> {
         if self.are_numbers_spent() {
             return Err(LiveError::NumbersSpent);
         }
-        self.make_ready(alloc)?;
-        let turn = self.handle(alloc, event)?;
+        let is_overdue = self.make_ready(alloc)?;
+        let turn = self.handle(alloc, event, is_overdue)?;
         // As long as it isn't broken, the files say what is stored, and the stage's numbers are theirs.
         let _broken = self.is_broken();
         Ok(turn)
@@ -260,39 +268,52 @@ impl<D: Disk> Live<D> {
     fn is_checkpoint_due(&self) -> bool
         ensures { result ≡ is_due self.now.file }
     {
+        let most_bytes = self.journal.snapshot_len().max(MOST_BYTES);
         self.journal.records_since_checkpoint() >= MOST_RECORDS
+            || self.journal.bytes_since_checkpoint() > most_bytes
     }
 
-    // Makes the checkpoint that is due, if one is.
-    fn make_ready(&mut self, alloc: Global) -> Result<(), LiveError>
+    // Makes the checkpoint that is due, if one is, and says whether it is overdue, since it found no memory.
+    fn make_ready(&mut self, alloc: Global) -> Result<bool, LiveError>
         requires usable { self.old.is_broken ≡ false }
         requires generation { is_due self.old.file ≡ true → self.old.file.generation ≢ greatest }
-        ensures ready { OnOk result (IsReady self.old self.new) }
-        ensures content { D.honest self.old.a → D.honest self.old.b → OnOk result (self.new.content ≡ ready_content self.old) }
+        ensures ready { IfOk result (λ is_overdue. IsReady is_overdue self.old self.new) }
+        ensures content { D.honest self.old.a → D.honest self.old.b
+            → IfOk result (λ is_overdue. self.new.content ≡ ready_content is_overdue self.old) }
         ensures same_state { D.honest self.old.a → D.honest self.old.b
             → AllFindSince (λ f. f ≡ Some self.old.state.machine.saved)
             (D.history self.new.a) (length (D.history self.old.a)) (D.history self.new.b) (length (D.history self.old.b)) }
         ensures undue { is_due self.old.file ≡ false → IsOk result }
-        ensures other_file { MatchBool (writes_to_b self.old) (self.new.a ≡ self.old.a) (self.new.b ≡ self.old.b) }
-        ensures refuses { LeavesAsIs self.old self.new result }
+        ensures other_file { MatchResult result (λ is_overdue. WritesAlone is_overdue self.old self.new)
+            (λ e. WritesAlone false self.old self.new) }
+        ensures refuses { IfErr result (λ e. (e ≡ LiveError.Broken) × (self.new.is_broken ≡ true)) }
+        ensures not_counted { self.new.numbers.event ≡ self.old.numbers.event }
         ensures fault { TellsFaults D.honest D.faults self.old self.new result }
         ensures later { AreLater D.honest D.history D.faults self.old.a self.old.b self.new.a self.new.b }
     {
         // As long as it isn't broken, the files give its state.
         let _broken = self.is_broken();
         if !self.is_checkpoint_due() {
-            return Ok(());
+            return Ok(false);
         }
-        self.checkpoint(alloc)?;
-        Ok(())
+        match self.checkpoint(alloc) {
+            Ok(()) => Ok(false),
+            Err(LiveError::NoMemory) => Ok(true),
+            Err(error) => Err(error),
+        }
     }
 
-    // Handles one event, by a record in the file that is in use.
-    fn handle(&mut self, alloc: Global, event: Event) -> Result<Turn<D>, LiveError>
+    // Handles one event, by a record in the file that is in use. Its answer says whether the checkpoint is overdue.
+    fn handle(
+        &mut self,
+        alloc: Global,
+        event: Event,
+        is_overdue: bool,
+    ) -> Result<Turn<D>, LiveError>
         requires usable { self.old.is_broken ≡ false }
         requires numbers { AreCountsSpent self.old.numbers → ⊥ }
         ensures step { IfOk result (λ t. IsHandled self.old event t self.new) }
-        ensures carries { IfOk result (λ t. (t.asked ≡ event) × (t.before ≡ self.old.state)) }
+        ensures carries { IfOk result (λ t. (t.asked ≡ event) × (t.before ≡ self.old.state) × (t.is_overdue ≡ is_overdue)) }
         ensures any_moment { D.honest self.old.a → D.honest self.old.b → KeepsEvent D.history self.old self.new event result }
         ensures no_call { IfOk result (λ t. HasNoOps self.old event t → MakesNoCall self.old self.new) }
         ensures file { StaysInFile self.old self.new }
@@ -310,7 +331,7 @@ impl<D: Disk> Live<D> {
         };
         let number = record_ops(&mut self.journal, &mut self.room, &outcome.ops)?;
         self.event += 1;
-        Ok(Turn::new(outcome, self.event, number, asked, before))
+        Ok(Turn::new(outcome, self.event, number, is_overdue, asked, before))
     }
 
     /// How many events there were since the stage was made or opened.

@@ -32,6 +32,7 @@ fn spell(room: &mut Vec<u8>, ops: &[Op])
 }
 
 /// Writes the record of an event's ops, and answers its number; where there are none, it makes no call of a disk.
+#[tactic(auto, using(crate::proofs::TurnLaws::file_recorded, crate::proofs::TurnLaws::file_kept))]
 pub(crate) fn record_ops<D: Disk>(
     journal: &mut Journal<D>,
     room: &mut Vec<u8>,

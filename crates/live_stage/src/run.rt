@@ -4,8 +4,7 @@ ghost use Rattle.disk_model.specs.Later.{AreLater, HasFailed};
 ghost use Rattle.state_codec.specs.SavedState.{SavedState};
 ghost use Rattle.daemon_core.specs.State.{start};
 ghost use Rattle.live_stage.specs.Found.{AllFindNow, AllFindSince};
-ghost use Rattle.live_stage.specs.Transcript.{IsRun, RunRefuses, IsOfOneLife, FindsWhole, FindsPrefix};
-ghost use Rattle.live_stage.specs.Numbers.{most_records};
+ghost use Rattle.live_stage.specs.Transcript.{IsRun, RunRefuses, IsOfOneLife, FindsWhole, FindsPrefix, HasRoomFor};
 ghost use Rattle.live_stage.specs.Turns.{StaysInFile};
 
 use crate::LiveError;
@@ -29,8 +28,8 @@ impl<D: Disk> Live<D> {
 
         // Stopped at any moment, a restart finds the state after a prefix of this history, where no checkpoint can be due.
         ensures any_moment { D.honest self.old.a → D.honest self.old.b → self.old.is_broken ≡ false
-            → self.old.file.records + length events.items ≤ most_records
-            → IfOk result (λ answers. AllFindSince (FindsPrefix self.old.state events.items answers.items)
+            → IfOk result (λ answers. HasRoomFor self.old events.items answers.items
+            → AllFindSince (FindsPrefix self.old.state events.items answers.items)
             (D.history self.new.a) (length (D.history self.old.a)) (D.history self.new.b) (length (D.history self.old.b))) }
 
         // At the end it finds the state after all that was given out.
@@ -38,7 +37,7 @@ impl<D: Disk> Live<D> {
             → IfOk result (λ answers. AllFindNow (FindsWhole self.old.state events.items answers.items)
             (D.history self.new.a) (D.history self.new.b)) }
 
-        ensures file { self.old.file.records + length events.items ≤ most_records → StaysInFile self.old self.new }
+        ensures file { IfOk result (λ answers. HasRoomFor self.old events.items answers.items → StaysInFile self.old self.new) }
         ensures fault { D.honest self.old.a → D.honest self.old.b → self.old.is_broken ≡ false → self.new.is_broken ≡ true
             → HasFailed D.faults self.old.a self.old.b self.new.a self.new.b }
 

@@ -25,6 +25,7 @@ pub struct Turn<D> {
     refused_at: Option<u32>,
     event: u64,
     receipt: Receipt,
+    is_overdue: bool,
     asked: Snapshot<Event>,
     before: Snapshot<Core>,
     stage: PhantomData<D>,
@@ -47,6 +48,7 @@ impl<D> Model for Turn<D> {
       refused_at = t.refused_at;
       event = t.event;
       receipt = t.receipt;
+      is_overdue = t.is_overdue;
       asked = t.asked.value;
       before = t.before.value;
     } };
@@ -66,6 +68,7 @@ impl<D> Turn<D> {
         outcome: Outcome,
         event: u64,
         number: Option<u64>,
+        is_overdue: bool,
         asked: Snapshot<Event>,
         before: Snapshot<Core>,
     ) -> Self
@@ -77,6 +80,7 @@ impl<D> Turn<D> {
           refused_at = outcome.refused_at;
           event = event;
           receipt = record { event = event; number = number };
+          is_overdue = is_overdue;
           asked = asked.value;
           before = before.value;
         } }
@@ -95,6 +99,7 @@ impl<D> Turn<D> {
             refused_at,
             event,
             receipt: Receipt { event, number },
+            is_overdue,
             asked,
             before,
             stage: PhantomData,
@@ -142,6 +147,13 @@ impl<D> Turn<D> {
         ensures { result ≡ self.now.receipt }
     {
         self.receipt
+    }
+
+    /// Whether the checkpoint that was due before the event found no memory. It is due still: the next turn tries it again.
+    pub fn is_overdue(&self) -> bool
+        ensures { result ≡ self.now.is_overdue }
+    {
+        self.is_overdue
     }
 
     /// The outputs, to be handed over.

@@ -8,6 +8,7 @@ pub mod HeadLaws
 pub mod InUseLaws
 pub mod LayLaws
 pub mod LoopLaws
+pub mod MeasureLaws
 pub mod OpenLaws
 pub mod PairLaws
 pub mod PlaceLaws

@@ -1,12 +1,12 @@
 -- What the calls of a journal do to it.
-use Rattle.std.specs.Prelude.{◌≡◌, ◌≢◌, ◌↔◌, ℕ, ◌+◌, ◌-◌, ◌^◌, ◌<◌, ◌≤◌, true, false, not, List, length, Some, Result, Err}
+use Rattle.std.specs.Prelude.{◌≡◌, ◌≢◌, ◌↔◌, ℕ, ◌+◌, ◌-◌, ◌^◌, ◌<◌, ◌≤◌, min, true, false, not, List, length, Some, Result, Err}
 use Rattle.std.specs.Prelude.{MatchBool, OnErr}
 use Rattle.disk_model.specs.History.{Change}
 use Rattle.play_journal.specs.declared.refusal.JournalError.{JournalError}
 use Rattle.play_journal.specs.declared.refusal.JournalError.TheVariants.{DiskFault, TooLong, NumbersSpent, OldLayout}
 use Rattle.play_journal.specs.Content.{Content, present_layout, IsKnownLayout}
-use Rattle.play_journal.specs.File.{longest_body}
-use Rattle.play_journal.specs.JournalState.{JournalState}
+use Rattle.play_journal.specs.File.{longest_body, records_len}
+use Rattle.play_journal.specs.JournalState.{JournalState, IsMeasured}
 use Rattle.play_journal.specs.Pair.{AllPairsNow}
 use Rattle.play_journal.specs.Stored.{StoredParts}
 
@@ -22,6 +22,7 @@ pub record AreItsNumbers {D : Type 0} (journal : JournalState D) : Type 0 where
   pub generation : journal.content.generation ≡ journal.generation
   pub base : journal.content.base ≡ journal.base
   pub count : length journal.content.records ≡ journal.count
+  pub measured : IsMeasured journal.content journal.snapshot_len journal.bytes
   pub last : journal.base + journal.count < 2 ^ 64
 
 -- neither of two disks has failed in a call
@@ -29,12 +30,14 @@ pub record SameFaults {D : Type 0} (faults : D → ℕ) (old_a old_b new_a new_b
   pub a : faults new_a ≡ faults old_a
   pub b : faults new_b ≡ faults old_b
 
--- a journal that was just made: its first file is in use
-pub record IsNew {D : Type 0} (journal : JournalState D) : Type 0 where
+-- a journal that was just made, with a snapshot of this length: its first file is in use
+pub record IsNew {D : Type 0} (journal : JournalState D) (size : ℕ) : Type 0 where
   pub layout : journal.layout ≡ present_layout
   pub generation : journal.generation ≡ 1
   pub base : journal.base ≡ 0
+  pub snapshot_len : journal.snapshot_len ≡ size
   pub count : journal.count ≡ 0
+  pub bytes : journal.bytes ≡ 0
   pub in_a : journal.is_in_b ≡ false
   pub usable : journal.is_spent ≡ false
 
@@ -47,15 +50,19 @@ pub record IsOpened {D : Type 0} (Honest : Type 0) (content : D → List ℕ) (f
   pub layout : Honest → journal.content.layout ≡ journal.layout
   pub generation : Honest → journal.content.generation ≡ journal.generation
   pub base : Honest → journal.content.base ≡ journal.base
+  pub snapshot_len : length stored.snapshot ≡ journal.snapshot_len
   pub count : length stored.records ≡ journal.count
+  pub bytes : records_len stored.records ≡ journal.bytes
   pub usable : journal.is_spent ≡ false
   pub other_file : Honest → MatchBool journal.is_in_b (content journal.a ≡ content a) (content journal.b ≡ content b)
   pub met_none : SameFaults faults a b journal.a journal.b
 
--- a record has this number, which is the next one
-pub record IsNextRecord {D : Type 0} (old new : JournalState D) (number : ℕ) : Type 0 where
+-- A record with a body of this length has this number, which is the next one. Its gate and its length take five bytes; bytes are counted
+-- up to 2^64 - 1, which no honest disk comes to.
+pub record IsNextRecord {D : Type 0} (old new : JournalState D) (size number : ℕ) : Type 0 where
   pub next : number ≡ old.base + old.count + 1
   pub count : new.count ≡ old.count + 1
+  pub bytes : new.bytes ≡ min (old.bytes + (5 + size)) (2 ^ 64 - 1)
   pub usable : new.is_spent ≡ false
 
 -- the file in use stays in use, and the other isn't touched
@@ -63,15 +70,19 @@ pub record StaysInFile {D : Type 0} (old new : JournalState D) : Type 0 where
   pub layout : new.layout ≡ old.layout
   pub generation : new.generation ≡ old.generation
   pub base : new.base ≡ old.base
+  pub snapshot_len : new.snapshot_len ≡ old.snapshot_len
   pub same_file : new.is_in_b ≡ old.is_in_b
   pub other_file : MatchBool old.is_in_b (new.a ≡ old.a) (new.b ≡ old.b)
 
--- the next generation, in the layout that is written: its base counts all records from before, and records go to the other file
-pub record IsNextGeneration {D : Type 0} (old new : JournalState D) : Type 0 where
+-- the next generation, with a snapshot of this length in the layout that is written: its base counts all records from before, and records
+-- go to the other file
+pub record IsNextGeneration {D : Type 0} (old new : JournalState D) (size : ℕ) : Type 0 where
   pub layout : new.layout ≡ present_layout
   pub generation : new.generation ≡ old.generation + 1
   pub base : new.base ≡ old.base + old.count
+  pub snapshot_len : new.snapshot_len ≡ size
   pub count : new.count ≡ 0
+  pub bytes : new.bytes ≡ 0
   pub other_file : new.is_in_b ≡ not old.is_in_b
   pub usable : new.is_spent ≡ false
 

@@ -24,6 +24,10 @@ head layout generation base size = name ++ to_le_bytes w32 layout ++ to_le_bytes
 abbrev pub gated : List ℕ → List ℕ
 gated body = open_gate ∷ to_le_bytes w32 (length body) ++ body
 
+-- how many bytes records take in a file, each with its gate and its length
+abbrev pub records_len : List (List ℕ) → ℕ
+records_len records = length (flat_map gated records)
+
 -- a file up to its closing gate
 abbrev pub spelling : Content → List ℕ
 spelling file = open_gate ∷ head file.layout file.generation file.base (length file.snapshot) ++ file.snapshot

@@ -4,19 +4,22 @@ use Rattle.std.specs.Result.{result_ok}
 use Rattle.disk_model.specs.History.{Change}
 use Rattle.disk_model.specs.Images.{window, settled}
 use Rattle.play_journal.specs.Content.{Content}
-use Rattle.play_journal.specs.File.{IsFile, spelling}
+use Rattle.play_journal.specs.File.{IsFile, records_len, spelling}
 use Rattle.play_journal.specs.Pair.{IsBelow}
 use Rattle.play_journal.specs.Reading.{read}
 
--- The two disks; the layout and the generation of the file in use, its base and the count of records since; what the files say,
--- as long as the disks are honest and the journal isn't spent; whether it is spent; and whether file b is the one in use.
+-- The two disks; the layout and the generation of the file in use, its base, the length of its snapshot, the count of records since and
+-- how many bytes they take; what the files say, as long as the disks are honest and the journal isn't spent; whether it is spent; and
+-- whether file b is the one in use.
 pub record JournalState (D : Type 0) : Type 0 where
   pub a : D
   pub b : D
   pub layout : ℕ
   pub generation : ℕ
   pub base : ℕ
+  pub snapshot_len : ℕ
   pub count : ℕ
+  pub bytes : ℕ
   pub content : Content
   pub is_spent : Bool
   pub is_in_b : Bool
@@ -27,6 +30,11 @@ no_content = record { layout = 0; generation = 0; base = 0; snapshot = []; recor
 -- what a file's bytes say, or nothing
 abbrev pub content_in : List ℕ → Content
 content_in bytes = unwrap_or (result_ok (read bytes)) no_content
+
+-- a content's snapshot is so long, and its records take so many bytes
+pub record IsMeasured (content : Content) (snapshot_len bytes : ℕ) : Type 0 where
+  pub snapshot : length content.snapshot ≡ snapshot_len
+  pub records : records_len content.records ≡ bytes
 
 -- the one of two values that stands at a place
 abbrev pub at_place : {D : Type 0} → Bool → D → D → D

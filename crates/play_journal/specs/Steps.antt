@@ -7,6 +7,7 @@ use Rattle.play_journal.specs.declared.reading.FileRead.{FileRead}
 use Rattle.play_journal.specs.declared.refusal.JournalError.{JournalError}
 use Rattle.play_journal.specs.declared.refusal.JournalError.TheVariants.{NotEmpty}
 use Rattle.play_journal.specs.Errors.{IsRefusalOfCreate}
+use Rattle.play_journal.specs.File.{records_len}
 use Rattle.play_journal.specs.FileRead.{content_read}
 use Rattle.play_journal.specs.JournalState.{JournalState, at_place, content_in, IsKept}
 use Rattle.play_journal.specs.Pair.{reading}
@@ -48,10 +49,11 @@ pub record IsRefusalOverEmpty (error : JournalError) : Type 0 where
   pub refusal : IsRefusalOfCreate error
   pub not_empty : error ≢ NotEmpty
 
--- there is room for a record, and each record of the file has a number
+-- there is room for a record, each record of the file has a number, and the closing gate stands behind them
 pub record IsReady (capacity : ℕ) (file : FileRead) : Type 0 where
   pub room : room ≤ capacity
   pub numbers : file.base + length file.stored.records < 2 ^ 64
+  pub end : file.end ≡ 32 + length file.stored.snapshot + records_len file.stored.records
 
 -- This was read from the bytes from before, and the disk is settled with what of them goes up to the closing gate.
 pub record IsReadAndCut (old new : List ℕ) (done : List Change) (file : FileRead) : Type 0 where
@@ -75,4 +77,6 @@ pub record HasNumbersOf {D : Type 0} (file : FileRead) (journal : JournalState D
   pub layout : journal.layout ≡ file.layout
   pub generation : journal.generation ≡ file.generation
   pub base : journal.base ≡ file.base
+  pub snapshot_len : journal.snapshot_len ≡ length file.stored.snapshot
   pub count : journal.count ≡ length file.stored.records
+  pub bytes : journal.bytes ≡ records_len file.stored.records

@@ -14,6 +14,9 @@ use crate::laying::write_synced;
 use crate::reading::{CLOSED, OPEN};
 use disk_model::Disk;
 
+/// What a record takes in a file beside its body, in bytes: its gate and its length.
+pub(crate) const RECORD_HEAD: u64 = 5;
+
 // Puts the length of a record, its body and a closed gate into the buffer, in place of what it held.
 pub(crate) fn put_record(buffer: &mut Vec<u8>, body: &[u8])
     requires room { length body.now + 5 ≤ vec_capacity buffer.old }

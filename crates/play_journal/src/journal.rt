@@ -6,13 +6,15 @@ ghost use Rattle.play_journal.specs.Calls.{Holds, IsNew, IsOpened, IsNextRecord,
 ghost use Rattle.play_journal.specs.Calls.{AreItsNumbers, RefusesRecord};
 ghost use Rattle.play_journal.specs.Content.{fresh, with_record, with_snapshot, IsBeforeOrAfter, IsOldOrNew};
 ghost use Rattle.play_journal.specs.Errors.{IsRefusalOfCreate, IsRefusalOfOpen, IsRefusalOfAppend, IsRefusalOfCheckpoint};
+ghost use Rattle.play_journal.specs.File.{records_len};
+ghost use Rattle.play_journal.specs.FileRead.{content_read};
 ghost use Rattle.play_journal.specs.JournalState.{at_place, content_in, IsKept};
 ghost use Rattle.play_journal.specs.Opening.{IsCause};
 ghost use Rattle.play_journal.specs.Pair.{reading, AllPairsNow, AllPairsSince, KeepsFound};
 ghost use Rattle.play_journal.specs.Room.{room};
 ghost use Rattle.play_journal.specs.Steps.{IsReady, HasNumbersOf};
 
-use crate::appending::{append_at, put_record};
+use crate::appending::{RECORD_HEAD, append_at, put_record};
 use crate::creating::{LONGEST_SNAPSHOT, fresh_journal};
 use crate::laying::{head_bytes, lay_down};
 use crate::opening::{Opened, open_files};
@@ -35,14 +37,16 @@ pub struct Journal<D: Disk> {
     layout: u32,
     generation: u64,
     base: u64,
+    snapshot_len: u64,
     count: u64,
+    bytes: u64,
     buffer: Vec<u8>,
     spent: bool,
 }
 
 impl<D: Disk> Model for Journal<D> {
     ghost use Rattle.std.specs.Prelude.{◌≡◌, ◌+◌, ◌^◌, ◌<◌, ◌≤◌, false, vec_capacity};
-    ghost use Rattle.play_journal.specs.JournalState.{JournalState, content_in, at_place, IsKept};
+    ghost use Rattle.play_journal.specs.JournalState.{JournalState, content_in, at_place, IsKept, IsMeasured};
     ghost use Rattle.play_journal.specs.Room.{room};
 
     ghost Value = { JournalState D };
@@ -53,7 +57,9 @@ impl<D: Disk> Model for Journal<D> {
       layout = j.layout;
       generation = j.generation;
       base = j.base;
+      snapshot_len = j.snapshot_len;
       count = j.count;
+      bytes = j.bytes;
       content = content_in (D.content j.here);
       is_spent = j.spent;
       is_in_b = j.swapped;
@@ -61,7 +67,8 @@ impl<D: Disk> Model for Journal<D> {
 
     ghost invariant = { λ j. (room ≤ vec_capacity j.buffer) × (j.base + j.count < 2 ^ 64)
         × (j.spent ≡ false → D.honest j.here → D.honest j.there → IsKept (D.content j.here) (D.content j.there) (D.history j.here)
-        (D.history j.there) j.end j.layout j.generation j.base j.count) };
+        (D.history j.there) j.end j.layout j.generation j.base j.count)
+        × (j.spent ≡ false → D.honest j.here → D.honest j.there → IsMeasured (content_in (D.content j.here)) j.snapshot_len j.bytes) };
 }
 
 impl<D: Disk> Journal<D> {
@@ -72,7 +79,7 @@ impl<D: Disk> Journal<D> {
     pub fn create(alloc: Global, a: D, b: D, snapshot: &[u8]) -> Result<Journal<D>, Refused<D>>
         // From `Ok` on the files give the snapshot without records: file a is in use, and file b is empty.
         ensures kept { D.honest a → D.honest b → IfOk result (λ j. Holds D.history j (fresh snapshot.now)) }
-        ensures new { IfOk result (λ j. IsNew j) }
+        ensures new { IfOk result (λ j. IsNew j (length snapshot.now)) }
         ensures met_none { IfOk result (λ j. SameFaults D.faults a b j.a j.b) }
         ensures empty { D.honest a → D.honest b → IfOk result (λ j. D.content j.b ≡ []) }
 
@@ -106,7 +113,9 @@ impl<D: Disk> Journal<D> {
                 layout: LAYOUT,
                 generation: 1,
                 base: 0,
+                snapshot_len: snapshot.len() as u64,
                 count: 0,
+                bytes: 0,
                 buffer,
                 spent: false,
             }),
@@ -163,7 +172,7 @@ impl<D: Disk> Journal<D> {
             (D.history self.new.a) (length (D.history self.old.a)) (D.history self.new.b) (length (D.history self.old.b)) }
         ensures kept { D.honest self.old.a → D.honest self.old.b
             → OnOk result (Holds D.history self.new (with_record self.old.content body.now)) }
-        ensures number { IfOk result (λ number. IsNextRecord self.old self.new number) }
+        ensures number { IfOk result (λ number. IsNextRecord self.old self.new (length body.now) number) }
 
         ensures refuses { RefusesRecord self.old self.new (length body.now) result }
         ensures nothing_else { IfErr result IsRefusalOfAppend }
@@ -195,8 +204,10 @@ impl<D: Disk> Journal<D> {
         put_record(&mut self.buffer, body);
         match append_at(&mut self.here, self.end, &self.buffer) {
             Ok(()) => {
-                self.end = self.end.saturating_add(5 + len as u64);
+                let added = RECORD_HEAD + len as u64;
+                self.end = self.end.saturating_add(added);
                 self.count += 1;
+                self.bytes = self.bytes.saturating_add(added);
                 Ok(number + 1)
             }
             Err(error) => {
@@ -219,7 +230,7 @@ impl<D: Disk> Journal<D> {
             (D.history self.new.a) (length (D.history self.old.a)) (D.history self.new.b) (length (D.history self.old.b)) }
         ensures kept { D.honest self.old.a → D.honest self.old.b
             → OnOk result (Holds D.history self.new (with_snapshot self.old.content snapshot.now)) }
-        ensures next { OnOk result (IsNextGeneration self.old self.new) }
+        ensures next { OnOk result (IsNextGeneration self.old self.new (length snapshot.now)) }
 
         ensures refuses { RefusesInOrder self.old self.new 4294967295 (length snapshot.now) self.old.generation result }
         ensures nothing_else { IfErr result IsRefusalOfCheckpoint }
@@ -259,7 +270,9 @@ impl<D: Disk> Journal<D> {
         self.layout = LAYOUT;
         self.generation += 1;
         self.base += self.count;
+        self.snapshot_len = snapshot.len() as u64;
         self.count = 0;
+        self.bytes = 0;
         Ok(())
     }
 
@@ -295,6 +308,25 @@ impl<D: Disk> Journal<D> {
         self.count
     }
 
+    /// How many bytes the records behind the snapshot take in the file in use: of each its gate, its length and its body. They are counted
+    /// up to 2^64 - 1.
+    pub fn bytes_since_checkpoint(&self) -> u64
+        ensures value { result ≡ self.now.bytes }
+        ensures content { D.honest self.now.a → D.honest self.now.b → self.now.is_spent ≡ false
+            → records_len self.now.content.records ≡ result }
+    {
+        self.bytes
+    }
+
+    /// The length of the snapshot in the file in use, in bytes.
+    pub fn snapshot_len(&self) -> u64
+        ensures value { result ≡ self.now.snapshot_len }
+        ensures content { D.honest self.now.a → D.honest self.now.b → self.now.is_spent ≡ false
+            → length self.now.content.snapshot ≡ result }
+    {
+        self.snapshot_len
+    }
+
     /// Whether a disk failed. Every later `append` and `checkpoint` then answers `DiskFault`: open the files again.
     pub fn is_spent(&self) -> bool
         ensures value { result ≡ self.now.is_spent }
@@ -317,7 +349,9 @@ impl<D: Disk> Journal<D> {
             layout: _,
             generation: _,
             base: _,
+            snapshot_len: _,
             count: _,
+            bytes: _,
             buffer: _,
             spent: _,
         } = self;
@@ -342,6 +376,7 @@ fn opened_journal<D: Disk>(opened: Opened, swapped: bool, a: D, b: D) -> (Journa
     requires in_use { D.honest a → D.honest b → IsKept (D.content (at_place swapped a b)) (D.content (at_place swapped b a))
         (D.history (at_place swapped a b)) (D.history (at_place swapped b a)) opened.file.end opened.file.layout opened.file.generation
         opened.file.base (length opened.file.stored.records) }
+    requires says { D.honest a → D.honest b → content_in (D.content (at_place swapped a b)) ≡ content_read opened.file }
     ensures a { result.0.a ≡ a }
     ensures b { result.0.b ≡ b }
     ensures numbers { HasNumbersOf opened.file result.0 }
@@ -359,6 +394,7 @@ fn opened_journal<D: Disk>(opened: Opened, swapped: bool, a: D, b: D) -> (Journa
         end,
     } = file;
     let (here, there) = placed(swapped, a, b);
+    let snapshot_len = stored.snapshot().len();
     let journal = Journal {
         here,
         there,
@@ -367,7 +403,9 @@ fn opened_journal<D: Disk>(opened: Opened, swapped: bool, a: D, b: D) -> (Journa
         layout,
         generation,
         base,
+        snapshot_len: snapshot_len as u64,
         count: stored.record_count() as u64,
+        bytes: (end - HEAD_LEN - snapshot_len) as u64,
         buffer,
         spent: false,
     };

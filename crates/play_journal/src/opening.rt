@@ -1,5 +1,5 @@
 // Opening two files that a crash may have left.
-ghost use Rattle.std.specs.Prelude.{◌≡◌, ◌≢◌, ◌⊎◌, ◌↔◌, ◌+◌, ◌-◌, ◌^◌, ◌<◌, ◌≤◌, Bool, List, ◌++◌, length, take, flat_map, vec_capacity};
+ghost use Rattle.std.specs.Prelude.{◌≡◌, ◌≢◌, ◌⊎◌, ◌↔◌, ◌+◌, ◌-◌, ◌^◌, ◌<◌, ◌≤◌, Bool, List, ◌++◌, length, take, vec_capacity};
 ghost use Rattle.std.specs.Prelude.{Err, OnOk, OnErr, IfOk, IfErr, Ok};
 ghost use Rattle.disk_model.specs.Faults.{HasGrown};
 ghost use Rattle.disk_model.specs.Images.{window, settled};
@@ -7,7 +7,6 @@ ghost use Rattle.disk_model.specs.Later.{IsLater, AreLater, HasFailed};
 ghost use Rattle.disk_model.specs.Moments.{AllSince};
 ghost use Rattle.play_journal.specs.Calls.{SameFaults};
 ghost use Rattle.play_journal.specs.Errors.{IsRefusalOfOpen};
-ghost use Rattle.play_journal.specs.File.{gated};
 ghost use Rattle.play_journal.specs.Opening.{told_front, chosen_file, ReadsSame, KeepsFile, IsCause};
 ghost use Rattle.play_journal.specs.Pair.{told, reading};
 ghost use Rattle.play_journal.specs.Reading.{Open, front, read};
@@ -93,7 +92,6 @@ fn open_file<D: Disk>(alloc: Global, disk: &mut D) -> Result<Opened, JournalErro
     ensures ready { IfOk result (λ r. IsReady (vec_capacity r.buffer) r.file) }
     ensures opened { D.honest disk.old
         → IfOk result (λ r. IsReadAndCut (D.content disk.old) (D.content disk.new) (D.history disk.new) r.file) }
-    ensures end { IfOk result (λ r. r.file.end ≡ 32 + length r.file.stored.snapshot + length (flat_map gated r.file.stored.records)) }
     ensures cause { D.honest disk.old → IfErr result (IsCause (told (read (D.content disk.old)))) }
     ensures refusal { IfErr result IsRefusalOfOpen }
     ensures any_moment { D.honest disk.old → window (D.history disk.old) ≡ settled (D.content disk.old) → (generation : _)

@@ -73,7 +73,7 @@ returns-in_ok-open_file-clause-opened g c = λ a b.
     let fits = bytes_fit (g.D.Disk.content c.file_in_use.new.b) (g.met.D.Disk.content_is_image c.file_in_use.new.b honest').bytes in
     let found = c.in_ok-open_file.ensures.opened honest' in
     let is : read (g.D.Disk.content c.file_in_use.new.b) ≡ Ok content = found.read in
-    let end : c.in_ok-open_file.field-0.file.end ≡ gate_of content = c.in_ok-open_file.ensures.end in
+    let end : c.in_ok-open_file.field-0.file.end ≡ gate_of content = c.in_ok-open_file.ensures.ready.end in
     let other : (g.D.Disk.content c.file_in_use.new.a) ≡ (g.D.Disk.content c.args.a.now) = c.in_ok-file_in_use.ensures.content.a a in
     let below = front_below newer.generation (g.D.Disk.content c.args.a.now) (bytes_fit (g.D.Disk.content c.args.a.now)
     (g.met.D.Disk.content_is_image c.args.a.now a).bytes) newer.below in
@@ -149,7 +149,7 @@ returns-in_ok-open_file-2-clause-opened g c = λ a b.
     let fits = bytes_fit (g.D.Disk.content c.file_in_use.new.a) (g.met.D.Disk.content_is_image c.file_in_use.new.a honest').bytes in
     let found = c.in_ok-open_file-2.ensures.opened honest' in
     let is : read (g.D.Disk.content c.file_in_use.new.a) ≡ Ok content = found.read in
-    let end : c.in_ok-open_file-2.field-0.file.end ≡ gate_of content = c.in_ok-open_file-2.ensures.end in
+    let end : c.in_ok-open_file-2.field-0.file.end ≡ gate_of content = c.in_ok-open_file-2.ensures.ready.end in
     let other : (g.D.Disk.content c.file_in_use.new.b) ≡ (g.D.Disk.content c.args.b.now) = c.in_ok-file_in_use.ensures.content.b b in
     let below = front_below newer.generation (g.D.Disk.content c.args.b.now) (bytes_fit (g.D.Disk.content c.args.b.now)
     (g.met.D.Disk.content_is_image c.args.b.now b).bytes) newer.below in

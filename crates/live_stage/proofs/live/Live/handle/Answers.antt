@@ -1,13 +1,15 @@
-use Rattle.std.proofs.Common.{rules, ◌≡◌, ℕ, List, false, Option, Some, None, sym, ap, subst, ◌∙◌, arith}
+use Rattle.std.proofs.Common.{rules, ◌≡◌, ◌≤◌, ℕ, List, length, false, Option, Some, None, sym, ap, subst, ◌∙◌, arith}
 use Rattle.state_codec.specs.declared.op.Op.{Op}
+use Rattle.live_stage.specs.Numbers.{longest_record, record_bytes}
 use Rattle.live_stage.specs.Turns.{recorded_content}
 use Rattle.std.specs.List.{AllByRecursion}
 use Rattle.state_codec.specs.Ops.{IsOp}
 use Rattle.state_codec.specs.Applied.{all_applied}
+use Rattle.state_codec.specs.Spelling.{ops_bytes}
 use Rattle.daemon_core.specs.State.{State}
 use Rattle.daemon_core.specs.Step.{Stepped, step}
 use Rattle.live_stage.proofs.FoundLaws.{find_now, find_still, find_either, find_after, content_after, content_recorded}
-use Rattle.live_stage.proofs.TurnLaws.{still_in_file, no_call_made}
+use Rattle.live_stage.proofs.TurnLaws.{still_in_file, no_call_made, record_short}
 use Rattle.live_stage.proofs.live.Live.handle.Goals as goal
 
 pub returns-in-Err-clause-any_moment : goal.returns-in-Err-clause-any_moment
@@ -24,6 +26,7 @@ returns-in-Err-clause-any_moment g c =
           c.self.inside.journal.content c.self.inside.core.machine.saved (c.is_spent-spent.ensures.kept ha hb usable)
           (c.self.invariant.2 usable ha hb);
       content = tt;
+      short = tt;
     })
 
 pub returns-in_err-number-clause-any_moment : goal.returns-in_err-number-clause-any_moment
@@ -48,6 +51,7 @@ returns-in_err-number-clause-any_moment g c =
       );
       kept = search rules;
       content = search rules;
+      short = search rules;
     })
 
 pub invariant_of-self-2 : goal.invariant_of-self-2
@@ -111,6 +115,8 @@ returns-clause-any_moment g c =
           (content_recorded c.self.inside.journal.content c.record_ops.new.journal.content c.deref.result.now
           (λ e. ap (λ j. j.content) (c.record_ops.ensures.none e).1)
           (λ some. let held = (c.in_ok-number.ensures.any_moment some ha hb).kept in held.says));
+      short = subst (λ (ops : List Op). record_bytes ops ≤ longest_record) ops_are (record_short c.deref.result.now
+          (omega (arith, c.in-Ok.ensures.fits, ap (λ (ops : List Op). length (ops_bytes ops)) c.deref.ensures.value)));
     })
 
 pub returns-in-Err-clause-file : goal.returns-in-Err-clause-file

@@ -1,7 +1,7 @@
 use Rattle.std.proofs.Common.{◌≡◌, ℕ, ◌+◌, false, Some, sym, ap, ◌∙◌}
 use Rattle.daemon_core.specs.State.{State}
 use Rattle.live_stage.specs.Turns.{is_old, migrated}
-use Rattle.live_stage.proofs.StartLaws.{file_is}
+use Rattle.live_stage.proofs.TurnLaws.{file_is}
 use Rattle.live_stage.proofs.OpeningLaws.{numbers_on, last_is}
 use Rattle.live_stage.proofs.live.Live.over.Goals as goal
 
@@ -22,7 +22,7 @@ returns-clause-over g c = λ ha hb.
         kept = c.is_spent-spent.ensures.kept ha' hb' usable;
         layout = last.layout ∙ c.in-Ok.ensures.layout.0;
         state = c.in-Ok.ensures.stands ha hb ∙ ap (λ (s : State). Some s.machine.saved) (sym c.new.ensures);
-        file = file_is now.content now.count now.generation last.count last.generation;
+        file = file_is now last;
         numbered = last_is now.content now.base now.count last.base last.count last.last;
       };
       told = c.in-Ok.ensures.told ∙ ap (λ (n : ℕ). is_old n) (sym first.layout);

@@ -5,7 +5,6 @@ use Rattle.daemon_core.specs.declared.event.Event.{Event}
 use Rattle.live_stage.specs.Transcript.{history_of}
 use Rattle.live_stage.proofs.RunLaws.{IsRunSoFar, IsTurnMade, begins, fails_on, goes_on, run_finds, run_replies, file_goes_on}
 use Rattle.live_stage.proofs.RunLaws.{replayed_from_start}
-use Rattle.live_stage.proofs.TurnLaws.{still_in_file}
 use Rattle.live_stage.proofs.live.Live.run.Given.{Over}
 use Rattle.live_stage.proofs.live.Live.run.Goals as goal
 
@@ -126,6 +125,3 @@ returns-clause-later g c =
       a = record { honesty = r.honest_a; done = r.continues_a; counted = c.loop-event.invariant.later_a };
       b = record { honesty = r.honest_b; done = r.continues_b; counted = c.loop-event.invariant.later_b };
     }
-
-pub returns-in-Err-clause-file : goal.returns-in-Err-clause-file
-returns-in-Err-clause-file g c = λ room. still_in_file c.args.self.now

@@ -1,8 +1,10 @@
-use Rattle.std.proofs.Common.{◌≡◌, ◌∙◌, ◌+◌, ◌^◌, ◌<◌, ◌≤◌, [], ◌∷◌, ◌++◌, ℕ, List, Some, length, arith, sym, subst}
+use Rattle.std.proofs.Common.{◌≡◌, ◌∙◌, ◌+◌, ◌^◌, ◌<◌, ◌≤◌, [], ◌∷◌, ◌++◌, ℕ, List, Some, length, arith, ap, sym, subst}
 use Rattle.std.specs.Int.{w32, to_le_bytes}
-use Rattle.play_journal.specs.Content.{IsBeforeOrAfter, with_record}
-use Rattle.play_journal.specs.JournalState.{content_in, IsInUse, IsKept}
+use Rattle.play_journal.specs.Content.{Content, IsBeforeOrAfter, with_record}
+use Rattle.play_journal.specs.File.{records_len}
+use Rattle.play_journal.specs.JournalState.{content_in, IsInUse, IsKept, IsMeasured}
 use Rattle.play_journal.proofs.InUseLaws.{first_since, second_since, longer_in_use, longer_content}
+use Rattle.play_journal.proofs.MeasureLaws.{measured_more, records_len-more, records_within}
 use Rattle.play_journal.proofs.PlaceLaws.{honest_both, kept_now, added_since, still_since, before_or_after, later_here}
 use Rattle.play_journal.proofs.journal.Journal.append.Goals as goal
 
@@ -68,11 +70,12 @@ returns-in-Err-clause-any_moment g c = rw (← c.self.view_is) (λ a b usable.
     (second_since here there j.end j.layout j.generation j.base j.count kept.in_use body added is_added short number (g.D.Disk.history j.here)
     (g.D.Disk.history c.append_at.new.disk) (g.D.Disk.history j.there) kept.there_settled since))
 
-after : (g : _) (c : goal.After-self-in-Ok-1 g) → g.D.Disk.honest c.self.inside.here → g.D.Disk.honest c.self.inside.there
+after : (g : _) (c : goal.After-self-in-Ok-2-1 g) → g.D.Disk.honest c.self.inside.here → g.D.Disk.honest c.self.inside.there
     → IsKept (g.D.Disk.content c.append_at.new.disk) (g.D.Disk.content c.self.inside.there) (g.D.Disk.history c.append_at.new.disk)
     (g.D.Disk.history c.self.inside.there) c.saturating_add-self-inside.result c.self.inside.layout c.self.inside.generation c.self.inside.base
     (c.self.inside.count + 1)
     × (content_in (g.D.Disk.content c.append_at.new.disk) ≡ with_record (content_in (g.D.Disk.content c.self.inside.here)) c.args.body.now)
+    × IsMeasured (content_in (g.D.Disk.content c.append_at.new.disk)) c.self.inside.snapshot_len c.saturating_add-self-inside-in-Ok.result
 after g c first second =
     let j = c.self.inside in
     let here = g.D.Disk.content j.here in
@@ -88,23 +91,31 @@ after g c first second =
     (g.D.Disk.content c.append_at.new.disk) written in
     let small = g.met.D.Disk.length_fits c.append_at.new.disk (c.append_at.ensures.later.honesty.0 first) in
     let end : c.saturating_add-self-inside.result ≡ j.end + 5 + length body =
-    omega (arith, c.saturating_add-self-inside.ensures, used.ends) in (
+    omega (arith, c.saturating_add-self-inside.ensures, used.ends) in
+    let content_is = longer_content here there j.end j.layout j.generation j.base j.count kept.in_use body added is_added short number
+    (g.D.Disk.content c.append_at.new.disk) written in
+    let was = c.self.invariant.3 c.if-self.false first second in
+    let within = records_within (g.D.Disk.content c.append_at.new.disk) there _ _ _ _ _ used in
+    let grown = ap (λ (k : Content). records_len k.records) content_is ∙ records_len-more (content_in here).records body in
+    let more : c.saturating_add-self-inside-in-Ok.result ≡ j.bytes + (5 + length body) =
+    omega (arith, c.saturating_add-self-inside-in-Ok.ensures, within, grown, was.records) in (
       record {
         here_settled = c.in-Ok.ensures.settled first kept.in_use.ends;
         there_settled = kept.there_settled;
         in_use = subst (λ (n : ℕ). IsInUse (g.D.Disk.content c.append_at.new.disk) there n j.layout j.generation j.base (j.count + 1))
             (sym end) used;
       },
-      longer_content here there j.end j.layout j.generation j.base j.count kept.in_use body added is_added short number
-          (g.D.Disk.content c.append_at.new.disk) written,
+      content_is,
+      measured_more (content_in here) (content_in (g.D.Disk.content c.append_at.new.disk)) body j.snapshot_len j.bytes
+          c.saturating_add-self-inside-in-Ok.result content_is was more,
     )
 
 pub invariant_of-self : goal.invariant_of-self
 invariant_of-self g c = (
   omega (arith, c.self.invariant.0, c.put_record.ensures.room),
   omega (arith, c.self.invariant.1),
-  λ usable a b. (after g c
-      (c.append_at.ensures.later.honesty.1 a) b).0,
+  λ usable a b. (after g c (c.append_at.ensures.later.honesty.1 a) b).0,
+  λ usable a b. (after g c (c.append_at.ensures.later.honesty.1 a) b).2,
 )
 
 pub returns-in-Ok-clause-kept : goal.returns-in-Ok-clause-kept

@@ -7,6 +7,7 @@ use Rattle.play_journal.specs.JournalState.{content_in, IsKept}
 use Rattle.play_journal.specs.Laying.{IsLaidDown}
 use Rattle.play_journal.proofs.CheckpointLaws.{first_laid, second_laid, next_kept, next_content}
 use Rattle.play_journal.proofs.HeadLaws.{length-head}
+use Rattle.play_journal.proofs.MeasureLaws.{new_measured}
 use Rattle.play_journal.proofs.PlaceLaws.{honest_both, kept_now, still_since, other_since, swapped_since, old_or_new}
 use Rattle.play_journal.proofs.journal.Journal.checkpoint.Goals as goal
 
@@ -106,8 +107,13 @@ done g c first second =
     )
 
 pub invariant_of-self-2 : goal.invariant_of-self-2
-invariant_of-self-2 g c = rw (c.swap.ensures.x_after, c.swap.ensures.y_after)
-    (c.self.invariant.0, omega (arith, c.self.invariant.1), λ usable a b. (done g c b (c.lay_down.ensures.later.honesty.1 a)).0)
+invariant_of-self-2 g c = rw (c.swap.ensures.x_after, c.swap.ensures.y_after) (
+  c.self.invariant.0,
+  omega (arith, c.self.invariant.1),
+  λ usable a b. (done g c b (c.lay_down.ensures.later.honesty.1 a)).0,
+  λ usable a b. new_measured (content_in (g.D.Disk.content c.self.inside.here)) (content_in (g.D.Disk.content c.lay_down.new.disk))
+      c.args.snapshot.now (done g c b (c.lay_down.ensures.later.honesty.1 a)).1,
+)
 
 pub returns-clause-kept : goal.returns-clause-kept
 returns-clause-kept g c = rw (← c.self.view_is, c.swap.ensures.x_after, c.swap.ensures.y_after) (λ a b.

@@ -4,6 +4,7 @@ use Rattle.std.proofs.lemmas.Bool.{cases_lt}
 use Rattle.play_journal.specs.Content.{fresh, present_layout}
 use Rattle.play_journal.specs.JournalState.{content_in, IsKept}
 use Rattle.play_journal.proofs.InUseLaws.{laid_content, fresh_kept}
+use Rattle.play_journal.proofs.MeasureLaws.{fresh_measured}
 use Rattle.play_journal.proofs.PlaceLaws.{kept_now}
 use Rattle.play_journal.proofs.journal.Journal.create.Goals as goal
 
@@ -34,8 +35,9 @@ pub invariant_of-result : goal.invariant_of-result
 invariant_of-result g c = (
   c.in-Ok.ensures.room,
   lit< tt,
-  λ usable a b. (written g c (c.fresh_journal.ensures.later.a.honesty.1 a)
-      (c.fresh_journal.ensures.later.b.honesty.1 b)).0,
+  λ usable a b. (written g c (c.fresh_journal.ensures.later.a.honesty.1 a) (c.fresh_journal.ensures.later.b.honesty.1 b)).0,
+  λ usable a b. fresh_measured _ c.args.snapshot.now
+      (written g c (c.fresh_journal.ensures.later.a.honesty.1 a) (c.fresh_journal.ensures.later.b.honesty.1 b)).1,
 )
 
 pub returns-in-Ok-clause-kept : goal.returns-in-Ok-clause-kept

@@ -19,5 +19,6 @@ returns-clause-numbers g c = rw (← c.self.view_is) (λ a b usable.
       generation = kept_generation _ _ _ _ j.end j.layout j.generation j.base j.count kept;
       base = kept_base _ _ _ _ j.end j.layout j.generation j.base j.count kept;
       count = kept_count _ _ _ _ j.end j.layout j.generation j.base j.count kept;
+      measured = c.self.invariant.3 usable honest.0 honest.1;
       last = c.self.invariant.1;
     })

@@ -1,0 +1,87 @@
+"""A daemon with little memory: what it wrote under a limit of its address space it opens under the same one, and a checkpoint that finds no
+memory keeps nobody from being served."""
+
+import os
+import resource
+
+from consoles import Journal
+from daemons import Daemon, check, limited, put_song, update
+
+# The limit, in bytes, and how many command lists are kept under it, which are longer together.
+MEMORY, LISTS = 100_000_000, 60
+# Of each list so many commands, each with a value of so many bytes.
+COMMANDS, LENGTH = 500, 4096
+# Room for what an event takes, and none for a checkpoint of all values.
+SPARE = 8_000_000
+
+
+def value_of(number, place):
+    return f"{number}-{place}-{'x' * (LENGTH - 20)}"
+
+
+def values_of(number):
+    """Commands of one list, by the number of the list: each sets the sticker to another value."""
+    return [f"sticker set song a.wav last {value_of(number, it)}" for it in range(COMMANDS)]
+
+
+def stickers_of(number):
+    """Commands of one list, each of which sets a sticker of its own."""
+    return [f"sticker set song a.wav name-{number}-{it} {'x' * LENGTH}" for it in range(COMMANDS)]
+
+
+def in_one_list(commands):
+    return "\n".join(["command_list_begin", *commands, "command_list_end"])
+
+
+def with_a_song(program, folder, limits=()):
+    daemon = Daemon(program, folder).create()
+    put_song(daemon, "a.wav", [0] * 100)
+    daemon.start(limits)
+    update(daemon.client())
+    return daemon
+
+
+def opens_what_it_wrote(program, folder):
+    """Command lists of two million bytes change one value again and again. All that is kept of them is opened under the limit under which
+    it was written."""
+    limits = [(resource.RLIMIT_AS, MEMORY)]
+    with with_a_song(program, folder, limits) as daemon:
+        with daemon.client() as client:
+            for number in range(LISTS):
+                client.do(in_one_list(values_of(number)))
+        daemon.kill()
+        daemon.start(limits)
+        with daemon.client() as client:
+            found = client.value("sticker get song a.wav last", "sticker")
+            check("the last value", found, f"last={value_of(LISTS - 1, COMMANDS - 1)}")
+            client.do("setvol 41")
+
+
+def used(process):
+    """How many bytes of addresses a process uses."""
+    with open(f"/proc/{process.pid}/statm", encoding="ascii") as file:
+        return int(file.read().split()[0]) * resource.getpagesize()
+
+
+def serves_without_a_checkpoint(program, folder):
+    """A checkpoint is due and finds no memory: events are served and kept all the same, and it is made once there is some."""
+    with with_a_song(program, folder) as daemon:
+        with daemon.client() as client:
+            for number in range(20):
+                client.do(in_one_list(stickers_of(number)))
+        daemon.kill()
+        journal = Journal(f"{folder}/a", f"{folder}/b")
+        journal.fill(5, 40)
+        was = journal.in_use()
+        with daemon.start(), daemon.client() as client:
+            with limited(daemon.process, resource.RLIMIT_AS, used(daemon.process) + SPARE):
+                for volume in range(50, 70):
+                    client.do(f"setvol {volume}")
+                check("the volume", client.value("status", "volume"), "69")
+                check("the file in use", journal.in_use(), was)
+            client.do("ping")
+            check("the file in use", journal.in_use() == was, False)
+            check("records", journal.records(), 0)
+        daemon.kill()
+        with daemon.start(), daemon.client() as client:
+            check("the volume", client.value("status", "volume"), "69")
