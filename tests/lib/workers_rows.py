@@ -23,6 +23,8 @@ COMMANDS = ["ping", "status", "setvol 40", "addid a.wav", "play 0", "stop", "res
 EVENTS = ["serve 0 connect 3", "serve 0 gone 2", "serve 0 gone 1"]
 REPORTS = ["1 fed 1 1000", "1 fed 9 1", "1 ended 1", "1 broken 1 source", "2 drop 2 a.wav", "2 done 2", "2 done 9"]
 OTHERS = ["collect", "order", "scan_order", "job", "play_once 1 1 0 50 a.wav", "play_once 1 7 4096 100 a.wav", "play_once 1 1 0 50 b.wav"]
+# Orders of the player whose pieces are WAVE files of their own, and the line before them.
+WAVE, PIECES = "player form wave", OTHERS[-3:]
 # By this line is seen what a scan leaves that reads nothing.
 SCAN, NOTHING_READ = "scan_once 2", "report 2 done 2"
 
@@ -30,8 +32,8 @@ SCAN, NOTHING_READ = "scan_once 2", "report 2 done 2"
 class Entered(refused_rows.Line):
     """A line of workers_driver. What is there is what the passes, the looks, the output and some events behind it tell."""
 
-    def __init__(self, program, line):
-        self.program, self.front, self.line, self.name = program, BEGINNING, line, f"workers: {line}"
+    def __init__(self, program, line, *last):
+        self.program, self.front, self.line, self.name = program, [*BEGINNING, *last], line, " ".join(["workers:", line, *last])
 
     def begin(self, place):
         """Runs it with memory enough; the numbers of its allocations. They are looked at while the driver waits for its next line."""
@@ -86,4 +88,5 @@ class Entered(refused_rows.Line):
 def rows(program):
     """Each row, by its name."""
     lines = [*(f"serve 0 line 1 {it}" for it in COMMANDS), *EVENTS, *(f"report {it}" for it in REPORTS), *OTHERS, SCAN]
-    return {row.name: row for row in (Entered(program, it) for it in lines)}
+    entered = [*(Entered(program, it) for it in lines), *(Entered(program, it, WAVE) for it in PIECES)]
+    return {row.name: row for row in entered}

@@ -1,2 +1,7 @@
-pub mod Appending
 pub mod Answering
+pub mod Appending
+pub mod OrderedFrames
+pub mod OwnFiles
+pub mod Pieces
+pub mod Samples
+pub mod Supported

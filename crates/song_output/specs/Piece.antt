@@ -9,6 +9,7 @@ use Rattle.player_core.specs.declared.failure.BrokenCause.TheVariants.{Source, O
 use Rattle.song_output.specs.declared.piece.Piece.{Piece}
 use Rattle.song_output.specs.declared.piece.Piece.TheVariants.{Written, Failed}
 use Rattle.song_output.specs.declared.open_song.OpenSong.{OpenSong}
+use Rattle.song_output.specs.declared.output.Form.{Form}
 use Rattle.song_output.specs.OpenSong.{IsPlayedTo}
 use Rattle.song_output.specs.Sound.{frames_given, sound_from, ordered_sound}
 
@@ -20,34 +21,35 @@ AppendsFront before after bytes = (n : ℕ) × Appends before after (take n byte
 abbrev pub AppendsPart : Option (List ℕ) → Option (List ℕ) → List ℕ → Type 0
 AppendsPart before after bytes = (n : ℕ) × (n < length bytes) × Appends before after (take n bytes)
 
--- The ordered frames that a file with this head has were written, all of them, up to 4,096; this is their count, and the last of
--- the file is reached where none follows them.
-pub record IsWhole (file : List ℕ) (info : WaveInfo) (order : PlayOrder) (before after : Option (List ℕ))
+-- The ordered frames that a file with this head has were written in this form, all of them, up to 4,096; this is their count, and
+-- the last of the file is reached where none follows them.
+pub record IsWhole (form : Form) (file : List ℕ) (info : WaveInfo) (order : PlayOrder) (before after : Option (List ℕ))
     (count : ℕ) (is_last : Bool) : Type 0 where
-  pub sound : Appends before after (sound_from file info order.first_frame order.volume)
+  pub sound : Appends before after (sound_from form file info order.first_frame order.volume)
   pub frames : count ≡ frames_given info order.first_frame
   pub last : is_last ≡ nat_le info.frames (order.first_frame + count)
 
 -- what the output got of such a file, by what is answered: nothing where it can't be read
-abbrev pub IsPlayed : List ℕ → WaveInfo → PlayOrder → Option (List ℕ) → Option (List ℕ) → Piece → Type 0
-IsPlayed file info order before after (Written count is_last) = IsWhole file info order before after count is_last
-IsPlayed file info order before after (Failed Source) = Keeps before after
-IsPlayed file info order before after (Failed Output) =
-    AppendsPart before after (sound_from file info order.first_frame order.volume)
+abbrev pub IsPlayed : Form → List ℕ → WaveInfo → PlayOrder → Option (List ℕ) → Option (List ℕ) → Piece → Type 0
+IsPlayed form file info order before after (Written count is_last) = IsWhole form file info order before after count is_last
+IsPlayed form file info order before after (Failed Source) = Keeps before after
+IsPlayed form file info order before after (Failed Output) =
+    AppendsPart before after (sound_from form file info order.first_frame order.volume)
 
 -- the same of the file at the order's URI, by the reading of its head
-pub record IsWritten (files : List File) (order : PlayOrder) (before after : Option (List ℕ)) (count : ℕ) (is_last : Bool) : Type 0 where
+pub record IsWritten (form : Form) (files : List File) (order : PlayOrder) (before after : Option (List ℕ))
+    (count : ℕ) (is_last : Bool) : Type 0 where
   pub file : List ℕ
   pub info : WaveInfo
   pub found : bytes_at files order.uri ≡ Some file
   pub head : wave_reading file ≡ Ok info
-  pub whole : IsWhole file info order before after count is_last
+  pub whole : IsWhole form file info order before after count is_last
 
 -- what the output got of these files, by what is answered
-abbrev pub IsAnswer : List File → PlayOrder → Option (List ℕ) → Option (List ℕ) → Piece → Type 0
-IsAnswer files order before after (Written count is_last) = IsWritten files order before after count is_last
-IsAnswer files order before after (Failed Source) = Keeps before after
-IsAnswer files order before after (Failed Output) = AppendsPart before after (ordered_sound files order)
+abbrev pub IsAnswer : Form → List File → PlayOrder → Option (List ℕ) → Option (List ℕ) → Piece → Type 0
+IsAnswer form files order before after (Written count is_last) = IsWritten form files order before after count is_last
+IsAnswer form files order before after (Failed Source) = Keeps before after
+IsAnswer form files order before after (Failed Output) = AppendsPart before after (ordered_sound form files order)
 
 -- the song that is open afterwards, by what is answered, whatever the folder is: none after a failure
 abbrev pub IsLeft : {S : Type 0} → PlayOrder → Option (OpenSong S) → Piece → Type 0

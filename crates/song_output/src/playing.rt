@@ -11,6 +11,7 @@ ghost use Rattle.song_output.specs.Sound.{HasNoSound, ordered_sound};
 use crate::gate::Gate;
 use crate::open_song::{OpenSong, OrderKind, order_kind};
 use crate::opening::open_song;
+use crate::output::SoundOutput;
 use crate::piece::{MAX_FRAMES, Piece};
 use crate::reading::read_sound;
 use crate::writing::write_bytes;
@@ -55,22 +56,24 @@ fn play_open<S: Source, G: Gate, W: Write>(
     alloc: Global,
     song: &mut OpenSong<S>,
     gate: &G,
-    output: &mut W,
+    output: &mut SoundOutput<W>,
     order: &PlayOrder,
 ) -> Result<Piece, NoMemory>
     ensures played { S.honest song.old.source → HasFrames song.old.info (S.bytes song.old.source) → IfOk result (IsPlayed
-        (S.bytes song.old.source) song.old.info order.now (W.contents output.old) (W.contents output.new)) }
+        output.old.form (S.bytes song.old.source) song.old.info order.now
+        (W.contents output.old.writer) (W.contents output.new.writer)) }
     ensures source { S.honest song.old.source → HasFrames song.old.info (S.bytes song.old.source) → S.steady song.old.source →
         result ≡ Ok (Piece.Failed BrokenCause.Source) → ⊥ }
-    ensures memory { OnErr result (Keeps (W.contents output.old) (W.contents output.new)) }
+    ensures memory { OnErr result (Keeps (W.contents output.old.writer) (W.contents output.new.writer)) }
+    ensures form { output.new.form ≡ output.old.form }
     ensures next_frame { IfOk result (IsMoved order.now song.new) }
     ensures rest { IsSameSong song.old song.new }
     ensures kept { S.honest song.old.source → KeepsSource S.bytes S.honest S.faults S.steady song.old.source song.new.source }
 {
-    let Some(sound) = read_sound(alloc, &mut song.source, &song.info, order)? else {
+    let Some(sound) = read_sound(alloc, &mut song.source, &song.info, output.form, order)? else {
         return Ok(Piece::Failed(BrokenCause::Source));
     };
-    if !write_bytes(output, gate, &sound) {
+    if !write_bytes(&mut output.writer, gate, &sound) {
         return Ok(Piece::Failed(BrokenCause::Output));
     }
     let left = song.info.frames.saturating_sub(order.first_frame);
@@ -83,7 +86,9 @@ fn play_open<S: Source, G: Gate, W: Write>(
 }
 
 /// Plays what was ordered: at most 4,096 frames of the song's file from the ordered one on, at the order's volume, which
-/// go to the output as 16-bit samples, the low byte first and those of a frame side by side.
+/// go to the output as 16-bit samples, the low byte first and those of a frame side by side. Where the output has the form
+/// `Wave`, a head of 44 bytes stands in front of each piece (RIFF WAVE 1.0), which makes it a WAVE file of its own with the
+/// song's rate and channels; a piece of no frames is no byte in either form.
 ///
 /// The song stays open for the next order. Where that goes on with it, nothing is opened and no head is read; where it
 /// goes back behind what was played, under the same ticket and URI, the song is at its end, and nothing is written. Any
@@ -99,23 +104,25 @@ pub fn play_piece<F: Folder, G: Gate, W: Write>(
     song: &mut Option<OpenSong<F::File>>,
     folder: &mut F,
     gate: &G,
-    output: &mut W,
+    output: &mut SoundOutput<W>,
     order: &PlayOrder,
 ) -> Result<Piece, NoMemory>
-    // What is written is a front of what was ordered, and all of it where frames are answered.
-    ensures front { F.honest folder.old → IsOpen F.File.bytes F.File.honest (F.files folder.old) song.old →
-        AppendsFront (W.contents output.old) (W.contents output.new) (ordered_sound (F.files folder.old) order.now) }
+    // What is written is a front of what was ordered, in the output's form, which stays; all of it where frames are answered.
+    ensures front { (output.new.form ≡ output.old.form) × (F.honest folder.old →
+        IsOpen F.File.bytes F.File.honest (F.files folder.old) song.old →
+        AppendsFront (W.contents output.old.writer) (W.contents output.new.writer)
+        (ordered_sound output.old.form (F.files folder.old) order.now)) }
     ensures played { F.honest folder.old → IsOpen F.File.bytes F.File.honest (F.files folder.old) song.old →
-        kind_of song.old order.now ≢ OrderKind.Ended →
-        IfOk result (IsAnswer (F.files folder.old) order.now (W.contents output.old) (W.contents output.new)) }
+        kind_of song.old order.now ≢ OrderKind.Ended → IfOk result (IsAnswer output.old.form (F.files folder.old) order.now
+        (W.contents output.old.writer) (W.contents output.new.writer)) }
     ensures ended { kind_of song.old order.now ≡ OrderKind.Ended → (result ≡ Ok (Piece.Written 0 true)) ×
-        Keeps (W.contents output.old) (W.contents output.new) × (song.new ≡ song.old) × (folder.new ≡ folder.old) }
+        Keeps (W.contents output.old.writer) (W.contents output.new.writer) × (song.new ≡ song.old) × (folder.new ≡ folder.old) }
 
     // A folder and a file that never fail have no such song.
     ensures refused { F.honest folder.old → IsOpen F.File.bytes F.File.honest (F.files folder.old) song.old →
         F.steady folder.old → IsSteady F.File.steady song.old → result ≡ Ok (Piece.Failed BrokenCause.Source) →
         HasNoSound (bytes_at (F.files folder.old) order.now.uri) }
-    ensures memory { OnErr result ((song.new ≡ None) × Keeps (W.contents output.old) (W.contents output.new)) }
+    ensures memory { OnErr result ((song.new ≡ None) × Keeps (W.contents output.old.writer) (W.contents output.new.writer)) }
 
     // The song stays open, and the next order makes no call of the folder.
     ensures left { kind_of song.old order.now ≢ OrderKind.Ended → IfOk result (IsLeft order.now song.new) }

@@ -1,34 +1,112 @@
 // The bytes of a piece, from an open file.
-ghost use Rattle.std.specs.Prelude.{◌≡◌, Ok, None, IfOk, IfSome};
-ghost use Rattle.wave_pcm.specs.Pcm.{HasFrames};
-ghost use Rattle.wave_pcm.specs.Source.{Keeps};
-ghost use Rattle.song_output.specs.Sound.{sound_from};
+ghost use Rattle.std.specs.Prelude.{◌≡◌, ◌+◌, ◌*◌, ◌%◌, ◌<◌, ◌≤◌, ◌^◌, ◌++◌, ℕ, length, map, replicate, slice_range, Ok, None, Some};
+ghost use Rattle.std.specs.Prelude.{IfOk, IfSome, OnOk, OnErr};
+ghost use Rattle.wave_pcm.specs.Pcm.{HasFrames, at_volume, frame_len, range_from, samples_in};
+ghost use Rattle.wave_pcm.specs.Source.{Grows, Keeps};
+ghost use Rattle.song_output.specs.Sound.{bytes_of, head_in, sound_from};
 
-use crate::encoding::encode;
+use crate::head::wave_head;
+use crate::output::Form;
 use crate::piece::MAX_FRAMES;
+use crate::scaling::scale_bytes;
 use no_memory::NoMemory;
-use player_core::PlayOrder;
-use std::alloc::Global;
-use wave_pcm::{Source, WaveError, WaveInfo, read_frames, scale};
+use player_core::{PlayOrder, Volume};
+use std::alloc::{AllocError, Global};
+use wave_pcm::{Source, SourceFault, WaveInfo};
 
-/// What an order asks for of a file; `None` where the source failed.
+/// The place of the samples of a piece, and how many bytes they take, if the frames that the head tells of stand before `end`.
+fn piece_range(info: &WaveInfo, from: u64, end: u64) -> Option<(u64, u64)>
+    ensures place { info.now.first_byte + frame_len info.now * info.now.frames ≤ end →
+        result ≡ Some (range_from info.now from 4096) }
+    ensures within { IfSome result (λ range. range.0 + range.1 ≤ end) }
+    ensures short { IfSome result (λ range. range.1 < 2 ^ 30) }
+    ensures whole { IfSome result (λ range. range.1 % 2 ≡ 0) }
+{
+    let frame_len = 2 * u64::from(info.channels);
+    let len = info.frames.checked_mul(frame_len)?;
+    let after = info.first_byte.checked_add(len)?;
+    if after > end {
+        return None;
+    }
+    let start = from.min(info.frames);
+    let count = (info.frames - start).min(MAX_FRAMES as u64);
+    Some((info.first_byte + frame_len * start, frame_len * count))
+}
+
+/// What stands in front of so many bytes of samples, and as many zeros behind it.
+fn blank_piece(alloc: Global, info: &WaveInfo, form: Form, len: u64) -> Result<Vec<u8>, AllocError>
+    requires { len < 2 ^ 30 }
+    ensures { IfOk result (λ bytes. bytes.items ≡ head_in form info.now len ++ replicate len 0) }
+{
+    let mut bytes = if form == Form::Wave && len > 0 {
+        wave_head(alloc, info, len)?
+    } else {
+        Vec::new(alloc)
+    };
+    let whole = bytes.len() + len as usize;
+    bytes.resize(whole, 0)?;
+    Ok(bytes)
+}
+
+/// Fills the buffer with the bytes from `at` on. A read that gives fewer bytes is followed by another; one that gives none is
+/// a fault.
+fn read_all<S: Source>(source: &mut S, at: u64, buffer: &mut [u8]) -> Result<(), SourceFault>
+    requires { at + length buffer.old < 2 ^ 64 }
+    ensures read { S.honest source.old → OnOk result (buffer.new ≡ slice_range (S.bytes source.old) at (at + length buffer.old)) }
+    ensures fault { S.honest source.old → at + length buffer.old ≤ length (S.bytes source.old) →
+        OnErr result (Grows (S.faults source.old) (S.faults source.new)) }
+    ensures kept { S.honest source.old → Keeps S.bytes S.honest S.faults S.steady source.old source.new }
+{
+    let mut filled = 0;
+    while filled < buffer.len() {
+        match source.read_at(at + filled as u64, &mut buffer[filled..]) {
+            Ok(count) if count > 0 => filled += count,
+            _ => return Err(SourceFault),
+        }
+    }
+    Ok(())
+}
+
+/// Fills the buffer with the samples from the byte `at` on, at a volume.
+fn read_scaled<S: Source>(
+    source: &mut S,
+    at: u64,
+    buffer: &mut [u8],
+    volume: Volume,
+) -> Result<(), SourceFault>
+    requires fits { at + length buffer.old < 2 ^ 64 }
+    requires whole { length buffer.old % 2 ≡ 0 }
+    ensures sound { S.honest source.old → OnOk result (buffer.new ≡ bytes_of (map (at_volume volume)
+        (samples_in (slice_range (S.bytes source.old) at (at + length buffer.old))))) }
+    ensures fault { S.honest source.old → at + length buffer.old ≤ length (S.bytes source.old) →
+        OnErr result (Grows (S.faults source.old) (S.faults source.new)) }
+    ensures kept { S.honest source.old → Keeps S.bytes S.honest S.faults S.steady source.old source.new }
+{
+    read_all(source, at, buffer)?;
+    scale_bytes(buffer, volume.percent());
+    Ok(())
+}
+
+/// What an order asks for of a file, in a form; `None` where the source failed.
 pub(crate) fn read_sound<S: Source>(
     alloc: Global,
     source: &mut S,
     info: &WaveInfo,
+    form: Form,
     order: &PlayOrder,
 ) -> Result<Option<Vec<u8>>, NoMemory>
     ensures sound { S.honest source.old → HasFrames info.now (S.bytes source.old) → IfOk result (λ sound. IfSome sound (λ bytes.
-        bytes.items ≡ sound_from (S.bytes source.old) info.now order.now.first_frame order.now.volume)) }
+        bytes.items ≡ sound_from form (S.bytes source.old) info.now order.now.first_frame order.now.volume)) }
     ensures none { S.honest source.old → HasFrames info.now (S.bytes source.old) → S.steady source.old → result ≡ Ok None → ⊥ }
     ensures kept { S.honest source.old → Keeps S.bytes S.honest S.faults S.steady source.old source.new }
 {
-    match read_frames(alloc, source, info, order.first_frame, MAX_FRAMES) {
-        Ok(mut samples) => {
-            scale(&mut samples, order.volume.percent());
-            Ok(Some(encode(alloc, &samples)?))
-        }
-        Err(WaveError::NoMemory) => Err(NoMemory),
+    let Some((first, len)) = piece_range(info, order.first_frame, source.len()) else {
+        return Ok(None);
+    };
+    let mut bytes = blank_piece(alloc, info, form, len)?;
+    let start = bytes.len() - len as usize;
+    match read_scaled(source, first, &mut bytes[start..], order.volume) {
+        Ok(()) => Ok(Some(bytes)),
         Err(_) => Ok(None),
     }
 }

@@ -1,10 +1,16 @@
 -- What the output got of an order.
-use Rattle.std.specs.Prelude.{ℕ, List, Option, IfSome}
+use Rattle.std.specs.Prelude.{◌≡◌, ℕ, List, Option, IfSome, IsSomeAnd}
 use Rattle.std.specs.Io.KnownBytes.{Appends}
 use Rattle.wave_pcm.specs.Folder.{File}
 use Rattle.player_core.specs.declared.order.PlayOrder.{PlayOrder}
+use Rattle.song_output.specs.declared.open_song.OpenSong.{OpenSong}
+use Rattle.song_output.specs.declared.output.Form.{Form}
 use Rattle.song_output.specs.Sound.{ordered_sound}
 
--- where a song stays open, all that was ordered of the files was written
-abbrev pub IsWholeIfOpen : {S : Type 0} → List File → PlayOrder → Option S → Option (List ℕ) → Option (List ℕ) → Type 0
-IsWholeIfOpen files order song before after = IfSome song (λ _. Appends before after (ordered_sound files order))
+-- where a song stays open, all that was ordered of the files was written, in the form of the output
+abbrev pub IsWholeIfOpen : {S : Type 0} → Form → List File → PlayOrder → Option S → Option (List ℕ) → Option (List ℕ) → Type 0
+IsWholeIfOpen form files order song before after = IfSome song (λ _. Appends before after (ordered_sound form files order))
+
+-- a song is open, and stands where it was ordered: no frame of it was written
+abbrev pub IsSilent : {S : Type 0} → Option (OpenSong S) → PlayOrder → Type 0
+IsSilent song order = IsSomeAnd song (λ s. s.next_frame ≡ order.first_frame)

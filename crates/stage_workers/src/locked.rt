@@ -43,6 +43,7 @@ impl<D: Disk, C: Ledger, P: Ledger, S: Ledger> Model for Locked<D, C, P, S> {
 }
 
 // Makes one turn, and counts it for the pass and in its book.
+#[tactic(auto, using(crate::proofs::EntryLaws::turn_counts, crate::proofs::EntryLaws::turn_is_last, crate::proofs::EntryLaws::one_counted))]
 pub(crate) fn counted_turn<D: Disk, C: Ledger, P: Ledger, S: Ledger>(
     live: &mut Live<D>,
     books: &mut Books<C, P, S>,

@@ -1,10 +1,10 @@
 // The player's thread: it plays what the stage orders, and reports what became of it.
-ghost use Rattle.std.specs.Prelude.{◌≡◌, ◌≢◌, ◌+◌, ◌≤◌, IfErr, MatchResult};
+ghost use Rattle.std.specs.Prelude.{◌≡◌, ◌≢◌, ◌+◌, ◌≤◌, ◌↔◌, IsTrue, IfErr, MatchResult};
 ghost use Rattle.song_output.specs.declared.open_song.OrderKind.{OrderKind};
 ghost use Rattle.song_output.specs.OpenSong.{kind_of, IsOpen};
 ghost use Rattle.song_output.specs.Piece.{AppendsFront};
 ghost use Rattle.song_output.specs.Sound.{ordered_sound};
-ghost use Rattle.stage_workers.specs.Played.{IsWholeIfOpen};
+ghost use Rattle.stage_workers.specs.Played.{IsSilent, IsWholeIfOpen};
 ghost use Rattle.stage_workers.specs.Working.{GoesOn, HasWorked, IsUndone};
 
 use crate::worker::{Report, Wake, Worker};
@@ -12,13 +12,16 @@ use crate::{Pass, SharedStage, StageError};
 use disk_model::Disk;
 use live_stage::LiveError;
 use player_core::{Order, PlayOrder};
-use song_output::{Gate, OpenSong, Piece, play_piece};
+use song_output::{Gate, OpenSong, Piece, SoundOutput, play_piece};
 use std::alloc::Global;
 use std::io::Write;
 use std::sync::Wait;
 use std::sync::ledger::Ledger;
 use std::time::Clock;
 use wave_pcm::Folder;
+
+// So many milliseconds pass before an order where the two before it wrote no frame.
+const SILENCE: u64 = 100;
 
 impl<D: Disk, C: Ledger, P: Ledger, S: Ledger> SharedStage<D, C, P, S> {
     // Waits for a song to be played, or for the end: none once the stage is closed. It looks and waits under one holding of the lock, so
@@ -65,7 +68,7 @@ pub fn play_once<
     pass: Pass<C, P, S>,
     gate: &G,
     folder: &mut F,
-    output: &mut W,
+    output: &mut SoundOutput<W>,
     song: &mut Option<OpenSong<F::File>>,
     order: &PlayOrder,
 ) -> Result<Pass<C, P, S>, (StageError, Pass<C, P, S>)>
@@ -73,16 +76,19 @@ pub fn play_once<
     ensures worked { MatchResult result (HasWorked pass) (λ e. GoesOn pass e.1) }
     ensures few { MatchResult result (λ p. p.share ≤ pass.share + 2) (λ e. e.1.share ≤ pass.share + 1) }
     ensures memory { IfErr result (λ e. e.0 ≡ StageError.NoMemory →
-        IsUndone pass e.1 song.new (W.contents output.old) (W.contents output.new)) }
+        IsUndone pass e.1 song.new (W.contents output.old.writer) (W.contents output.new.writer)) }
 
-    // What is written is a front of the ordered frames of the song's file, as bytes at the order's volume.
+    // What is written is a front of the ordered frames of the song's file, as bytes at the order's volume in the output's form.
     ensures front { F.honest folder.old → IsOpen F.File.bytes F.File.honest (F.files folder.old) song.old →
-        AppendsFront (W.contents output.old) (W.contents output.new) (ordered_sound (F.files folder.old) order.now) }
+        AppendsFront (W.contents output.old.writer) (W.contents output.new.writer)
+        (ordered_sound output.old.form (F.files folder.old) order.now) }
+    ensures form { output.new.form ≡ output.old.form }
 
     // All of them, where the song stays open and was not at its end before.
     ensures whole { F.honest folder.old → IsOpen F.File.bytes F.File.honest (F.files folder.old) song.old →
         kind_of song.old order.now ≢ OrderKind.Ended →
-        IsWholeIfOpen (F.files folder.old) order.now song.new (W.contents output.old) (W.contents output.new) }
+        IsWholeIfOpen output.old.form (F.files folder.old) order.now song.new
+        (W.contents output.old.writer) (W.contents output.new.writer) }
     ensures is_open { F.honest folder.old → IsOpen F.File.bytes F.File.honest (F.files folder.old) song.old →
         IsOpen F.File.bytes F.File.honest (F.files folder.new) song.new }
     ensures honest { F.honest folder.old → F.honest folder.new × (F.files folder.new ≡ F.files folder.old) }
@@ -120,10 +126,22 @@ fn report_written<D: Disk, C: Ledger, P: Ledger, S: Ledger, R: Wait + Clock, K: 
     worker.report(pass, &Report::Ended { ticket })
 }
 
+// Whether an order wrote no frame, by the song that it left open. One of a song that has grown, at the end of its row, counts as one that
+// wrote some: the order before it did.
+fn is_silent<S>(song: &Option<OpenSong<S>>, order: &PlayOrder) -> bool
+    ensures { IsTrue result ↔ IsSilent song.now order.now }
+{
+    match song {
+        Some(song) => song.next_frame == order.first_frame,
+        None => false,
+    }
+}
+
 /// Plays what is ordered until the stage is closed or refuses, and hands the pass back.
 ///
 /// Nothing is written while the lock is held, and nothing is kept behind the output: what a listener hears of an older order is at most
 /// the piece that was begun, and what the output itself holds. Where memory is wanting, for a look or in opening or reading, it looks anew.
+/// Where two orders in a row wrote no frame, as of songs without any, it pauses for 100 milliseconds before it looks for the next.
 pub fn player_worker<
     D: Disk,
     C: Ledger,
@@ -139,16 +157,24 @@ pub fn player_worker<
     pass: Pass<C, P, S>,
     gate: &G,
     folder: &mut F,
-    output: &mut W,
+    output: &mut SoundOutput<W>,
 ) -> Pass<C, P, S>
     ensures { GoesOn pass result }
 {
     let mut pass = pass;
     let mut song = None;
+    let mut last_two = (false, false);
     for _ in worker.rt.forever() {
+        if last_two == (true, true) {
+            worker.rest(SILENCE);
+        }
         let done = match worker.stage.next_order(worker.rt, worker.alloc) {
             Ok(None) => break,
-            Ok(Some(order)) => play_once(worker, pass, gate, folder, output, &mut song, &order),
+            Ok(Some(order)) => {
+                let done = play_once(worker, pass, gate, folder, output, &mut song, &order);
+                last_two = (last_two.1, is_silent(&song, &order));
+                done
+            }
             Err(LiveError::NoMemory) => Err((StageError::NoMemory, pass)),
             Err(_) => break,
         };

@@ -79,9 +79,14 @@ impl<D: Disk, C: Ledger, P: Ledger, S: Ledger, R: Wait + Clock, K: Wake> Worker<
     R,
     K,
 > {
+    // The thread does nothing for so many milliseconds. It holds no lock.
+    pub(crate) fn rest(&self, milliseconds: u64) {
+        thread::sleep(self.rt, Duration::from_millis(milliseconds));
+    }
+
     // A short time, in which memory may come back.
     pub(crate) fn pause(&self) {
-        thread::sleep(self.rt, Duration::from_millis(PAUSE));
+        self.rest(PAUSE);
     }
 
     // Reports once; where memory is wanting, also for the event itself, nothing was done.

@@ -5,7 +5,9 @@ use crate::assertions::{equal, same_bytes, uri};
 use crate::waves::WAVE_A;
 use no_memory::NoMemory;
 use player_core::{BrokenCause, PlayOrder, Volume};
-use song_output::{Gate, GatedFolder, OpenGate, OpenSong, Piece, Point, play_piece};
+use song_output::{
+    Form, Gate, GatedFolder, OpenGate, OpenSong, Piece, Point, SoundOutput, play_piece,
+};
 use std::alloc::Global;
 use std::cell::Cell;
 use std::io::{self, ErrorKind, Write};
@@ -110,16 +112,27 @@ struct Narrow {
     fails: bool,
 }
 
-impl Narrow {
-    fn new(alloc: Global, width: usize, failing: u64, fails: bool) -> Narrow {
-        Narrow {
-            taken: Vec::new(alloc),
-            width,
-            writes: 0,
-            failing,
-            fails,
-        }
-    }
+/// Such an output, in a form.
+fn output_of(
+    alloc: Global,
+    form: Form,
+    width: usize,
+    failing: u64,
+    fails: bool,
+) -> SoundOutput<Narrow> {
+    let writer = Narrow {
+        taken: Vec::new(alloc),
+        width,
+        writes: 0,
+        failing,
+        fails,
+    };
+    SoundOutput { writer, form }
+}
+
+/// The same without heads.
+fn bare(alloc: Global, width: usize, failing: u64, fails: bool) -> SoundOutput<Narrow> {
+    output_of(alloc, Form::Bare, width, failing, fails)
 }
 
 impl Write for Narrow {
@@ -238,7 +251,7 @@ fn play_order<F: Folder, G: Gate>(
     song: &mut Option<OpenSong<F::File>>,
     folder: &mut F,
     gate: &G,
-    output: &mut Narrow,
+    output: &mut SoundOutput<Narrow>,
     order: &PlayOrder,
 ) -> Result<Piece, NoMemory> {
     play_piece(alloc, song, folder, gate, output, order)
@@ -250,7 +263,7 @@ fn play<F: Folder, G: Gate>(
     song: &mut Option<OpenSong<F::File>>,
     folder: &mut F,
     gate: &G,
-    output: &mut Narrow,
+    output: &mut SoundOutput<Narrow>,
     order: &PlayOrder,
 ) -> Result<Played, NoMemory> {
     Ok(shown(play_order(alloc, song, folder, gate, output, order)?))
@@ -279,7 +292,7 @@ fn is_played(
     row: (&str, u64, Played),
 ) -> Result<(), Fail> {
     let (path, first, want) = row;
-    let mut output = Narrow::new(alloc, usize::MAX, NEVER, false);
+    let mut output = bare(alloc, usize::MAX, NEVER, false);
     let (mut folder, mut song) = (files.folder(alloc)?, None);
     let order = order(alloc, 1, path, first, 100)?;
     let played = play(
@@ -292,7 +305,7 @@ fn is_played(
     )?;
     equal(rt, (path, first, played), (path, first, want));
     let (count, _) = want.unwrap_or((0, false));
-    same_bytes(rt, &output.taken, files.sound(path, first, count));
+    same_bytes(rt, &output.writer.taken, files.sound(path, first, count));
     equal(rt, song.is_some(), want.is_ok());
     Ok(())
 }
@@ -317,7 +330,7 @@ const VOLUMES: [(u8, [u8; 4]); 3] = [
 fn pieces_at_volumes(rt: HostRuntime) -> Result<(), Fail> {
     let files = Files::new(rt.alloc())?;
     for (percent, want) in &VOLUMES {
-        let mut output = Narrow::new(rt.alloc(), usize::MAX, NEVER, false);
+        let mut output = bare(rt.alloc(), usize::MAX, NEVER, false);
         let (mut folder, mut song) = (files.folder(rt.alloc())?, None);
         let order = order(rt.alloc(), 1, "a.wav", 0, *percent)?;
         let played = play(
@@ -329,7 +342,7 @@ fn pieces_at_volumes(rt: HostRuntime) -> Result<(), Fail> {
             &order,
         )?;
         equal(&rt, played, Ok((2, true)));
-        same_bytes(&rt, &output.taken, want);
+        same_bytes(&rt, &output.writer.taken, want);
     }
     Ok(())
 }
@@ -357,7 +370,7 @@ fn played_on_without_an_opening(rt: HostRuntime) -> Result<(), Fail> {
         folder: files.folder(rt.alloc())?,
         gate: &counts,
     };
-    let mut output = Narrow::new(rt.alloc(), usize::MAX, NEVER, false);
+    let mut output = bare(rt.alloc(), usize::MAX, NEVER, false);
     let mut song = None;
     for (ticket, path, first, want, openings, reads) in &ORDERS {
         let before = counts.reads.get();
@@ -376,7 +389,11 @@ fn played_on_without_an_opening(rt: HostRuntime) -> Result<(), Fail> {
         equal(&rt, counts.reads.get().saturating_sub(before), *reads);
         equal(&rt, counts.reads_done.get(), counts.reads.get());
     }
-    same_bytes(&rt, &output.taken, files.sound("long.wav", 0, 10_000));
+    same_bytes(
+        &rt,
+        &output.writer.taken,
+        files.sound("long.wav", 0, 10_000),
+    );
     Ok(())
 }
 
@@ -385,7 +402,7 @@ fn play_whole<'a>(
     alloc: Global,
     song: &mut Option<OpenSong<FaultySource<'a>>>,
     folder: &mut Songs<'a>,
-    output: &mut Narrow,
+    output: &mut SoundOutput<Narrow>,
     ticket: u64,
     path: &str,
 ) -> Result<Played, Fail> {
@@ -405,7 +422,7 @@ fn play_whole<'a>(
 fn songs_one_after_the_other(rt: HostRuntime) -> Result<(), Fail> {
     let files = Files::new(rt.alloc())?;
     let (mut folder, mut song) = (files.folder(rt.alloc())?, None);
-    let mut output = Narrow::new(rt.alloc(), 1_000, NEVER, false);
+    let mut output = bare(rt.alloc(), 1_000, NEVER, false);
     let mut want = Vec::new(rt.alloc());
     for (ticket, path, count) in [
         (1, "short.wav", 700),
@@ -423,7 +440,7 @@ fn songs_one_after_the_other(rt: HostRuntime) -> Result<(), Fail> {
         equal(&rt, (ticket, played), (ticket, Ok((count, true))));
         want.extend_from_slice(files.sound(path, 0, count))?;
     }
-    same_bytes(&rt, &output.taken, &want);
+    same_bytes(&rt, &output.writer.taken, &want);
     equal(&rt, folder.openings, 3);
     Ok(())
 }
@@ -455,10 +472,10 @@ fn is_played_until(
 ) -> Result<(), Fail> {
     let (mut folder, mut song) = (files.folder(alloc)?, None);
     (folder.failing, folder.reads_before, folder.trouble) = row;
-    let mut output = Narrow::new(alloc, usize::MAX, NEVER, false);
+    let mut output = bare(alloc, usize::MAX, NEVER, false);
     let played = play_whole(alloc, &mut song, &mut folder, &mut output, 1, "long.wav")?;
     equal(rt, (row.0, row.1, played), (row.0, row.1, want.1));
-    same_bytes(rt, &output.taken, files.sound("long.wav", 0, want.0));
+    same_bytes(rt, &output.writer.taken, files.sound("long.wav", 0, want.0));
     equal(rt, song.is_some(), played.is_ok());
     folder.reads_before = NEVER;
     let again = play_whole(alloc, &mut song, &mut folder, &mut output, 2, "long.wav")?;
@@ -513,7 +530,7 @@ fn outputs_that_fail(rt: HostRuntime) -> Result<(), Fail> {
     let order = order(rt.alloc(), 1, "short.wav", 0, 100)?;
     for (width, failing, fails, want, len, writes) in &OUTPUTS {
         let (mut folder, mut song, counts) = (files.folder(rt.alloc())?, None, Counts::new());
-        let mut output = Narrow::new(rt.alloc(), *width, *failing, *fails);
+        let mut output = bare(rt.alloc(), *width, *failing, *fails);
         let played = play(
             rt.alloc(),
             &mut song,
@@ -525,7 +542,7 @@ fn outputs_that_fail(rt: HostRuntime) -> Result<(), Fail> {
         equal(&rt, (*width, *failing, played), (*width, *failing, *want));
         same_bytes(
             &rt,
-            &output.taken,
+            &output.writer.taken,
             files.sound("short.wav", 0, 700).get(..*len).unwrap_or(&[]),
         );
         equal(
@@ -535,5 +552,73 @@ fn outputs_that_fail(rt: HostRuntime) -> Result<(), Fail> {
         );
         equal(&rt, song.is_some(), want.is_ok());
     }
+    Ok(())
+}
+
+/// A song, the ordered frame, how many follow it, and the head that Python's writer of WAVE files gives so many frames at the song's rate
+/// and channels.
+const HEADS: [(&str, u64, u64, [u8; 44]); 4] = [
+    (
+        "long.wav",
+        0,
+        4_096,
+        *b"RIFF\x24\x20\0\0WAVEfmt \x10\0\0\0\x01\0\x01\0\x44\xac\0\0\x88\x58\x01\0\x02\0\x10\0data\0\x20\0\0",
+    ),
+    (
+        "long.wav",
+        9_999,
+        1,
+        *b"RIFF\x26\0\0\0WAVEfmt \x10\0\0\0\x01\0\x01\0\x44\xac\0\0\x88\x58\x01\0\x02\0\x10\0data\x02\0\0\0",
+    ),
+    (
+        "short.wav",
+        0,
+        700,
+        *b"RIFF\x14\x0b\0\0WAVEfmt \x10\0\0\0\x01\0\x02\0\x40\x1f\0\0\0\x7d\0\0\x04\0\x10\0data\xf0\x0a\0\0",
+    ),
+    (
+        "short.wav",
+        699,
+        1,
+        *b"RIFF\x28\0\0\0WAVEfmt \x10\0\0\0\x01\0\x02\0\x40\x1f\0\0\0\x7d\0\0\x04\0\x10\0data\x04\0\0\0",
+    ),
+];
+
+/// What an output in the form `Wave` gets for an order at full volume, by writes of up to so many bytes, until the write of this number
+/// fails.
+fn taken_as_waves(
+    alloc: Global,
+    files: &Files,
+    (path, first): (&str, u64),
+    (width, failing): (usize, u64),
+) -> Result<Vec<u8>, Fail> {
+    let mut output = output_of(alloc, Form::Wave, width, failing, true);
+    let (mut folder, mut song) = (files.folder(alloc)?, None);
+    let order = order(alloc, 1, path, first, 100)?;
+    let _ = play_order(
+        alloc,
+        &mut song,
+        &mut folder,
+        &OpenGate,
+        &mut output,
+        &order,
+    )?;
+    Ok(output.writer.taken)
+}
+
+#[test]
+fn pieces_as_wave_files(rt: HostRuntime) -> Result<(), Fail> {
+    let files = Files::new(rt.alloc())?;
+    for (path, first, count, head) in &HEADS {
+        let mut want = head.to_vec(rt.alloc())?;
+        want.extend_from_slice(files.sound(path, *first, *count))?;
+        let ordered = (*path, *first);
+        let taken = taken_as_waves(rt.alloc(), &files, ordered, (usize::MAX, NEVER))?;
+        same_bytes(&rt, &taken, &want);
+        let front = taken_as_waves(rt.alloc(), &files, ordered, (9, 6))?;
+        same_bytes(&rt, &front, want.get(..45).unwrap_or(&[]));
+    }
+    let none = taken_as_waves(rt.alloc(), &files, ("long.wav", 10_000), (1, NEVER))?;
+    same_bytes(&rt, &none, &[]);
     Ok(())
 }

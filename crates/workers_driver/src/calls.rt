@@ -1,5 +1,5 @@
 //! The calls of a shared stage that have long contracts. The prover reads these here alone.
-use crate::songs::{Music, OpenMusic, Output, music};
+use crate::songs::{Music, OpenMusic, music, output_of};
 use crate::stand::Stand;
 use crossbeam_channel::Receiver;
 use daemon_core::Event;
@@ -82,7 +82,7 @@ pub fn played_once<'m, C: Ledger, P: Ledger, S: Ledger, R: Wait + Clock>(
         stage,
         wake: stand,
     };
-    let mut output = Output { stand };
+    let mut output = output_of(stand);
     match laws::play_once(&worker, pass, stand, folder, &mut output, song, order) {
         Ok(pass) => (Ok(()), pass),
         Err((error, pass)) => (Err(error), pass),
@@ -125,7 +125,7 @@ pub fn play<C: Ledger, P: Ledger, S: Ledger, R: Wait + Clock>(
         stage,
         wake: stand,
     };
-    let mut output = Output { stand };
+    let mut output = output_of(stand);
     player_worker(
         &worker,
         pass,

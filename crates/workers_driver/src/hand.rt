@@ -3,6 +3,7 @@ use crate::passes::Passes;
 use crate::stand::{Passage, Place, Stand};
 use script_lines::words::{first_word, number};
 use script_lines::{Fault, Printer};
+use song_output::Form;
 use stage_workers::Pass;
 use std::sync::Wait;
 use std::sync::ledger::Ledger;
@@ -58,6 +59,14 @@ fn plan<R: Wait>(stand: &Stand<'_, R>, words: &str, passage: Passage) -> Result<
     Ok(())
 }
 
+fn form_of(word: &str) -> Result<Form, Fault> {
+    match word {
+        "bare" => Ok(Form::Bare),
+        "wave" => Ok(Form::Wave),
+        _ => Err(Fault::NoDirective),
+    }
+}
+
 /// Does what a line asks of a worker's stand.
 pub fn take_stand<R: Wait>(
     stand: &Stand<'_, R>,
@@ -74,6 +83,7 @@ pub fn take_stand<R: Wait>(
             stand.wait_passed(place, number);
         }
         "count" => printer.count("count", stand.count(Place::named(rest)?)),
+        "form" => stand.set_form(form_of(rest)?),
         "takes" => stand.set_width(number(rest)?),
         "written" => printer.hex("written", &stand.take_written()?),
         "free" => stand.free(),

@@ -24,7 +24,7 @@ use std::alloc::Global;
 use std::sync::Wait;
 use std::sync::ledger::Ledger;
 use std::thread::{JoinHandle, Scope, Threads};
-use std::time::Clock;
+use std::time::{Clock, Duration, Instant};
 
 #[derive(Drop)]
 pub struct Session<'s, C: Ledger, P: Ledger, S: Ledger, R> {
@@ -39,6 +39,8 @@ pub struct Session<'s, C: Ledger, P: Ledger, S: Ledger, R> {
     pub passes: Passes<C, P, S>,
     /// What is open between two orders that this thread plays.
     song: Option<OpenMusic<'s, R>>,
+    /// When the script looked at the clock.
+    looked: Option<Instant>,
     pub printer: Printer,
 }
 
@@ -81,6 +83,7 @@ impl<'s, C: Ledger, P: Ledger, S: Ledger, R: Wait + Clock> Session<'s, C, P, S, 
             orders: None,
             passes: Passes::new(alloc),
             song: None,
+            looked: None,
             printer: Printer::new(alloc),
         }
     }
@@ -178,6 +181,21 @@ impl<'s, C: Ledger, P: Ledger, S: Ledger, R: Wait + Clock> Session<'s, C, P, S, 
         Ok(())
     }
 
+    /// Looks at the clock.
+    fn look_at_clock(&mut self) -> Result<(), Fault> {
+        self.looked = Some(Instant::now(self.rt)?);
+        Ok(())
+    }
+
+    /// Prints whether at least so many milliseconds passed since the look at the clock.
+    fn lasted(&mut self, words: &str) -> Result<(), Fault> {
+        let least = Duration::from_millis(number(words)?);
+        let looked = self.looked.ok_or(Fault::NoDirective)?;
+        let lasted = looked.elapsed(self.rt)? >= least;
+        self.printer.line(if lasted { "yes" } else { "no" });
+        Ok(())
+    }
+
     fn rewound(&mut self, words: &str) -> Result<(), Fault> {
         let (seen, found) = first_number(words)?;
         tell_rewound(&mut self.printer, rewound(seen, number(found)?));
@@ -192,6 +210,8 @@ impl<'s, C: Ledger, P: Ledger, S: Ledger, R: Wait + Clock> Session<'s, C, P, S, 
             "play_once" => self.play_once(rest),
             "scan_once" => self.scan_once(rest),
             "rewound" => self.rewound(rest),
+            "clock" => self.look_at_clock(),
+            "lasted" => self.lasted(rest),
             "spend" => spend_passes(self.rt, self.stage, &mut self.printer, rest),
             "pass" => self
                 .passes

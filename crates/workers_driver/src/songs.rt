@@ -2,7 +2,7 @@
 ghost use Rattle.std.specs.Prelude.{[]};
 
 use crate::stand::{Passage, Place, Stand};
-use song_output::{GatedFolder, GatedSource, OpenSong};
+use song_output::{GatedFolder, GatedSource, OpenSong, SoundOutput};
 use std::alloc::Global;
 use std::io::{self, ErrorKind, Write};
 use std::sync::Wait;
@@ -99,7 +99,7 @@ pub fn music<'s, R: Wait>(
 
 #[derive(Drop)]
 pub struct Output<'s, R> {
-    pub stand: &'s Stand<'s, R>,
+    stand: &'s Stand<'s, R>,
 }
 
 impl<R: Wait> Write for Output<'_, R> {
@@ -113,5 +113,13 @@ impl<R: Wait> Write for Output<'_, R> {
 
     fn flush(&mut self) -> io::Result<()> {
         Ok(())
+    }
+}
+
+/// The output of a worker, in the form that its stand tells.
+pub fn output_of<'s, R: Wait>(stand: &'s Stand<'s, R>) -> SoundOutput<Output<'s, R>> {
+    SoundOutput {
+        writer: Output { stand },
+        form: stand.form(),
     }
 }

@@ -1,6 +1,6 @@
 //! The places that a worker's thread passes. At one of them it can be made to stand still, or what it does there fails.
 use script_lines::Fault;
-use song_output::{Gate, Point};
+use song_output::{Form, Gate, Point};
 use stage_workers::Wake;
 use std::alloc::Global;
 use std::mem;
@@ -68,6 +68,8 @@ struct State {
     counts: [u64; PLACES],
     plan: Option<Plan>,
     is_standing: bool,
+    /// The form of an output that is begun.
+    form: Form,
     /// How many bytes the output takes with a write at most, and what it took.
     width: usize,
     written: Vec<u8>,
@@ -134,6 +136,7 @@ impl<'a, R: Wait> Stand<'a, R> {
                 counts: [0; PLACES],
                 plan: None,
                 is_standing: false,
+                form: Form::Bare,
                 width: usize::MAX,
                 written: Vec::new(alloc),
                 is_short: false,
@@ -199,6 +202,14 @@ impl<'a, R: Wait> Stand<'a, R> {
 
     pub fn count(&self, place: Place) -> u64 {
         self.state.lock(self.rt).count(place)
+    }
+
+    pub fn form(&self) -> Form {
+        self.state.lock(self.rt).form
+    }
+
+    pub fn set_form(&self, form: Form) {
+        self.state.lock(self.rt).form = form;
     }
 
     pub fn set_width(&self, width: usize) {

@@ -1,0 +1,298 @@
+"""The rows of tests/serve about sound in the form "wave": the daemon's own stream, and contrib/sound over it."""
+
+import contextlib
+import fcntl
+import os
+import random
+import runpy
+import select
+import signal
+import struct
+import time
+
+from daemons import Daemon, check, put_song, update, wait_for
+from scripts import Failure
+from sounds import (
+    HEAD,
+    LONG,
+    SONGS,
+    SOUND,
+    Recorded,
+    Song,
+    Sound,
+    changes_of_player,
+    check_front,
+    files_in,
+    fill_the_pipe,
+    pieces_of,
+    pending,
+    play_to_the_end,
+    playing,
+    runs_of,
+    sound_of,
+    stream_of,
+)
+
+# A player of the tests: it writes what it is given into a file named by its process, rate and channels.
+PLAYER = "sh -c 'exec cat >player-$$-{rate}-{channels}'"
+
+
+def queue_in_waves(program, folder):
+    """A queue of four rates, at two volumes, straight from the pipe."""
+    with playing(program, folder, SONGS) as daemon:
+        recorded = Recorded(f"{folder}/sound")
+        with daemon.client() as client:
+            play_to_the_end(client, "play 0")
+            play_to_the_end(client, "setvol 37", "play 0")
+        daemon.kill()
+    wanted = [sound_of(it, percent) for percent in (100, 37) for it in SONGS]
+    check("the sound", runs_of(pieces_of(recorded.end())), wanted)
+
+
+def pause_in_waves(program, folder):
+    """Behind a pause the stream goes on where it was, and behind a seek from there on; neither leaves a part of a file."""
+    with playing(program, folder, [LONG]) as daemon, daemon.client() as client:
+        with open(f"{folder}/sound", "rb", buffering=0) as pipe:
+            client.do("play")
+            stream = pipe.read(30_000)
+            client.do("pause 1")
+            while select.select([pipe], [], [], 0.3)[0]:
+                stream += pipe.read(1 << 16)
+            frames = sum(len(data) // 4 for _, data in pieces_of(stream))
+            # What is read last is told a moment later.
+            wait_for("the place", lambda: client.value("status", "elapsed") == f"{frames * 1000 // 44_100 / 1000:.3f}")
+            client.do("pause 0")
+            stream += pipe.read(30_000)
+            client.do("seekcur 1.5")
+            while client.value("status", "state") != "stop" or select.select([pipe], [], [], 0)[0]:
+                stream += pipe.read(1 << 16) if select.select([pipe], [], [], 0.1)[0] else b""
+    check_front("the sound", runs_of(pieces_of(stream)), LONG, first=66_150)
+
+
+def sound_into_files(program, folder):
+    """The same queue through contrib/sound, which makes a file of each run of one form; in the last one is a pause and a seek."""
+    with playing(program, folder, [*SONGS, LONG]) as daemon, Sound(folder, "--to", "files", "sound") as sound:
+        with daemon.client() as client:
+            play_to_the_end(client, "delete 4", "play 0")
+            play_to_the_end(client, "setvol 37", "play 0")
+            client.do("clear", "setvol 100", f"add {LONG.name}")
+            with sound.held():
+                fill_the_pipe(folder, client, 0)
+                client.do("pause 1")
+            client.do("pause 0")
+            with sound.held():
+                client.do("play 0")
+                client.do("seekcur 1.5")
+            wait_for("the end of the queue", lambda: client.value("status", "state") == "stop")
+        daemon.kill()
+        check("how it ends", sound.end(), (0, []))
+    files = list(files_in(f"{folder}/files"))
+    check("the files", files[:8], [sound_of(it, percent) for percent in (100, 37) for it in SONGS])
+    (form, whole), (_, rest) = sound_of(LONG), sound_of(LONG, first=66_150)
+    check("the last file", (len(files), files[8][0], files[8][1].endswith(rest)), (9, form, True))
+
+
+def killed_in_a_piece(program, folder):
+    """A daemon that is killed in a write leaves a part of a file in the pipe, which is heard to its last whole frame, and nothing of it is
+    taken for what the next one writes: the rest of it is as long as the next one's first file, as a head, and of other lengths."""
+    rooms, (stereo, mono) = [1 << size for size in range(12, 17)], (LONG, SONGS[1])
+    daemon = playing(program, folder, [stereo, mono])
+    keeper = os.open(f"{folder}/sound", os.O_RDWR)
+    with daemon, Sound(folder, "--to", "files", "sound") as sound:
+        wait_for("a reader", lambda: sound.is_reading("sound"))
+        for room in rooms:
+            with sound.held():
+                fcntl.fcntl(keeper, fcntl.F_SETPIPE_SZ, room)
+                with daemon.client() as client:
+                    fill_the_pipe(folder, client, 0)
+                check("how it ends", daemon.kill(), -signal.SIGKILL)
+                daemon.start()
+            with daemon.client() as client:
+                play_to_the_end(client, "play 1")
+                wait_for("an empty pipe", lambda: not pending(f"{folder}/sound"))
+        daemon.kill()
+        os.close(keeper)
+        check("how it ends", sound.end(), (0, []))
+    files = list(files_in(f"{folder}/files"))
+    check("the files", [it for it, _ in files], [(44_100, 2), (48_000, 1)] * len(rooms))
+    for room, (_, front), whole in zip(rooms, files[::2], files[1::2]):
+        check(f"the next song, {room}", whole, sound_of(mono))
+        check(f"a front of the song before, {room}", (sound_of(stereo)[1].startswith(front), len(front) > room // 2), (True, True))
+
+
+def sound_that_follows(program, folder):
+    """With --follow the pipe is opened again, as often as the daemon begins anew; what was in it is heard."""
+    lives = 3
+    with playing(program, folder, [LONG]) as daemon, Sound(folder, "--follow", "--to", "files", "sound") as sound:
+        for life in range(lives):
+            wait_for("a reader", lambda: sound.is_reading("sound"))
+            with sound.held():
+                with daemon.client() as client:
+                    fill_the_pipe(folder, client, 0)
+                daemon.kill()
+            wait_for("the end of what was written", lambda life=life: is_whole(f"{folder}/files/{life + 1:04}.wav"))
+            wait_for("a reader that has left", lambda: not sound.is_reading("sound"))
+            daemon.start()
+        with daemon.client() as client:
+            play_to_the_end(client, "play 0")
+        daemon.kill()
+        wait_for("the end of what was written", lambda: is_whole(f"{folder}/files/{lives + 1:04}.wav"))
+        check("how it ends", sound.end(signal.SIGTERM), (0, []))
+    *fronts, last = files_in(f"{folder}/files")
+    check("the last life", last, sound_of(LONG))
+    for form, data in fronts:
+        check("a life", (form, sound_of(LONG)[1].startswith(data), len(data) > 1 << 12), (last[0], True, True))
+
+
+def is_whole(path):
+    """Whether contrib/sound has finished this file."""
+    with contextlib.suppress(FileNotFoundError), open(path, "rb") as file:
+        data = file.read()
+        return len(data) > HEAD and int.from_bytes(data[HEAD - 4 : HEAD], "little") == len(data) - HEAD
+    return False
+
+
+def begun_anywhere(_, folder):
+    """A stream that begins and ends anywhere, or breaks off anywhere with another behind it: all is heard but what stands before the first
+    head. A song whose samples are such files is heard as they stand."""
+    os.makedirs(folder)
+    reader = runpy.run_path(SOUND)
+    chosen = random.Random(1)
+    first, second, third = (b"".join(stream_of(it) for it in songs) for songs in (SONGS[:1], SONGS[1:3], SONGS[3:]))
+    # Around heads, where the rest of a piece is as long as the next one, and some more.
+    cuts = [*range(1, 60), *range(16_380, 16_480), 8_192, 16_428 + 8_192, *(chosen.randrange(1, len(first)) for _ in range(40))]
+    for cut in cuts:
+        front = pieces_before(first, cut)
+        check(f"broken off at {cut}", heard(reader, folder, first[:cut] + second), runs_of([*front, *pieces_of(second)]))
+        check(f"ended at {cut}", heard(reader, folder, third + first[:cut]), runs_of([*pieces_of(third), *front]))
+        check(f"begun at {cut}", heard(reader, folder, first[cut:] + third), runs_of([*pieces_behind(first, cut), *pieces_of(third)]))
+    for cut in (0, 4, 44, 1_000):
+        data = first[cut:-100]
+        stream = stream_of(Song("files", 44_100, 2, list(struct.unpack(f"<{len(data) // 2}h", data))))
+        check(f"a song of files from {cut}", heard(reader, folder, stream + third), runs_of(pieces_of(stream + third)))
+
+
+def heard(reader, folder, stream):
+    """What contrib/sound hears of these bytes."""
+    with open(f"{folder}/stream", "wb") as file:
+        file.write(stream)
+    with open(f"{folder}/stream", "rb", buffering=0) as file:
+        pieces = iter(reader["Stream"](file.fileno()).piece, None)
+        try:
+            return runs_of(it for it in pieces if it[1])
+        except reader["NoHead"]:
+            return "no head"
+
+
+def pieces_before(stream, place):
+    """The pieces up to this place, the last one to its last whole frame."""
+    at, found = 0, []
+    for form, data in pieces_of(stream):
+        room = max(0, min(len(data), place - at - HEAD))
+        found += [(form, data[: room - room % (2 * form[1])])] if room >= 2 * form[1] else []
+        at += HEAD + len(data)
+    return found
+
+
+def pieces_behind(stream, place):
+    """The pieces that begin at this place or behind it."""
+    at, found = 0, []
+    for form, data in pieces_of(stream):
+        found += [(form, data)] if at >= place else []
+        at += HEAD + len(data)
+    return found
+
+
+def bare_stream(program, folder):
+    """Bare samples are none of it; a second contrib/sound over one pipe takes nothing from the first."""
+    line = 'sound: no head of a WAVE file in sound: does the daemon\'s configuration say `form = "wave"`?'
+    with playing(program, folder, [LONG], form="") as daemon, Sound(folder, "--to", "files", "sound") as sound:
+        with daemon.client() as client:
+            client.do("play 0")
+        check("how it ends", sound.end(), (1, [line]))
+    with Sound(folder, "--to", "files", "music/long.wav") as sound:
+        check("a song's file", sound.end(), (1, [line.replace("in sound", "in music/long.wav")]))
+    keeper = os.open(f"{folder}/sound", os.O_RDWR)
+    with Sound(folder, "--to", "other", "sound") as sound:
+        wait_for("a reader", lambda: sound.is_reading("sound"))
+        wait_for("the second", lambda: Sound(folder, "--to", "other", "sound").end() == (1, ["sound: sound is read already"]))
+        check("how it ends", sound.end(signal.SIGINT), (0, []))
+    os.close(keeper)
+
+
+def players_of_a_queue(program, folder):
+    """Each run of one form has a player of its own, which is told rate and channels, gets all of it and is gone at the end: that of the
+    stream, or by a signal."""
+    for how in (None, signal.SIGTERM):
+        home = f"{folder}/{how}"
+        with playing(program, home, SONGS) as daemon, Sound(home, "--player", PLAYER, "sound") as sound:
+            with daemon.client() as client:
+                play_to_the_end(client, "play 0")
+            wait_for("all sound", lambda home=home: {it: given for it, (_, given) in players(home).items()} == dict(map(sound_of, SONGS)))
+            if how is None:
+                daemon.kill()
+            check("how it ends", sound.end(how), (0, []))
+        check("players that run", [it for it, _ in players(home).values() if os.path.exists(f"/proc/{it}")], [])
+
+
+def players(folder):
+    """The process of each player and what it was given, by what it was told."""
+    found = {}
+    for name in os.listdir(folder):
+        if name.startswith("player-"):
+            number, rate, channels = map(int, name.split("-")[1:])
+            with open(f"{folder}/{name}", "rb") as file:
+                found[rate, channels] = number, file.read()
+    return found
+
+
+def player_that_ends(program, folder):
+    """Without a card a player ends at once: its last line is passed on once, and the daemon plays on at the pace of the sound."""
+    player = "sh -c 'echo tried >>tries; echo no card >&2; exit 1'"
+    with playing(program, folder, [LONG], output="sound") as daemon, Sound(folder, "--player", player, "sound") as sound:
+        with daemon.client() as client:
+            begun = time.monotonic()
+            play_to_the_end(client, "play 0")
+            seconds = time.monotonic() - begun
+            daemon.kill()
+        line = "sound: sh ended: no card; it is begun again once a second, and the daemon plays on meanwhile"
+        check("how it ends", sound.end(), (0, [line]))
+    whole = len(LONG.values) / LONG.channels / LONG.rate
+    with open(f"{folder}/tries", encoding="utf-8") as file:
+        tries = len(file.readlines())
+    # What the pipe holds is given before it is heard.
+    if seconds < whole - 0.6 or not 1 <= tries <= 1 + time.monotonic() - begun:
+        raise Failure(f"{whole:.1f} seconds of sound were played in {seconds:.1f}; {tries} tries")
+
+
+def songs_without_frames(program, folder):
+    """A queue in which nothing is heard makes at most ten changes a second, and `kill` ends it at once."""
+    with Daemon(program, folder).create().start() as daemon:
+        put_song(daemon, "empty.wav", [])
+        with daemon.client() as client, daemon.client() as waiting:
+            update(client)
+            client.do("add empty.wav", "repeat 1", "play")
+            for settings in ([], ["random 1"]):
+                client.do(*settings)
+                count = changes_of_player(waiting, 3)
+                # The pause comes behind two songs.
+                if not 1 <= count <= 32:
+                    raise Failure(f"{settings}: {count} changes in three seconds")
+            begun = time.monotonic()
+            client.send("kill\n")
+            check("the status", daemon.end(), 0)
+            check("at once", time.monotonic() - begun < 5, True)
+
+
+ROWS = [
+    queue_in_waves,
+    pause_in_waves,
+    sound_into_files,
+    killed_in_a_piece,
+    sound_that_follows,
+    begun_anywhere,
+    bare_stream,
+    players_of_a_queue,
+    player_that_ends,
+    songs_without_frames,
+]
