@@ -1,0 +1,5 @@
+pub mod AskedAgain
+pub mod AskedLaws
+pub mod Behind
+pub mod HeardLaws
+pub mod PieceLaws

@@ -1,0 +1,210 @@
+-- What becomes of each line of the daemon's answers.
+use Rattle.std.specs.Prelude.{◌≡◌, ℕ, ◌+◌, ◌-◌, nat_eq, ◌==◌, Bool, true, false, ◌&&◌, List, [], ◌∷◌, ◌++◌, length, drop, min, not, codes}
+use Rattle.std.specs.Prelude.{Option, Some, None, if◌then◌else◌}
+use Rattle.std.specs.List.{starts_with}
+use Rattle.std.specs.Fmt.{decimal}
+use Rattle.client_session.specs.Lines.{newline, ended}
+use Rattle.stock_requests.specs.Masks.{all_in_set, after_change, is_line_of, is_shown, tag_lines}
+use Rattle.stock_requests.specs.Tags.{tag_text}
+use Rattle.stock_requests.specs.declared.mask.TagSet.{TagSet}
+use Rattle.wave_pcm.specs.TagName.{name_of}
+use Rattle.stock_requests.specs.Texts.{text_of}
+use Rattle.stock_requests.specs.declared.change.Change.{Change}
+use Rattle.stock_requests.specs.declared.change.LineChange.{LineChange}
+use Rattle.stock_requests.specs.declared.change.LineChange.TheVariants.{Kept, Masked, Dropped, OnlyVolume, Renamed, Numbered}
+use Rattle.stock_requests.specs.declared.change.Ending.{Ending}
+use Rattle.stock_requests.specs.declared.change.Ending.TheVariants.{Nothing, Text, Tags, Masks}
+use Rattle.stock_clients.specs.Lines.{kind_of, list_ok_text}
+use Rattle.stock_clients.specs.Refused.{refusal_of, refusal_at}
+use Rattle.stock_clients.specs.declared.kinds.LineKind.{LineKind}
+use Rattle.stock_clients.specs.declared.kinds.LineKind.TheVariants as kinds
+use Rattle.stock_clients.specs.declared.awaited.Awaited.{Awaited}
+use Rattle.stock_clients.specs.declared.awaited.Awaited.TheVariants as awaits
+use Rattle.stock_clients.specs.declared.awaited.Several.{Several}
+use Rattle.stock_clients.specs.declared.parts.Part.{Part}
+use Rattle.stock_clients.specs.declared.parts.Part.TheVariants as parts
+use Rattle.stock_clients.specs.declared.hearing.Hearing.{Hearing}
+
+-- a line of a song, where its tag is one that the client wants
+abbrev pub shown_line : TagSet → List ℕ → List ℕ
+shown_line shown line = if is_shown shown line then ended line else []
+
+-- whether a line names a song
+abbrev pub is_file : List ℕ → Bool
+is_file line = starts_with nat_eq line (codes "file: ")
+
+-- the value of one tag, told as that of another
+abbrev pub renamed_line : List ℕ → List ℕ → List ℕ → List ℕ
+renamed_line from to line = if is_line_of from line then to ++ ended (drop (length from) line) else ended line
+
+-- what is given for a line that tells something, behind so many that named a song
+abbrev pub changed_line : LineChange → TagSet → ℕ → List ℕ → List ℕ
+changed_line Kept shown told line = ended line
+changed_line Masked shown told line = shown_line shown line
+changed_line Dropped shown told line = []
+changed_line OnlyVolume shown told line = if starts_with nat_eq line (codes "volume: ") then ended line else []
+changed_line (Renamed from to) shown told line = renamed_line (name_of from) (tag_text to) line
+changed_line Numbered shown told line = if is_file line then decimal told ++ codes ":" ++ ended line else []
+
+-- how many such lines are counted
+abbrev pub most_told : ℕ
+most_told = 4294967295
+
+-- how many lines have named a song then
+abbrev pub told_then : ℕ → List ℕ → ℕ
+told_then told line = if is_file line then min (told + 1) most_told else told
+
+-- the tags that the client wants behind an answer
+abbrev pub shown_behind : Ending → TagSet → TagSet
+shown_behind Nothing shown = shown
+shown_behind (Text text) shown = shown
+shown_behind Tags shown = shown
+shown_behind (Masks change) shown = after_change change shown
+
+-- what is told before the end of an answer
+abbrev pub told_at_end : Ending → TagSet → List ℕ
+told_at_end Nothing shown = []
+told_at_end (Text text) shown = text_of text
+told_at_end Tags shown = tag_lines shown
+told_at_end (Masks change) shown = []
+
+-- what is left of a request behind a line, the tags that the client wants then, and what it is given
+pub record Answered : Type 0 where
+  pub left : Option Awaited
+  pub shown : TagSet
+  pub given : List ℕ
+
+abbrev pub answered : Option Awaited → TagSet → List ℕ → Answered
+answered left shown given = record { left = left; shown = shown; given = given }
+
+-- the line passes
+abbrev pub answered_passing : TagSet → List ℕ → LineKind → Answered
+answered_passing shown line kinds.Ok = answered None shown (ended line)
+answered_passing shown line kinds.Ack = answered None shown (ended line)
+answered_passing shown line kinds.ListOk = answered (Some awaits.Passing) shown (ended line)
+answered_passing shown line kinds.Told = answered (Some awaits.Passing) shown (ended line)
+
+-- the line passes, where it tells no tag that isn't wanted
+abbrev pub answered_songs : TagSet → List ℕ → LineKind → Answered
+answered_songs shown line kinds.Ok = answered None shown (ended line)
+answered_songs shown line kinds.Ack = answered None shown (ended line)
+answered_songs shown line kinds.ListOk = answered (Some awaits.Songs) shown (ended line)
+answered_songs shown line kinds.Told = answered (Some awaits.Songs) shown (shown_line shown line)
+
+-- the line is changed; an answer's end brings what is told before it
+abbrev pub answered_one : Change → ℕ → TagSet → List ℕ → LineKind → Answered
+answered_one change told shown line kinds.Ok =
+    answered None (shown_behind change.ending shown) (told_at_end change.ending shown ++ ended line)
+answered_one change told shown line kinds.Ack = answered None shown (ended (refusal_of change 0 line))
+answered_one change told shown line kinds.ListOk = answered (Some (awaits.One change told)) shown (ended line)
+answered_one change told shown line kinds.Told =
+    answered (Some (awaits.One change (told_then told line))) shown (changed_line change.lines shown told line)
+
+-- how many commands of the list are done
+abbrev pub done : Several → ℕ
+done several = several.count - length several.parts
+
+-- where a list asked for it, the end of a command's part
+abbrev pub part_end : Bool → List ℕ
+part_end true = ended list_ok_text
+part_end false = []
+
+-- a list of which the command at work is done
+abbrev pub done_one : Several → List Part → Several
+done_one several rest = record several { has_first = false; told = 0; parts = rest }
+
+-- the first of two native commands, or the command at work, is done
+abbrev pub ended_part : Several → TagSet → List ℕ → List Part → Answered
+ended_part several shown line [] = answered (Some (awaits.Several several)) shown (ended line)
+ended_part several shown line (parts.Same ∷ rest) =
+    answered (Some (awaits.Several (done_one several rest))) shown (part_end several.separated)
+ended_part several shown line (parts.Songs ∷ rest) =
+    answered (Some (awaits.Several (done_one several rest))) shown (part_end several.separated)
+ended_part several shown line (parts.Changed needs_two change ∷ rest) =
+    if needs_two && not several.has_first
+    then answered (Some (awaits.Several (record several { has_first = true }))) shown []
+    else answered (Some (awaits.Several (done_one several rest))) (shown_behind change.ending shown)
+    (told_at_end change.ending shown ++ part_end several.separated)
+
+-- what is given for a line of the command at work
+abbrev pub part_line : Several → TagSet → List ℕ → List Part → List ℕ
+part_line several shown line [] = ended line
+part_line several shown line (parts.Same ∷ rest) = ended line
+part_line several shown line (parts.Songs ∷ rest) = shown_line shown line
+part_line several shown line (parts.Changed needs_two change ∷ rest) = changed_line change.lines shown several.told line
+
+-- a refusal counts the client's own commands
+abbrev pub part_refusal : Several → List ℕ → List Part → List ℕ
+part_refusal several line [] = refusal_at (done several) line
+part_refusal several line (parts.Same ∷ rest) = refusal_at (done several) line
+part_refusal several line (parts.Songs ∷ rest) = refusal_at (done several) line
+part_refusal several line (parts.Changed needs_two change ∷ rest) = refusal_of change (done several) line
+
+abbrev pub answered_several : Several → TagSet → List ℕ → LineKind → Answered
+answered_several several shown line kinds.Ok = answered None shown (ended line)
+answered_several several shown line kinds.Ack = answered None shown (ended (part_refusal several line several.parts))
+answered_several several shown line kinds.ListOk = ended_part several shown line several.parts
+answered_several several shown line kinds.Told = answered (Some (awaits.Several (record several { told = told_then several.told line })))
+    shown (part_line several shown line several.parts)
+
+-- what a line does to the request that is answered
+abbrev pub answered_by : Awaited → TagSet → List ℕ → Answered
+answered_by awaits.Passing shown line = answered_passing shown line (kind_of line)
+answered_by awaits.Songs shown line = answered_songs shown line (kind_of line)
+answered_by (awaits.One change told) shown line = answered_one change told shown line (kind_of line)
+answered_by (awaits.Several several) shown line = answered_several several shown line (kind_of line)
+
+-- the request that is answered, the tags and the bytes that were given are those
+pub record IsAnswered (answer : Answered) (found : Option Awaited) (tags : TagSet) (before after : List ℕ) : Type 0 where
+  pub left : found ≡ answer.left
+  pub shown : tags ≡ answer.shown
+  pub given : after ≡ before ++ answer.given
+
+-- nothing is awaited, and all tags are shown
+abbrev pub unheard : Hearing
+unheard = record { awaited = []; shown = all_in_set; is_greeted = false }
+
+-- The first line is the greeting, and passes. A line is one of the answer to the request that waits longest; behind its end the next one is
+-- answered.
+pub record Heard : Type 0 where
+  pub hearing : Hearing
+  pub given : List ℕ
+
+-- what is awaited, the request that is answered first
+abbrev pub waiting : Option Awaited → List Awaited → List Awaited
+waiting None rest = rest
+waiting (Some first) rest = first ∷ rest
+
+-- the line passes, where nothing is awaited
+abbrev pub heard_by : List Awaited → Hearing → List ℕ → Heard
+heard_by [] hearing line = record { hearing = hearing; given = ended line }
+heard_by (first ∷ rest) hearing line =
+    let answer = answered_by first hearing.shown line in
+    record { hearing = record hearing { awaited = waiting answer.left rest; shown = answer.shown }; given = answer.given }
+
+abbrev pub heard : Hearing → List ℕ → Heard
+heard hearing line =
+    if hearing.is_greeted then heard_by hearing.awaited hearing line
+    else record { hearing = record hearing { is_greeted = true }; given = ended line }
+
+-- the daemon's bytes so far: what is awaited, the beginning of the next line, and what was given
+pub record Hears : Type 0 where
+  pub hearing : Hearing
+  pub held : List ℕ
+  pub given : List ℕ
+
+abbrev pub hears : Hearing → List ℕ → List ℕ → Hears
+hears hearing held given = record { hearing = hearing; held = held; given = given }
+
+-- a line that is whole
+abbrev pub hear_line : Hears → List ℕ → Hears
+hear_line state line = let now = heard state.hearing line in hears now.hearing [] (state.given ++ now.given)
+
+-- byte by byte: at a newline the line is whole
+abbrev pub hear_byte : Hears → ℕ → Hears
+hear_byte state byte =
+    if byte == newline then hear_line state state.held else hears state.hearing (state.held ++ byte ∷ []) state.given
+
+abbrev pub hear_bytes : Hears → List ℕ → Hears
+hear_bytes state [] = state
+hear_bytes state (byte ∷ bytes) = hear_bytes (hear_byte state byte) bytes

@@ -1,0 +1,320 @@
+// Requests of the client as the daemon is asked them.
+ghost use Rattle.std.specs.Prelude.{◌≡◌, ◌++◌, false, true, Some, option_to_list, OnOk, IfOk};
+ghost use Rattle.client_session.specs.Lines.{ended};
+ghost use Rattle.stock_requests.specs.Translation.{translation};
+ghost use Rattle.stock_clients.specs.Asked.{all_plain, any_mask, asked_as_it_is, asked_in_parts, asked_list, asked_natives, begin_text};
+ghost use Rattle.stock_clients.specs.Asked.{asked_of, asked_single, changes_mask, is_mask};
+ghost use Rattle.stock_clients.specs.Asked.{is_plain, lines_of_list, native_lines, part_of, parts_of_list, several, IsAsked};
+ghost use Rattle.std.specs.List.{flat_map};
+
+use crate::awaited::{Awaited, Several};
+use crate::hearing::write_line;
+use crate::parts::{Part, Parts, Queue};
+use command_text::{Lines, LinesRef, Request};
+use no_memory::NoMemory;
+use std::alloc::Global;
+use stock_requests::{Change, Ending, Natives, Translation, translate};
+
+const LIST_BEGIN: &[u8] = b"command_list_begin";
+
+const OK_LIST_BEGIN: &[u8] = b"command_list_ok_begin";
+
+const LIST_END: &[u8] = b"command_list_end";
+
+const NOIDLE: &[u8] = b"noidle";
+
+// Whether the client asks for other tags.
+fn is_mask(ending: &Ending) -> bool
+    ensures { result ≡ is_mask ending.now }
+{
+    matches!(ending, Ending::Masks(_))
+}
+
+fn changes_mask(translation: &Translation) -> bool
+    ensures { result ≡ changes_mask translation.now }
+{
+    match translation {
+        Translation::Same | Translation::Songs => false,
+        Translation::Changed(change) | Translation::Other(_, change) => is_mask(&change.ending),
+    }
+}
+
+// Whether command and answer pass as they are.
+fn is_plain(masks: bool, translation: &Translation) -> bool
+    ensures { result ≡ is_plain masks translation.now }
+{
+    match translation {
+        Translation::Same => true,
+        Translation::Songs => !masks,
+        Translation::Changed(_) | Translation::Other(_, _) => false,
+    }
+}
+
+// What becomes of the part of the answer to a command of a list.
+fn part_of(translation: &Translation) -> Part
+    ensures { result ≡ part_of translation.now }
+{
+    match translation {
+        Translation::Same => Part::Same,
+        Translation::Songs => Part::Songs,
+        Translation::Changed(change) => Part::Changed {
+            needs_two: false,
+            change: *change,
+        },
+        Translation::Other(natives, change) => Part::Changed {
+            needs_two: natives.second.is_some(),
+            change: *change,
+        },
+    }
+}
+
+// Adds one native command or two.
+fn write_natives(out: &mut Vec<u8>, natives: &Natives) -> Result<(), NoMemory>
+    ensures { OnOk result (out.new.items ≡ out.old.items
+        ++ (ended natives.now.first ++ flat_map ended (option_to_list natives.now.second))) }
+{
+    write_line(out, natives.first.bytes())?;
+    match &natives.second {
+        Some(second) => write_line(out, second.bytes()),
+        None => Ok(()),
+    }
+}
+
+// Adds the lines that stand in the place of a command.
+fn write_native(out: &mut Vec<u8>, line: &[u8], translation: &Translation) -> Result<(), NoMemory>
+    ensures { OnOk result (out.new.items ≡ out.old.items ++ flat_map ended (native_lines line.now translation.now)) }
+{
+    match translation {
+        Translation::Same | Translation::Songs | Translation::Changed(_) => write_line(out, line),
+        Translation::Other(natives, _) => write_natives(out, natives),
+    }
+}
+
+// Whether all commands of a list pass as they are.
+fn all_plain(alloc: Global, masks: bool, lines: LinesRef<'_>) -> Result<bool, NoMemory>
+    ensures { IfOk result (λ plain. plain ≡ all_plain masks lines.entry) }
+{
+    let mut left = lines;
+    while let Some((line, rest)) = left.split_first() {
+        if !is_plain(masks, &translate(alloc, line, false)?) {
+            return Ok(false);
+        }
+        left = rest;
+    }
+    Ok(true)
+}
+
+// Adds all lines of a list as they are.
+fn write_lines(out: &mut Vec<u8>, lines: LinesRef<'_>) -> Result<(), NoMemory>
+    ensures { OnOk result (out.new.items ≡ out.old.items ++ flat_map ended lines.entry) }
+{
+    let mut left = lines;
+    while let Some((line, rest)) = left.split_first() {
+        write_line(out, line)?;
+        left = rest;
+    }
+    Ok(())
+}
+
+// Adds the lines that stand in the place of a list's commands; gives whether one of them asks for other tags.
+fn translate_lines(
+    alloc: Global,
+    out: &mut Vec<u8>,
+    lines: LinesRef<'_>,
+    parts: &mut Parts,
+) -> Result<bool, NoMemory>
+    ensures native { OnOk result (out.new.items ≡ out.old.items ++ flat_map ended (lines_of_list lines.entry)) }
+    ensures parts { OnOk result (parts.new ≡ parts.old ++ parts_of_list lines.entry) }
+    ensures masks { IfOk result (λ masks. masks ≡ any_mask lines.entry) }
+{
+    let mut masks = false;
+    let mut left = lines;
+    while let Some((line, rest)) = left.split_first() {
+        let translation = translate(alloc, line, false)?;
+        write_native(out, line, &translation)?;
+        parts.push(&part_of(&translation))?;
+        masks = masks || changes_mask(&translation);
+        left = rest;
+    }
+    Ok(masks)
+}
+
+// Two native commands in a list of their own, so that nothing comes between them.
+fn ask_two(
+    alloc: Global,
+    out: &mut Vec<u8>,
+    awaited: &mut Queue,
+    first: &[u8],
+    second: &[u8],
+    change: Change,
+) -> Result<(), NoMemory>
+    ensures { OnOk result (IsAsked (asked_natives first.now (Some second.now) change false) false
+        awaited.old awaited.new out.old.items out.new.items) }
+{
+    let mut parts = Parts::new(alloc);
+    parts.push(&Part::Changed {
+        needs_two: true,
+        change,
+    })?;
+    write_line(out, list_begin(true))?;
+    write_line(out, first)?;
+    write_line(out, second)?;
+    write_line(out, LIST_END)?;
+    awaited.push(several(false, 1, parts))?;
+    Ok(())
+}
+
+// One native command or two.
+fn ask_natives(
+    alloc: Global,
+    out: &mut Vec<u8>,
+    awaited: &mut Queue,
+    natives: &Natives,
+    change: Change,
+) -> Result<(), NoMemory>
+    ensures { OnOk result (IsAsked (asked_natives natives.now.first natives.now.second change false) false
+        awaited.old awaited.new out.old.items out.new.items) }
+{
+    let first = natives.first.bytes();
+    match &natives.second {
+        Some(second) => ask_two(alloc, out, awaited, first, second.bytes(), change),
+        None => {
+            write_line(out, first)?;
+            awaited.push(Awaited::One { change, told: 0 })?;
+            Ok(())
+        }
+    }
+}
+
+// Commands of which none is answered yet.
+fn several(separated: bool, count: usize, parts: Parts) -> Awaited
+    ensures { result ≡ several separated count parts }
+{
+    Awaited::Several(Several {
+        separated,
+        count,
+        has_first: false,
+        told: 0,
+        parts,
+    })
+}
+
+// A command that stands in no list; gives whether the client has asked for other tags by now.
+fn ask_single(
+    alloc: Global,
+    out: &mut Vec<u8>,
+    awaited: &mut Queue,
+    masks: bool,
+    line: &[u8],
+) -> Result<bool, NoMemory>
+    ensures { IfOk result (λ now. IsAsked (asked_single masks line.now (translation true line.now)) now
+        awaited.old awaited.new out.old.items out.new.items) }
+{
+    let translation = translate(alloc, line, true)?;
+    match &translation {
+        Translation::Same => {
+            write_line(out, line)?;
+            awaited.push(Awaited::Passing)?;
+        }
+        Translation::Songs => {
+            write_line(out, line)?;
+            awaited.push(if masks {
+                Awaited::Songs
+            } else {
+                Awaited::Passing
+            })?;
+        }
+        Translation::Changed(change) => {
+            write_line(out, line)?;
+            awaited.push(Awaited::One {
+                change: *change,
+                told: 0,
+            })?;
+        }
+        Translation::Other(natives, change) => ask_natives(alloc, out, awaited, natives, *change)?,
+    }
+    Ok(masks || changes_mask(&translation))
+}
+
+// The line that begins a list, each command of which is answered by `list_OK` or is not.
+fn list_begin(separated: bool) -> &'static [u8]
+    ensures { result.now ≡ begin_text separated }
+{
+    if separated { OK_LIST_BEGIN } else { LIST_BEGIN }
+}
+
+// A list that goes on as it came.
+fn ask_as_it_is(
+    out: &mut Vec<u8>,
+    awaited: &mut Queue,
+    masks: bool,
+    separated: bool,
+    lines: &Lines,
+) -> Result<(), NoMemory>
+    ensures { OnOk result (IsAsked (asked_as_it_is masks separated lines.now) masks awaited.old awaited.new out.old.items out.new.items) }
+{
+    write_line(out, list_begin(separated))?;
+    write_lines(out, lines.as_ref())?;
+    write_line(out, LIST_END)?;
+    awaited.push(Awaited::Passing)?;
+    Ok(())
+}
+
+// A list whose answer is changed in parts; gives whether one of its commands asks for other tags.
+fn ask_in_parts(
+    alloc: Global,
+    out: &mut Vec<u8>,
+    awaited: &mut Queue,
+    separated: bool,
+    lines: &Lines,
+) -> Result<bool, NoMemory>
+    ensures { IfOk result (λ asks. IsAsked (asked_in_parts false separated lines.now) asks
+        awaited.old awaited.new out.old.items out.new.items) }
+{
+    let mut parts = Parts::new(alloc);
+    write_line(out, list_begin(true))?;
+    let asks = translate_lines(alloc, out, lines.as_ref(), &mut parts)?;
+    write_line(out, LIST_END)?;
+    awaited.push(several(separated, lines.len(), parts))?;
+    Ok(asks)
+}
+
+// A list; gives whether the client has asked for other tags by now.
+fn ask_list(
+    alloc: Global,
+    out: &mut Vec<u8>,
+    awaited: &mut Queue,
+    masks: bool,
+    separated: bool,
+    lines: &Lines,
+) -> Result<bool, NoMemory>
+    ensures { IfOk result (λ now. IsAsked (asked_list masks separated lines.now) now awaited.old awaited.new out.old.items out.new.items) }
+{
+    if all_plain(alloc, masks, lines.as_ref())? {
+        ask_as_it_is(out, awaited, masks, separated, lines)?;
+        return Ok(masks);
+    }
+    let asks = ask_in_parts(alloc, out, awaited, separated, lines)?;
+    Ok(masks || asks)
+}
+
+/// Adds what the daemon is asked for a request, and what is awaited of it; gives whether the client has asked for other tags by now.
+pub(crate) fn ask_request(
+    alloc: Global,
+    out: &mut Vec<u8>,
+    awaited: &mut Queue,
+    masks: bool,
+    request: &Request,
+) -> Result<bool, NoMemory>
+    ensures { IfOk result (λ now. IsAsked (asked_of masks request.now) now awaited.old awaited.new out.old.items out.new.items) }
+{
+    match request {
+        Request::Single(line) => ask_single(alloc, out, awaited, masks, line.bytes()),
+        Request::List(lines) => ask_list(alloc, out, awaited, masks, false, lines),
+        Request::OkList(lines) => ask_list(alloc, out, awaited, masks, true, lines),
+        Request::Noidle => {
+            write_line(out, NOIDLE)?;
+            Ok(masks)
+        }
+    }
+}

@@ -1,0 +1,31 @@
+// Requests whose answers aren't whole yet.
+use crate::parts::Parts;
+use stock_requests::Change;
+
+/// A list whose answer isn't whole yet.
+#[derive(Debug, Drop)]
+pub struct Several {
+    /// The client asked for `list_OK` behind each command.
+    pub separated: bool,
+    /// How many commands it sent in it.
+    pub count: usize,
+    /// The first of two native commands of the part at work is answered.
+    pub has_first: bool,
+    /// How many lines `file: ..` the part at work has told.
+    pub told: u32,
+    /// The commands that are not answered, the one at work first.
+    pub parts: Parts,
+}
+
+/// A request whose answer isn't whole yet.
+#[derive(Debug, Drop)]
+pub enum Awaited {
+    /// The answer passes as it is.
+    Passing,
+    /// The same, but for the tags of songs that `tagtypes` has taken away.
+    Songs,
+    /// The answer is changed; so many lines `file: ..` it has told.
+    One { change: Change, told: u32 },
+    /// It is one of a list, or of two native commands.
+    Several(Several),
+}

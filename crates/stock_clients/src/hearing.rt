@@ -1,0 +1,340 @@
+// The answers as the client is given them, line by line.
+ghost use Rattle.std.specs.Prelude.{◌≡◌, ◌≤◌, ◌++◌, length, IfOk, OnOk};
+ghost use Rattle.client_session.specs.Lines.{ended};
+ghost use Rattle.stock_clients.specs.Heard.{answered_by, answered_one, answered_several, answered_passing, answered_songs, changed_line};
+ghost use Rattle.stock_clients.specs.Heard.{done, ended_part};
+ghost use Rattle.stock_clients.specs.Heard.{is_file, part_end, part_line, part_refusal, renamed_line, shown_behind, shown_line};
+ghost use Rattle.stock_clients.specs.Heard.{told_at_end, told_then, heard, unheard, IsAnswered};
+
+use crate::awaited::{Awaited, Several};
+use crate::kinds::LineKind;
+use crate::parts::{Part, Queue};
+use crate::refusing::{write_refusal_at, write_refusal_of};
+use itoa::Buffer;
+use no_memory::NoMemory;
+use std::alloc::Global;
+use stock_requests::{Change, Ending, LineChange, TagSet};
+
+// Adds a line with its newline.
+pub(crate) fn write_line(out: &mut Vec<u8>, line: &[u8]) -> Result<(), NoMemory>
+    ensures { OnOk result (out.new.items ≡ out.old.items ++ ended line.now) }
+{
+    out.extend_from_slice(line)?;
+    out.push(b'\n')?;
+    Ok(())
+}
+
+// Whether a line names a song.
+fn is_file(line: &[u8]) -> bool
+    ensures { result ≡ is_file line.now }
+{
+    line.starts_with(b"file: ")
+}
+
+// Adds the line of a song, where its tag is one that the client wants.
+fn write_shown(out: &mut Vec<u8>, shown: &TagSet, line: &[u8]) -> Result<(), NoMemory>
+    ensures { OnOk result (out.new.items ≡ out.old.items ++ shown_line shown.now line.now) }
+{
+    if shown.shows(line) {
+        return write_line(out, line);
+    }
+    Ok(())
+}
+
+// Adds the value of one tag as that of another.
+fn write_renamed(out: &mut Vec<u8>, from: &[u8], to: &[u8], line: &[u8]) -> Result<(), NoMemory>
+    ensures { OnOk result (out.new.items ≡ out.old.items ++ renamed_line from.now to.now line.now) }
+{
+    if line.starts_with(from) && line[from.len()..].starts_with(b": ") {
+        out.extend_from_slice(to)?;
+        return write_line(out, &line[from.len()..]);
+    }
+    write_line(out, line)
+}
+
+// Adds what becomes of a line that tells something.
+fn write_changed(
+    out: &mut Vec<u8>,
+    lines: LineChange,
+    shown: &TagSet,
+    told: u32,
+    line: &[u8],
+) -> Result<(), NoMemory>
+    ensures { OnOk result (out.new.items ≡ out.old.items ++ changed_line lines shown.now told line.now) }
+{
+    match lines {
+        LineChange::Kept => write_line(out, line),
+        LineChange::Masked => write_shown(out, shown, line),
+        LineChange::Dropped => Ok(()),
+        LineChange::OnlyVolume if line.starts_with(b"volume: ") => write_line(out, line),
+        LineChange::OnlyVolume => Ok(()),
+        LineChange::Renamed { from, to } => {
+            write_renamed(out, from.name().as_bytes(), to.text().as_bytes(), line)
+        }
+        LineChange::Numbered if is_file(line) => {
+            let mut digits = Buffer::new();
+            out.extend_from_slice(digits.format(told).as_bytes())?;
+            out.push(b':')?;
+            write_line(out, line)
+        }
+        LineChange::Numbered => Ok(()),
+    }
+}
+
+// How many lines have named a song then.
+fn told_then(told: u32, line: &[u8]) -> u32
+    ensures { result ≡ told_then told line.now }
+{
+    if is_file(line) {
+        told.saturating_add(1)
+    } else {
+        told
+    }
+}
+
+// Adds what is told before the end of an answer, and lets the mask change.
+fn end_answer(out: &mut Vec<u8>, end: &Ending, shown: &mut TagSet) -> Result<(), NoMemory>
+    ensures told { OnOk result (out.new.items ≡ out.old.items ++ told_at_end end.now shown.old) }
+    ensures shown { OnOk result (shown.new ≡ shown_behind end.now shown.old) }
+{
+    match end {
+        Ending::Nothing => {}
+        Ending::Text(text) => out.extend_from_slice(text.text().as_bytes())?,
+        Ending::Tags => shown.write_lines(out)?,
+        Ending::Masks(change) => *shown = shown.changed(*change),
+    }
+    Ok(())
+}
+
+// A line of an answer that passes.
+fn answer_passing(
+    out: &mut Vec<u8>,
+    shown: &mut TagSet,
+    line: &[u8],
+    kind: LineKind,
+) -> Result<Option<Awaited>, NoMemory>
+    ensures { IfOk result (λ left. IsAnswered (answered_passing shown.old line.now kind) left shown.new out.old.items out.new.items) }
+{
+    write_line(out, line)?;
+    Ok(match kind {
+        LineKind::Ok | LineKind::Ack => None,
+        LineKind::ListOk | LineKind::Told => Some(Awaited::Passing),
+    })
+}
+
+// A line of an answer that passes but for tags.
+fn answer_songs(
+    out: &mut Vec<u8>,
+    shown: &mut TagSet,
+    line: &[u8],
+    kind: LineKind,
+) -> Result<Option<Awaited>, NoMemory>
+    ensures { IfOk result (λ left. IsAnswered (answered_songs shown.old line.now kind) left shown.new out.old.items out.new.items) }
+{
+    match kind {
+        LineKind::Ok | LineKind::Ack => {
+            write_line(out, line)?;
+            Ok(None)
+        }
+        LineKind::ListOk => {
+            write_line(out, line)?;
+            Ok(Some(Awaited::Songs))
+        }
+        LineKind::Told => {
+            write_shown(out, shown, line)?;
+            Ok(Some(Awaited::Songs))
+        }
+    }
+}
+
+// A line of an answer that is changed.
+fn answer_one(
+    out: &mut Vec<u8>,
+    shown: &mut TagSet,
+    change: Change,
+    told: u32,
+    line: &[u8],
+    kind: LineKind,
+) -> Result<Option<Awaited>, NoMemory>
+    ensures { IfOk result (λ left. IsAnswered (answered_one change told shown.old line.now kind)
+        left shown.new out.old.items out.new.items) }
+{
+    match kind {
+        LineKind::Ok => {
+            end_answer(out, &change.ending, shown)?;
+            write_line(out, line)?;
+            Ok(None)
+        }
+        LineKind::Ack => {
+            write_refusal_of(out, &change, 0, line)?;
+            Ok(None)
+        }
+        LineKind::ListOk => {
+            write_line(out, line)?;
+            Ok(Some(Awaited::One { change, told }))
+        }
+        LineKind::Told => {
+            write_changed(out, change.lines, shown, told, line)?;
+            let told = told_then(told, line);
+            Ok(Some(Awaited::One { change, told }))
+        }
+    }
+}
+
+// The first of two native commands, or the command at work, is done.
+fn end_part(
+    out: &mut Vec<u8>,
+    shown: &mut TagSet,
+    several: Several,
+    line: &[u8],
+) -> Result<Option<Awaited>, NoMemory>
+    ensures { IfOk result (λ left. IsAnswered (ended_part several shown.old line.now several.parts)
+        left shown.new out.old.items out.new.items) }
+{
+    let mut several = several;
+    match several.parts.first() {
+        None => {
+            write_line(out, line)?;
+            return Ok(Some(Awaited::Several(several)));
+        }
+        Some(Part::Same | Part::Songs) => {}
+        Some(Part::Changed { needs_two, change }) => {
+            if *needs_two && !several.has_first {
+                several.has_first = true;
+                return Ok(Some(Awaited::Several(several)));
+            }
+            let ending = change.ending;
+            end_answer(out, &ending, shown)?;
+        }
+    }
+    if several.separated {
+        write_line(out, b"list_OK")?;
+    }
+    several.parts.drop_first();
+    several.has_first = false;
+    several.told = 0;
+    Ok(Some(Awaited::Several(several)))
+}
+
+// A line of the part at work that tells something.
+fn tell_part(
+    out: &mut Vec<u8>,
+    shown: &TagSet,
+    several: &Several,
+    line: &[u8],
+) -> Result<(), NoMemory>
+    ensures { OnOk result (out.new.items ≡ out.old.items ++ part_line several.now shown.now line.now several.now.parts) }
+{
+    match several.parts.first() {
+        None | Some(Part::Same) => write_line(out, line),
+        Some(Part::Songs) => write_shown(out, shown, line),
+        Some(Part::Changed { change, .. }) => {
+            write_changed(out, change.lines, shown, several.told, line)
+        }
+    }
+}
+
+// The refusal of the command at work.
+fn refuse_part(out: &mut Vec<u8>, several: &Several, line: &[u8]) -> Result<(), NoMemory>
+    ensures { OnOk result (out.new.items ≡ out.old.items ++ ended (part_refusal several.now line.now several.now.parts)) }
+{
+    let done = several.count.saturating_sub(several.parts.len());
+    match several.parts.first() {
+        None | Some(Part::Same | Part::Songs) => write_refusal_at(out, done, line),
+        Some(Part::Changed { change, .. }) => write_refusal_of(out, change, done, line),
+    }
+}
+
+// A line of an answer to several commands.
+fn answer_several(
+    out: &mut Vec<u8>,
+    shown: &mut TagSet,
+    several: Several,
+    line: &[u8],
+    kind: LineKind,
+) -> Result<Option<Awaited>, NoMemory>
+    ensures { IfOk result (λ left. IsAnswered (answered_several several shown.old line.now kind)
+        left shown.new out.old.items out.new.items) }
+{
+    match kind {
+        LineKind::Ok => {
+            write_line(out, line)?;
+            Ok(None)
+        }
+        LineKind::Ack => {
+            refuse_part(out, &several, line)?;
+            Ok(None)
+        }
+        LineKind::ListOk => end_part(out, shown, several, line),
+        LineKind::Told => {
+            tell_part(out, shown, &several, line)?;
+            let mut several = several;
+            several.told = told_then(several.told, line);
+            Ok(Some(Awaited::Several(several)))
+        }
+    }
+}
+
+// A line of the answer to the request that waits longest: what is left of that.
+fn answer_line(
+    out: &mut Vec<u8>,
+    shown: &mut TagSet,
+    first: Awaited,
+    line: &[u8],
+) -> Result<Option<Awaited>, NoMemory>
+    ensures { IfOk result (λ left. IsAnswered (answered_by first shown.old line.now) left shown.new out.old.items out.new.items) }
+{
+    let kind = LineKind::of(line);
+    match first {
+        Awaited::Passing => answer_passing(out, shown, line, kind),
+        Awaited::Songs => answer_songs(out, shown, line, kind),
+        Awaited::One { change, told } => answer_one(out, shown, change, told, line, kind),
+        Awaited::Several(several) => answer_several(out, shown, several, line, kind),
+    }
+}
+
+/// What is awaited of the daemon, and what becomes of its answers.
+#[derive(Debug, Drop)]
+pub struct Hearing {
+    /// The requests whose answers aren't whole yet, in the order in which they were asked.
+    pub awaited: Queue,
+    /// The tags of songs that the client wants.
+    pub shown: TagSet,
+    /// The daemon's first line has come.
+    pub is_greeted: bool,
+}
+
+impl Hearing {
+    /// Nothing is awaited, and all tags are shown.
+    pub(crate) fn new(alloc: Global) -> Self
+        ensures { result ≡ unheard }
+    {
+        Hearing {
+            awaited: Queue::new(alloc),
+            shown: TagSet::all(),
+            is_greeted: false,
+        }
+    }
+
+    /// Takes a line of the daemon without its newline, and adds what the client is given for it. An `Err` leaves a hearing that nobody
+    /// may use any more.
+    pub(crate) fn hear(&mut self, out: &mut Vec<u8>, line: &[u8]) -> Result<(), NoMemory>
+        ensures hearing { OnOk result (let now = heard self.old line.now in self.new ≡ now.hearing) }
+        ensures given { OnOk result (let now = heard self.old line.now in out.new.items ≡ out.old.items ++ now.given) }
+        ensures fewer { OnOk result (length self.new.awaited ≤ length self.old.awaited) }
+    {
+        if !self.is_greeted {
+            self.is_greeted = true;
+            return write_line(out, line);
+        }
+        match self.awaited.take() {
+            None => write_line(out, line),
+            Some(first) => {
+                if let Some(first) = answer_line(out, &mut self.shown, first, line)? {
+                    self.awaited.put_back(first)?;
+                }
+                Ok(())
+            }
+        }
+    }
+}

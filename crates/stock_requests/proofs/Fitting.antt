@@ -1,0 +1,208 @@
+-- No native line of a translation is longer than a line may be.
+use Rattle.std.proofs.Common.{◌≡◌, ℕ, ◌≤◌, List, [], ◌∷◌, ◌++◌, length, Bool, true, false, nat_le, Option, Some, None, refl, arith}
+use Rattle.std.proofs.lemmas.Bool.{leb-true}
+use Rattle.std.specs.Prelude.{if◌then◌else◌, codes}
+use Rattle.std.specs.Str.{bytes_eq}
+use Rattle.wave_pcm.specs.declared.tags.Tag.{Tag}
+use Rattle.wave_pcm.specs.TagName.{name_of}
+use Rattle.command_text.specs.declared.name.CommandName.{CommandName}
+use Rattle.command_text.specs.declared.name.CommandName.TheVariants as names
+use Rattle.command_text.specs.Counts.{Word}
+use Rattle.command_text.specs.Names.{name_text, named}
+use Rattle.command_text.specs.Reading.{line_words}
+use Rattle.stock_requests.specs.declared.change.Change.{Change}
+use Rattle.stock_requests.specs.declared.change.Ending.{Ending}
+use Rattle.stock_requests.specs.declared.change.Ending.TheVariants as endings
+use Rattle.stock_requests.specs.declared.change.ForeignRefusal.{ForeignRefusal}
+use Rattle.stock_requests.specs.declared.change.ForeignRefusal.TheVariants as refusals
+use Rattle.stock_requests.specs.declared.change.LineChange.{LineChange}
+use Rattle.stock_requests.specs.declared.change.LineChange.TheVariants as lines
+use Rattle.stock_requests.specs.declared.change.RefusalChange.TheVariants.{Replaced}
+use Rattle.stock_requests.specs.declared.change.Translation.{Translation}
+use Rattle.stock_requests.specs.declared.change.Translation.TheVariants.{Same, Songs, Changed}
+use Rattle.stock_requests.specs.declared.foreign.Reply.{Reply}
+use Rattle.stock_requests.specs.declared.foreign.Reply.TheVariants as replies
+use Rattle.stock_requests.specs.declared.mask.MaskChange.{MaskChange}
+use Rattle.stock_requests.specs.declared.mask.MaskChange.TheVariants.{Clear, All}
+use Rattle.stock_requests.specs.declared.mask.TagSet.{TagSet}
+use Rattle.stock_requests.specs.declared.name.ForeignCommand.{ForeignCommand}
+use Rattle.stock_requests.specs.declared.name.ForeignName.{ForeignName}
+use Rattle.stock_requests.specs.declared.name.ForeignName.TheVariants.{Native, Foreign}
+use Rattle.stock_requests.specs.declared.native.Handling.{Handling}
+use Rattle.stock_requests.specs.declared.native.Handling.TheVariants as handlings
+use Rattle.stock_requests.specs.declared.tag.ForeignTag.{ForeignTag}
+use Rattle.stock_requests.specs.declared.tag.Standing.{Standing}
+use Rattle.stock_requests.specs.declared.tag.Standing.TheVariants as standings
+use Rattle.stock_requests.specs.Filters.{native_filter}
+use Rattle.stock_requests.specs.Fits.{Fits}
+use Rattle.stock_requests.specs.Foreign.{by_reply, foreign_translation, reply_for}
+use Rattle.stock_requests.specs.Names.{foreign_named}
+use Rattle.stock_requests.specs.Native.{adding_to_playlist, answered, as_it_is, by_handling, by_line, by_one, counting, filtered, handling_of}
+use Rattle.stock_requests.specs.Native.{is_grouped, list_info, listing, listing_by, listing_line, listing_native, listing_nothing, listing_of}
+use Rattle.stock_requests.specs.Native.{listing_renamed, listing_words, filter_or_all, has_list_count, is_root, mask_alone, mask_by, mask_change, mask_of}
+use Rattle.stock_requests.specs.Native.{mask_refused, refused, root, songs_lines, tag_types, telling, with_named}
+use Rattle.stock_requests.specs.Masks.{empty_set}
+use Rattle.stock_requests.specs.Spelling.{line_limit, spelled_line, words_eq}
+use Rattle.stock_requests.specs.Tags.{standing_of, tag_named}
+use Rattle.stock_requests.specs.Translation as specs
+use Rattle.stock_requests.specs.Translation.{of_foreign, of_name, of_words, words_or_none}
+
+Holds : Translation → Type 0
+Holds t = Fits t
+
+same_holds : Holds Same
+unfolding Holds
+same_holds = tt
+
+songs_hold : Holds Songs
+unfolding Holds
+songs_hold = tt
+
+changed_holds : (change : Change) → Holds (Changed change)
+unfolding Holds
+changed_holds change = tt
+
+choice : (b : Bool) (x y : Translation) → Holds x → Holds y → Holds (if b then x else y)
+choice true x y h k = h
+choice false x y h k = k
+
+one_holds : (line : List ℕ) (change : Change) → length line ≤ line_limit → Holds (by_one line change)
+unfolding Holds
+one_holds line change h = (h, tt)
+
+answer_fits : (name : ForeignName) (ending : Ending) → Holds (answered name ending)
+answer_fits name ending = one_holds (codes "ping") (telling name lines.Kept ending) (omega arith)
+
+refusal_fits : (name : ForeignName) (refusal : ForeignRefusal) → Holds (refused name refusal)
+refusal_fits name refusal =
+    one_holds (codes "ping no") (record { name = name; lines = lines.Kept; ending = endings.Nothing; refusal = Replaced refusal })
+    (omega arith)
+
+line_fits : (other : Translation) (line : List ℕ) (change : Change) → Holds other → Holds (by_line other line change)
+line_fits other line change h = by_test (nat_le (length line) line_limit) refl
+  where
+    by_test : (b : Bool) → nat_le (length line) line_limit ≡ b → Holds (by_line other line change)
+    by_test true e = rw e (one_holds line change (leb-true (length line) line_limit e))
+    by_test false e = rw e h
+
+itself_fits : (songs : Bool) → Holds (as_it_is songs)
+itself_fits true = songs_hold
+itself_fits false = same_holds
+
+filter_fits : (name : CommandName) (songs sorts : Bool) (front words : List Word) → Holds (filtered name songs sorts front words)
+unfolding filtered
+filter_fits name songs sorts front words =
+    choice (words_eq (native_filter sorts words) words) (as_it_is songs) _ (itself_fits songs)
+    (line_fits (as_it_is songs) (spelled_line (name_text name) (front ++ native_filter sorts words))
+    (telling (Native name) (songs_lines songs) endings.Nothing) (itself_fits songs))
+
+count_fits : (words : List Word) → Holds (counting words)
+unfolding counting
+count_fits words = choice (is_grouped words) Same _ same_holds (filter_fits names.Count false false [] words)
+
+playlist_fits : (words : List Word) → Holds (adding_to_playlist words)
+unfolding adding_to_playlist
+playlist_fits [] = same_holds
+playlist_fits (list ∷ words) = filter_fits names.SearchAddPlaylist false false (list ∷ []) words
+
+values_fit : (words : List Word) (told : LineChange) → Holds (listing_line words told)
+values_fit words told =
+    line_fits Same (spelled_line (codes "list") words) (telling (Native names.ListTag) told endings.Nothing) same_holds
+
+native_fits : (name : List Word) (tag : Tag) (words : List Word) → Holds (listing_native name tag words)
+unfolding listing_native
+native_fits name tag words =
+    choice (words_eq (listing_words tag words) words) Same _ same_holds (values_fit (name ++ listing_words tag words) lines.Kept)
+
+renamed_fits : (tag : ForeignTag) (other : Tag) (words : List Word) → Holds (listing_renamed tag other words)
+unfolding listing_renamed
+renamed_fits tag other words = values_fit (name_of other ∷ native_filter false words) (lines.Renamed other tag)
+
+nothing_fits : (words : List Word) → Holds (listing_nothing words)
+unfolding listing_nothing
+nothing_fits words =
+    choice (has_list_count words) _ Same (line_fits Same (spelled_line (codes "count") (filter_or_all words))
+    (telling (Native names.ListTag) lines.Dropped endings.Nothing) same_holds) same_holds
+
+standing_fits : (standing : Standing) (tag : ForeignTag) (name : Word) (words : List Word) → Holds (listing_by standing tag name words)
+standing_fits (standings.Native other) tag name words = native_fits (name ∷ []) other words
+standing_fits (standings.FallsBackTo other) tag name words = renamed_fits tag other words
+standing_fits standings.Absent tag name words = nothing_fits words
+
+tag_fits : (tag : Option ForeignTag) (name : Word) (words : List Word) → Holds (listing_of tag name words)
+tag_fits None name words = same_holds
+tag_fits (Some tag) name words = standing_fits (standing_of tag) tag name words
+
+list_fits : (words : List Word) → Holds (listing words)
+unfolding listing
+list_fits [] = same_holds
+list_fits (name ∷ words) = choice (is_grouped words) Same _ same_holds (tag_fits (tag_named name) name words)
+
+root_fits : Holds root
+unfolding Holds
+root_fits = (omega arith, omega arith)
+
+info_fits : (words : List Word) → Holds (list_info words)
+unfolding list_info
+info_fits [] = root_fits
+info_fits (place ∷ []) = choice (is_root place) root Songs root_fits songs_hold
+info_fits (place ∷ other ∷ words) = songs_hold
+
+alone_fits : (change : MaskChange) (words : List Word) → Holds (mask_alone change words)
+alone_fits change [] = answer_fits (Native names.TagTypes) (endings.Masks change)
+alone_fits change (word ∷ words) = refusal_fits (Native names.TagTypes) refusals.TooManyArguments
+
+tags_fit : (enables : Bool) (tags : Option TagSet) → Holds (mask_by enables tags)
+tags_fit enables None = refusal_fits (Native names.TagTypes) refusals.UnknownTag
+tags_fit enables (Some tags) = answer_fits (Native names.TagTypes) (endings.Masks (mask_change enables tags))
+
+mask_fits : (enables : Bool) (words : List Word) → Holds (mask_of enables words)
+mask_fits enables [] = refusal_fits (Native names.TagTypes) refusals.MissingArguments
+mask_fits enables (word ∷ words) = tags_fit enables (with_named empty_set (word ∷ words))
+
+masks_fit : (words : List Word) → Holds (tag_types words)
+unfolding tag_types
+masks_fit [] = answer_fits (Native names.TagTypes) endings.Tags
+masks_fit (what ∷ words) =
+    let disables = choice (bytes_eq what (codes "disable")) (mask_of false words) (mask_refused refusals.UnknownSubCommand)
+    (mask_fits false words) (refusal_fits (Native names.TagTypes) refusals.UnknownSubCommand) in
+    let enables = choice (bytes_eq what (codes "enable")) (mask_of true words) _ (mask_fits true words) disables in
+    let shows = choice (bytes_eq what (codes "all")) (mask_alone All words) _ (alone_fits All words) enables in
+    choice (bytes_eq what (codes "clear")) (mask_alone Clear words) _ (alone_fits Clear words) shows
+
+handled_fits : (handling : Handling) (name : CommandName) (words : List Word) → Holds (by_handling handling name words)
+handled_fits handlings.Untouched name words = same_holds
+handled_fits handlings.TellsSongs name words = songs_hold
+handled_fits (handlings.Adds text) name words = changed_holds (telling (Native name) lines.Kept (endings.Text text))
+handled_fits (handlings.Filters songs sorts) name words = filter_fits name songs sorts [] words
+handled_fits handlings.AddsToPlaylist name words = playlist_fits words
+handled_fits handlings.Counts name words = count_fits words
+handled_fits handlings.ListsValues name words = list_fits words
+handled_fits handlings.ListsFolder name words = info_fits words
+handled_fits handlings.Masks name words = masks_fit words
+
+reply_fits : (name : ForeignName) (reply : Reply) → Holds (by_reply name reply)
+reply_fits name (replies.Told ending) = answer_fits name ending
+reply_fits name (replies.Refused refusal) = refusal_fits name refusal
+reply_fits name replies.Volume = one_holds (codes "status") (telling name lines.OnlyVolume endings.Nothing) (omega arith)
+reply_fits name replies.Queue = one_holds (codes "playlistinfo") (telling name lines.Numbered endings.Nothing) (omega arith)
+
+command_fits : (command : ForeignCommand) (words : List Word) → Holds (foreign_translation command words)
+unfolding foreign_translation
+command_fits command words = reply_fits (Foreign command) (reply_for command words)
+
+foreign_fits : (words : List Word) (command : Option ForeignCommand) → Holds (of_foreign words command)
+foreign_fits words None = same_holds
+foreign_fits words (Some command) = command_fits command words
+
+name_fits : (name : Word) (words : List Word) (command : Option CommandName) → Holds (of_name name words command)
+name_fits name words None = foreign_fits words (foreign_named name)
+name_fits name words (Some command) = handled_fits (handling_of command) command words
+
+words_fit : (words : List Word) → Holds (of_words words)
+words_fit [] = same_holds
+words_fit (name ∷ words) = name_fits name words (named name)
+
+pub translation_fits : (is_alone : Bool) (line : List ℕ) → Fits (specs.translation is_alone line)
+unfolding specs.translation Holds
+translation_fits is_alone line = words_fit (words_or_none (line_words line))

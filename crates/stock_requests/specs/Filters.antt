@@ -1,0 +1,68 @@
+-- The words of a filter, and the order behind it, over the daemon's tags in the place of all of MPD's.
+use Rattle.std.specs.Prelude.{ℕ, List, [], ◌∷◌, ◌++◌, ◌&&◌, Bool, true, false, drop, codes, if◌then◌else◌}
+use Rattle.std.specs.Str.{bytes_eq}
+use Rattle.wave_pcm.specs.TagName.{name_of}
+use Rattle.filter_expr.specs.Parts.{opening, begins_so}
+use Rattle.command_text.specs.Counts.{Word}
+use Rattle.command_text.specs.Finding.{begins_part}
+use Rattle.stock_requests.specs.declared.expression.FilterName.{FilterName}
+use Rattle.stock_requests.specs.declared.expression.FilterName.TheVariants.{Kept, OfTag, File, Absent}
+use Rattle.stock_requests.specs.Expressions.{base_value, filter_name, holds_of_none, native_text}
+use Rattle.stock_requests.specs.declared.expression.Operator.TheVariants.{Equal}
+
+abbrev pub minus : ℕ
+minus = 45
+
+abbrev pub is_empty : Word → Bool
+is_empty [] = true
+is_empty (b ∷ word) = false
+
+-- the pair of a name of this kind and a value
+abbrev pub pair_by : FilterName → Word → Word → List Word
+pair_by Kept name value = name ∷ value ∷ []
+pair_by (OfTag tag) name value = name_of tag ∷ value ∷ []
+pair_by File name value = codes "file" ∷ value ∷ []
+pair_by Absent name value = codes "base" ∷ base_value (holds_of_none Equal (is_empty value)) ∷ []
+
+abbrev pub native_pair : Word → Word → List Word
+native_pair name value = pair_by (filter_name name) name value
+
+-- What songs are sorted by in the place of a name, upwards or downwards. Where no song has the tag they stay as they are found, by URIs.
+abbrev pub sort_by : Bool → FilterName → Word → Word
+sort_by down Kept word = word
+sort_by false (OfTag tag) word = name_of tag
+sort_by true (OfTag tag) word = minus ∷ name_of tag
+sort_by false File word = codes "file"
+sort_by true File word = codes "-file"
+sort_by down Absent word = codes "file"
+
+unfoldable pub native_sort : Word → Word
+native_sort word =
+    if begins_so minus word then sort_by true (filter_name (drop 1 word)) word else sort_by false (filter_name word) word
+
+-- the words behind a filter; only the first part can be an order
+unfoldable pub native_parts : Bool → List Word → List Word
+native_parts sorts [] = []
+native_parts sorts (part ∷ []) = part ∷ []
+native_parts sorts (part ∷ value ∷ words) =
+    if sorts && bytes_eq part (codes "sort") then part ∷ native_sort value ∷ words else part ∷ value ∷ words
+
+-- the pairs behind the first one, up to a part that may stand behind them
+unfoldable pub more_pairs : Bool → List Word → List Word
+more_pairs sorts [] = []
+more_pairs sorts (word ∷ []) = word ∷ []
+more_pairs sorts (name ∷ value ∷ words) =
+    if sorts && begins_part true name then native_parts sorts (name ∷ value ∷ words)
+    else native_pair name value ++ more_pairs sorts words
+
+-- the first pair is one whatever its name
+unfoldable pub native_pairs : Bool → List Word → List Word
+native_pairs sorts [] = []
+native_pairs sorts (word ∷ []) = word ∷ []
+native_pairs sorts (name ∷ value ∷ words) = native_pair name value ++ more_pairs sorts words
+
+-- a filter and what stands behind it, where an order may stand there or not
+unfoldable pub native_filter : Bool → List Word → List Word
+native_filter sorts [] = []
+native_filter sorts (word ∷ words) =
+    if begins_so opening word then native_text word ∷ native_parts sorts words else native_pairs sorts (word ∷ words)

@@ -1,0 +1,12 @@
+-- How long native lines may be.
+use Rattle.std.specs.Prelude.{◌≤◌, length, IfSome}
+use Rattle.stock_requests.specs.declared.change.Translation.{Translation}
+use Rattle.stock_requests.specs.declared.change.Translation.TheVariants.{Same, Songs, Changed, Other}
+use Rattle.stock_requests.specs.Spelling.{line_limit}
+
+-- no native line has more bytes than a line may have
+abbrev pub Fits : Translation → Type 0
+Fits Same = Unit {0}
+Fits Songs = Unit {0}
+Fits (Changed change) = Unit {0}
+Fits (Other natives change) = (length natives.first ≤ line_limit) × IfSome natives.second (λ line. length line ≤ line_limit)

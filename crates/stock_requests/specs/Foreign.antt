@@ -1,0 +1,77 @@
+-- What becomes of the commands of MPD that the daemon doesn't have.
+use Rattle.std.specs.Prelude.{List, [], ◌∷◌, ◌==◌, ◌||◌, length, Bool, codes, if◌then◌else◌}
+use Rattle.std.specs.Str.{bytes_eq}
+use Rattle.command_text.specs.Counts.{Word}
+use Rattle.stock_requests.specs.declared.change.Ending.TheVariants.{Nothing, Text}
+use Rattle.stock_requests.specs.declared.change.FixedText.TheVariants as texts
+use Rattle.stock_requests.specs.declared.change.ForeignRefusal.{ForeignRefusal}
+use Rattle.stock_requests.specs.declared.change.ForeignRefusal.TheVariants as refusals
+use Rattle.stock_requests.specs.declared.change.LineChange.TheVariants as lines
+use Rattle.stock_requests.specs.declared.change.Translation.{Translation}
+use Rattle.stock_requests.specs.declared.foreign.Reply.{Reply}
+use Rattle.stock_requests.specs.declared.foreign.Reply.TheVariants.{Told, Refused, Volume, Queue}
+use Rattle.stock_requests.specs.declared.name.ForeignCommand.{ForeignCommand}
+use Rattle.stock_requests.specs.declared.name.ForeignCommand.TheVariants as foreign
+use Rattle.stock_requests.specs.declared.name.ForeignName.{ForeignName}
+use Rattle.stock_requests.specs.declared.name.ForeignName.TheVariants.{Foreign}
+use Rattle.stock_requests.specs.Names.{argument_count}
+use Rattle.stock_requests.specs.Native.{answered, by_one, refused, telling}
+
+-- one of two answers
+abbrev pub told_if : Bool → ForeignRefusal → Reply
+told_if holds refusal = if holds then Told Nothing else Refused refusal
+
+-- the answer about an output, the only one of which is 0
+abbrev pub of_output : Word → ForeignRefusal → Reply
+of_output id refusal = if bytes_eq id (codes "0") then Refused refusal else Refused refusals.NoOutput
+
+-- 0 decibels, as clients spell it
+abbrev pub is_no_gain : Word → Bool
+is_no_gain word = bytes_eq word (codes "0") || bytes_eq word (codes "0.000000")
+
+-- how a command is answered that has as many arguments as it takes, of which the first is this
+abbrev pub reply_to : ForeignCommand → Word → Reply
+reply_to foreign.AlbumArt word = Refused refusals.NoFile
+reply_to foreign.BinaryLimit word = Told Nothing
+reply_to foreign.Channels word = Told Nothing
+reply_to foreign.Crossfade word = told_if (bytes_eq word (codes "0")) refusals.NoCrossfade
+reply_to foreign.Decoders word = Told (Text texts.Decoders)
+reply_to foreign.DisableOutput word = of_output word refusals.AlwaysOn
+reply_to foreign.EnableOutput word = told_if (bytes_eq word (codes "0")) refusals.NoOutput
+reply_to foreign.GetVolume word = Volume
+reply_to foreign.ListMounts word = Told (Text texts.Mounts)
+reply_to foreign.ListNeighbors word = Refused refusals.NoNeighbors
+reply_to foreign.ListPartitions word = Told (Text texts.Partition)
+reply_to foreign.MixrampDb word = told_if (is_no_gain word) refusals.NoMixramp
+reply_to foreign.MixrampDelay word = told_if (bytes_eq word (codes "nan")) refusals.NoMixramp
+reply_to foreign.Outputs word = Told (Text texts.Outputs)
+reply_to foreign.OutputSet word = of_output word refusals.UnsupportedAttribute
+reply_to foreign.Partition word = told_if (bytes_eq word (codes "default")) refusals.NoPartition
+reply_to foreign.Password word = Refused refusals.IncorrectPassword
+reply_to foreign.Playlist word = Queue
+reply_to foreign.ReadComments word = Told Nothing
+reply_to foreign.ReadPicture word = Told Nothing
+reply_to foreign.ReplayGainMode word = told_if (bytes_eq word (codes "off")) refusals.UnrecognizedGain
+reply_to foreign.ReplayGainStatus word = Told (Text texts.ReplayGain)
+reply_to foreign.SendMessage word = Refused refusals.NobodySubscribed
+reply_to foreign.ToggleOutput word = of_output word refusals.AlwaysOn
+reply_to foreign.UrlHandlers word = Told Nothing
+
+-- the first argument, empty where there is none
+abbrev pub first_of : List Word → Word
+first_of [] = []
+first_of (word ∷ words) = word
+
+-- the count of arguments is looked at first
+abbrev pub reply_for : ForeignCommand → List Word → Reply
+reply_for command words =
+    if length words == argument_count command then reply_to command (first_of words) else Refused refusals.WrongCount
+
+abbrev pub by_reply : ForeignName → Reply → Translation
+by_reply name (Told ending) = answered name ending
+by_reply name (Refused refusal) = refused name refusal
+by_reply name Volume = by_one (codes "status") (telling name lines.OnlyVolume Nothing)
+by_reply name Queue = by_one (codes "playlistinfo") (telling name lines.Numbered Nothing)
+
+unfoldable pub foreign_translation : ForeignCommand → List Word → Translation
+foreign_translation command words = by_reply (Foreign command) (reply_for command words)

@@ -1,0 +1,12 @@
+pub mod Tags
+pub mod Masks
+pub mod Names
+pub mod Texts
+pub mod Spelling
+pub mod Expressions
+pub mod Filters
+pub mod Native
+pub mod Foreign
+pub mod Translation
+pub mod Without
+pub mod Fits

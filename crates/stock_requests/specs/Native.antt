@@ -1,0 +1,245 @@
+-- What becomes of the daemon's own commands where MPD's do more.
+use Rattle.std.specs.Prelude.{ℕ, List, [], ◌∷◌, ◌++◌, ◌-◌, ◌||◌, ◌&&◌, not, nat_le, length, Bool, true, false, Option, Some, None, option_and_then, slice_index_or, codes}
+use Rattle.std.specs.Prelude.{if◌then◌else◌}
+use Rattle.std.specs.Str.{bytes_eq}
+use Rattle.wave_pcm.specs.declared.tags.Tag.{Tag}
+use Rattle.wave_pcm.specs.declared.tags.Tag.TheVariants as native
+use Rattle.wave_pcm.specs.TagName.{name_of}
+use Rattle.command_text.specs.declared.name.CommandName.{CommandName}
+use Rattle.command_text.specs.declared.name.CommandName.TheVariants as names
+use Rattle.filter_expr.specs.Parts.{begins_so, opening}
+use Rattle.command_text.specs.Counts.{Word}
+use Rattle.command_text.specs.Finding.{has_filter_count}
+use Rattle.command_text.specs.Names.{name_text}
+use Rattle.stock_requests.specs.declared.change.Change.{Change}
+use Rattle.stock_requests.specs.declared.change.Ending.{Ending}
+use Rattle.stock_requests.specs.declared.change.Ending.TheVariants as endings
+use Rattle.stock_requests.specs.declared.change.FixedText.{FixedText}
+use Rattle.stock_requests.specs.declared.change.FixedText.TheVariants as texts
+use Rattle.stock_requests.specs.declared.change.ForeignRefusal.{ForeignRefusal}
+use Rattle.stock_requests.specs.declared.change.ForeignRefusal.TheVariants as refusals
+use Rattle.stock_requests.specs.declared.change.LineChange.{LineChange}
+use Rattle.stock_requests.specs.declared.change.LineChange.TheVariants as lines
+use Rattle.stock_requests.specs.declared.change.RefusalChange.TheVariants.{Named, Replaced}
+use Rattle.stock_requests.specs.declared.change.Translation.{Translation}
+use Rattle.stock_requests.specs.declared.change.Translation.TheVariants.{Same, Songs, Changed, Other}
+use Rattle.stock_requests.specs.declared.mask.TagSet.{TagSet}
+use Rattle.stock_requests.specs.declared.mask.MaskChange.{MaskChange}
+use Rattle.stock_requests.specs.declared.mask.MaskChange.TheVariants.{Clear, All, Enable, Disable}
+use Rattle.stock_requests.specs.declared.name.ForeignName.{ForeignName}
+use Rattle.stock_requests.specs.declared.name.ForeignName.TheVariants.{Native}
+use Rattle.stock_requests.specs.declared.native.Handling.{Handling}
+use Rattle.stock_requests.specs.declared.native.Handling.TheVariants.{Untouched, TellsSongs, Adds, Filters, AddsToPlaylist, Counts}
+use Rattle.stock_requests.specs.declared.native.Handling.TheVariants.{ListsValues, ListsFolder, Masks}
+use Rattle.stock_requests.specs.declared.tag.ForeignTag.{ForeignTag}
+use Rattle.stock_requests.specs.declared.tag.Standing.{Standing}
+use Rattle.stock_requests.specs.declared.tag.Standing.TheVariants as standings
+use Rattle.stock_requests.specs.Filters.{native_filter}
+use Rattle.stock_requests.specs.Masks.{empty_set, only_tag, with_tags}
+use Rattle.stock_requests.specs.Spelling.{line_limit, spelled_line, words_eq}
+use Rattle.stock_requests.specs.Tags.{standing_of, tag_named}
+
+-- an answer of which these lines are told, and this behind them
+abbrev pub telling : ForeignName → LineChange → Ending → Change
+telling name told ending = record { name = name; lines = told; ending = ending; refusal = Named }
+
+-- one native command, and two
+abbrev pub by_one : List ℕ → Change → Translation
+by_one line change = Other (record { first = line; second = None }) change
+
+abbrev pub by_two : List ℕ → List ℕ → Change → Translation
+by_two line other change = Other (record { first = line; second = Some other }) change
+
+-- answered without the daemon, at the command's place among the others
+abbrev pub answered : ForeignName → Ending → Translation
+answered name ending = by_one (codes "ping") (telling name lines.Kept ending)
+
+-- refused at its place: the daemon refuses `ping` with an argument always
+abbrev pub refused : ForeignName → ForeignRefusal → Translation
+refused name refusal =
+    by_one (codes "ping no") (record { name = name; lines = lines.Kept; ending = endings.Nothing; refusal = Replaced refusal })
+
+-- a native line in a command's place, where a line may be so long; else the command goes on as it is
+abbrev pub by_line : Translation → List ℕ → Change → Translation
+by_line as_it_is line change = if nat_le (length line) line_limit then by_one line change else as_it_is
+
+-- a command whose answer tells songs goes on as it is, or one whose answer doesn't
+abbrev pub as_it_is : Bool → Translation
+as_it_is true = Songs
+as_it_is false = Same
+
+abbrev pub songs_lines : Bool → LineChange
+songs_lines true = lines.Masked
+songs_lines false = lines.Kept
+
+-- a command with a filter behind some words: whether its answer tells songs, and whether an order may stand behind the filter
+unfoldable pub filtered : CommandName → Bool → Bool → List Word → List Word → Translation
+filtered name songs sorts front words =
+    if words_eq (native_filter sorts words) words then as_it_is songs
+    else by_line (as_it_is songs) (spelled_line (name_text name) (front ++ native_filter sorts words))
+    (telling (Native name) (songs_lines songs) endings.Nothing)
+
+-- the words end in `group TAG`
+unfoldable pub is_grouped : List Word → Bool
+is_grouped words = nat_le 2 (length words) && bytes_eq (slice_index_or words (length words - 2) []) (codes "group")
+
+unfoldable pub counting : List Word → Translation
+counting words = if is_grouped words then Same else filtered names.Count false false [] words
+
+unfoldable pub adding_to_playlist : List Word → Translation
+adding_to_playlist [] = Same
+adding_to_playlist (list ∷ words) = filtered names.SearchAddPlaylist false false (list ∷ []) words
+
+-- `list Album ARTIST`, as clients of old say it
+abbrev pub is_artist_alone : Tag → List Word → Bool
+is_artist_alone native.Album (word ∷ []) = not (begins_so opening word)
+is_artist_alone tag words = false
+
+-- the words behind the tag of a `list`, one that songs have
+abbrev pub listing_words : Tag → List Word → List Word
+listing_words tag words = if is_artist_alone tag words then codes "Artist" ∷ words else native_filter false words
+
+-- a line in the place of a `list`
+abbrev pub listing_line : List Word → LineChange → Translation
+listing_line words told = by_line Same (spelled_line (codes "list") words) (telling (Native names.ListTag) told endings.Nothing)
+
+-- the values of a tag that songs have, by its name
+unfoldable pub listing_native : List Word → Tag → List Word → Translation
+listing_native name tag words =
+    if words_eq (listing_words tag words) words then Same else listing_line (name ++ listing_words tag words) lines.Kept
+
+-- those of the tag that MPD falls back to, under the name of the other
+unfoldable pub listing_renamed : ForeignTag → Tag → List Word → Translation
+listing_renamed tag other words = listing_line (name_of other ∷ native_filter false words) (lines.Renamed other tag)
+
+-- a filter that holds for every song, where there is none
+abbrev pub filter_or_all : List Word → List Word
+filter_or_all [] = codes "base" ∷ [] ∷ []
+filter_or_all (word ∷ words) = native_filter false (word ∷ words)
+
+abbrev pub has_list_count : List Word → Bool
+has_list_count [] = true
+has_list_count (word ∷ words) = has_filter_count (word ∷ words)
+
+-- none; the filter may still be refused
+unfoldable pub listing_nothing : List Word → Translation
+listing_nothing words =
+    if has_list_count words
+    then by_line Same (spelled_line (codes "count") (filter_or_all words)) (telling (Native names.ListTag) lines.Dropped endings.Nothing)
+    else Same
+
+abbrev pub listing_by : Standing → ForeignTag → Word → List Word → Translation
+listing_by (standings.Native other) tag name words = listing_native (name ∷ []) other words
+listing_by (standings.FallsBackTo other) tag name words = listing_renamed tag other words
+listing_by standings.Absent tag name words = listing_nothing words
+
+abbrev pub listing_of : Option ForeignTag → Word → List Word → Translation
+listing_of None name words = Same
+listing_of (Some tag) name words = listing_by (standing_of tag) tag name words
+
+unfoldable pub listing : List Word → Translation
+listing [] = Same
+listing (name ∷ words) = if is_grouped words then Same else listing_of (tag_named name) name words
+
+abbrev pub is_root : Word → Bool
+is_root place = bytes_eq place [] || bytes_eq place (codes "/")
+
+-- the root's folders and songs, and the playlists behind them
+abbrev pub root : Translation
+root = by_two (codes "lsinfo") (codes "listplaylists") (telling (Native names.ListInfo) lines.Masked endings.Nothing)
+
+unfoldable pub list_info : List Word → Translation
+list_info [] = root
+list_info (place ∷ []) = if is_root place then root else Songs
+list_info (place ∷ other ∷ words) = Songs
+
+abbrev pub masked : MaskChange → Translation
+masked change = answered (Native names.TagTypes) (endings.Masks change)
+
+abbrev pub mask_refused : ForeignRefusal → Translation
+mask_refused refusal = refused (Native names.TagTypes) refusal
+
+-- a change that names no tag
+abbrev pub mask_alone : MaskChange → List Word → Translation
+mask_alone change [] = masked change
+mask_alone change (word ∷ words) = mask_refused refusals.TooManyArguments
+
+-- a set with the tags that words name, if each names one
+unfoldable pub with_named : TagSet → List Word → Option TagSet
+with_named set [] = Some set
+with_named set (word ∷ words) = option_and_then (λ tag. with_named (with_tags set (only_tag tag)) words) (tag_named word)
+
+abbrev pub mask_change : Bool → TagSet → MaskChange
+mask_change true tags = Enable tags
+mask_change false tags = Disable tags
+
+abbrev pub mask_by : Bool → Option TagSet → Translation
+mask_by enables None = mask_refused refusals.UnknownTag
+mask_by enables (Some tags) = masked (mask_change enables tags)
+
+-- a change by the tags that it names, which enables them or disables them
+abbrev pub mask_of : Bool → List Word → Translation
+mask_of enables [] = mask_refused refusals.MissingArguments
+mask_of enables (word ∷ words) = mask_by enables (with_named empty_set (word ∷ words))
+
+unfoldable pub tag_types : List Word → Translation
+tag_types [] = answered (Native names.TagTypes) endings.Tags
+tag_types (what ∷ words) =
+    if bytes_eq what (codes "clear") then mask_alone Clear words
+    else (if bytes_eq what (codes "all") then mask_alone All words
+    else (if bytes_eq what (codes "enable") then mask_of true words
+    else (if bytes_eq what (codes "disable") then mask_of false words
+    else mask_refused refusals.UnknownSubCommand)))
+
+-- how a command of the daemon is handled
+abbrev pub handling_of : CommandName → Handling
+handling_of names.Commands = Adds texts.Commands
+handling_of names.Count = Counts
+handling_of names.CurrentSong = TellsSongs
+handling_of names.Find = Filters true true
+handling_of names.FindAdd = Filters false true
+handling_of names.ListTag = ListsValues
+handling_of names.ListAllInfo = TellsSongs
+handling_of names.ListPlaylistInfo = TellsSongs
+handling_of names.ListInfo = ListsFolder
+handling_of names.QueueFind = Filters true false
+handling_of names.QueueId = TellsSongs
+handling_of names.QueueInfo = TellsSongs
+handling_of names.QueueSearch = Filters true false
+handling_of names.QueueChanges = TellsSongs
+handling_of names.Search = Filters true true
+handling_of names.SearchAdd = Filters false true
+handling_of names.SearchAddPlaylist = AddsToPlaylist
+handling_of names.Status = Adds texts.Status
+handling_of names.TagTypes = Masks
+handling_of name = Untouched
+
+-- whether it is handled by its arguments
+abbrev pub needs_words : Handling → Bool
+needs_words Untouched = false
+needs_words TellsSongs = false
+needs_words (Adds text) = false
+needs_words handling = true
+
+abbrev pub adding : CommandName → FixedText → Translation
+adding name text = Changed (telling (Native name) lines.Kept (endings.Text text))
+
+abbrev pub by_handling : Handling → CommandName → List Word → Translation
+by_handling Untouched name words = Same
+by_handling TellsSongs name words = Songs
+by_handling (Adds text) name words = adding name text
+by_handling (Filters songs sorts) name words = filtered name songs sorts [] words
+by_handling AddsToPlaylist name words = adding_to_playlist words
+by_handling Counts name words = counting words
+by_handling ListsValues name words = listing words
+by_handling ListsFolder name words = list_info words
+by_handling Masks name words = tag_types words
+
+-- the same of the words of its line, of which the first is its name
+abbrev pub by_first : Handling → CommandName → List Word → Translation
+by_first handling name [] = Same
+by_first handling name (word ∷ words) = by_handling handling name words
+
+-- what becomes of a command of the daemon, with these arguments
+abbrev pub native_translation : CommandName → List Word → Translation
+native_translation name words = by_handling (handling_of name) name words

@@ -1,0 +1,46 @@
+-- What becomes of a command's line, by its words. One that is no text, has bad quoting, no word, or a name that nobody translates goes on as
+-- it is, so that the daemon refuses it.
+use Rattle.std.specs.Prelude.{ℕ, List, [], ◌∷◌, Bool, true, Option, Some, None, Result, Ok, Err}
+use Rattle.command_text.specs.declared.name.CommandName.{CommandName}
+use Rattle.command_text.specs.declared.refusal.Refusal.{Refusal}
+use Rattle.command_text.specs.Counts.{Word}
+use Rattle.command_text.specs.Names.{named}
+use Rattle.command_text.specs.Reading.{line_words}
+use Rattle.stock_requests.specs.declared.change.Translation as declared
+use Rattle.stock_requests.specs.declared.change.Translation.TheVariants.{Same}
+use Rattle.stock_requests.specs.declared.name.ForeignCommand.{ForeignCommand}
+use Rattle.stock_requests.specs.Foreign.{foreign_translation}
+use Rattle.stock_requests.specs.Names.{foreign_named}
+use Rattle.stock_requests.specs.Native.{handling_of, native_translation, needs_words}
+
+-- a command that the daemon doesn't have
+abbrev pub of_foreign : List Word → Option ForeignCommand → declared.Translation
+of_foreign words None = Same
+of_foreign words (Some command) = foreign_translation command words
+
+abbrev pub of_name : Word → List Word → Option CommandName → declared.Translation
+of_name name words None = of_foreign words (foreign_named name)
+of_name name words (Some command) = native_translation command words
+
+-- a command whose name the daemon doesn't know
+abbrev pub of_unnamed : List Word → declared.Translation
+of_unnamed [] = Same
+of_unnamed (name ∷ words) = of_foreign words (foreign_named name)
+
+abbrev pub of_words : List Word → declared.Translation
+of_words [] = Same
+of_words (name ∷ words) = of_name name words (named name)
+
+-- the words of a line, none where it is refused for its bytes or its quoting
+abbrev pub words_or_none : Result (List Word) Refusal → List Word
+words_or_none (Err refusal) = []
+words_or_none (Ok words) = words
+
+-- the line of a command, alone or in a list: nothing depends on that yet
+unfoldable pub translation : Bool → List ℕ → declared.Translation
+translation is_alone line = of_words (words_or_none (line_words line))
+
+-- the lines that may want memory: those that begin with no command of the daemon's, or with one that is handled by its arguments
+abbrev pub may_want_memory : Option CommandName → Bool
+may_want_memory None = true
+may_want_memory (Some name) = needs_words (handling_of name)

@@ -1,0 +1,283 @@
+// Writes an expression over the daemon's tags in the place of one over all of MPD's.
+ghost use Rattle.std.specs.Prelude.{◌≡◌, ◌+◌, ◌<◌, ◌≤◌, ◌∷◌, ◌++◌, [], false, length, take, drop, IfOk, IfSome, OnOk};
+ghost use Rattle.std.specs.Option.{option_map};
+ghost use Rattle.filter_expr.specs.Parts.{is_blank, is_quote, ends_name, opening, without_blanks, name_in, behind_name};
+ghost use Rattle.stock_requests.specs.Expressions.{base_test, begins_with_blank, compared, filter_name, holds_of_none, kept, native_text};
+ghost use Rattle.stock_requests.specs.Expressions.{opened_piece, operator_at, piece, piece_at, quoted_length, replaced, test_at, tested};
+ghost use Rattle.stock_requests.specs.Expressions.{value_length};
+
+use crate::tag::{ForeignTag, Standing};
+use std::alloc::{AllocError, Global};
+use wave_pcm::Tag;
+
+/// What becomes of a name in a filter.
+#[derive(Clone, Copy, Debug)]
+pub(crate) enum FilterName {
+    Kept,
+    /// This tag's name takes its place.
+    OfTag(Tag),
+    /// `file` takes its place.
+    File,
+    /// No song has the tag.
+    Absent,
+}
+
+/// How a test compares a tag.
+#[derive(Clone, Copy, Debug)]
+pub(crate) enum Operator {
+    Equal,
+    Unequal,
+    Contains,
+}
+
+/// The first bytes of a text, and what stands in their place, in two parts.
+#[derive(Clone, Copy)]
+struct TextPiece<'a> {
+    length: usize,
+    kept: &'a [u8],
+    put: &'static str,
+}
+
+impl FilterName {
+    /// What becomes of this name.
+    #[tactic(auto, unfolding(crate::specs::Expressions::filter_name))]
+    pub(crate) fn of(name: &[u8]) -> Self
+        ensures { result ≡ filter_name name.now }
+    {
+        if name.eq_ignore_ascii_case(b"filename") {
+            return FilterName::File;
+        }
+        match ForeignTag::named(name) {
+            None => FilterName::Kept,
+            Some(tag) => match tag.standing() {
+                Standing::Native(_) => FilterName::Kept,
+                Standing::FallsBackTo(tag) => FilterName::OfTag(tag),
+                Standing::Absent => FilterName::Absent,
+            },
+        }
+    }
+}
+
+impl Operator {
+    /// Whether a test of a tag that no song has holds, for a value that is empty or isn't.
+    pub(crate) fn holds_of_none(self, empty: bool) -> bool
+        ensures { result ≡ holds_of_none self empty }
+    {
+        match self {
+            Operator::Equal | Operator::Contains => empty,
+            Operator::Unequal => !empty,
+        }
+    }
+}
+
+fn is_blank(byte: u8) -> bool
+    ensures { result ≡ is_blank byte }
+{
+    byte == b' ' || byte == b'\t'
+}
+
+fn is_quote(byte: u8) -> bool
+    ensures { result ≡ is_quote byte }
+{
+    byte == b'\'' || byte == b'"'
+}
+
+/// Whether no name goes on with this byte.
+fn ends_name(byte: u8) -> bool
+    ensures { result ≡ ends_name byte }
+{
+    is_blank(byte) || byte == b'(' || byte == b')' || is_quote(byte) || byte == b'=' || byte == b'!'
+}
+
+/// The text from the first byte on that is no blank.
+fn without_blanks(text: &[u8]) -> &[u8]
+    ensures value { result.now ≡ without_blanks text.now }
+    ensures bound { length result.now ≤ length text.now }
+{
+    for (place, byte) in text.iter().enumerate() {
+        if !is_blank(*byte) {
+            return &text[place..];
+        }
+    }
+    &[]
+}
+
+fn name_length(text: &[u8]) -> usize
+    ensures name { take result text.now ≡ name_in text.now }
+    ensures behind { drop result text.now ≡ behind_name text.now }
+    ensures bound { result ≤ length text.now }
+{
+    for (place, byte) in text.iter().enumerate() {
+        if ends_name(*byte) {
+            return place;
+        }
+    }
+    text.len()
+}
+
+fn begins_with_blank(text: &[u8]) -> bool
+    ensures { result ≡ begins_with_blank text.now }
+{
+    match text {
+        [] => false,
+        [first, ..] => is_blank(*first),
+    }
+}
+
+/// The operator in front, and what stands behind it.
+#[tactic(auto, unfolding(crate::specs::Expressions::operator_at))]
+fn operator_at(text: &[u8]) -> Option<(Operator, &[u8])>
+    ensures value { option_map (λ x. compared x.0 x.1.now) result ≡ operator_at text.now }
+    ensures bound { IfSome result (λ x. length x.1.now ≤ length text.now) }
+{
+    if text.starts_with(b"==") {
+        Some((Operator::Equal, &text[2..]))
+    } else if text.starts_with(b"!=") {
+        Some((Operator::Unequal, &text[2..]))
+    } else if text.starts_with(b"contains") && begins_with_blank(&text[8..]) {
+        Some((Operator::Contains, &text[8..]))
+    } else {
+        None
+    }
+}
+
+/// How many bytes a text in quotes has with its quotes; this is what stands behind the first one.
+fn quoted_length(quote: u8, text: &[u8]) -> Option<usize>
+    ensures value { result ≡ quoted_length quote false 1 text.now }
+    ensures bound { IfSome result (λ n. (1 < n) × (n ≤ length text.now + 1)) }
+{
+    let mut escaped = false;
+    for (place, byte) in text.iter().enumerate() {
+        if escaped {
+            escaped = false;
+        } else if *byte == quote {
+            return Some(place + 2);
+        } else {
+            escaped = *byte == b'\\';
+        }
+    }
+    None
+}
+
+/// How many bytes the text in quotes has with its quotes that stands in front.
+#[tactic(auto, unfolding(crate::specs::Expressions::value_length))]
+fn value_length(text: &[u8]) -> Option<usize>
+    ensures value { result ≡ value_length text.now }
+    ensures bound { IfSome result (λ n. (1 < n) × (n ≤ length text.now)) }
+{
+    match text {
+        [first, rest @ ..] if is_quote(*first) => quoted_length(*first, rest),
+        _ => None,
+    }
+}
+
+/// Whether a test of a tag that no song has holds for every song or for none, and what stands behind it. The text begins behind the name.
+#[tactic(auto, unfolding(crate::specs::Expressions::test_at))]
+fn test_at(text: &[u8]) -> Option<(bool, &[u8])>
+    ensures value { option_map (λ x. tested x.0 x.1.now) result ≡ test_at text.now }
+    ensures bound { IfSome result (λ x. length x.1.now ≤ length text.now) }
+{
+    match operator_at(without_blanks(text)) {
+        None => None,
+        Some((operator, rest)) => {
+            let value = without_blanks(rest);
+            match value_length(value) {
+                None => None,
+                Some(length) => Some((operator.holds_of_none(length == 2), &value[length..])),
+            }
+        }
+    }
+}
+
+/// What stands in the place of a test that holds for every song or for none.
+fn base_test(always: bool) -> &'static str
+    ensures { result.now ≡ base_test always }
+{
+    if always { "base \"\"" } else { "base \"/\"" }
+}
+
+/// The first bytes of a text as they are.
+fn kept(size: usize, text: &[u8]) -> TextPiece<'_>
+    requires { size ≤ length text.now }
+    ensures { piece result.length (result.kept.now ++ result.put.now) ≡ kept size text.now }
+{
+    TextPiece {
+        length: size,
+        kept: &text[..size],
+        put: "",
+    }
+}
+
+/// A text that begins with a parenthesis, up to a rest of it, in whose place this text stands behind the parenthesis.
+fn replaced<'a>(text: &'a [u8], rest: &[u8], put: &'static str) -> TextPiece<'a>
+    requires opened { take 1 text.now ≡ opening ∷ [] }
+    requires rest { length rest.now < length text.now }
+    ensures { piece result.length (result.kept.now ++ result.put.now) ≡ replaced text.now rest.now put.now }
+{
+    TextPiece {
+        length: text.len() - rest.len(),
+        kept: &text[..1],
+        put,
+    }
+}
+
+/// The piece in front of a text that begins with an open parenthesis.
+fn opened_piece(text: &[u8]) -> TextPiece<'_>
+    requires { take 1 text.now ≡ opening ∷ [] }
+    ensures value { piece result.length (result.kept.now ++ result.put.now)
+        ≡ opened_piece text.now (without_blanks (drop 1 text.now)) }
+    ensures within { (0 < result.length) × (result.length ≤ length text.now) }
+{
+    let inner = without_blanks(&text[1..]);
+    let (name, rest) = inner.split_at(name_length(inner));
+    match FilterName::of(name) {
+        FilterName::Kept => kept(1, text),
+        FilterName::OfTag(tag) => replaced(text, rest, tag.name()),
+        FilterName::File => replaced(text, rest, "file"),
+        FilterName::Absent => match test_at(rest) {
+            None => kept(1, text),
+            Some((always, rest)) => replaced(text, rest, base_test(always)),
+        },
+    }
+}
+
+/// The piece in front of a text.
+#[tactic(auto, unfolding(crate::specs::Expressions::piece_at))]
+fn piece_at(text: &[u8]) -> TextPiece<'_>
+    requires { 0 < length text.now }
+    ensures value { piece result.length (result.kept.now ++ result.put.now) ≡ piece_at text.now }
+    ensures within { (0 < result.length) × (result.length ≤ length text.now) }
+{
+    if is_quote(text[0]) {
+        match value_length(text) {
+            None => kept(text.len(), text),
+            Some(length) => kept(length, text),
+        }
+    } else if text[0] == b'(' {
+        opened_piece(text)
+    } else {
+        kept(1, text)
+    }
+}
+
+/// Adds what stands in the place of a piece.
+fn put_piece(out: &mut Vec<u8>, piece: TextPiece<'_>) -> Result<(), AllocError>
+    ensures { OnOk result (out.new.items ≡ out.old.items ++ (piece.entry.kept.now ++ piece.entry.put.now)) }
+{
+    out.extend_from_slice(piece.kept)?;
+    out.extend_from_slice(piece.put.as_bytes())
+}
+
+/// The expression in the place of a text.
+pub(crate) fn native_text(alloc: Global, text: &[u8]) -> Result<Vec<u8>, AllocError>
+    ensures { IfOk result (λ new. new.items ≡ native_text text.now) }
+{
+    let mut new = Vec::with_capacity(alloc, text.len())?;
+    let mut rest = text;
+    while !rest.is_empty() {
+        let piece = piece_at(rest);
+        put_piece(&mut new, piece)?;
+        rest = rest.split_at(piece.length).1;
+    }
+    Ok(new)
+}

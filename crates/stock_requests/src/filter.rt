@@ -1,0 +1,211 @@
+// Writes a filter's words over the daemon's tags in the place of all of MPD's.
+ghost use Rattle.std.specs.Prelude.{◌≡◌, ◌&&◌, ◌<◌, ◌∷◌, ◌++◌, [], true, length, IsTrue, IfOk};
+ghost use Rattle.command_text.specs.Finding.{begins_part};
+ghost use Rattle.filter_expr.specs.Parts.{begins_so};
+ghost use Rattle.std.specs.Str.{bytes_eq};
+ghost use Rattle.stock_requests.specs.Expressions.{base_value};
+ghost use Rattle.stock_requests.specs.Filters.{minus, more_pairs, native_filter, native_pair, native_pairs, native_parts, native_sort, sort_by};
+
+use crate::expression::{FilterName, Operator, native_text};
+use filter_expr::LineWord;
+use std::alloc::{AllocError, Global};
+
+/// Whether the word is this text.
+pub(crate) fn is_word(word: &[u8], text: &str) -> bool
+    ensures { result ≡ bytes_eq word.now text.now }
+{
+    word == text.as_bytes()
+}
+
+/// Whether the text begins with this byte.
+pub(crate) fn begins_so(byte: u8, text: &[u8]) -> bool
+    ensures value { result ≡ begins_so byte text.now }
+    ensures some { IsTrue result → 0 < length text.now }
+{
+    match text {
+        [] => false,
+        [first, ..] => *first == byte,
+    }
+}
+
+/// The word where it stands.
+fn again<'w>(word: &'w LineWord<'_>) -> LineWord<'w>
+    ensures { result ≡ word.now }
+{
+    LineWord::from_slice(word.bytes())
+}
+
+/// `base` of nothing holds for every song, and of `/` for none.
+fn base_value(always: bool) -> &'static str
+    ensures { result.now ≡ base_value always }
+{
+    if always { "" } else { "/" }
+}
+
+/// The pair in the place of a name and a value.
+fn native_pair<'w>(name: &'w LineWord<'_>, value: &'w LineWord<'_>) -> (LineWord<'w>, LineWord<'w>)
+    ensures { result.0 ∷ result.1 ∷ [] ≡ native_pair name.now value.now }
+{
+    match FilterName::of(name.bytes()) {
+        FilterName::Kept => (again(name), again(value)),
+        FilterName::OfTag(tag) => (LineWord::from_slice(tag.name().as_bytes()), again(value)),
+        FilterName::File => (LineWord::from_slice(b"file"), again(value)),
+        FilterName::Absent => {
+            let always = Operator::Equal.holds_of_none(value.bytes().is_empty());
+            (
+                LineWord::from_slice(b"base"),
+                LineWord::from_slice(base_value(always).as_bytes()),
+            )
+        }
+    }
+}
+
+/// A name behind a minus.
+fn turned(alloc: Global, name: &str) -> Result<Vec<u8>, AllocError>
+    ensures { IfOk result (λ text. text.items ≡ minus ∷ name.now) }
+{
+    let mut text = Vec::from_slice(alloc, b"-")?;
+    text.extend_from_slice(name.as_bytes())?;
+    Ok(text)
+}
+
+/// What songs are sorted by in the place of a word that is such a name, upwards or downwards.
+fn sort_by<'w>(
+    alloc: Global,
+    down: bool,
+    name: FilterName,
+    word: &'w LineWord<'_>,
+) -> Result<LineWord<'w>, AllocError>
+    ensures { IfOk result (λ new. new ≡ sort_by down name word.now) }
+{
+    match name {
+        FilterName::Kept => Ok(again(word)),
+        FilterName::OfTag(tag) if down => Ok(LineWord::from_vec(turned(alloc, tag.name())?)),
+        FilterName::OfTag(tag) => Ok(LineWord::from_slice(tag.name().as_bytes())),
+        FilterName::File if down => Ok(LineWord::from_slice(b"-file")),
+        FilterName::File => Ok(LineWord::from_slice(b"file")),
+        FilterName::Absent => Ok(LineWord::from_slice(b"file")),
+    }
+}
+
+/// What songs are sorted by in the place of a word.
+#[tactic(auto, unfolding(crate::specs::Filters::native_sort))]
+fn native_sort<'w>(alloc: Global, word: &'w LineWord<'_>) -> Result<LineWord<'w>, AllocError>
+    ensures { IfOk result (λ new. new ≡ native_sort word.now) }
+{
+    let name = word.bytes();
+    if begins_so(b'-', name) {
+        sort_by(alloc, true, FilterName::of(&name[1..]), word)
+    } else {
+        sort_by(alloc, false, FilterName::of(name), word)
+    }
+}
+
+/// Words, and these behind them.
+pub(crate) fn with_words<'w>(
+    words: Vec<LineWord<'w>>,
+    more: &'w [LineWord<'_>],
+) -> Result<Vec<LineWord<'w>>, AllocError>
+    ensures { IfOk result (λ new. new.items ≡ words.entry.items ++ more.now) }
+{
+    let mut words = words;
+    for word in more {
+        words.push(again(word))?;
+    }
+    Ok(words)
+}
+
+/// Words, and behind them what stands in the place of the words behind a filter.
+#[tactic(auto, unfolding(crate::specs::Filters::native_parts))]
+fn with_parts<'w>(
+    alloc: Global,
+    words: Vec<LineWord<'w>>,
+    sorts: bool,
+    parts: &'w [LineWord<'_>],
+) -> Result<Vec<LineWord<'w>>, AllocError>
+    ensures { IfOk result (λ new. new.items ≡ words.entry.items ++ native_parts sorts parts.now) }
+{
+    match parts {
+        [part, value, rest @ ..] if sorts && is_word(part.bytes(), "sort") => {
+            let mut words = words;
+            words.push(again(part))?;
+            words.push(native_sort(alloc, value)?)?;
+            with_words(words, rest)
+        }
+        _ => with_words(words, parts),
+    }
+}
+
+/// Whether a part behind a filter begins with this word.
+fn begins_part(word: &[u8]) -> bool
+    ensures { result ≡ begins_part true word.now }
+{
+    is_word(word, "sort") || is_word(word, "window") || is_word(word, "position")
+}
+
+/// Words, and behind them the pair in the place of a name and a value.
+fn with_pair<'w>(
+    words: Vec<LineWord<'w>>,
+    name: &'w LineWord<'_>,
+    value: &'w LineWord<'_>,
+) -> Result<Vec<LineWord<'w>>, AllocError>
+    ensures { IfOk result (λ new. new.items ≡ words.entry.items ++ native_pair name.now value.now) }
+{
+    let mut words = words;
+    let (name, value) = native_pair(name, value);
+    words.push(name)?;
+    words.push(value)?;
+    Ok(words)
+}
+
+/// Whether the pairs of a filter end before this word, where parts may stand behind them.
+fn ends_pairs(sorts: bool, word: &[u8]) -> bool
+    ensures { result ≡ (sorts && begins_part true word.now) }
+{
+    sorts && begins_part(word)
+}
+
+/// Words, and behind them the pairs in the place of these up to a part.
+fn with_pairs<'w>(
+    alloc: Global,
+    words: Vec<LineWord<'w>>,
+    sorts: bool,
+    pairs: &'w [LineWord<'_>],
+) -> Result<Vec<LineWord<'w>>, AllocError>
+    ensures { IfOk result (λ new. new.items ≡ words.entry.items ++ more_pairs sorts pairs.now) }
+{
+    let mut words = words;
+    let mut passed = 0;
+    'pairs: while pairs.len() - passed >= 2 {
+        if ends_pairs(sorts, pairs[passed].bytes()) {
+            return with_parts(alloc, words, sorts, pairs.split_at(passed).1);
+        }
+        words = with_pair(words, &pairs[passed], &pairs[passed + 1])?;
+        passed += 2;
+    }
+    with_words(words, pairs.split_at(passed).1)
+}
+
+/// The words in the place of a filter and what stands behind it, where an order may stand there or not.
+#[tactic(auto, unfolding(crate::specs::Filters::native_filter, crate::specs::Filters::native_pairs))]
+pub(crate) fn native_filter<'w>(
+    alloc: Global,
+    sorts: bool,
+    words: &'w [LineWord<'_>],
+) -> Result<Vec<LineWord<'w>>, AllocError>
+    ensures { IfOk result (λ new. new.items ≡ native_filter sorts words.now) }
+{
+    match words {
+        [word, parts @ ..] if begins_so(b'(', word.bytes()) => {
+            let mut new = Vec::with_capacity(alloc, words.len())?;
+            new.push(LineWord::from_vec(native_text(alloc, word.bytes())?))?;
+            with_parts(alloc, new, sorts, parts)
+        }
+        [name, value, pairs @ ..] => {
+            let new = Vec::with_capacity(alloc, words.len())?;
+            let new = with_pair(new, name, value)?;
+            with_pairs(alloc, new, sorts, pairs)
+        }
+        _ => with_words(Vec::new(alloc), words),
+    }
+}

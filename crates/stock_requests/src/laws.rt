@@ -1,0 +1,57 @@
+//! Laws of the definitions that the contracts cite.
+ghost use Rattle.std.specs.Prelude.{◌≡◌, ◌≢◌, ◌<◌, ◌^◌, ◌||◌, ◌&&◌, not, ℕ, Bool, true, false, List, ◌∷◌, Some, None};
+ghost use Rattle.wave_pcm.specs.declared.tags.Tag.{Tag};
+ghost use Rattle.wave_pcm.specs.Tag.{text_of};
+ghost use Rattle.song_db.specs.Uri.{is_uri};
+ghost use Rattle.filter_expr.specs.declared.case.Case.{Case};
+ghost use Rattle.filter_expr.specs.Meaning.{Song, denotes};
+ghost use Rattle.command_text.specs.Counts.{Word};
+ghost use Rattle.command_text.specs.Names.{named};
+ghost use Rattle.command_text.specs.Words.{words_of};
+ghost use Rattle.stock_requests.specs.declared.expression.Operator.{Operator};
+ghost use Rattle.stock_requests.specs.declared.mask.TagSet.{TagSet};
+ghost use Rattle.stock_requests.specs.declared.name.ForeignCommand.{ForeignCommand};
+ghost use Rattle.stock_requests.specs.declared.tag.ForeignTag.{ForeignTag};
+ghost use Rattle.stock_requests.specs.Fits.{Fits};
+ghost use Rattle.stock_requests.specs.Masks.{all_in_set, empty_set, has, only_tag, with_tags, without_tags};
+ghost use Rattle.stock_requests.specs.Names.{foreign_named, foreign_text};
+ghost use Rattle.stock_requests.specs.Spelling.{is_bare, spelled_line};
+ghost use Rattle.stock_requests.specs.Translation.{translation};
+ghost use Rattle.stock_requests.specs.Without.{in_its_place, pair_of, test_of};
+
+/// The words of a line that is put together are the words that it was put together from, whatever bytes they have.
+pub fn lines_are_read_back()
+    ensures { (name : Word) (words : List Word) → is_bare name ≡ true → words_of (spelled_line name words) ≡ Some (name ∷ words) }
+{}
+
+/// What stands in the place of a test of a tag that no song has holds for a song just where that test holds of a tag that the song hasn't;
+/// so does what stands in the place of a pair.
+pub fn absent_tags_have_no_text()
+    ensures test { (case : Case) (operator : Operator) (value : List ℕ) (tag : Tag) (song : Song) → is_uri song.uri ≡ true
+        → text_of song.texts tag ≡ None
+        → denotes case (in_its_place operator value) song ≡ denotes case (test_of tag operator value) song }
+    ensures pair { (case : Case) (value : List ℕ) (tag : Tag) (song : Song) → is_uri song.uri ≡ true → text_of song.texts tag ≡ None
+        → denotes case (in_its_place Operator.Equal value) song ≡ denotes case (pair_of tag value) song }
+{}
+
+/// The numbers are sets of tags.
+pub fn numbers_are_sets()
+    ensures empty { (tag : ForeignTag) → has empty_set tag ≡ false }
+    ensures all { (tag : ForeignTag) → has all_in_set tag ≡ true }
+    ensures only { (tag : ForeignTag) → has (only_tag tag) tag ≡ true }
+    ensures others { (tag other : ForeignTag) → tag ≢ other → has (only_tag tag) other ≡ false }
+    ensures with { (set others : TagSet) (tag : ForeignTag) → has (with_tags set others) tag ≡ (has set tag || has others tag) }
+    ensures without { (set others : TagSet) (tag : ForeignTag) → others.bits < 2 ^ 32
+        → has (without_tags set others) tag ≡ (has set tag && not (has others tag)) }
+{}
+
+/// A command that is no native one is found by its name, and the daemon has none of this name.
+pub fn foreign_names_are_found()
+    ensures found { (command : ForeignCommand) → foreign_named (foreign_text command) ≡ Some command }
+    ensures apart { (command : ForeignCommand) → named (foreign_text command) ≡ None }
+{}
+
+/// No native line has more bytes than the daemon takes, so that none closes its client.
+pub fn native_lines_fit()
+    ensures { (is_alone : Bool) (line : List ℕ) → Fits (translation is_alone line) }
+{}

@@ -1,0 +1,520 @@
+// What becomes of the daemon's own commands where MPD's do more.
+ghost use Rattle.std.specs.Prelude.{◌≡◌, ◌++◌, IfOk};
+ghost use Rattle.command_text.specs.Finding.{has_filter_count, is_expression};
+ghost use Rattle.stock_requests.specs.Native.{adding, answered, as_it_is, by_handling, by_line, by_one, by_two, filtered};
+ghost use Rattle.stock_requests.specs.Native.{handling_of, is_artist_alone, listing_line, listing_words, refused};
+ghost use Rattle.stock_requests.specs.Native.{adding_to_playlist, counting, has_list_count, is_grouped, is_root, list_info, listing};
+ghost use Rattle.stock_requests.specs.Native.{filter_or_all, listing_native, listing_nothing, listing_renamed, mask_of, tag_types};
+ghost use Rattle.stock_requests.specs.Native.{mask_alone, mask_refused, masked, songs_lines, telling, with_named};
+ghost use Rattle.stock_requests.specs.Masks.{empty_set};
+
+use crate::change::{
+    Change, Ending, FixedText, ForeignRefusal, LineChange, Natives, RefusalChange, Translation,
+};
+use crate::filter::{begins_so, is_word, native_filter, with_words};
+use crate::mask::{MaskChange, TagSet};
+use crate::name::ForeignName;
+use crate::spelling::{LINE_LIMIT, line_of, same_words};
+use crate::tag::{ForeignTag, Standing};
+use command_text::{CommandName, Line};
+use filter_expr::LineWord;
+use std::alloc::{AllocError, Global};
+use wave_pcm::Tag;
+
+/// How a command of the daemon is handled.
+#[derive(Clone, Copy, Debug)]
+pub(crate) enum Handling {
+    Untouched,
+    /// Its answer tells songs.
+    TellsSongs,
+    /// These lines are told behind its own.
+    Adds(FixedText),
+    /// It has a filter: whether its answer tells songs, and whether an order may stand behind the filter.
+    Filters(bool, bool),
+    AddsToPlaylist,
+    Counts,
+    ListsValues,
+    ListsFolder,
+    Masks,
+}
+
+/// How the command is handled.
+pub(crate) fn handling_of(name: CommandName) -> Handling
+    ensures { result ≡ handling_of name }
+{
+    match name {
+        CommandName::Commands => Handling::Adds(FixedText::Commands),
+        CommandName::Count => Handling::Counts,
+        CommandName::CurrentSong
+        | CommandName::ListAllInfo
+        | CommandName::ListPlaylistInfo
+        | CommandName::QueueChanges
+        | CommandName::QueueId
+        | CommandName::QueueInfo => Handling::TellsSongs,
+        CommandName::Find | CommandName::Search => Handling::Filters(true, true),
+        CommandName::FindAdd | CommandName::SearchAdd => Handling::Filters(false, true),
+        CommandName::QueueFind | CommandName::QueueSearch => Handling::Filters(true, false),
+        CommandName::ListTag => Handling::ListsValues,
+        CommandName::ListInfo => Handling::ListsFolder,
+        CommandName::SearchAddPlaylist => Handling::AddsToPlaylist,
+        CommandName::Status => Handling::Adds(FixedText::Status),
+        CommandName::TagTypes => Handling::Masks,
+        _ => Handling::Untouched,
+    }
+}
+
+/// An answer of which these lines are told, and this behind them.
+pub(crate) fn telling(name: ForeignName, lines: LineChange, ending: Ending) -> Change
+    ensures { result ≡ telling name lines ending }
+{
+    Change {
+        name,
+        lines,
+        ending,
+        refusal: RefusalChange::Named,
+    }
+}
+
+/// One native command in the place of the client's.
+pub(crate) fn by_one(alloc: Global, line: &[u8], change: Change) -> Result<Translation, AllocError>
+    ensures { IfOk result (λ t. t ≡ by_one line.now change) }
+{
+    let natives = Natives {
+        first: Line::from_bytes(alloc, line)?,
+        second: None,
+    };
+    Ok(Translation::Other(natives, change))
+}
+
+/// Two of them.
+fn by_two(
+    alloc: Global,
+    line: &[u8],
+    other: &[u8],
+    change: Change,
+) -> Result<Translation, AllocError>
+    ensures { IfOk result (λ t. t ≡ by_two line.now other.now change) }
+{
+    let natives = Natives {
+        first: Line::from_bytes(alloc, line)?,
+        second: Some(Line::from_bytes(alloc, other)?),
+    };
+    Ok(Translation::Other(natives, change))
+}
+
+/// An answer that is made without the daemon, at the command's place among the others.
+pub(crate) fn answered(
+    alloc: Global,
+    name: ForeignName,
+    ending: Ending,
+) -> Result<Translation, AllocError>
+    ensures { IfOk result (λ t. t ≡ answered name ending) }
+{
+    by_one(alloc, b"ping", telling(name, LineChange::Kept, ending))
+}
+
+/// A refusal at the command's place: the daemon refuses `ping` with an argument always.
+pub(crate) fn refused(
+    alloc: Global,
+    name: ForeignName,
+    refusal: ForeignRefusal,
+) -> Result<Translation, AllocError>
+    ensures { IfOk result (λ t. t ≡ refused name refusal) }
+{
+    let change = Change {
+        name,
+        lines: LineChange::Kept,
+        ending: Ending::Nothing,
+        refusal: RefusalChange::Replaced(refusal),
+    };
+    by_one(alloc, b"ping no", change)
+}
+
+/// A command that goes on as it is, whose answer tells songs or doesn't.
+fn as_it_is(songs: bool) -> Translation
+    ensures { result ≡ as_it_is songs }
+{
+    if songs {
+        Translation::Songs
+    } else {
+        Translation::Same
+    }
+}
+
+fn songs_lines(songs: bool) -> LineChange
+    ensures { result ≡ songs_lines songs }
+{
+    if songs {
+        LineChange::Masked
+    } else {
+        LineChange::Kept
+    }
+}
+
+/// A native line in the command's place, where a line may be so long.
+fn by_line(
+    alloc: Global,
+    songs: bool,
+    line: &[u8],
+    change: Change,
+) -> Result<Translation, AllocError>
+    ensures { IfOk result (λ t. t ≡ by_line (as_it_is songs) line.now change) }
+{
+    if line.len() > LINE_LIMIT {
+        return Ok(as_it_is(songs));
+    }
+    by_one(alloc, line, change)
+}
+
+/// A command with a filter behind some words.
+#[tactic(auto, unfolding(crate::specs::Native::filtered))]
+fn filtered(
+    alloc: Global,
+    name: CommandName,
+    songs: bool,
+    sorts: bool,
+    front: &[LineWord<'_>],
+    words: &[LineWord<'_>],
+) -> Result<Translation, AllocError>
+    ensures { IfOk result (λ t. t ≡ filtered name songs sorts front.now words.now) }
+{
+    let new = native_filter(alloc, sorts, words)?;
+    if same_words(new.as_slice(), words) {
+        return Ok(as_it_is(songs));
+    }
+    let line = line_of(alloc, name.text(), front, new.as_slice())?;
+    let change = telling(
+        ForeignName::Native(name),
+        songs_lines(songs),
+        Ending::Nothing,
+    );
+    by_line(alloc, songs, line.as_slice(), change)
+}
+
+/// Whether the words end in `group TAG`.
+#[tactic(auto, unfolding(crate::specs::Native::is_grouped))]
+fn is_grouped(words: &[LineWord<'_>]) -> bool
+    ensures { result ≡ is_grouped words.now }
+{
+    words.len() >= 2 && is_word(words[words.len() - 2].bytes(), "group")
+}
+
+#[tactic(auto, unfolding(crate::specs::Native::counting))]
+fn counting(alloc: Global, words: &[LineWord<'_>]) -> Result<Translation, AllocError>
+    ensures { IfOk result (λ t. t ≡ counting words.now) }
+{
+    if is_grouped(words) {
+        return Ok(Translation::Same);
+    }
+    filtered(alloc, CommandName::Count, false, false, &[], words)
+}
+
+#[tactic(auto, unfolding(crate::specs::Native::adding_to_playlist))]
+fn adding_to_playlist(alloc: Global, words: &[LineWord<'_>]) -> Result<Translation, AllocError>
+    ensures { IfOk result (λ t. t ≡ adding_to_playlist words.now) }
+{
+    if words.is_empty() {
+        return Ok(Translation::Same);
+    }
+    let (list, filter) = words.split_at(1);
+    filtered(
+        alloc,
+        CommandName::SearchAddPlaylist,
+        false,
+        false,
+        list,
+        filter,
+    )
+}
+
+fn is_expression(words: &[LineWord<'_>]) -> bool
+    ensures { result ≡ is_expression words.now }
+{
+    match words {
+        [] => false,
+        [word, ..] => begins_so(b'(', word.bytes()),
+    }
+}
+
+/// Whether words are as many as a filter has that stands alone.
+fn has_filter_count(words: &[LineWord<'_>]) -> bool
+    ensures { result ≡ has_filter_count words.now }
+{
+    if is_expression(words) {
+        words.len() == 1
+    } else {
+        words.len() >= 2 && words.len() % 2 == 0
+    }
+}
+
+/// Whether they are the ARTIST of `list Album ARTIST`, as clients of old say it.
+fn is_artist_alone(tag: Tag, words: &[LineWord<'_>]) -> bool
+    ensures { result ≡ is_artist_alone tag words.now }
+{
+    match (tag, words) {
+        (Tag::Album, [word]) => !begins_so(b'(', word.bytes()),
+        _ => false,
+    }
+}
+
+/// The words behind the tag of a `list`, one that songs have.
+fn listing_words<'w>(
+    alloc: Global,
+    tag: Tag,
+    words: &'w [LineWord<'_>],
+) -> Result<Vec<LineWord<'w>>, AllocError>
+    ensures { IfOk result (λ new. new.items ≡ listing_words tag words.now) }
+{
+    if is_artist_alone(tag, words) {
+        let mut new = Vec::with_capacity(alloc, 2)?;
+        new.push(LineWord::from_slice(b"Artist"))?;
+        return with_words(new, words);
+    }
+    native_filter(alloc, false, words)
+}
+
+/// A line in the place of a `list`: this command, a first word and others.
+fn listing_line(
+    alloc: Global,
+    first: &[LineWord<'_>],
+    words: &[LineWord<'_>],
+    lines: LineChange,
+) -> Result<Translation, AllocError>
+    ensures { IfOk result (λ t. t ≡ listing_line (first.now ++ words.now) lines) }
+{
+    let line = line_of(alloc, "list", first, words)?;
+    let change = telling(
+        ForeignName::Native(CommandName::ListTag),
+        lines,
+        Ending::Nothing,
+    );
+    by_line(alloc, false, line.as_slice(), change)
+}
+
+/// The values of a tag that songs have; the first of the words is its name.
+#[tactic(auto, unfolding(crate::specs::Native::listing_native))]
+fn listing_native(
+    alloc: Global,
+    tag: Tag,
+    name: &[LineWord<'_>],
+    words: &[LineWord<'_>],
+) -> Result<Translation, AllocError>
+    ensures { IfOk result (λ t. t ≡ listing_native name.now tag words.now) }
+{
+    let new = listing_words(alloc, tag, words)?;
+    if same_words(new.as_slice(), words) {
+        return Ok(Translation::Same);
+    }
+    listing_line(alloc, name, new.as_slice(), LineChange::Kept)
+}
+
+/// The values of the tag that MPD falls back to, under the name of the other.
+#[tactic(auto, unfolding(crate::specs::Native::listing_renamed))]
+fn listing_renamed(
+    alloc: Global,
+    tag: ForeignTag,
+    other: Tag,
+    words: &[LineWord<'_>],
+) -> Result<Translation, AllocError>
+    ensures { IfOk result (λ t. t ≡ listing_renamed tag other words.now) }
+{
+    let name = [LineWord::from_slice(other.name().as_bytes())];
+    let new = native_filter(alloc, false, words)?;
+    let lines = LineChange::Renamed {
+        from: other,
+        to: tag,
+    };
+    listing_line(alloc, &name, new.as_slice(), lines)
+}
+
+/// Whether words are as many as stand behind the tag of a `list`.
+fn has_list_count(words: &[LineWord<'_>]) -> bool
+    ensures { result ≡ has_list_count words.now }
+{
+    words.is_empty() || has_filter_count(words)
+}
+
+/// The words of a filter, which holds for every song where there is none.
+fn filter_or_all<'w>(
+    alloc: Global,
+    words: &'w [LineWord<'_>],
+) -> Result<Vec<LineWord<'w>>, AllocError>
+    ensures { IfOk result (λ new. new.items ≡ filter_or_all words.now) }
+{
+    if words.is_empty() {
+        let mut all = Vec::with_capacity(alloc, 2)?;
+        all.push(LineWord::from_slice(b"base"))?;
+        all.push(LineWord::from_slice(b""))?;
+        return Ok(all);
+    }
+    native_filter(alloc, false, words)
+}
+
+/// No values; the filter may still be refused.
+#[tactic(auto, unfolding(crate::specs::Native::listing_nothing))]
+fn listing_nothing(alloc: Global, words: &[LineWord<'_>]) -> Result<Translation, AllocError>
+    ensures { IfOk result (λ t. t ≡ listing_nothing words.now) }
+{
+    if !has_list_count(words) {
+        return Ok(Translation::Same);
+    }
+    let new = filter_or_all(alloc, words)?;
+    let line = line_of(alloc, "count", &[], new.as_slice())?;
+    let change = telling(
+        ForeignName::Native(CommandName::ListTag),
+        LineChange::Dropped,
+        Ending::Nothing,
+    );
+    by_line(alloc, false, line.as_slice(), change)
+}
+
+#[tactic(auto, unfolding(crate::specs::Native::listing))]
+fn listing(alloc: Global, words: &[LineWord<'_>]) -> Result<Translation, AllocError>
+    ensures { IfOk result (λ t. t ≡ listing words.now) }
+{
+    if words.is_empty() {
+        return Ok(Translation::Same);
+    }
+    let (name, words) = words.split_at(1);
+    if is_grouped(words) {
+        return Ok(Translation::Same);
+    }
+    match ForeignTag::named(name[0].bytes()) {
+        None => Ok(Translation::Same),
+        Some(tag) => match tag.standing() {
+            Standing::Native(other) => listing_native(alloc, other, name, words),
+            Standing::FallsBackTo(other) => listing_renamed(alloc, tag, other, words),
+            Standing::Absent => listing_nothing(alloc, words),
+        },
+    }
+}
+
+fn is_root(place: &[u8]) -> bool
+    ensures { result ≡ is_root place.now }
+{
+    is_word(place, "") || is_word(place, "/")
+}
+
+/// The root's folders and songs, and the playlists behind them; of any other place as it is.
+#[tactic(auto, unfolding(crate::specs::Native::list_info))]
+fn list_info(alloc: Global, words: &[LineWord<'_>]) -> Result<Translation, AllocError>
+    ensures { IfOk result (λ t. t ≡ list_info words.now) }
+{
+    if words.len() > 1 || words.len() == 1 && !is_root(words[0].bytes()) {
+        return Ok(Translation::Songs);
+    }
+    let change = telling(
+        ForeignName::Native(CommandName::ListInfo),
+        LineChange::Masked,
+        Ending::Nothing,
+    );
+    by_two(alloc, b"lsinfo", b"listplaylists", change)
+}
+
+fn masked(alloc: Global, change: MaskChange) -> Result<Translation, AllocError>
+    ensures { IfOk result (λ t. t ≡ masked change) }
+{
+    let name = ForeignName::Native(CommandName::TagTypes);
+    answered(alloc, name, Ending::Masks(change))
+}
+
+fn mask_refused(alloc: Global, refusal: ForeignRefusal) -> Result<Translation, AllocError>
+    ensures { IfOk result (λ t. t ≡ mask_refused refusal) }
+{
+    refused(alloc, ForeignName::Native(CommandName::TagTypes), refusal)
+}
+
+/// A change that names no tag.
+fn mask_alone(
+    alloc: Global,
+    change: MaskChange,
+    words: &[LineWord<'_>],
+) -> Result<Translation, AllocError>
+    ensures { IfOk result (λ t. t ≡ mask_alone change words.now) }
+{
+    if words.is_empty() {
+        masked(alloc, change)
+    } else {
+        mask_refused(alloc, ForeignRefusal::TooManyArguments)
+    }
+}
+
+/// The set of the tags that words name, if each names one.
+fn tags_named(words: &[LineWord<'_>]) -> Option<TagSet>
+    ensures { result ≡ with_named empty_set words.now }
+{
+    let mut set = TagSet::empty();
+    for word in words {
+        match ForeignTag::named(word.bytes()) {
+            None => return None,
+            Some(tag) => set = set.with(TagSet::only(tag)),
+        }
+    }
+    Some(set)
+}
+
+/// A change by the tags that it names, which enables them or disables them.
+fn mask_by(alloc: Global, enables: bool, words: &[LineWord<'_>]) -> Result<Translation, AllocError>
+    ensures { IfOk result (λ t. t ≡ mask_of enables words.now) }
+{
+    if words.is_empty() {
+        return mask_refused(alloc, ForeignRefusal::MissingArguments);
+    }
+    match tags_named(words) {
+        None => mask_refused(alloc, ForeignRefusal::UnknownTag),
+        Some(tags) if enables => masked(alloc, MaskChange::Enable(tags)),
+        Some(tags) => masked(alloc, MaskChange::Disable(tags)),
+    }
+}
+
+#[tactic(auto, unfolding(crate::specs::Native::tag_types))]
+fn tag_types(alloc: Global, words: &[LineWord<'_>]) -> Result<Translation, AllocError>
+    ensures { IfOk result (λ t. t ≡ tag_types words.now) }
+{
+    let Some((what, words)) = words.split_first() else {
+        let name = ForeignName::Native(CommandName::TagTypes);
+        return answered(alloc, name, Ending::Tags);
+    };
+    let what = what.bytes();
+    if is_word(what, "clear") {
+        mask_alone(alloc, MaskChange::Clear, words)
+    } else if is_word(what, "all") {
+        mask_alone(alloc, MaskChange::All, words)
+    } else if is_word(what, "enable") {
+        mask_by(alloc, true, words)
+    } else if is_word(what, "disable") {
+        mask_by(alloc, false, words)
+    } else {
+        mask_refused(alloc, ForeignRefusal::UnknownSubCommand)
+    }
+}
+
+/// What becomes of a command that is handled so, with these arguments.
+pub(crate) fn by_handling(
+    alloc: Global,
+    handling: Handling,
+    name: CommandName,
+    words: &[LineWord<'_>],
+) -> Result<Translation, AllocError>
+    ensures { IfOk result (λ t. t ≡ by_handling handling name words.now) }
+{
+    match handling {
+        Handling::Untouched => Ok(Translation::Same),
+        Handling::TellsSongs => Ok(Translation::Songs),
+        Handling::Adds(text) => Ok(adding(name, text)),
+        Handling::Filters(songs, sorts) => filtered(alloc, name, songs, sorts, &[], words),
+        Handling::AddsToPlaylist => adding_to_playlist(alloc, words),
+        Handling::Counts => counting(alloc, words),
+        Handling::ListsValues => listing(alloc, words),
+        Handling::ListsFolder => list_info(alloc, words),
+        Handling::Masks => tag_types(alloc, words),
+    }
+}
+
+/// A command that goes on as it is, behind whose lines these are told.
+pub(crate) fn adding(name: CommandName, text: FixedText) -> Translation
+    ensures { result ≡ adding name text }
+{
+    let name = ForeignName::Native(name);
+    Translation::Changed(telling(name, LineChange::Kept, Ending::Text(text)))
+}

@@ -1,0 +1,230 @@
+"""Conversations of stock clients at random: the bytes of what is asked, and the two ways to a daemon that answers them."""
+
+import contextlib
+import os
+import random
+import socket
+
+from daemons import LIMIT, Client, update, wait_for
+from scripts import Failure, wave
+from translator import FOREIGN, TAGS, Translator
+
+SONGS = {
+    "a.wav": ["INAM=Alpha", "IART=One", "IPRD=First", "ICRD=2001", "IGNR=Folk", "ICMT=a_note"],
+    "b.wav": [],
+    "d/c.wav": ["IART=One", "IPRD=Second"],
+    "d/e.wav": ["INAM=say_\"x\"", "IART=Two", "IPRD=First", "ICMT=Title:_no"],
+    "d/é é.wav": ["INAM=Zoë", "IGNR=Folk"],
+}
+FIRST = ['add ""', "save old", "sticker set song a.wav n v", "command_list_begin\nplay 0\nstop\ncommand_list_end"]
+VALUES = ["", "One", "First", "x", "Zoë", 'say "x"', "2001", "a'b", "back\\slash"]
+ODD = ["", " ", "zzz", '"outputs', 'outputs"x"', "Outputs", "config", "volume 5", "subscribe x", "listfiles", "idle", "list"]
+ODD += ["outputs\r", "\0", 'find title "\r"', "outputs \udcff", "\udcc3", 'find "(\udcff)"', "tagtypes\x01", "list Album \x01"]
+ODD += ["command_list_begin", '"noidle"', "command_list_end x", '"ping" \t', 'find Composer "' + '\\"' * 4090 + '"']
+ODD += [f"list Album {'x' * length}" for length in (8173, 8174, 8175, 8181, 8182)]
+FEW_TAGS = ["Title", "Artist", "Album", "Date", "Genre", "Comment", "any"]
+
+
+def prepare(daemon):
+    """Gives a daemon its songs, a queue and a playlist; a song is current, and nothing plays."""
+    for name, tags in SONGS.items():
+        path = os.path.join(daemon.folder, "music", name)
+        os.makedirs(os.path.dirname(path), exist_ok=True)
+        with open(path, "wb") as file:
+            file.write(wave(16_000, tags))
+    with daemon.client() as client:
+        update(client)
+        client.do(*FIRST)
+    return daemon
+
+
+def spelled(draw, word):
+    """A word of a line, in one of its spellings."""
+    if word and draw.random() < 0.6 and not set(word) & set(' "\t'):
+        return word
+    return '"' + word.replace("\\", "\\\\").replace('"', '\\"') + '"'
+
+
+def cased(draw, word):
+    return draw.choice([word, word, word.lower(), word.upper()])
+
+
+def any_tag(draw):
+    return cased(draw, draw.choice([draw.choice(TAGS), draw.choice(FEW_TAGS[:6])]))
+
+
+class Lines:
+    """Draws command lines."""
+
+    def __init__(self, draw):
+        self.draw = draw
+        self.kinds = [self.native] * 4 + [self.foreign] * 3 + [self.finding] * 4 + [self.listing] * 3 + [self.masking] * 3 + [self.odd]
+
+    def line(self):
+        found = self.draw.choice(self.kinds)()
+        return found if isinstance(found, str) else self.draw.choice([" ", " ", "\t", "  "]).join(spelled(self.draw, it) for it in found)
+
+    def native(self):
+        draw = self.draw
+        count = draw.choice(["0", "1", "0:2", "1:", "99", "x", "-1"])
+        kinds = [["status"], ["currentsong"], ["playlistinfo"], ["playlistinfo", count], ["playlistid"], ["playlistid", count], ["ping"]]
+        kinds += [["plchanges", "0"], ["plchangesposid", "0"], ["lsinfo"], ["lsinfo", draw.choice(["", "/", "d", "a.wav", "zzz", "d/"])]]
+        kinds += [["listall"], ["listallinfo"], ["stats"], ["commands"], ["notcommands"], ["delete", count], ["swap", "0", count]]
+        kinds += [["addid", draw.choice(["a.wav", "d/é é.wav", "zzz"])]]
+        kinds += [["listplaylists"], ["listplaylistinfo", draw.choice(["old", "gone", "a/b"])]]
+        kinds += [["setvol", draw.choice(["7", "100", "101"])], ["repeat", draw.choice("012")]]
+        kinds += [["single", draw.choice(["0", "oneshot", "x"])]]
+        kinds += [["save", draw.choice(["old", "new"]), "replace"], ["rm", "new"], ["sticker", "list", "song", "a.wav"]]
+        kinds += [["next"], ["stop"], ["clearerror"], ["move", "0", count], ["status", "x"], ["commands", "x"], ["lsinfo", "", "x"]]
+        return draw.choice(kinds)
+
+    def foreign(self):
+        draw = self.draw
+        words = ["0", "0", "1", "00", "nan", "off", "default", "x", "", "a.wav", "-1"]
+        usual = {"outputset": 3, "albumart": 2, "readpicture": 2, "sendmessage": 2}
+        none = {"outputs", "getvol", "playlist", "decoders", "channels", "urlhandlers", "listmounts", "listpartitions", "listneighbors"}
+        name = draw.choice(FOREIGN)
+        count = usual.get(name, 0 if name in none or name == "replay_gain_status" else 1)
+        if draw.random() < 0.15:
+            count = max(0, count + draw.choice([-1, 1]))
+        return [name, *(draw.choice(words) for _ in range(count))]
+
+    def value(self):
+        return self.draw.choice(VALUES)
+
+    def quoted(self):
+        sign = self.draw.choice("'\"")
+        return sign + self.value().replace("\\", "\\\\").replace(sign, "\\" + sign) + sign
+
+    def expression(self, depth=0):
+        draw, kind = self.draw, self.draw.random()
+        if kind < 0.15 and depth < 4:
+            return f"(!{self.expression(depth + 1)})"
+        if kind < 0.35 and depth < 4:
+            return "(" + " AND ".join(self.expression(depth + 1) for _ in range(draw.randint(1, 3))) + ")"
+        if kind < 0.45:
+            return draw.choice([f"(file == {self.quoted()})", f"(filename == {self.quoted()})", "(base 'd')", "(FileName == 'a.wav')"])
+        tag, blank = draw.choice([any_tag(draw), cased(draw, "any")]), draw.choice(["", " ", "  "])
+        if draw.random() < 0.3:
+            return f"({blank}{tag} contains {blank}{self.quoted()}{blank})"
+        return f"({blank}{tag} {draw.choice(['==', '!='])}{blank}{self.quoted()}{blank})"
+
+    def damaged(self, text):
+        """The text with a piece more or less at some places."""
+        draw = self.draw
+        for _ in range(draw.randint(1, 3)):
+            place = draw.randrange(len(text) + 1)
+            added = draw.choice(["", "", " ", "(", ")", "'", '"', "!", "=", "\\", "x", "AND", " contains ", "(" * 33])
+            text = text[:place] + added + text[place + draw.choice([0, 0, 1, 1, 5]) :]
+        return text
+
+    def filter(self):
+        draw = self.draw
+        if draw.random() < 0.5:
+            return [self.expression() if draw.random() < 0.8 else self.damaged(self.expression())]
+        pairs = [[draw.choice([any_tag(draw), any_tag(draw), "any", "file", "filename"]), self.value()] for _ in range(draw.randint(1, 3))]
+        if draw.random() < 0.05:
+            pairs.append([draw.choice(["foo", "group", "albumartists"]), "x"])
+        return [*(it for pair in pairs for it in pair), *(["odd"] if draw.random() < 0.05 else [])]
+
+    def finding(self):
+        draw = self.draw
+        name = draw.choice(["find", "search", "findadd", "searchadd", "searchaddpl", "playlistfind", "playlistsearch", "count"])
+        words = [name, *(["found"] if name == "searchaddpl" else []), *self.filter()]
+        if name in ("find", "search", "findadd", "searchadd"):
+            if draw.random() < 0.5:
+                words += ["sort", draw.choice(["", "-"]) + draw.choice([any_tag(draw), "file", "filename"])]
+            if draw.random() < 0.2:
+                words += ["window", draw.choice(["0:2", "1:", "7"])]
+        if name in ("findadd", "searchadd") and draw.random() < 0.2:
+            words += ["position", draw.choice(["0", "+0", "99"])]
+        return words
+
+    def listing(self):
+        tag = any_tag(self.draw)
+        more = self.draw.choice([[], [], self.filter(), self.filter(), ["One"], ["group", "Artist"], [*self.filter(), "group", "Album"]])
+        return ["list", tag, *more]
+
+    def masking(self):
+        draw = self.draw
+        if draw.random() < 0.3:
+            return ["tagtypes"]
+        if draw.random() < 0.4:
+            return ["tagtypes", draw.choice(["all", "clear", "clear", "all", "Clear", "foo", "enable", "disable"])]
+        tags = [any_tag(draw) for _ in range(draw.randint(1, 4))] + (["foo"] if draw.random() < 0.05 else [])
+        return ["tagtypes", draw.choice(["enable", "disable"]), *tags]
+
+    def odd(self):
+        return self.draw.choice(ODD)
+
+
+def conversation(draw):
+    """The bytes of some requests; one in twenty ends in the middle of one."""
+    lines, parts = Lines(draw), []
+    if draw.random() < 0.3:
+        parts.append(b'clear\nadd ""\nsave old replace\nrm found\ncommand_list_begin\nplay 1\nstop\ncommand_list_end\n')
+    for _ in range(draw.randint(1, 12)):
+        kind = draw.random()
+        if kind < 0.45:
+            text = lines.line()
+        elif kind < 0.9:
+            inner = [lines.line() for _ in range(draw.randint(0, 6))]
+            text = "\n".join([draw.choice(["command_list_begin", "command_list_ok_begin"]), *inner, "command_list_end"])
+        else:
+            text = draw.choice(["idle mixer\nnoidle", "noidle", "idle\nnoidle", "command_list_end", "idle options playlist\nnoidle"])
+        parts.append((text + draw.choice(["\n", "\n", "\r\n"])).encode(errors="surrogateescape"))
+    found = b"".join(parts)
+    return found[: draw.randrange(len(found))] if draw.random() < 0.05 else found
+
+
+def pieces(draw, given, most=5):
+    """The bytes, cut at random places."""
+    places = sorted(draw.randrange(len(given) + 1) for _ in range(draw.randint(0, most)))
+    return [given[one:other] for one, other in zip([0, *places], [*places, len(given)]) if one < other]
+
+
+def rest_of(connection):
+    """All that comes until the connection's end."""
+    found = b""
+    with contextlib.suppress(ConnectionResetError):
+        while piece := connection.recv(1 << 16):
+            found += piece
+    return found
+
+
+def told(address, given, translator=None):
+    """All that a client is told that sends these pieces and then hangs up; through a translator, if one is given."""
+    with Client(address, greeted=False) as client:
+        with contextlib.suppress(BrokenPipeError):
+            for piece in given:
+                sent = translator.ask(piece) if translator else piece
+                client.send(sent)
+                if translator and translator.is_over:
+                    break
+        with contextlib.suppress(OSError):
+            client.socket.shutdown(socket.SHUT_WR)
+        return rest_of(client.socket)
+
+
+def compare(stock, plain, draw):
+    """One conversation with a daemon that has stock clients, and with one that hasn't, through the translator."""
+    asked = conversation(draw)
+    found = told(stock.path, pieces(draw, asked))
+    translator = Translator()
+    native = told(plain.path, pieces(draw, asked), translator)
+    wanted = b"".join(translator.answer(it) for it in pieces(draw, native))
+    if found != wanted:
+        same = os.path.commonprefix([found, wanted])
+        raise Failure(f"{asked!r}: behind {same[-300:]!r} {found[len(same) :][:300]!r} and not {wanted[len(same) :][:300]!r}")
+    return len(found)
+
+
+def run(stock, plain, numbers, seed):
+    """The conversations of these numbers, each drawn by itself: how many bytes they were answered with."""
+    total = 0
+    for number in numbers:
+        try:
+            total += compare(stock, plain, random.Random(f"{seed} {number}"))
+        except Failure as fault:
+            raise Failure(f"conversation {number} of seed {seed}: {fault}") from fault
+    return total

@@ -1,0 +1,169 @@
+"""What stock clients ask for beyond the daemon's own commands, and the lines that they must be told: of the table in docs/PROTOCOL.md, over
+the songs of lib/conversations.py. A text in place of lines is a refusal's code and text."""
+
+from translator import TAGS
+
+A = """file: a.wav|Format: 8000:16:1|Title: Alpha|Artist: One|Album: First|Date: 2001|Genre: Folk|Comment: a note|Time: 2|duration: 2.000"""
+B = "file: b.wav|Format: 8000:16:1|Time: 2|duration: 2.000"
+C = "file: d/c.wav|Format: 8000:16:1|Artist: One|Album: Second|Time: 2|duration: 2.000"
+E = 'file: d/e.wav|Format: 8000:16:1|Title: say "x"|Artist: Two|Album: First|Comment: Title: no|Time: 2|duration: 2.000'
+Z = "file: d/é é.wav|Format: 8000:16:1|Title: Zoë|Genre: Folk|Time: 2|duration: 2.000"
+A, B, C, E, Z = (it.split("|") for it in (A, B, C, E, Z))
+ROOT = ["directory: d", *A, *B, "playlist: old"]
+QUEUE = [[*song, f"Pos: {place}", f"Id: {place + 1}"] for place, song in enumerate((A, B, C, E, Z))]
+STATUS = """volume: 100|repeat: 0|random: 0|single: 0|consume: 0|playlist: 2|playlistlength: 5|state: stop|song: 0|songid: 1|nextsong: 1
+nextsongid: 2|partition: default|mixrampdb: 0""".replace("\n", "|").split("|")
+NAMES = """albumart binarylimit channels crossfade decoders disableoutput enableoutput getvol listmounts listneighbors listpartitions
+mixrampdb mixrampdelay outputs outputset partition password playlist readcomments readpicture replay_gain_mode replay_gain_status
+sendmessage toggleoutput urlhandlers""".split()
+NO_OUTPUT, ALWAYS_ON = "50 No such audio output", "2 the only output is always on"
+NO_CROSSFADE, NO_MIXRAMP, NO_GAIN = "2 no crossfade here", "2 no mixramp here", "2 Unrecognized replay gain mode"
+# The names, each with how many arguments it has.
+COUNTS = {it: 0 for it in """channels decoders getvol listmounts listneighbors listpartitions outputs playlist replay_gain_status
+urlhandlers""".split()}
+COUNTS |= {it: 1 for it in """binarylimit crossfade disableoutput enableoutput mixrampdb mixrampdelay partition password readcomments
+replay_gain_mode toggleoutput""".split()}
+COUNTS |= {"albumart": 2, "readpicture": 2, "sendmessage": 2, "outputset": 3}
+
+ROWS = [
+    # The output.
+    ("outputs", ["outputid: 0", "outputname: output", "plugin: raw", "outputenabled: 1"]),
+    ("enableoutput 0", []),
+    ('"enableoutput"\t"0"', []),
+    ("enableoutput 1", NO_OUTPUT),
+    ("enableoutput x", NO_OUTPUT),
+    ('enableoutput ""', NO_OUTPUT),
+    ("disableoutput 0", ALWAYS_ON),
+    ("disableoutput 1", NO_OUTPUT),
+    ("toggleoutput 0", ALWAYS_ON),
+    ("toggleoutput -1", NO_OUTPUT),
+    ("outputset 0 a b", "2 Unsupported attribute"),
+    ("outputset 7 a b", NO_OUTPUT),
+    # What isn't there.
+    ("crossfade 0", []),
+    ("crossfade 2", NO_CROSSFADE),
+    ("crossfade x", NO_CROSSFADE),
+    ("mixrampdb 0", []),
+    ("mixrampdb 0.000000", []),
+    ("mixrampdb -17", NO_MIXRAMP),
+    ("mixrampdelay nan", []),
+    ("mixrampdelay 2", NO_MIXRAMP),
+    ("replay_gain_status", ["replay_gain_mode: off"]),
+    ("replay_gain_mode off", []),
+    ("replay_gain_mode album", NO_GAIN),
+    ("replay_gain_mode OFF", NO_GAIN),
+    ("decoders", ["plugin: wave", "suffix: wav", "mime_type: audio/wav", "mime_type: audio/x-wav"]),
+    ("urlhandlers", []),
+    ("channels", []),
+    ("sendmessage a b", "50 nobody is subscribed to this channel"),
+    ("binarylimit 64", []),
+    ("readcomments a.wav", []),
+    ("readpicture a.wav 0", []),
+    ("albumart a.wav 0", "50 No file exists"),
+    ("listpartitions", ["partition: default"]),
+    ("partition default", []),
+    ("partition x", "50 partition does not exist"),
+    ("listmounts", ["mount: "]),
+    ("listneighbors", "5 No neighbor plugin configured"),
+    ("password x", "3 incorrect password"),
+    ("getvol", ["volume: 100"]),
+    ("status", STATUS),
+    ("status x", '2 wrong number of arguments for "status"'),
+    ("playlist", ["0:file: a.wav", "1:file: b.wav", "2:file: d/c.wav", "3:file: d/e.wav", "4:file: d/é é.wav"]),
+    # Wrong counts of all of them.
+    *((f"{name} {'0 ' * count}0", f'2 wrong number of arguments for "{name}"') for name, count in COUNTS.items()),
+    *((f"{name} {'0 ' * (count - 1)}", f'2 wrong number of arguments for "{name}"') for name, count in COUNTS.items() if count),
+    # Tags.
+    ("tagtypes", [f"tagtype: {it}" for it in TAGS]),
+    ("tagtypes all", []),
+    ("tagtypes clear", []),
+    ("tagtypes enable title musicbrainz_workid", []),
+    ("tagtypes disable Title", []),
+    ("tagtypes all x", "2 Too many arguments"),
+    ("tagtypes clear x", "2 Too many arguments"),
+    ("tagtypes enable", "2 Not enough arguments"),
+    ("tagtypes disable", "2 Not enough arguments"),
+    ("tagtypes enable Title foo", "2 Unknown tag type"),
+    ("tagtypes disable any", "2 Unknown tag type"),
+    ("tagtypes foo", "2 Unknown sub command"),
+    ('tagtypes ""', "2 Unknown sub command"),
+    ("tagtypes Clear", "2 Unknown sub command"),
+    # The root.
+    ("lsinfo", ROOT),
+    ('lsinfo ""', ROOT),
+    ('lsinfo "/"', ROOT),
+    ("lsinfo /", ROOT),
+    ("lsinfo d", [*C, *E, *Z]),
+    ("lsinfo zzz", "50 No such file or directory"),
+    ('lsinfo "" x', '2 wrong number of arguments for "lsinfo"'),
+    # Values of tags.
+    ("list AlbumArtist", ["AlbumArtist: One", "AlbumArtist: Two"]),
+    ("list albumartistsort album Second", ["AlbumArtistSort: One"]),
+    ('list ARTISTSORT "(AlbumSort == \'First\')"', ["ArtistSort: One", "ArtistSort: Two"]),
+    ("list AlbumSort ArtistSort Two", ["AlbumSort: First"]),
+    ("list Composer", []),
+    ("list disc title Alpha", []),
+    ("list Track foo a", '2 unknown tag "foo"'),
+    ("list foo", '2 unknown tag "foo"'),
+    ("list", '2 wrong number of arguments for "list"'),
+    ("list Album One", ["Album: First", "Album: Second"]),
+    ('list album "say \\"x\\""', []),
+    ("list Artist One", '2 wrong number of arguments for "list"'),
+    ("list AlbumArtist One", '2 wrong number of arguments for "list"'),
+    ("list Album group Artist", '2 unknown tag "group"'),
+    ("list Title filename d/e.wav", ['Title: say "x"']),
+    ("list Title Composer x", []),
+    ('list Genre Performer ""', ["Genre: Folk"]),
+    # Filters.
+    ("find AlbumArtist One", [*A, *C]),
+    ("find albumsort Second artistsort One", C),
+    ("find filename b.wav", B),
+    ("find Composer x", []),
+    ('find Composer "" file b.wav', B),
+    ("find Composer x foo a", '2 unknown tag "foo"'),
+    ("find Composer", '2 wrong number of arguments for "find"'),
+    ("search ALBUMARTIST one sort -AlbumSort", [*C, *A]),
+    ("search Disc x", []),
+    ("find Artist One sort Track", [*A, *C]),
+    ("find Artist One sort -Track", [*A, *C]),
+    ("find Artist One sort -file", [*C, *A]),
+    ("find Artist One sort foo", '2 unknown tag "foo"'),
+    ("find base d sort AlbumArtist window 0:2", [*Z, *C]),
+    ('find "(AlbumArtist == \\"One\\")" sort Title', [*C, *A]),
+    ('find "((AlbumArtist != \'One\') AND (Composer == \'\'))"', [*B, *E, *Z]),
+    ("find \"(!(Composer != ''))\" window 4:", Z),
+    ('find "(Composer contains \'\')" window 0:1', A),
+    ('find "(Composer contains \'x\')"', []),
+    ('find "(filename == \'d/c.wav\')"', C),
+    ('find "(Mood == \'x\')"', '2 unknown tag "Mood"'),
+    ('find "(AlbumArtist =~ \'x\')"', "2 bad filter"),
+    ("count AlbumArtist One", ["songs: 2", "playtime: 4"]),
+    ("count Composer x", ["songs: 0", "playtime: 0"]),
+    ("playlistfind AlbumArtist Two", QUEUE[3]),
+    ("playlistsearch filename A.WAV", QUEUE[0]),
+    ("playlistfind Work x", []),
+    ("playlistfind Work x sort Title", '2 unknown tag "sort"'),
+    ("findadd AlbumArtist gone", []),
+    ("searchadd Composer x sort Disc", []),
+    ("findadd Title x position x", "2 bad argument 4"),
+    ("searchaddpl a/b Composer x", "2 bad playlist name"),
+    ("searchaddpl a Composer", '2 wrong number of arguments for "searchaddpl"'),
+    # What goes on as it is.
+    ("currentsong", QUEUE[0]),
+    ("playlistinfo 2:4", [*QUEUE[2], *QUEUE[3]]),
+    ("config", '5 unknown command "config"'),
+    ("volume 5", '5 unknown command "volume"'),
+    ("subscribe x", '5 unknown command "subscribe"'),
+    ("Outputs", '5 unknown command "Outputs"'),
+    ("", "5 No command given"),
+    ('outputs"', "2 bad quoting"),
+    ('outputs "', "2 bad quoting"),
+]
+# These two are told without a command.
+UNNAMED = ("2 bad quoting", "5 No command given")
+
+
+def refusal(request, text, index=0):
+    code, _, said = text.partition(" ")
+    is_named = text not in UNNAMED and not text.startswith("5 unknown command")
+    return f"ACK [{code}@{index}] {{{request.split()[0].strip(chr(34)) if is_named else ''}}} {said}"

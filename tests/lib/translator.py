@@ -1,0 +1,433 @@
+"""What stock MPD clients ask for beside the daemon's own commands, translated line by line: a plain translator, for one connection of a
+daemon without `stock_clients`. It follows the table 'What stock clients ask for beyond it' of docs/PROTOCOL.md.
+
+A client's bytes go into `ask`, which gives those for the daemon, and the daemon's into `answer`, which gives those for the client.
+"""
+
+import collections
+import re
+import typing
+
+MOST_LINE, MOST_COMMANDS, MOST_BYTES = 8192, 16384, 2_097_152
+TAGS = """Artist ArtistSort Album AlbumSort AlbumArtist AlbumArtistSort Title Track Name Genre Date OriginalDate Composer ComposerSort
+Performer Conductor Work Movement MovementNumber Ensemble Location Grouping Comment Disc Label MUSICBRAINZ_ARTISTID MUSICBRAINZ_ALBUMID
+MUSICBRAINZ_ALBUMARTISTID MUSICBRAINZ_TRACKID MUSICBRAINZ_RELEASETRACKID MUSICBRAINZ_WORKID""".split()
+SPELLED = {it.lower(): it for it in TAGS}
+ALL = frozenset(SPELLED)
+NATIVE = {"title", "artist", "album", "date", "genre", "comment"}
+ALIASES = {"albumartist": "Artist", "albumartistsort": "Artist", "artistsort": "Artist", "albumsort": "Album"}
+ABSENT = ALL - NATIVE - set(ALIASES)
+SONGS = set("""currentsong playlistinfo playlistid plchanges playlistfind playlistsearch find search lsinfo listallinfo
+listplaylistinfo""".split())
+# What stands behind the filter of a command, and how many words before it.
+TAILS = {"find": ("sort", "window"), "search": ("sort", "window")}
+TAILS |= {it: ("sort", "window", "position") for it in ("findadd", "searchadd")}
+TAILS |= {it: () for it in ("searchaddpl", "playlistfind", "playlistsearch", "count")}
+BEGINS, END = ("command_list_begin", "command_list_ok_begin"), "command_list_end"
+# A text in quotes in an expression; and such a text, one without an end, or a name behind a parenthesis with the test that it begins.
+VALUE = r"""'(?:[^'\\]|\\.)*'|"(?:[^"\\]|\\.)*\""""
+NAME = r"""[^ \t()'"=!]+"""
+TEST = rf"[ \t]*(?P<operator>==|!=|contains(?=[ \t]))[ \t]*(?P<value>{VALUE})"
+PIECE = re.compile(rf"""{VALUE}|['"].*|\([ \t]*(?P<name>{NAME})(?P<behind>(?:{TEST})?)""", re.DOTALL)
+# The commands that the daemon hasn't: how many arguments they have, and the lines that they are answered by.
+PLAIN = {
+    "outputs": (0, ["outputid: 0", "outputname: output", "plugin: raw", "outputenabled: 1"]),
+    "replay_gain_status": (0, ["replay_gain_mode: off"]),
+    "decoders": (0, ["plugin: wave", "suffix: wav", "mime_type: audio/wav", "mime_type: audio/x-wav"]),
+    "urlhandlers": (0, []),
+    "channels": (0, []),
+    "binarylimit": (1, []),
+    "readcomments": (1, []),
+    "readpicture": (2, []),
+    "listpartitions": (0, ["partition: default"]),
+    "listmounts": (0, ["mount: "]),
+}
+REFUSED = {
+    "albumart": (2, "50 No file exists"),
+    "sendmessage": (2, "50 nobody is subscribed to this channel"),
+    "listneighbors": (0, "5 No neighbor plugin configured"),
+    "password": (1, "3 incorrect password"),
+}
+# Those that know one word alone, as it may be spelled, with what any other is refused for.
+CHOICES = {
+    "crossfade": (("0",), "2 no crossfade here"),
+    "mixrampdb": (("0", "0.000000"), "2 no mixramp here"),
+    "mixrampdelay": (("nan",), "2 no mixramp here"),
+    "replay_gain_mode": (("off",), "2 Unrecognized replay gain mode"),
+    "partition": (("default",), "50 partition does not exist"),
+    "enableoutput": (("0",), "50 No such audio output"),
+}
+OUTPUTS = {
+    "disableoutput": (1, "2 the only output is always on"),
+    "toggleoutput": (1, "2 the only output is always on"),
+    "outputset": (3, "2 Unsupported attribute"),
+}
+FOREIGN = sorted([*PLAIN, *REFUSED, *CHOICES, *OUTPUTS, "playlist", "getvol"])
+
+
+class Unreadable(Exception):
+    """It goes to the daemon as it is, which refuses it."""
+
+
+def words_of(line):
+    """The words of a line, as the section 'Lines' has them."""
+    words, rest = [], line.decode()
+    while rest := rest.lstrip(" \t"):
+        if rest[0] == '"':
+            found = re.match(r'"((?:[^"\\]|\\.)*)"(?=[ \t]|$)', rest, re.DOTALL)
+            if not found:
+                raise Unreadable
+            words.append(re.sub(r"\\(.)", r"\1", found[1], flags=re.DOTALL))
+        else:
+            found = re.match(r'[^ \t"]+(?=[ \t]|$)', rest)
+            if not found:
+                raise Unreadable
+            words.append(found[0])
+        rest = rest[found.end() :]
+    if not words:
+        raise Unreadable
+    return words
+
+
+def ended(line):
+    """The line with its newline. A carriage return at its end would be dropped, if it had not another behind it."""
+    return line + (b"\r\n" if line.endswith(b"\r") else b"\n")
+
+
+def line_of(*words):
+    """The words as a line, in quotes where they must be."""
+    return " ".join(it if re.fullmatch(r'[^ \t\r"]+', it) else '"' + re.sub(r'(["\\])', r"\\\1", it) + '"' for it in words).encode()
+
+
+class Part(typing.NamedTuple):
+    """What becomes of a command: the lines for the daemon, and how what they are answered with is told."""
+
+    natives: list
+    # The client's name of the command, in the braces of a refusal; the daemon's own where it is None.
+    name: str | None = None
+    has_songs: bool = False
+    # What becomes of a line that is the N-th of the answer; None where it is left out.
+    told: typing.Callable = lambda line, number: line
+    # What is told behind them to one who wants to see these tags, and what it wants to see from then on.
+    more: typing.Callable = lambda mask: []
+    then: typing.Callable = lambda mask: mask
+    # The code and text of a refusal, in the place of the daemon's.
+    refusal: str | None = None
+
+
+def answered(name, lines=(), **how):
+    """Without the daemon."""
+    return Part([b"ping"], name, more=lambda mask: list(lines), **how)
+
+
+def refused(name, text):
+    return Part([b"ping no"], name, refusal=text)
+
+
+def translated(line):
+    """The part of one command line."""
+    try:
+        words = words_of(line)
+        same = Part([line], has_songs=words[0] in SONGS)
+        found = by_words(line, words[0], words[1:])
+        return found if found and max(map(len, found.natives)) <= MOST_LINE else same
+    except (Unreadable, UnicodeDecodeError):
+        return Part([line])  # Which the daemon refuses.
+
+
+def by_words(line, name, given):
+    """None where it stays as it is."""
+    if name in FOREIGN:
+        return foreign(name, given)
+    if name == "tagtypes":
+        return tag_types(given)
+    if name == "status":
+        return Part([line], name, more=lambda mask: ["partition: default", "mixrampdb: 0"])
+    if name == "commands":
+        return Part([line], name, more=lambda mask: [f"command: {it}" for it in FOREIGN])
+    if name == "lsinfo" and given in ([], [""], ["/"]):
+        return Part([b"lsinfo", b"listplaylists"], name, has_songs=True)
+    if name == "list" and given:
+        return list_of(line, *given)
+    if name in TAILS:
+        return filtered(line, name, given)
+    return None
+
+
+def foreign(name, given):
+    count = (PLAIN.get(name) or REFUSED.get(name) or OUTPUTS.get(name) or (int(name in CHOICES),))[0]
+    if len(given) != count:
+        return refused(name, f'2 wrong number of arguments for "{name}"')
+    if name in PLAIN:
+        return answered(name, PLAIN[name][1])
+    if name in REFUSED:
+        return refused(name, REFUSED[name][1])
+    if name in OUTPUTS:
+        return refused(name, OUTPUTS[name][1] if given[0] == "0" else "50 No such audio output")
+    if name in CHOICES:
+        return answered(name) if given[0] in CHOICES[name][0] else refused(name, CHOICES[name][1])
+    if name == "getvol":
+        return Part([b"status"], name, told=lambda line, number: line if line.startswith(b"volume: ") else None)
+    return Part([b"playlistinfo"], name, told=lambda line, number: b"%d:%s" % (number, line) if line.startswith(b"file: ") else None)
+
+
+def tag_types(given):
+    if not given:
+        return Part([b"ping"], "tagtypes", more=lambda mask: [f"tagtype: {it}" for it in TAGS if it.lower() in mask])
+    what, named = given[0], {it.lower() for it in given[1:]}
+    if what in ("all", "clear"):
+        masks = {"all": ALL, "clear": frozenset()}
+        return refused("tagtypes", "2 Too many arguments") if named else answered("tagtypes", then=lambda mask: masks[what])
+    if what not in ("enable", "disable"):
+        return refused("tagtypes", "2 Unknown sub command")
+    if not named:
+        return refused("tagtypes", "2 Not enough arguments")
+    if named - ALL:
+        return refused("tagtypes", "2 Unknown tag type")
+    return answered("tagtypes", then=lambda mask: mask | named if what == "enable" else mask - named)
+
+
+def list_of(line, tag, *given):
+    """`list TAG ..`."""
+    given, kind = list(given), tag.lower()
+    if kind == "album" and len(given) == 1 and not given[0].startswith("("):
+        return Part([line_of("list", tag, "Artist", *given)], "list")
+    if "group" in given[0::2]:
+        return None
+    found = filter_of(given, ()) if given else []
+    if kind in NATIVE:
+        return Part([line if found == given else line_of("list", tag, *found)], "list")
+    if kind in ALIASES:
+        front, new = f"{ALIASES[kind]}: ".encode(), f"{SPELLED[kind]}: ".encode()
+        return Part([line_of("list", ALIASES[kind], *found)], "list", told=lambda line, number: new + line.removeprefix(front))
+    if kind in ABSENT:
+        return Part([line_of("count", *(found or ["base", ""]))], "list", told=lambda line, number: None)
+    return None
+
+
+def filtered(line, name, given):
+    """A command with a filter in it."""
+    front = given[:1] if name == "searchaddpl" else []
+    if name == "count" and "group" in given[0::2] + given[1:2]:
+        return None
+    found = front + filter_of(given[len(front) :], TAILS[name])
+    return Part([line if found == given else line_of(name, *found)], name, has_songs=name in SONGS)
+
+
+def filter_of(words, tails):
+    """The words of a filter and of what stands behind it."""
+    if not words:
+        raise Unreadable
+    if words[0].startswith("("):
+        if words[1:] and not tails:
+            raise Unreadable
+        return [expression_of(words[0]), *tail_of(words[1:])]
+    place = 0
+    while place < len(words) and not (place and words[place] in tails):
+        place += 2
+    pairs = words[:place]
+    if len(pairs) % 2:
+        raise Unreadable
+    found = [it for pair in zip(pairs[0::2], pairs[1::2]) for it in pair_of(*pair)]
+    return found + tail_of(words[place:])
+
+
+def tail_of(words):
+    """Of `sort TAG`, at the front, the tag."""
+    if len(words) < 2 or words[0] != "sort":
+        return list(words)
+    turned, tag = words[1].startswith("-"), words[1].removeprefix("-").lower()
+    if tag in ABSENT:
+        return ["sort", "file", *words[2:]]
+    return ["sort", "-" * turned + name_of(words[1].removeprefix("-")), *words[2:]]
+
+
+def pair_of(tag, value):
+    if tag.lower() in ABSENT:
+        return "base", "/" if value else ""
+    return name_of(tag), value
+
+
+def name_of(tag):
+    """The daemon's own name of a tag that songs have."""
+    return {**ALIASES, "filename": "file"}.get(tag.lower(), tag)
+
+
+def expression_of(text):
+    try:
+        return Expression(text).whole()
+    except Unreadable:
+        return PIECE.sub(replaced, text)
+
+
+def replaced(piece):
+    """Of what is no expression as a whole, the tests that are, and names behind a parenthesis."""
+    name, operator, value = piece["name"], piece["operator"], piece["value"]
+    if name is None or name.lower() in ABSENT and not value:
+        return piece[0]
+    if name.lower() in ABSENT:
+        return "(" + test_of_none(operator, value)
+    return "(" + name_of(name) + piece["behind"]
+
+
+def test_of_none(operator, value):
+    """A test of a tag that no song has, so that it is empty of all: what holds for all in its place, or for none."""
+    is_empty = value in ("''", '""')
+    return 'base ""' if is_empty != (operator == "!=") else 'base "/"'
+
+
+class Expression:
+    """A filter in parentheses, read and written anew."""
+
+    def __init__(self, text):
+        self.text, self.place = text, 0
+
+    def whole(self):
+        found = self.one()
+        if self.place < len(self.text):
+            raise Unreadable
+        return found
+
+    def take(self, pattern):
+        """What stands here, with blanks before it."""
+        found = re.compile(rf"[ \t]*({pattern})", re.DOTALL).match(self.text, self.place)
+        if not found:
+            return None
+        self.place = found.end()
+        return found[1]
+
+    def need(self, pattern):
+        found = self.take(pattern)
+        if found is None:
+            raise Unreadable
+        return found
+
+    def one(self):
+        self.need(r"\(")
+        found = self.inner()
+        self.need(r"\)")
+        return f"({found})"
+
+    def inner(self):
+        if self.take("!"):
+            return "!" + self.one()
+        if self.take(r"(?=\()") is None:
+            return self.comparison()
+        parts = [self.one()]
+        while self.take(r"AND(?=[ \t])"):
+            parts.append(self.one())
+        return " AND ".join(parts)
+
+    def comparison(self):
+        tag, begun = self.need(NAME), self.place
+        if tag.lower() == "base":
+            self.need(VALUE)
+            return tag + self.text[begun : self.place]
+        operator, value = self.need("==|!=|contains(?=[ \t])"), self.need(VALUE)
+        return test_of_none(operator, value) if tag.lower() in ABSENT else name_of(tag) + self.text[begun : self.place]
+
+
+class Awaited:
+    """An answer that comes: the parts of a request, and how much of it is told."""
+
+    def __init__(self, parts, in_list, is_separated):
+        self.parts, self.in_list, self.is_separated = parts, in_list, is_separated
+        self.done, self.seen, self.number = 0, 0, 0
+
+
+class Translator:
+    """A connection."""
+
+    def __init__(self):
+        self.unread, self.unheard, self.is_greeted = b"", b"", False
+        # The lines of the list that is open, how it began, and whether the client is read no more.
+        self.lines, self.begun, self.size, self.is_over = None, None, 0, False
+        self.awaited, self.mask = collections.deque(), ALL
+
+    def ask(self, piece):
+        """What the daemon is sent where the client sent this."""
+        *lines, self.unread = (self.unread + piece).split(b"\n")
+        sent = b""
+        for line in lines:
+            if len(line) > MOST_LINE:
+                self.is_over = True
+            if not self.is_over:
+                sent += self.take(line[:-1] if line.endswith(b"\r") else line)
+        self.is_over = self.is_over or len(self.unread) > MOST_LINE
+        return sent
+
+    def take(self, line):
+        """What is sent for a line."""
+        try:
+            only = [*words_of(line), ""] if len(words_of(line)) == 1 else [""]
+        except (Unreadable, UnicodeDecodeError):
+            only = [""]
+        if self.lines is None:
+            if only[0] in BEGINS:
+                self.lines, self.begun, self.size = [], only[0], 0
+                return b""
+            return ended(line) if only[0] == "noidle" else self.single(translated(line))
+        if only[0] == END:
+            parts, self.lines = [translated(it) for it in self.lines], None
+            return self.several(parts, self.begun == BEGINS[1])
+        self.lines.append(line)
+        self.size += len(line)
+        self.is_over = len(self.lines) > MOST_COMMANDS or self.size > MOST_BYTES
+        return b""
+
+    def single(self, part):
+        if len(part.natives) > 1:
+            return self.several([part], False)
+        self.awaited.append(Awaited([part], False, False))
+        return ended(part.natives[0])
+
+    def several(self, parts, is_separated):
+        self.awaited.append(Awaited(parts, True, is_separated))
+        return b"command_list_ok_begin\n" + b"".join(ended(line) for part in parts for line in part.natives) + END.encode() + b"\n"
+
+    def answer(self, piece):
+        """What the client is sent where the daemon sent this."""
+        *lines, self.unheard = (self.unheard + piece).split(b"\n")
+        return b"".join(it + b"\n" for line in lines for it in self.hear(line))
+
+    def hear(self, line):
+        if not self.is_greeted:
+            self.is_greeted = True
+            return [line]
+        now = self.awaited[0]
+        if line == b"OK":
+            self.awaited.popleft()
+            return [line] if now.in_list else [*self.finish(now), line]
+        if line.startswith(b"ACK "):
+            self.awaited.popleft()
+            return [self.refusal(now, line)]
+        if line == b"list_OK" and now.in_list:
+            now.seen += 1
+            if now.seen < len(now.parts[now.done].natives):
+                return []
+            return [*self.finish(now), *([line] if now.is_separated else [])]
+        part = now.parts[now.done]
+        found = None if part.has_songs and self.is_hidden(line) else part.told(line, now.number)
+        now.number += found is not None
+        return [] if found is None else [found]
+
+    def finish(self, now):
+        """The end of a part's answer: what is told before it."""
+        part = now.parts[now.done]
+        more = [it.encode() for it in part.more(self.mask)]
+        self.mask = part.then(self.mask)
+        now.done, now.seen, now.number = now.done + 1, 0, 0
+        return more
+
+    def is_hidden(self, line):
+        key = line.partition(b": ")[0].decode().lower()
+        return key in NATIVE and key not in self.mask
+
+    def refusal(self, now, line):
+        code, name, text = re.fullmatch(rb"ACK \[(\d+)@\d+\] \{(\w*)\} (.*)", line, re.DOTALL).groups()
+        part = now.parts[now.done]
+        if part.refusal:
+            code, text = part.refusal.encode().split(b" ", 1)
+        if part.name is not None:
+            name = part.name.encode()
+        return b"ACK [%s@%d] {%s} %s" % (code, now.done, name, text)
