@@ -14,6 +14,7 @@ use mio_clients::{Clients, MemReady};
 use mpd_server::{NothingWaits, Opened, ServeEnd, ServeStatus, Workers, open_journal};
 use script_lines::words::{first_word, number};
 use script_lines::{Fault, Lines, Printer, write_out};
+use song_output::{Form, SoundOutput};
 use stage_workers::NoWake;
 use std::alloc::{AllocError, Global};
 use std::io::BufRead;
@@ -76,7 +77,10 @@ fn serve_opened<W: Threads + Wait + Clock + Sync>(
     let workers = Workers {
         sources: MemFolder::new(alloc),
         folder: MemFolder::new(alloc),
-        output: Vec::new(alloc),
+        output: SoundOutput {
+            writer: Vec::new(alloc),
+            form: Form::Bare,
+        },
         stop: NothingWaits,
         wake: NoWake,
     };

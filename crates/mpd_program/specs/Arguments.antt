@@ -2,7 +2,7 @@
 use Rattle.std.specs.Prelude.{ℕ, List, codes, Option, Some, None, string_bytes, if◌then◌else◌}
 use Rattle.std.specs.Str.{bytes_eq}
 use Rattle.mpd_program.specs.declared.arguments.Task.{Task}
-use Rattle.mpd_program.specs.declared.arguments.Task.TheVariants.{ConsoleInMemory, Console, Create, Serve}
+use Rattle.mpd_program.specs.declared.arguments.Task.TheVariants.{ConsoleInMemory, Console, Create, Serve, Look}
 
 -- a task, with the path of its configuration
 pub data Asked : Type 0 where
@@ -10,12 +10,14 @@ pub data Asked : Type 0 where
   console : List ℕ → Asked
   create : List ℕ → Asked
   serve : List ℕ → Asked
+  look : List ℕ → Asked
 
 abbrev pub task_seen : Task → Asked
 task_seen ConsoleInMemory = in_memory
 task_seen (Console path) = console (string_bytes path)
 task_seen (Create path) = create (string_bytes path)
 task_seen (Serve path) = serve (string_bytes path)
+task_seen (Look path) = look (string_bytes path)
 
 -- the task of the first word and at most one more
 abbrev pub task_of : List ℕ → Option (List ℕ) → Option Asked
@@ -24,4 +26,5 @@ task_of first (Some path) =
     if bytes_eq first (codes "console") then Some (console path)
     else if bytes_eq first (codes "create") then Some (create path)
     else if bytes_eq first (codes "serve") then Some (serve path)
+    else if bytes_eq first (codes "look") then Some (look path)
     else None

@@ -1,11 +1,13 @@
--- What a configuration says: a TOML table of texts.
+-- What a configuration says: a TOML table of texts and one switch.
 use Rattle.std.specs.Prelude.{ℕ, List, [], ◌∷◌, codes, Bool, true, false, ◌&&◌, ◌||◌, not, Option, Some, None, option_map, is_some, if◌then◌else◌}
 use Rattle.std.specs.Option.{option_and_then}
 use Rattle.std.specs.Result.{result_ok}
 use Rattle.std.specs.Str.{bytes_eq}
-use Rattle.toml.specs.Data.{Data, Members, no_members, member, get_member, as_str}
+use Rattle.toml.specs.Data.{Data, Members, no_members, member, get_member, as_str, as_bool}
 use Rattle.toml.specs.Parse.{parse_document}
 use Rattle.hex.specs.Hex.{decode_sized}
+use Rattle.song_output.specs.declared.output.Form.{Form}
+use Rattle.song_output.specs.declared.output.Form.TheVariants.{Bare, Wave}
 
 -- the first value, and then what the next makes of it, unless there is none
 infixl 10 ◌>>=◌
@@ -13,7 +15,8 @@ abbrev pub ◌>>=◌ : {A B : Type 0} → Option A → (A → Option B) → Opti
 (Some x) >>= f = f x
 None >>= f = None
 
--- The paths as they stand, the key of 32 bytes, and where to listen and to play, where these are said.
+-- The paths as they stand, the key of 32 bytes, where to listen and to play, where these are said, the form of the sound, and whether a
+-- translator stands before clients.
 pub record Settings : Type 0 where
   pub music : List ℕ
   pub journal_a : List ℕ
@@ -22,12 +25,15 @@ pub record Settings : Type 0 where
   pub tcp : Option (List ℕ)
   pub unix : Option (List ℕ)
   pub output : Option (List ℕ)
+  pub form : Form
+  pub stock_clients : Bool
 
 -- a key that a configuration may have
 abbrev pub is_known : List ℕ → Bool
 is_known key =
     bytes_eq key (codes "music") || bytes_eq key (codes "journal_a") || bytes_eq key (codes "journal_b") || bytes_eq key (codes "key")
     || bytes_eq key (codes "tcp") || bytes_eq key (codes "unix") || bytes_eq key (codes "output")
+    || bytes_eq key (codes "form") || bytes_eq key (codes "stock_clients")
 
 -- it has no key but these
 abbrev pub all_known : Members → Bool
@@ -45,6 +51,29 @@ text_if_there (Some value) = option_map Some (as_str value)
 
 abbrev pub optional_text_at : List ℕ → Members → Option (Option (List ℕ))
 optional_text_at key members = text_if_there (get_member key members)
+
+-- the form that a text names
+abbrev pub form_of : List ℕ → Option Form
+form_of text =
+    if bytes_eq text (codes "bare") then Some Bare
+    else if bytes_eq text (codes "wave") then Some Wave
+    else None
+
+-- the form of the text that may be there: bare where there is none
+abbrev pub form_if_there : Option Data → Option Form
+form_if_there None = Some Bare
+form_if_there (Some value) = option_and_then form_of (as_str value)
+
+abbrev pub form_at : List ℕ → Members → Option Form
+form_at key members = form_if_there (get_member key members)
+
+-- the switch that may be there: off where there is none
+abbrev pub switch_if_there : Option Data → Option Bool
+switch_if_there None = Some false
+switch_if_there (Some value) = as_bool value
+
+abbrev pub switch_at : List ℕ → Members → Option Bool
+switch_at key members = switch_if_there (get_member key members)
 
 -- the bytes that 64 hexadecimal digits stand for, in either case
 abbrev pub key_of : List ℕ → Option (List ℕ)
@@ -72,7 +101,19 @@ settings_of table = do
   tcp ← optional_text_at (codes "tcp") members
   unix ← optional_text_at (codes "unix") members
   output ← optional_text_at (codes "output") members
-  if_two_files (record { music = music; journal_a = journal_a; journal_b = journal_b; key = key; tcp = tcp; unix = unix; output = output })
+  form ← form_at (codes "form") members
+  stock_clients ← switch_at (codes "stock_clients") members
+  if_two_files (record {
+    music = music;
+    journal_a = journal_a;
+    journal_b = journal_b;
+    key = key;
+    tcp = tcp;
+    unix = unix;
+    output = output;
+    form = form;
+    stock_clients = stock_clients;
+  })
 
 -- what a text says, if it is a configuration
 abbrev pub configuration : List ℕ → Option Settings
@@ -86,6 +127,8 @@ pub record ServeSettings : Type 0 where
   pub tcp : Option (List ℕ)
   pub unix : Option (List ℕ)
   pub output : List ℕ
+  pub form : Form
+  pub stock_clients : Bool
 
 -- it says where to listen
 abbrev pub says_where_to_listen : Settings → Bool
@@ -99,7 +142,16 @@ plays_into_journal output s = bytes_eq output s.journal_a || bytes_eq output s.j
 abbrev pub settings_to_serve : Settings → List ℕ → Option ServeSettings
 settings_to_serve s output =
     if says_where_to_listen s && not (plays_into_journal output s) then
-    Some (record { music = s.music; journal_a = s.journal_a; journal_b = s.journal_b; tcp = s.tcp; unix = s.unix; output = output })
+    Some (record {
+      music = s.music;
+      journal_a = s.journal_a;
+      journal_b = s.journal_b;
+      tcp = s.tcp;
+      unix = s.unix;
+      output = output;
+      form = s.form;
+      stock_clients = s.stock_clients;
+    })
     else None
 
 -- what serve takes of the settings, if it can serve by them

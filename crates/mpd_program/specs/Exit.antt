@@ -3,12 +3,13 @@ use Rattle.std.specs.Prelude.{◌≡◌, ℕ}
 use Rattle.mpd_program.specs.Status.{code_of}
 use Rattle.mpd_program.specs.declared.console.Status.TheVariants.{Done, JournalRefused}
 use Rattle.mpd_program.specs.declared.exit.Exit.{Exit}
-use Rattle.mpd_program.specs.declared.exit.Exit.TheVariants.{BadArguments, BadConfiguration, CannotListen, Ended}
+use Rattle.mpd_program.specs.declared.exit.Exit.TheVariants.{BadArguments, BadConfiguration, CannotListen, NotWhole, Ended}
 
 abbrev pub exit_code : Exit → ℕ
 exit_code BadArguments = 1
 exit_code BadConfiguration = 1
 exit_code CannotListen = 1
+exit_code NotWhole = 4
 exit_code (Ended status) = code_of status
 
 -- it ended well, and has nothing to say

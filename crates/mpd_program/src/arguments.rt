@@ -16,6 +16,8 @@ pub enum Task {
     Create(String),
     /// `serve CONFIG`: be the daemon of the configuration.
     Serve(String),
+    /// `look CONFIG`: say what stands in the journal of the configuration.
+    Look(String),
 }
 
 impl Task {
@@ -28,6 +30,7 @@ impl Task {
             Some(path) if first == "console" => Some(Task::Console(path)),
             Some(path) if first == "create" => Some(Task::Create(path)),
             Some(path) if first == "serve" => Some(Task::Serve(path)),
+            Some(path) if first == "look" => Some(Task::Look(path)),
             _ => None,
         }
     }

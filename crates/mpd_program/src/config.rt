@@ -1,12 +1,14 @@
-//! The configuration: a TOML document of texts.
-ghost use Rattle.std.specs.Prelude.{◌≡◌, ℕ, None, Some, IfOk, IsErrOf, IsTrue, ◌↔◌, true, option_map, string_bytes};
+//! The configuration: a TOML document of texts and one switch.
+ghost use Rattle.std.specs.Prelude.{◌≡◌, ℕ, None, Some, IfOk, OnErr, IsErrOf, IsTrue, ◌↔◌, true, option_map, string_bytes};
 ghost use Rattle.std.specs.Option.{option_and_then};
 ghost use Rattle.toml.specs.Data.{get_member};
 ghost use Rattle.toml.specs.View.{table_view};
 ghost use Rattle.mpd_program.specs.Configuration.{is_known, all_known, settings_of, text_at, optional_text_at, key_at, configuration};
+ghost use Rattle.mpd_program.specs.Configuration.{form_at, form_of, switch_at};
 ghost use Rattle.mpd_program.specs.declared.config.ConfigError.TheVariants as errors;
 
 use hex::FromHex;
+use song_output::Form;
 use std::alloc::{AllocError, Global};
 use std::marker::Model;
 use toml::Table;
@@ -48,6 +50,10 @@ pub struct Config {
     pub unix: Option<String>,
     /// Where the sound goes: a path, or `-` for standard output.
     pub output: Option<String>,
+    /// In which form: bare where the text says none.
+    pub form: Form,
+    /// Whether stock clients of MPD are served, by a translator: not where the text doesn't say.
+    pub stock_clients: bool,
 }
 
 impl Model for Config {
@@ -64,6 +70,8 @@ impl Model for Config {
       tcp = option_map string_bytes c.tcp;
       unix = option_map string_bytes c.unix;
       output = option_map string_bytes c.output;
+      form = c.form;
+      stock_clients = c.stock_clients;
     } };
 }
 
@@ -95,6 +103,8 @@ impl Config {
         let tcp = optional_text(alloc, table, "tcp")?;
         let unix = optional_text(alloc, table, "unix")?;
         let output = optional_text(alloc, table, "output")?;
+        let form = form(table, "form")?;
+        let stock_clients = switch(table, "stock_clients")?;
         if journal_a.as_str() == journal_b.as_str() {
             return Err(ConfigError::Bad);
         }
@@ -106,6 +116,8 @@ impl Config {
             tcp,
             unix,
             output,
+            form,
+            stock_clients,
         })
     }
 }
@@ -121,6 +133,8 @@ fn is_known_key(key: &str) -> bool
         || key == "tcp"
         || key == "unix"
         || key == "output"
+        || key == "form"
+        || key == "stock_clients"
 }
 
 // Whether a configuration may have each key of the table.
@@ -166,6 +180,53 @@ fn optional_text(alloc: Global, table: &Table, key: &str) -> Result<Option<Strin
     };
     match value.as_str() {
         Some(text) => Ok(Some(String::from_str(alloc, text)?)),
+        None => Err(ConfigError::Bad),
+    }
+}
+
+// The form that this text names.
+fn form_named(text: &str) -> Option<Form>
+    ensures { result ≡ form_of text.now }
+{
+    if text == "bare" {
+        return Some(Form::Bare);
+    }
+    if text == "wave" {
+        return Some(Form::Wave);
+    }
+    None
+}
+
+// The form at a key that may be missing.
+fn form(table: &Table, key: &str) -> Result<Form, ConfigError>
+    ensures ok { IfOk result (λ form. form_at key.now (table_view table.now) ≡ Some form) }
+    ensures bad { OnErr result (form_at key.now (table_view table.now) ≡ None) }
+{
+    let value = match table.get(key) {
+        Some(value) => value,
+        None => return Ok(Form::Bare),
+    };
+    let text = match value.as_str() {
+        Some(text) => text,
+        None => return Err(ConfigError::Bad),
+    };
+    match form_named(text) {
+        Some(form) => Ok(form),
+        None => Err(ConfigError::Bad),
+    }
+}
+
+// The switch at a key that may be missing.
+fn switch(table: &Table, key: &str) -> Result<bool, ConfigError>
+    ensures ok { IfOk result (λ on. switch_at key.now (table_view table.now) ≡ Some on) }
+    ensures bad { OnErr result (switch_at key.now (table_view table.now) ≡ None) }
+{
+    let value = match table.get(key) {
+        Some(value) => value,
+        None => return Ok(false),
+    };
+    match value.as_bool() {
+        Some(on) => Ok(on),
         None => Err(ConfigError::Bad),
     }
 }

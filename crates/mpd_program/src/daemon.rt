@@ -4,6 +4,7 @@ ghost use Rattle.mpd_program.specs.Daemon.{exit_of_daemon};
 
 use crate::config::Config;
 use crate::console::Status;
+use crate::error_lines::{ErrorLines, LoopLog};
 use crate::exit::Exit;
 use crate::listening::{listen_on_address, listen_on_path};
 use crate::music::Music;
@@ -14,11 +15,13 @@ use crate::stopping_folder::StoppingFolder;
 use crate::tasks::{JournalFiles, open_files, tell_fault, tell_migration, tell_refusal, told};
 use crate::told_listener::ToldListener;
 use disk_model::FileDisk;
-use log::Log;
+use http_guard::{Guarded, GuardedListener, GuardedReady};
+use log::{Level, Log, Logged};
 use mio::Waker;
 use mio::net::{TcpListener, UnixListener};
 use mio_clients::{Clients, Socket, SocketListener, SocketReady};
 use mpd_server::{ServeEnd, ServeStatus, Stop, Workers, open_journal};
+use song_output::SoundOutput;
 use stage_workers::Wake;
 use std::alloc::AllocError;
 use std::fs::File;
@@ -27,6 +30,7 @@ use std::net::SocketAddr;
 use std::sync::Wait;
 use std::thread::Threads;
 use std::time::Clock;
+use stock_streams::{StockListener, StockReady, StockStream};
 
 /// Ends a wait of the loop.
 #[derive(Drop)]
@@ -115,7 +119,11 @@ fn listen<'a>(
     let mut listener = SocketListener::new(tcp, unix);
     match readiness(rt, &mut listener) {
         Ok((ready, wake)) => {
-            let clients = Clients::new(rt.alloc(), ToldListener::new(rt, listener), ready)?;
+            let alloc = rt.alloc();
+            let guarded = GuardedListener::new(alloc, ToldListener::new(rt, listener));
+            let listener = StockListener::new(alloc, guarded, config.stock_clients);
+            let ready = StockReady::new(GuardedReady::new(ready));
+            let clients = Clients::new(alloc, listener, ready)?;
             Ok((clients, wake))
         }
         Err(error) => Err(cannot_listen(rt, "epoll", error)),
@@ -169,8 +177,9 @@ fn songs<'a>(
     root: &str,
     stop: &StopFlag,
 ) -> Result<StoppingFolder<Music<'a>>, AllocError> {
-    let root = String::from_str(rt.alloc(), root)?;
-    Ok(StoppingFolder::new(Music::new(rt, root), stop.again()?))
+    let lines = ErrorLines::new(rt, stop.again()?);
+    let music = Music::new(rt, root, Some(lines))?;
+    Ok(StoppingFolder::new(music, stop.again()?))
 }
 
 /// What the daemon's threads work on.
@@ -182,8 +191,12 @@ type DaemonWorkers<'a> = Workers<
     LoopWaker,
 >;
 
-/// The clients of a daemon that listens.
-type DaemonClients<'a> = Clients<Socket, ToldListener<'a>, SocketReady>;
+/// The clients of a daemon that listens: of what speaks HTTP nothing is served.
+type DaemonClients<'a> = Clients<
+    StockStream<Guarded<Socket>>,
+    StockListener<GuardedListener<ToldListener<'a>>>,
+    StockReady<GuardedReady<SocketReady>>,
+>;
 
 /// Listens, and only then empties the output.
 fn begin<'a>(
@@ -198,7 +211,10 @@ fn begin<'a>(
     let workers = Workers {
         sources: songs(rt, config.music.as_str(), &stop)?,
         folder: songs(rt, config.music.as_str(), &stop)?,
-        output,
+        output: SoundOutput {
+            writer: output,
+            form: config.form,
+        },
         stop,
         wake,
     };
@@ -227,7 +243,8 @@ fn serve_over<R: Threads + Wait + Clock + Log + Sync>(
         tell_migration(rt);
     }
     let (mut clients, workers) = begin(rt, config, address, output, stop)?;
-    let end = mpd_server::serve(threads, rt.alloc(), opened, &mut clients, workers);
+    let threads = Logged::new(threads, Level::Info, LoopLog { rt });
+    let end = mpd_server::serve(&threads, rt.alloc(), opened, &mut clients, workers);
     ended(rt, config, end)
 }
 

@@ -16,6 +16,8 @@ pub enum Exit {
     BadConfiguration,
     /// A listening socket, the loop's readiness or a thread can't be had.
     CannotListen,
+    /// The files of a journal that was looked at are no whole journal.
+    NotWhole,
     /// The task was begun, and ended so.
     Ended(Status),
 }
@@ -30,6 +32,7 @@ impl Exit {
     {
         match self {
             Exit::BadArguments | Exit::BadConfiguration | Exit::CannotListen => 1,
+            Exit::NotWhole => 4,
             Exit::Ended(status) => status.code(),
         }
     }
@@ -70,6 +73,7 @@ impl fmt::Display for Exit {
             Exit::BadArguments => f.write_str("bad arguments"),
             Exit::BadConfiguration => f.write_str("bad configuration"),
             Exit::CannotListen => f.write_str("cannot listen"),
+            Exit::NotWhole => f.write_str("journal not whole"),
             Exit::Ended(status) => status.fmt(f),
         }
     }

@@ -1,21 +1,16 @@
 // Where the sound goes.
 use crate::file_lock::lock;
+use crate::readiness::{Readiness, STEP};
 use crate::stop_flag::StopFlag;
-use mio::unix::SourceFd;
-use mio::{Events, Interest, Poll, Token};
 use std::fs::{File, OpenOptions};
 use std::io::{self, ErrorKind, Printer, Write};
 use std::os::fd::{AsRawFd, RawFd};
-use std::time::Duration;
 
 /// The descriptor of standard output.
 const STANDARD_OUTPUT: RawFd = 1;
 
 /// How many bytes go into one write: a pipe that is reported ready takes so many without blocking (pipe(7)).
 const MAX_WRITE: usize = 4_096;
-
-/// How many milliseconds a wait for a ready output lasts at most; the flag is looked at between two.
-const MAX_WAIT: u64 = 50;
 
 /// Where the sound goes: a file, a named pipe, a device or standard output.
 ///
@@ -49,14 +44,6 @@ fn open_file(rt: &HostRuntime, path: &str) -> io::Result<File> {
     Ok(file)
 }
 
-// Whether a descriptor takes bytes.
-#[derive(Drop)]
-struct Readiness {
-    fd: RawFd,
-    poll: Poll,
-    events: Events,
-}
-
 impl<'a> Output<'a> {
     /// Opens the output at this path, or standard output at `-`. A named pipe is opened for reading too, so that it needs no reader
     /// yet. A regular file is made where there is none, and keeps its bytes until `clear`. It is locked, so that it is no journal file of
@@ -86,6 +73,7 @@ impl<'a> Output<'a> {
 
     // Waits until the output takes bytes.
     fn wait(&mut self) -> io::Result<()> {
+        // The flag is looked at between two waits.
         for _ in 0..u64::MAX {
             if self.stop.is_set() {
                 break;
@@ -93,41 +81,11 @@ impl<'a> Output<'a> {
             let Some(readiness) = &mut self.readiness else {
                 return Ok(());
             };
-            if readiness.wait()? {
+            if readiness.wait(STEP)? {
                 return Ok(());
             }
         }
         Err(ErrorKind::Other.into())
-    }
-}
-
-impl Readiness {
-    // The readiness of a descriptor; none where the system refuses to watch it, as it does a regular file.
-    fn of(rt: &HostRuntime, fd: RawFd) -> io::Result<Option<Readiness>> {
-        let poll = Poll::new(rt)?;
-        match poll
-            .registry()
-            .register(&mut SourceFd(&fd), Token(0), Interest::WRITABLE)
-        {
-            Ok(()) => {}
-            Err(error) if error.kind() == ErrorKind::PermissionDenied => return Ok(None),
-            Err(error) => return Err(error),
-        }
-        Ok(Some(Readiness {
-            fd,
-            poll,
-            events: Events::with_capacity(rt.alloc(), 1)?,
-        }))
-    }
-
-    // Waits until the descriptor takes bytes or can take none any more, and says whether it does; `false` where the time is up.
-    fn wait(&mut self) -> io::Result<bool> {
-        self.poll
-            .registry()
-            .reregister(&mut SourceFd(&self.fd), Token(0), Interest::WRITABLE)?;
-        self.poll
-            .poll(&mut self.events, Some(Duration::from_millis(MAX_WAIT)))?;
-        Ok(!self.events.is_empty())
     }
 }
 

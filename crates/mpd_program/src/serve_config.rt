@@ -3,9 +3,11 @@ ghost use Rattle.std.specs.Prelude.{◌≡◌};
 ghost use Rattle.mpd_program.specs.Configuration.{serve_settings};
 
 use crate::config::Config;
+use song_output::Form;
 use std::marker::Model;
 
-/// What `serve` takes of a configuration: where it listens, on an address or a socket's path or both, and where the sound goes.
+/// What `serve` takes of a configuration: where it listens, on an address or a socket's path or both, and where and in which form the
+/// sound goes.
 #[derive(Debug, Drop)]
 pub struct ServeConfig {
     /// The folder of the songs.
@@ -20,6 +22,10 @@ pub struct ServeConfig {
     pub unix: Option<String>,
     /// Where the sound goes: a path that is no file of the journal, or `-` for standard output.
     pub output: String,
+    /// In which form.
+    pub form: Form,
+    /// Whether stock clients of MPD are served, by a translator.
+    pub stock_clients: bool,
 }
 
 impl Model for ServeConfig {
@@ -35,6 +41,8 @@ impl Model for ServeConfig {
       tcp = option_map string_bytes c.tcp;
       unix = option_map string_bytes c.unix;
       output = string_bytes c.output;
+      form = c.form;
+      stock_clients = c.stock_clients;
     } };
 }
 
@@ -52,6 +60,8 @@ impl ServeConfig {
             tcp,
             unix,
             output,
+            form,
+            stock_clients,
         } = config;
         let Some(output) = output else {
             return None;
@@ -69,6 +79,8 @@ impl ServeConfig {
             tcp,
             unix,
             output,
+            form,
+            stock_clients,
         })
     }
 }

@@ -6,8 +6,10 @@ use crate::arguments::Task;
 use crate::config::{Config, ConfigError};
 use crate::console::{ConsoleEnd, Status, run_console};
 use crate::daemon;
+use crate::error_lines::takes_line;
 use crate::exit::Exit;
 use crate::file_lock::FileLock;
+use crate::look::look;
 use crate::music::Music;
 use disk_model::{Disk, FileDisk, MemDisk};
 use live_stage::{LAYOUT, Live, Refused, StartError};
@@ -30,7 +32,7 @@ pub fn run_command_line<R: Threads + Wait + Clock + Log + Sync>(
         Ok(Some(task)) => run(rt, threads, task),
         Ok(None) => {
             let _printed = eprintln!(rt;
-                "usage: mpd_daemon create CONFIG | console [CONFIG] | serve CONFIG"
+                "usage: mpd_daemon create CONFIG | console [CONFIG] | serve CONFIG | look CONFIG"
             );
             Err(Exit::BadArguments)
         }
@@ -52,6 +54,7 @@ fn run<R: Threads + Wait + Clock + Log + Sync>(
         Task::ConsoleInMemory => console_in_memory(rt),
         Task::Console(path) => console(rt, read_config(rt, path.as_str())?),
         Task::Create(path) => create(rt, &read_config(rt, path.as_str())?),
+        Task::Look(path) => look(rt, &read_config(rt, path.as_str())?),
         Task::Serve(path) => daemon::serve(rt, threads, read_config(rt, path.as_str())?),
     }
 }
@@ -74,7 +77,7 @@ fn read_config(rt: &HostRuntime, path: &str) -> Result<Config, Exit> {
         Err(ConfigError::NoMemory) => Err(Exit::NO_MEMORY),
         Err(ConfigError::Bad) => {
             let _printed = eprintln!(rt;
-                "{path}: wanted are the texts music, journal_a, another journal_b, key (64 hexadecimal digits), perhaps tcp, unix, output"
+                "{path}: wanted are the texts music, journal_a, another journal_b, key (64 hexadecimal digits), perhaps tcp, unix, output, form (bare or wave), and stock_clients (true or false)"
             );
             Err(Exit::BadConfiguration)
         }
@@ -170,7 +173,10 @@ fn exit_of(status: Status) -> Result<(), Exit> {
 
 /// Says on standard error which journal file the system failed, how, and what can be done.
 pub(crate) fn tell_fault(rt: &HostRuntime, path: &str, disk: &FileDisk<File>) {
-    if let Some(error) = disk.error() {
+    let Some(error) = disk.error() else {
+        return;
+    };
+    if takes_line(rt) {
         let _printed = eprintln!(rt;
             "{path}: {error}: what was answered is kept; free space or check the device, then start again"
         );
@@ -209,7 +215,7 @@ fn console(rt: &HostRuntime, config: Config) -> Result<(), Exit> {
         b,
         locks: _locks,
     } = open_files(rt, journal_a.as_str(), journal_b.as_str())?;
-    let end = serve(rt, a, b, &mut Music::new(rt, music));
+    let end = serve(rt, a, b, &mut Music::new(rt, music.as_str(), None)?);
     if end.migrated {
         tell_migration(rt);
     }

@@ -1,4 +1,5 @@
 // Where clients connect, with a line on standard error where they can't.
+use crate::error_lines::LoopLog;
 use log::{Log, warn};
 use mio_clients::{Listener, Socket, SocketListener};
 use std::io::{self, ErrorKind};
@@ -7,7 +8,7 @@ use std::io::{self, ErrorKind};
 /// meanwhile.
 #[derive(Drop)]
 pub struct ToldListener<'a> {
-    rt: &'a HostRuntime,
+    log: LoopLog<'a>,
     sockets: SocketListener,
     is_told: bool,
 }
@@ -15,7 +16,7 @@ pub struct ToldListener<'a> {
 impl<'a> ToldListener<'a> {
     pub fn new(rt: &'a HostRuntime, sockets: SocketListener) -> Self {
         ToldListener {
-            rt,
+            log: LoopLog { rt },
             sockets,
             is_told: false,
         }
@@ -32,7 +33,7 @@ impl Listener<Socket> for ToldListener<'_> {
                 _ if self.is_told => {}
                 _ => {
                     self.is_told = true;
-                    warn!(self.rt; "clients wait, none can be accepted: {error}");
+                    warn!(self.log; "clients wait, none can be accepted: {error}");
                 }
             }
         }

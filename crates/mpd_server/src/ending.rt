@@ -1,5 +1,5 @@
 // How a daemon ends.
-ghost use Rattle.std.specs.Prelude.{◌≡◌};
+ghost use Rattle.std.specs.Prelude.{◌≡◌, ◌↔◌, IsTrue};
 ghost use Rattle.mpd_server.specs.Ends.{ending_of, refusal_of, status_of};
 
 use disk_model::Disk;
@@ -43,6 +43,15 @@ pub(crate) struct Life<D> {
     pub(crate) ending: LifeEnding,
     pub(crate) a: D,
     pub(crate) b: D,
+}
+
+impl<D> Life<D> {
+    /// Whether a disk fault ended it.
+    pub(crate) fn is_faulted(&self) -> bool
+        ensures { IsTrue result ↔ (self.now.ending ≡ LifeEnding.Faulted) }
+    {
+        matches!(self.ending, LifeEnding::Faulted)
+    }
 }
 
 impl<D: Disk> Life<D> {

@@ -23,8 +23,10 @@ impl Jobs {
         Jobs { orders, sent: 0 }
     }
 
-    /// Hands over the job that runs, if one does that was not handed over yet. Where memory is refused, or the scan has not
-    /// taken the last one yet, it is tried again by the next call. It refuses `Broken` alone.
+    /// Hands over the job that runs, if one does that was not handed over yet, and doesn't wait for the scan. Where memory is refused it
+    /// is tried again by the next call. It refuses `Broken` alone.
+    ///
+    /// A job ends only once the scan has taken it, so that at most one order waits.
     pub(crate) fn send_new<D: Disk, C: Ledger, P: Ledger, S: Ledger, R: Wait>(
         &mut self,
         rt: &R,
@@ -38,7 +40,7 @@ impl Jobs {
         match stage.scan_order(rt, alloc) {
             Ok(Some(order)) => {
                 let job = order.job();
-                if self.orders.try_send(rt, order).is_ok() {
+                if self.orders.send(rt, order).is_ok() {
                     self.sent = job;
                 }
                 Ok(())

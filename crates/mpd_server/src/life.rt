@@ -12,7 +12,7 @@ use live_stage::{Live, Receipt};
 use log::{Log, warn};
 use mio_clients::{Clients, Listener, Ready, Stream};
 use song_db::ScanOrder;
-use song_output::OpenGate;
+use song_output::{OpenGate, SoundOutput};
 use stage_workers::{
     Blanks, Kind, Pass, PassesSpent, SharedStage, Wake, Worker, player_worker, scan_worker,
 };
@@ -47,12 +47,15 @@ impl<C: Ledger, P: Ledger, S: Ledger> Passes<C, P, S> {
     }
 }
 
+// What the player's thread hands back.
+type Played<C, P, S, F, W> = (Pass<C, P, S>, F, SoundOutput<W>);
+
 // What came of the threads: the turns of the loop, and the passes that came back, with what the threads had.
 #[derive(Drop)]
 struct Worked<C: Ledger, P: Ledger, S: Ledger, F, G, W> {
     turns: Turns,
     clients: Pass<C, P, S>,
-    player: Option<(Pass<C, P, S>, F, W)>,
+    player: Option<Played<C, P, S, F, W>>,
     scan: Option<(Pass<C, P, S>, G)>,
 }
 
@@ -102,8 +105,8 @@ fn play<D: Disk, C: Ledger, P: Ledger, S: Ledger, F: Folder, W: Write, K: Wake, 
     wake: &K,
     pass: Pass<C, P, S>,
     mut sources: F,
-    mut output: W,
-) -> (Pass<C, P, S>, F, W) {
+    mut output: SoundOutput<W>,
+) -> Played<C, P, S, F, W> {
     let worker = Worker {
         rt,
         alloc,
@@ -134,9 +137,6 @@ fn read<D: Disk, C: Ledger, P: Ledger, S: Ledger, F: Folder, K: Wake, R: Wait + 
     (pass, folder)
 }
 
-// What the player's thread hands back.
-type Played<C, P, S, F, W> = (Pass<C, P, S>, F, W);
-
 // Starts the player's thread; none where it can't be made. (Its closure is of few types here, which the prover goes through.)
 fn start_player<
     's,
@@ -157,7 +157,7 @@ fn start_player<
     wake: &'s K,
     pass: Pass<C, P, S>,
     sources: F,
-    output: W,
+    output: SoundOutput<W>,
 ) -> Option<JoinHandle<Played<C, P, S, F, W>>>
 where
     F::File: Send,
@@ -308,7 +308,7 @@ where
             return (life, Some(tools));
         }
     };
-    let (sender, orders) = match crossbeam_channel::bounded(alloc, 1) {
+    let (sender, orders) = match crossbeam_channel::unbounded(alloc) {
         Ok(ends) => ends,
         Err(_) => {
             let life = Life::ended(live, ServeStatus::JournalRefused(7), false);

@@ -1,12 +1,11 @@
 // The daemon: a life, and after its first disk fault another.
 ghost use Rattle.std.specs.Prelude.{◌≡◌};
 
-use crate::ending::{Life, LifeEnding, ServeEnd};
+use crate::ending::{Life, ServeEnd};
 use crate::life::live_once;
-use crate::opening::Opened;
+use crate::opening::{Opened, open_life};
 use crate::workers::{Stop, Workers};
 use disk_model::Disk;
-use live_stage::Live;
 use log::{Log, warn};
 use mio_clients::{Clients, Listener, Ready, Stream};
 use stage_workers::Wake;
@@ -44,10 +43,10 @@ where
     G::File: Send,
     requires { opened.live.numbers.event ≡ 0 }
 {
-    let Opened { live, is_second } = opened;
+    let (live, is_second) = opened.into_parts();
     let (tools, signals) = workers.divided();
     let (first, tools) = live_once(rt, alloc, live, clients, tools, &signals);
-    if is_second || first.ending != LifeEnding::Faulted {
+    if is_second || !first.is_faulted() {
         return first.last();
     }
     let Some(tools) = tools else {
@@ -56,11 +55,11 @@ where
     warn!(rt; "disk fault: all clients are closed, and the journal is opened again");
     clients.close_all();
     let Life { ending: _, a, b } = first;
-    match Live::open(alloc, a, b) {
+    match open_life(alloc, a, b) {
         Ok(live) => {
             let (second, _) = live_once(rt, alloc, live, clients, tools, &signals);
             second.last()
         }
-        Err(refused) => Life::refused(refused).last(),
+        Err(second) => second.last(),
     }
 }

@@ -1,4 +1,5 @@
 // What a daemon's threads work on besides its journal.
+use song_output::SoundOutput;
 
 /// Ends what the workers wait for.
 pub trait Stop {
@@ -26,8 +27,8 @@ pub struct Workers<F, G, W, H, K> {
     pub sources: F,
     /// The songs that the scan reads.
     pub folder: G,
-    /// Where the sound goes.
-    pub output: W,
+    /// Where the sound goes, and in which form.
+    pub output: SoundOutput<W>,
     /// What ends the waits of these.
     pub stop: H,
     /// What ends a wait of the loop, behind each report.
@@ -39,7 +40,7 @@ pub struct Workers<F, G, W, H, K> {
 pub(crate) struct Tools<F, G, W> {
     pub(crate) sources: F,
     pub(crate) folder: G,
-    pub(crate) output: W,
+    pub(crate) output: SoundOutput<W>,
 }
 
 // What ends waits, of the threads and of the loop.

@@ -1,0 +1,2 @@
+mod GuardLaws
+mod LineLaws
