@@ -1,0 +1,118 @@
+"""What an installation is made of, for contrib/install and contrib/deb: which file stands where, with which mode."""
+
+import dataclasses
+import hashlib
+import json
+import os
+import re
+
+CONTRIB = os.path.dirname(os.path.dirname(os.path.abspath(__file__)))
+NAME = "mpd_daemon"
+PORT = 6600
+# The program of the first words of a unit's command.
+COMMAND = re.compile(r"^ExecStart=(\S+)", re.MULTILINE)
+
+
+@dataclasses.dataclass
+class File:
+    """A file of an installation. One that is renewed gives way to a later build's; any other stays as it is once it is there."""
+
+    path: str
+    content: bytes
+    mode: int = 0o644
+    is_renewed: bool = False
+
+
+def content(path):
+    with open(path, "rb") as file:
+        return file.read()
+
+
+def sum_of(data):
+    return hashlib.sha256(data).hexdigest()
+
+
+def text(name):
+    """A text of contrib/."""
+    return content(f"{CONTRIB}/{name}").decode()
+
+
+def is_there(name):
+    return os.path.exists(f"{CONTRIB}/{name}")
+
+
+def has_sound():
+    """Whether there is what brings the sound to a sound card, and its unit."""
+    return is_there("sound") and is_there(f"{NAME}_sound.service")
+
+
+def command(unit, home):
+    """The path of the program that a user's unit starts."""
+    return COMMAND.search(unit)[1].replace("%h", home)
+
+
+def configuration(settings):
+    """The configuration for the units, with these settings in place of its own, and a key of its own."""
+    made = text(f"{NAME}.toml")
+    for key, value in {"key": os.urandom(32).hex(), **settings}.items():
+        made, count = re.subn(rf"^{key} = .*$", lambda _: f"{key} = {json.dumps(value, ensure_ascii=False)}", made, flags=re.MULTILINE)
+        if count != 1:
+            raise ValueError(f"contrib/{NAME}.toml has {count} lines of `{key}`")
+    return made
+
+
+def for_user(home, units, program, settings):
+    """The files of a user's installation, the configuration first."""
+    unit = text(f"{NAME}.service")
+    files = [
+        File(f"{home}/.local/share/{NAME}/{NAME}.toml", configuration(settings).encode(), 0o600),
+        File(command(unit, home), content(program), 0o755, True),
+        File(f"{home}/.local/share/man/man1/{NAME}.1", text(f"{NAME}.1").encode(), is_renewed=True),
+        File(f"{units}/{NAME}.service", unit.encode()),
+    ]
+    if has_sound():
+        unit = text(f"{NAME}_sound.service")
+        files.append(File(command(unit, home), text("sound").encode(), 0o755, True))
+        files.append(File(f"{units}/{NAME}_sound.service", unit.encode()))
+    return files
+
+
+@dataclasses.dataclass
+class Folders:
+    """Where the parts of a machine's installation stand."""
+
+    programs: str
+    units: str
+    users: str
+    manual: str
+
+
+BY_HAND = Folders("/usr/local/bin", "/etc/systemd/system", "/etc/sysusers.d", "/usr/local/share/man/man1")
+PACKAGED = Folders("/usr/bin", "/usr/lib/systemd/system", "/usr/lib/sysusers.d", "/usr/share/man/man1")
+
+
+def for_machine(folders, program):
+    """The files of a machine's installation but for its configuration."""
+
+    def unit(name):
+        path = f"{folders.units}/{name}"
+        return File(path, text(f"system/{name}").replace("/usr/bin/", f"{folders.programs}/").encode())
+
+    files = [
+        File(f"{folders.programs}/{NAME}", content(program), 0o755, True),
+        File(f"{folders.manual}/{NAME}.1", text(f"{NAME}.1").encode(), is_renewed=True),
+        File(f"{folders.users}/{NAME}.conf", text("system/sysusers.conf").encode()),
+        unit(f"{NAME}.service"),
+    ]
+    if has_sound():
+        files += [
+            File(f"{folders.programs}/{NAME}_sound", text("sound").encode(), 0o755, True),
+            File(f"{folders.manual}/{NAME}_sound.1", f".so man1/{NAME}.1\n".encode(), is_renewed=True),
+            unit(f"{NAME}_sound.service"),
+        ]
+    return files
+
+
+def machine_settings(settings):
+    """What a machine's configuration has in place of a user's."""
+    return {"unix": f"/run/{NAME}/socket", **settings}
