@@ -130,8 +130,9 @@ class Daemon:
             raise Failure(f"create: {done}")
         return self
 
-    def start(self, limits=(), stdout=subprocess.DEVNULL, settings=None):
-        """Starts it, and waits until it listens; limits are pairs for setrlimit, settings what its environment has more."""
+    def start(self, limits=(), stdout=subprocess.DEVNULL, stderr=subprocess.PIPE, settings=None):
+        """Starts it, and waits until it listens; limits are pairs for setrlimit, settings what its environment has more. What it writes
+        to another standard error than a pipe of its own isn't taken."""
 
         def limit():
             # Signals end it, also where the test was begun by `nohup`.
@@ -140,18 +141,18 @@ class Daemon:
             for what, count in limits:
                 resource.setrlimit(what, (count, resource.getrlimit(what)[1]))
 
-        how = {"cwd": self.folder, "stdin": subprocess.DEVNULL, "stdout": stdout, "stderr": subprocess.PIPE, "restore_signals": False}
+        how = {"cwd": self.folder, "stdin": subprocess.DEVNULL, "stdout": stdout, "stderr": stderr, "restore_signals": False}
         how["env"] = {**os.environ, **(settings or {})}
         self.process = subprocess.Popen([self.program, "serve", "c.toml"], preexec_fn=limit, **how)
-        self.listening = threading.Thread(target=self.listen, args=(self.process.stderr,))
+        self.listening = threading.Thread(target=self.listen, args=(self.process.stderr or contextlib.nullcontext(),))
         self.listening.start()
         wait_for("a daemon that listens", self.is_listening)
         return self
 
     def listen(self, stream):
         """Takes what it writes to standard error."""
-        with stream:
-            self.lines.extend(line.decode().rstrip("\n") for line in stream)
+        with stream as lines:
+            self.lines.extend(line.decode().rstrip("\n") for line in lines or ())
 
     def is_listening(self):
         if self.process.poll() is not None:

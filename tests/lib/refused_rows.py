@@ -56,11 +56,12 @@ CALLS = [
     ([FEW, "b has -", "open_stage"], "checkpoint", True),
     ([FEW, "b has -", "open_stage", "connect 1"], "line 1 setvol 41", True),
     ([FEW, "b has -", "open_stage", "connect 1"], "list 1 setvol 41 ; repeat 1 ; status", True),
-    ([FULL, "b has -", "open_stage"], "connect 1", True),
     ([OLD, "b has -"], "open_journal", False),
     ([OLD, "b has -"], "open_stage", False),
     ([OLD, "b has -", "open_stage"], "connect 1", True),
 ]
+# An event before which a checkpoint is due, and the next one.
+DUE = [FULL, "b has -", "open_stage"], "connect 1", "connect 2"
 
 # ---- what the program is given, over a journal with one song in the queue and a folder with two more
 
@@ -188,8 +189,6 @@ class Call(Line):
         self.wanted = self.run(place, [*self.front, self.line]).groups[-1]
         self.states = {"before": self.run(place, self.closed(None, self.stands)).groups[-2:]}
         self.states["after"] = self.run(place, self.closed(self.line)).groups[-2:]
-        if self.line == "connect 1":
-            self.states["checkpoint"] = self.run(place, self.closed("checkpoint")).groups[-2:]
         for count in range(1, len(self.commands())):
             self.states[count] = self.run(place, self.closed(f"list 1 {' ; '.join(self.commands()[:count])}")).groups[-2:]
 
@@ -207,13 +206,36 @@ class Call(Line):
 
     def refused(self):
         for line in "refused 7 out of memory", "refused 43 out of memory":
-            for state in self.states.keys() & {"before", "checkpoint"}:
-                yield [line], state
+            yield [line], "before"
         # A request that is refused memory inside is answered, and has a record where a command went before that one.
         for at, command in enumerate(self.commands()):
             record = [f"record {RECORDS + 1}"] if at else []
             refused = f"1< ACK [52@{at}] {{{command.split(' ')[0]}}} out of memory"
             yield ["event 2", *record, f"no memory at {at}", "outputs 1", refused], at or "before"
+
+
+class Due(Call):
+    """An event before which a checkpoint is due. Where that finds no memory, the event is handled without it, and the next one makes it;
+    where the event finds none, the checkpoint stands. What is there are the bytes of both files behind the event, and behind the next one."""
+
+    def __init__(self, program, front, line, following):
+        super().__init__(program, front, line, True)
+        self.following = following
+
+    def prepare(self, place):
+        self.wanted = self.run(place, [*self.front, self.line]).groups[-1]
+        before, made = (self.run(place, self.closed(it)).groups[-2:] for it in (None, self.line))
+        self.states = {"overdue": before + made, "after": made + made}
+
+    def looked(self, place, number):
+        run, behind = super().looked(place, number)
+        if behind is None:
+            return run, None
+        return run, behind + self.run(place, [*self.front, self.line, self.following, "close", *BYTES], number).groups[-2:]
+
+    def refused(self):
+        yield [self.wanted[0], "overdue", *self.wanted[1:]], "overdue"
+        yield ["refused 43 out of memory"], "after"
 
 
 class Program:
@@ -316,8 +338,7 @@ def rows(event_driver, stage_driver, program):
         for *before, line in [*([it] for it in EVENTS), *BATCHES]:
             row = Event(event_driver, [*begun, *before], line)
             found[row.name] = row
-    for call in CALLS:
-        row = Call(stage_driver, *call)
+    for row in [*(Call(stage_driver, *it) for it in CALLS), Due(stage_driver, *DUE)]:
         found[row.name] = row
     for row in [*(Program(program, it) for it in [None, *GIVEN]), *(Program(program, it, True) for it in GIVEN[:3])]:
         found[row.name] = row
