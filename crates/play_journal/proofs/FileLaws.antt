@@ -7,7 +7,7 @@ use Rattle.std.proofs.lemmas.Bool.{ltb-false, le-ltb}
 use Rattle.std.proofs.lemmas.List.{take_at, drop_at, take-append-drop, length-take-le, drop-drop, nil_from_length}
 use Rattle.play_journal.specs.Content.{Content}
 use Rattle.play_journal.specs.File.{open_gate, head, gated, spelling, IsFile, IsOpenAt}
-use Rattle.play_journal.specs.Reading.{Open, number_at, records_at, with_records, before_records, front, read}
+use Rattle.play_journal.specs.Reading.{Open, number_at, records_at, with_read, before_records, front, read}
 use Rattle.play_journal.proofs.RecordLaws.{at_number, IsBytes, IsBytes-drop, guard_ok, records_at-gated, records_at-inverse}
 use Rattle.play_journal.proofs.HeadLaws.{length-head, spelled_rest, spelled_layout, spelled_generation, spelled_base, spelled_size}
 use Rattle.play_journal.proofs.HeadLaws.{front-open, passed, known_fits, spelled_head, head_number_8, head_number_4}
@@ -37,7 +37,7 @@ front-file bytes file is =
 
 pub read_by : (bytes : List ℕ) (layout generation base size : ℕ) → number_at w32 8 bytes ≡ layout → number_at w64 12 bytes ≡ generation
     → number_at w64 20 bytes ≡ base → number_at w32 28 bytes ≡ size → 32 + size ≤ length bytes
-    → read bytes ≡ with_records (record {
+    → read bytes ≡ with_read (record {
       layout = layout;
       generation = generation;
       base = base;
@@ -86,14 +86,14 @@ read-file bytes file is =
     ap (λ (l : List ℕ). records_at 0 (32 + size) file.base l) rest ∙ records_at-gated file.records
     (32 + size) file.base is.gate is.free is.closed is.fits.records is.fits.numbers in
     read_by bytes file.layout file.generation file.base size layout_is generation_is base_is size_is within
-    ∙ ap (λ (l : List ℕ). with_records (record {
+    ∙ ap (λ (l : List ℕ). with_read (record {
       layout = file.layout;
       generation = file.generation;
       base = file.base;
       snapshot = l;
       records = [];
     }) (records_at 0 (32 + size) file.base (drop (32 + size) bytes))) snapshot
-    ∙ ap (λ r. with_records (record {
+    ∙ ap (λ r. with_read (record {
       layout = file.layout;
       generation = file.generation;
       base = file.base;
@@ -115,10 +115,10 @@ open_at-file bytes file is = record {
   spelled = is.spelled ∙ spelling_parts file (is.gate ∷ is.free);
 }
 
-with_records-ok : (front : Content) (r : Result (List (List ℕ)) ℕ) (content : Content) → with_records front r ≡ Ok content
+with_read-ok : (front : Content) (r : Result (List (List ℕ)) ℕ) (content : Content) → with_read front r ≡ Ok content
     → (records : List (List ℕ)) × (r ≡ Ok records) × (record front { records = records } ≡ content)
-with_records-ok front (Ok records) content is = (records, refl, cc)
-with_records-ok front (Err offset) content is = absurd cc
+with_read-ok front (Ok records) content is = (records, refl, cc)
+with_read-ok front (Err offset) content is = absurd cc
 
 -- a file that was read
 pub record ReadAs (bytes : List ℕ) (generation : ℕ) (content : Content) : Type 0 where
@@ -138,10 +138,10 @@ read-inverse bytes generation content fits opened is =
     let snapshot : List ℕ = take size (drop 32 bytes) in
     let own : slice_range bytes 32 (32 + size) ≡ snapshot = at_number (λ (n : ℕ). take n (drop 32 bytes)) (32 + size - 32) size
     (omega arith) in
-    let guarded = guard_ok (ltb (length bytes) (32 + size)) 28 (with_records (before_records bytes size) (records_at 0 (32 + size) base
+    let guarded = guard_ok (ltb (length bytes) (32 + size)) 28 (with_read (before_records bytes size) (records_at 0 (32 + size) base
     (drop (32 + size) bytes))) content is in
     let within : 32 + size ≤ length bytes = ltb-false (length bytes) (32 + size) guarded.0 in
-    let parts = with_records-ok (before_records bytes size) (records_at 0 (32 + size) base (drop (32 + size) bytes)) content guarded.1 in
+    let parts = with_read-ok (before_records bytes size) (records_at 0 (32 + size) base (drop (32 + size) bytes)) content guarded.1 in
     let stands = records_at-inverse (drop (32 + size) bytes) 0 (32 + size) base parts.0 (IsBytes-drop (32 + size) bytes fits)
     (head_number_8 20 bytes fits) parts.1 in
     let long : length snapshot ≡ size = length-take-le size (drop 32 bytes) (omega (arith, length-drop 32 bytes, within)) in

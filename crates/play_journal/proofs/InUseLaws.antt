@@ -1,29 +1,24 @@
--- A journal whose files are settled, and one record more.
+-- A journal whose files are settled, and records more.
 use Rattle.std.proofs.Common.{◌≡◌, ◌⊎◌, inl, inr, ℕ, ◌+◌, ◌^◌, ◌<◌, ◌≤◌, List, [], ◌∷◌, ◌++◌, length, length-append, take, append_assoc}
-use Rattle.std.proofs.Common.{Some, arith, lit<, refl, sym, ap, subst, ◌∙◌}
-use Rattle.std.specs.Prelude.{slice_index, flat_map, unwrap_or}
-use Rattle.std.specs.Int.{w32, to_le_bytes}
+use Rattle.std.proofs.Common.{Option, Some, arith, lit<, refl, sym, ap, subst, ◌∙◌}
+use Rattle.std.specs.Prelude.{slice_index, flat_map, unwrap_or, All}
 use Rattle.std.specs.Result.{result_ok}
 use Rattle.std.proofs.lemmas.Bool.{cases_eq}
 use Rattle.std.proofs.lemmas.Grind.{flat_map-append}
 use Rattle.std.proofs.lemmas.List.{append-nil, take_at, get_or_at, nil_from_length}
-use Rattle.std.proofs.lemmas.List.Elements.{All-append, All-cons, All-nil}
+use Rattle.std.proofs.lemmas.List.Elements.{All-append, All-nil}
 use Rattle.disk_model.specs.History.{Change}
 use Rattle.disk_model.specs.Images.{window, settled, IsImage}
 use Rattle.disk_model.specs.Moments.{AllSince}
 use Rattle.disk_model.proofs.MomentLaws.{now_only}
 use Rattle.disk_model.proofs.WindowLaws.{settled_only}
-use Rattle.play_journal.specs.Content.{Content, present_layout, with_record, IsBeforeOrAfter}
-use Rattle.play_journal.specs.File.{open_gate, longest_body, head, gated, spelling, Fits, IsFile}
+use Rattle.play_journal.specs.Content.{Content, present_layout, with_records, IsEither}
+use Rattle.play_journal.specs.File.{open_gate, longest_body, head, gated, records_len, spelling, Fits, IsFile}
 use Rattle.play_journal.specs.JournalState.{no_content, content_in, IsInUse, IsKept}
 use Rattle.play_journal.specs.Opening.{IsAppending}
 use Rattle.play_journal.specs.Pair.{found, IsBelow, AllPairsNow, AllPairsSince}
 use Rattle.play_journal.proofs.FileLaws.{length-spelling, read-file}
 use Rattle.play_journal.proofs.PairLaws.{found_first, found_second}
-
--- the same file with one record more
-abbrev pub longer : Content → List ℕ → Content
-longer file body = record file { records = file.records ++ body ∷ [] }
 
 pub content-file : (bytes : List ℕ) (file : Content) → IsFile bytes file → content_in bytes ≡ file
 content-file bytes file is = ap (λ r. unwrap_or (result_ok r) no_content) (read-file bytes file is)
@@ -54,39 +49,38 @@ module _ (here there : List ℕ) (end layout generation base count : ℕ) (used 
       → IsFile x used.file
   still_file x gate rest closed is = record { fits = used.is_file.fits; gate = gate; free = rest; closed = closed; spelled = is }
 
-  module _ (body added : List ℕ) (is_added : added ≡ to_le_bytes w32 (length body) ++ body
-      ++ 0 ∷ []) (short : length body ≤ longest_body) (number : base + count + 1 < 2 ^ 64) where
-    longer_fits : Fits (longer used.file body)
+  module _ (bodies : List (List ℕ)) (added : List ℕ) (is_added : open_gate ∷ added ≡ flat_map gated bodies ++ 0 ∷ [])
+      (short : All (λ body. length body ≤ longest_body) bodies) (number : base + count + length bodies < 2 ^ 64) where
+    longer_fits : Fits (with_records used.file bodies)
     longer_fits = record {
       layout = used.is_file.fits.layout;
       generation = used.is_file.fits.generation;
-      numbers = omega (arith, length-append used.file.records (body ∷ []), used.before, used.counted);
+      numbers = omega (arith, length-append used.file.records bodies, used.before, used.counted);
       snapshot = used.is_file.fits.snapshot;
-      records = All-append (λ (b : List ℕ). length b ≤ longest_body) used.file.records (body ∷ []) used.is_file.fits.records (All-cons
-          (λ (b : List ℕ). length b ≤ longest_body) body [] short (All-nil (λ (b : List ℕ). length b ≤ longest_body)));
+      records = All-append (λ (b : List ℕ). length b ≤ longest_body) used.file.records bodies used.is_file.fits.records short;
     }
 
-    longer_spelling : spelling (longer used.file body) ≡ spelling used.file ++ gated body
+    longer_spelling : spelling (with_records used.file bodies) ≡ spelling used.file ++ flat_map gated bodies
     longer_spelling =
         let start : List ℕ = open_gate ∷ head used.file.layout used.file.generation used.file.base (length used.file.snapshot)
         ++ used.file.snapshot in
-        ap (λ (l : List ℕ). start ++ l) (flat_map-append gated used.file.records (body ∷ [])
-        ∙ ap (λ (l : List ℕ). flat_map gated used.file.records ++ l) (append-nil (gated body)))
-        ∙ sym (append_assoc start (flat_map gated used.file.records) (gated body))
+        ap (λ (l : List ℕ). start ++ l) (flat_map-append gated used.file.records bodies)
+        ∙ sym (append_assoc start (flat_map gated used.file.records) (flat_map gated bodies))
 
-    pub longer_file : (x : List ℕ) → x ≡ spelling used.file ++ open_gate ∷ added → IsFile x (longer used.file body)
+    pub longer_file : (x : List ℕ) → x ≡ spelling used.file ++ open_gate ∷ added → IsFile x (with_records used.file bodies)
     longer_file x is = record {
       fits = longer_fits;
       gate = 0;
       free = [];
       closed = λ same. omega arith;
-      spelled = is ∙ ap (λ (l : List ℕ). spelling used.file ++ open_gate ∷ l) is_added
-          ∙ sym (append_assoc (spelling used.file) (gated body) (0 ∷ [])) ∙ ap (λ (l : List ℕ). l ++ 0 ∷ []) (sym longer_spelling);
+      spelled = is ∙ ap (λ (l : List ℕ). spelling used.file ++ l) is_added
+          ∙ sym (append_assoc (spelling used.file) (flat_map gated bodies) (0 ∷ []))
+          ∙ ap (λ (l : List ℕ). l ++ 0 ∷ []) (sym longer_spelling);
     }
 
-    -- each image is the file from before, or with the record
+    -- each image is the file from before, or with all of the records
     pub either : (x : List ℕ) → IsAppending (take end here) (slice_index here end) added x
-        → IsFile x used.file ⊎ IsFile x (longer used.file body)
+        → IsFile x used.file ⊎ IsFile x (with_records used.file bodies)
     either x (inl behind) = inl (still_file x used.is_file.gate behind.0 used.is_file.closed (behind.1
         ∙ ap (λ (l : List ℕ). l ++ slice_index here end ∷ behind.0) front_is
         ∙ ap (λ (n : ℕ). spelling used.file ++ n ∷ behind.0) gate_is))
@@ -102,13 +96,16 @@ module _ (here there : List ℕ) (end layout generation base count : ℕ) (used 
 
     -- the file in use after the last sync
     pub longer_in_use : (x : List ℕ) → x ≡ take end here ++ open_gate ∷ added
-        → IsInUse x there (end + 5 + length body) layout generation base (count + 1)
+        → IsInUse x there (end + records_len bodies) layout generation base (count + length bodies)
     longer_in_use x is =
         let spelled : x ≡ spelling used.file ++ open_gate ∷ added = is ∙ ap (λ (l : List ℕ). l ++ open_gate ∷ added) front_is in
-        let size : length added ≡ 4 + length body + 1 = ap (λ (l : List ℕ). length l) is_added
-        ∙ omega (arith, length-append body (0 ∷ [])) in
+        let size : length added ≡ records_len bodies = omega (
+          arith,
+          ap (λ (l : List ℕ). length l) is_added,
+          length-append (flat_map gated bodies) (0 ∷ []),
+        ) in
         record {
-          file = longer used.file body;
+          file = with_records used.file bodies;
           is_file = longer_file x spelled;
           ends = omega (
             arith,
@@ -118,44 +115,52 @@ module _ (here there : List ℕ) (end layout generation base count : ℕ) (used 
             size,
             used.gate,
           );
-          gate = omega (arith, ap (λ (l : List ℕ). length l) longer_spelling, length-append (spelling used.file) (gated body), used.gate);
+          gate = omega (
+            arith,
+            ap (λ (l : List ℕ). length l) longer_spelling,
+            length-append (spelling used.file) (flat_map gated bodies),
+            used.gate,
+          );
           laid = used.laid;
           numbered = used.numbered;
           before = used.before;
-          counted = omega (arith, length-append used.file.records (body ∷ []), used.counted);
+          counted = omega (arith, length-append used.file.records bodies, used.counted);
           other = used.other;
         }
 
-    pub longer_content : (x : List ℕ) → x ≡ take end here ++ open_gate ∷ added → content_in x ≡ with_record (content_in here) body
+    pub longer_content : (x : List ℕ) → x ≡ take end here ++ open_gate ∷ added → content_in x ≡ with_records (content_in here) bodies
     longer_content x is =
         let spelled : x ≡ spelling used.file ++ open_gate ∷ added = is ∙ ap (λ (l : List ℕ). l ++ open_gate ∷ added) front_is in
-        content-file x (longer used.file body) (longer_file x spelled) ∙ ap (λ (c : Content). with_record c body) before_content
+        content-file x (with_records used.file bodies) (longer_file x spelled)
+        ∙ ap (λ (c : Content). with_records c bodies) before_content
 
-    first_found : (x : List ℕ) → IsFile x used.file ⊎ IsFile x (longer used.file body)
-        → IsBeforeOrAfter (content_in here) body (found x there)
+    -- what a restart finds
+    abbrev pub IsOldOrLonger : Option Content → Type 0
+    IsOldOrLonger f = IsEither (content_in here) (with_records (content_in here) bodies) f
+
+    first_found : (x : List ℕ) → IsFile x used.file ⊎ IsFile x (with_records used.file bodies) → IsOldOrLonger (found x there)
     first_found x (inl before) = inl (found_first x there used.file before used.other ∙ ap Some before_content)
-    first_found x (inr after) = inr (found_first x there (longer used.file body) after used.other
-        ∙ ap (λ (c : Content). Some (with_record c body)) before_content)
+    first_found x (inr after) = inr (found_first x there (with_records used.file bodies) after used.other
+        ∙ ap (λ (c : Content). Some (with_records c bodies)) before_content)
 
-    second_found : (x : List ℕ) → IsFile x used.file ⊎ IsFile x (longer used.file body)
-        → IsBeforeOrAfter (content_in here) body (found there x)
+    second_found : (x : List ℕ) → IsFile x used.file ⊎ IsFile x (with_records used.file bodies) → IsOldOrLonger (found there x)
     second_found x (inl before) = inl (found_second x there used.file before used.other ∙ ap Some before_content)
-    second_found x (inr after) = inr (found_second x there (longer used.file body) after used.other
-        ∙ ap (λ (c : Content). Some (with_record c body)) before_content)
+    second_found x (inr after) = inr (found_second x there (with_records used.file bodies) after used.other
+        ∙ ap (λ (c : Content). Some (with_records c bodies)) before_content)
 
     pub first_since : (h h' o : List Change) → window o ≡ settled there
         → AllSince (IsAppending (take end here) (slice_index here end) added) h' (length h)
-        → AllPairsSince (IsBeforeOrAfter (content_in here) body) h' (length h) o (length o)
+        → AllPairsSince IsOldOrLonger h' (length h) o (length o)
     first_since h h' o is_settled since x y left right =
         let y_is : y ≡ there = settled_only there y (subst (λ w. IsImage w y) is_settled (now_only o y right)) in
-        subst (λ (l : List ℕ). IsBeforeOrAfter (content_in here) body (found x l)) (sym y_is) (first_found x (either x (since x left)))
+        subst (λ (l : List ℕ). IsOldOrLonger (found x l)) (sym y_is) (first_found x (either x (since x left)))
 
     pub second_since : (h h' o : List Change) → window o ≡ settled there
         → AllSince (IsAppending (take end here) (slice_index here end) added) h' (length h)
-        → AllPairsSince (IsBeforeOrAfter (content_in here) body) o (length o) h' (length h)
+        → AllPairsSince IsOldOrLonger o (length o) h' (length h)
     second_since h h' o is_settled since x y left right =
         let x_is : x ≡ there = settled_only there x (subst (λ w. IsImage w x) is_settled (now_only o x left)) in
-        subst (λ (l : List ℕ). IsBeforeOrAfter (content_in here) body (found l y)) (sym x_is) (second_found y (either y (since y right)))
+        subst (λ (l : List ℕ). IsOldOrLonger (found l y)) (sym x_is) (second_found y (either y (since y right)))
 
   -- the one pair that a crash leaves of settled files
   now_first : found here there ≡ Some (content_in here)

@@ -1,9 +1,11 @@
+pub mod AddingLaws
 pub mod AppendLaws
 pub mod CheckpointLaws
 pub mod ChosenLaws
 pub mod CutLaws
 pub mod FileLaws
 pub mod GateLaws
+pub mod GroupLaws
 pub mod HeadLaws
 pub mod InUseLaws
 pub mod LayLaws

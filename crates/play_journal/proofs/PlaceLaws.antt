@@ -5,7 +5,7 @@ use Rattle.std.specs.Prelude.{not}
 use Rattle.disk_model.specs.Later.{IsLater, AreLater}
 use Rattle.disk_model.proofs.LaterLaws.{later_begin}
 use Rattle.disk_model.proofs.MomentLaws.{now_only}
-use Rattle.play_journal.specs.Content.{Content, IsKnownLayout, IsBeforeOrAfter, IsOldOrNew}
+use Rattle.play_journal.specs.Content.{Content, IsKnownLayout, IsOldOrNew}
 use Rattle.play_journal.specs.JournalState.{at_place, content_in, IsKept}
 use Rattle.play_journal.specs.Pair.{AllPairsNow, AllPairsSince}
 use Rattle.play_journal.proofs.InUseLaws.{all_first, all_second, content-file}
@@ -16,7 +16,8 @@ honest_both honest true here there a b = (b, a)
 honest_both honest false here there a b = (a, b)
 
 pub kept_now : {D : Type 0} (content : D → List ℕ) (history : D → List Change) (swapped : Bool) (here there : D)
-    (end layout generation base count : ℕ) → IsKept (content here) (content there) (history here) (history there) end layout generation base count
+    (end layout generation base count : ℕ)
+    → IsKept (content here) (content there) (history here) (history there) end layout generation base count
     → AllPairsNow (λ f. f ≡ Some (content_in (content here))) (history (at_place swapped here there)) (history
     (at_place swapped there here))
 kept_now content history true here there end layout generation base count kept =
@@ -63,11 +64,9 @@ added_since history P false here new there first second = first
 pub still_since : (P : Option Content → Type 0) (h o : List Change) → AllPairsNow P h o → AllPairsSince P h (length h) o (length o)
 still_since P h o now x y left right = now x y (now_only h x left) (now_only o y right)
 
-pub before_or_after : (content : Content) (body : List ℕ) (f : Option Content) → f ≡ Some content → IsBeforeOrAfter content body f
-before_or_after content body f is = inl is
-
 -- the same, of files a and b
-pub placed_now : {D : Type 0} (content : D → List ℕ) (history : D → List Change) (swapped : Bool) (a b : D) (end layout generation base count : ℕ)
+pub placed_now : {D : Type 0} (content : D → List ℕ) (history : D → List Change) (swapped : Bool) (a b : D)
+    (end layout generation base count : ℕ)
     → IsKept (content (at_place swapped a b)) (content (at_place swapped b a)) (history (at_place swapped a b)) (history
     (at_place swapped b a)) end layout generation base count
     → AllPairsNow (λ f. f ≡ Some (content_in (content (at_place swapped a b)))) (history a) (history b)

@@ -8,7 +8,7 @@ use Rattle.play_journal.specs.declared.refusal.JournalError.TheVariants.{NoMemor
 use Rattle.play_journal.specs.Content.{Content}
 use Rattle.play_journal.specs.Opening.{IsCause}
 use Rattle.play_journal.specs.Pair.{told}
-use Rattle.play_journal.specs.Reading.{number_at, records_at, with_records, read}
+use Rattle.play_journal.specs.Reading.{number_at, records_at, with_read, read}
 use Rattle.play_journal.proofs.FileLaws.{read_by}
 
 -- what an exit returns
@@ -36,12 +36,12 @@ module _ (bytes : List ℕ) (layout generation base size : ℕ) (layout_is : num
         records = [];
       } in
       read_by bytes layout generation base size layout_is generation_is base_is size_is within
-      ∙ ap (λ r. with_records (front (slice_range bytes 32 (32 + size))) r) is
-      ∙ ap (λ (l : List ℕ). with_records (front l) (Ok records)) (sym own)
+      ∙ ap (λ r. with_read (front (slice_range bytes 32 (32 + size))) r) is
+      ∙ ap (λ (l : List ℕ). with_read (front l) (Ok records)) (sym own)
 
   read-fault : (offset : ℕ) → records_at 0 (32 + size) base (drop (32 + size) bytes) ≡ Err offset → read bytes ≡ Err offset
   read-fault offset is = read_by bytes layout generation base size layout_is generation_is base_is size_is within
-      ∙ ap (λ r. with_records (record {
+      ∙ ap (λ r. with_read (record {
         layout = layout;
         generation = generation;
         base = base;

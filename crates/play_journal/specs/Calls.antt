@@ -1,5 +1,5 @@
 -- What the calls of a journal do to it.
-use Rattle.std.specs.Prelude.{◌≡◌, ◌≢◌, ◌↔◌, ℕ, ◌+◌, ◌-◌, ◌^◌, ◌<◌, ◌≤◌, min, true, false, not, List, length, Some, Result, Err}
+use Rattle.std.specs.Prelude.{◌≡◌, ◌≢◌, ◌↔◌, ℕ, ◌+◌, ◌-◌, ◌^◌, ◌<◌, ◌≤◌, min, true, false, not, List, [], length, Some, Result, Err}
 use Rattle.std.specs.Prelude.{MatchBool, OnErr}
 use Rattle.disk_model.specs.History.{Change}
 use Rattle.play_journal.specs.declared.refusal.JournalError.{JournalError}
@@ -65,6 +65,15 @@ pub record IsNextRecord {D : Type 0} (old new : JournalState D) (size number : �
   pub bytes : new.bytes ≡ min (old.bytes + (5 + size)) (2 ^ 64 - 1)
   pub usable : new.is_spent ≡ false
 
+-- These records have the numbers up to this one, which are the next ones. Bytes are counted up to 2^64 - 1, which no honest disk comes
+-- to. Without a record all is as it was.
+pub record AreNextRecords {D : Type 0} (old new : JournalState D) (bodies : List (List ℕ)) (number : ℕ) : Type 0 where
+  pub last : number ≡ old.base + old.count + length bodies
+  pub count : new.count ≡ old.count + length bodies
+  pub bytes : new.bytes ≡ min (old.bytes + records_len bodies) (2 ^ 64 - 1)
+  pub usable : new.is_spent ≡ false
+  pub none : bodies ≡ [] → new ≡ old
+
 -- the file in use stays in use, and the other isn't touched
 pub record StaysInFile {D : Type 0} (old new : JournalState D) : Type 0 where
   pub layout : new.layout ≡ old.layout
@@ -102,4 +111,14 @@ pub record RefusesRecord {D : Type 0} (old new : JournalState D) (size : ℕ) (r
   pub spent : old.is_spent ≡ true → (result ≡ Err DiskFault) × (new ≡ old)
   pub old_layout : old.is_spent ≡ false → ((result ≡ Err OldLayout) ↔ (old.layout ≢ present_layout))
   pub in_order : old.layout ≡ present_layout → RefusesInOrder old new longest_body size (old.base + old.count) result
+  pub stays : OnErr result (result ≢ Err DiskFault → new ≡ old)
+
+-- So many records are refused in this order: the journal is spent, it has an old layout, to which nothing is added, or the last of them
+-- would have a number past 2^64 - 1. A disk fault spends the journal, and a refusal that is none changes nothing.
+pub record RefusesRecords {D : Type 0} (old new : JournalState D) (many : ℕ) (result : Result ℕ JournalError) : Type 0 where
+  pub spent : old.is_spent ≡ true → (result ≡ Err DiskFault) × (new ≡ old)
+  pub old_layout : old.is_spent ≡ false → ((result ≡ Err OldLayout) ↔ (old.layout ≢ present_layout))
+  pub numbers_spent : old.is_spent ≡ false → old.layout ≡ present_layout
+      → ((result ≡ Err NumbersSpent) ↔ (2 ^ 64 ≤ old.base + old.count + many))
+  pub spends : result ≡ Err DiskFault → new.is_spent ≡ true
   pub stays : OnErr result (result ≢ Err DiskFault → new ≡ old)

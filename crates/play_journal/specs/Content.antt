@@ -34,6 +34,10 @@ last_record content = content.base + length content.records
 abbrev pub with_record : Content → List ℕ → Content
 with_record content body = record content { records = content.records ++ body ∷ [] }
 
+-- the same with these records more
+abbrev pub with_records : Content → List (List ℕ) → Content
+with_records content bodies = record content { records = content.records ++ bodies }
+
 -- the next generation: this snapshot in place of the snapshot before and its records, in the layout that is written
 abbrev pub with_snapshot : Content → List ℕ → Content
 with_snapshot content snapshot =

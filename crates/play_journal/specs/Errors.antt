@@ -45,6 +45,16 @@ IsRefusalOfAppend TooLong = Unit {0}
 IsRefusalOfAppend NumbersSpent = Unit {0}
 IsRefusalOfAppend OldLayout = Unit {0}
 
+abbrev pub IsRefusalOfAppendAll : JournalError → Type 0
+IsRefusalOfAppendAll NotEmpty = ⊥
+IsRefusalOfAppendAll NoJournal = ⊥
+IsRefusalOfAppendAll (Damaged offset) = ⊥
+IsRefusalOfAppendAll DiskFault = Unit {0}
+IsRefusalOfAppendAll NoMemory = ⊥
+IsRefusalOfAppendAll TooLong = ⊥
+IsRefusalOfAppendAll NumbersSpent = Unit {0}
+IsRefusalOfAppendAll OldLayout = Unit {0}
+
 abbrev pub IsRefusalOfCheckpoint : JournalError → Type 0
 IsRefusalOfCheckpoint NotEmpty = ⊥
 IsRefusalOfCheckpoint NoJournal = ⊥

@@ -3,6 +3,7 @@ pub mod Content
 pub mod Errors
 pub mod File
 pub mod FileRead
+pub mod Group
 pub mod JournalState
 pub mod Laws
 pub mod Laying

@@ -50,9 +50,9 @@ records_at zero offset before (gate ∷ bytes) =
     else with_first (slice_range bytes 4 (4 + number_at w32 0 bytes)) (records_at (4 + number_at w32 0 bytes) (suc offset)
     (suc before) bytes)
 
-abbrev pub with_records : Content → Result (List (List ℕ)) ℕ → Result Content ℕ
-with_records content (Ok records) = Ok (record content { records = records })
-with_records content (Err offset) = Err offset
+abbrev pub with_read : Content → Result (List (List ℕ)) ℕ → Result Content ℕ
+with_read content (Ok records) = Ok (record content { records = records })
+with_read content (Err offset) = Err offset
 
 -- what a file says before its records, whose snapshot has this length
 abbrev pub before_records : List ℕ → ℕ → Content
@@ -68,5 +68,5 @@ before_records bytes size = record {
 unfoldable pub read : List ℕ → Result Content ℕ
 read bytes =
     if nat_lt (length bytes) (32 + number_at w32 28 bytes) then Err 28
-    else with_records (before_records bytes (number_at w32 28 bytes))
+    else with_read (before_records bytes (number_at w32 28 bytes))
     (records_at 0 (32 + number_at w32 28 bytes) (number_at w64 20 bytes) (drop (32 + number_at w32 28 bytes) bytes))

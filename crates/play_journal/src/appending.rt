@@ -24,15 +24,25 @@ pub(crate) fn put_record(buffer: &mut Vec<u8>, body: &[u8])
     ensures record { buffer.new.items ≡ to_le_bytes w32 (length body.now) ++ body.now ++ 0 ∷ [] }
     ensures room { vec_capacity buffer.old ≤ vec_capacity buffer.new }
 {
-    let len = (body.len() as u32).to_le_bytes();
     buffer.clear();
+    put_behind(buffer, body);
+}
+
+// Puts the same behind what the buffer holds.
+pub(crate) fn put_behind(buffer: &mut Vec<u8>, body: &[u8])
+    requires room { length buffer.old.items + length body.now + 5 ≤ vec_capacity buffer.old }
+    requires short { length body.now < 2 ^ 32 }
+    ensures record { buffer.new.items ≡ buffer.old.items ++ to_le_bytes w32 (length body.now) ++ body.now ++ 0 ∷ [] }
+    ensures room { vec_capacity buffer.old ≤ vec_capacity buffer.new }
+{
+    let len = (body.len() as u32).to_le_bytes();
     if buffer.extend_from_slice(&len).is_err() || buffer.extend_from_slice(body).is_err() {
         unreachable!();
     }
     buffer.push_reserved(CLOSED);
 }
 
-// Writes a record behind the closed gate at the end of a settled file, and then opens the gate: four calls of the disk.
+// Writes records behind the closed gate at the end of a settled file, and then opens the gate: four calls of the disk.
 pub(crate) fn append_at<D: Disk>(disk: &mut D, gate: u64, added: &[u8]) -> Result<(), JournalError>
     ensures later { IsLater D.honest D.history D.faults disk.old disk.new }
     ensures any_moment { D.honest disk.old → window (D.history disk.old) ≡ settled (D.content disk.old)

@@ -25,7 +25,9 @@ use std::alloc::Global;
 use std::marker::Model;
 use std::mem;
 
-/// A journal over two files: a snapshot, and records behind it, each of which was on the disk when its `append` returned.
+mod groups;
+
+/// A journal over two files: a snapshot, and records behind it, each of which was on the disk when the call that added it returned.
 ///
 /// All that is said of bytes is said of two honest disks.
 #[derive(Debug, Drop)]
@@ -327,7 +329,7 @@ impl<D: Disk> Journal<D> {
         self.snapshot_len
     }
 
-    /// Whether a disk failed. Every later `append` and `checkpoint` then answers `DiskFault`: open the files again.
+    /// Whether a disk failed. Every later `append`, `append_all` and `checkpoint` then answers `DiskFault`: open the files again.
     pub fn is_spent(&self) -> bool
         ensures value { result ≡ self.now.is_spent }
         ensures kept { D.honest self.now.a → D.honest self.now.b → self.now.is_spent ≡ false

@@ -3,6 +3,7 @@
 
 mod appending;
 mod creating;
+mod group;
 mod journal;
 pub mod laws;
 mod laying;
@@ -11,6 +12,7 @@ mod reading;
 mod refusal;
 mod stored;
 
+pub use group::{GROUP_LEN, Group};
 pub use journal::Journal;
 pub use reading::LAYOUT;
 pub use refusal::{JournalError, Refused};

@@ -24,10 +24,11 @@ pub enum JournalError {
     /// There was no memory. Nothing was written.
     #[error("out of memory")]
     NoMemory,
-    /// A record over 2,097,152 bytes, or a snapshot over 4,294,967,295. Nothing was written.
+    /// A record over 2,097,152 bytes, or a snapshot over 4,294,967,295, or a record that finds no room in a group. Nothing was written.
     #[error("too long")]
     TooLong,
-    /// The last record has the number 2^64 - 1, or, where a checkpoint is made, the file the generation 2^64 - 1. Nothing was written.
+    /// A record would have a number past 2^64 - 1, or, where a checkpoint is made, the file has the generation 2^64 - 1. Nothing was
+    /// written.
     #[error("record numbers are spent")]
     NumbersSpent,
     /// The file in use has an old layout, to which no record is added: a checkpoint brings the journal to the present one. Nothing
