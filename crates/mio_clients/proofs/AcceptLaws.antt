@@ -39,7 +39,7 @@ module _ {S : Type 0} where
   }
 
   -- nobody connects while room is made
-  pub accepts_room : (a b : ConnectionsState S) → b ≡ record a { room = b.room } → Accepts a b
+  pub accepts_room : (a b : ConnectionsState S) → b ≡ record a { room = b.room; places = b.places } → Accepts a b
   accepts_room a b same =
       subst (λ (s : ConnectionsState S). Accepts a s) (sym same) (record {
         count = 0;
@@ -48,8 +48,8 @@ module _ {S : Type 0} where
         stay = λ key client there. there;
       })
 
-  pub accepts_roomy : (a b m c : ConnectionsState S) → m ≡ record b { room = m.room } → Accepts a b → Accepts m c → Accepts a c
+  pub accepts_roomy : (a b m c : ConnectionsState S) → m ≡ record b { room = m.room; places = m.places } → Accepts a b → Accepts m c → Accepts a c
   accepts_roomy a b m c same p q = accepts_twice a m c (accepts_twice a b m p (accepts_room b m same)) q
 
-  pub full_room : (a b : ConnectionsState S) → b ≡ record a { room = b.room } → IsFull a → IsFull b
+  pub full_room : (a b : ConnectionsState S) → b ≡ record a { room = b.room; places = b.places } → IsFull a → IsFull b
   full_room a b same full = subst (λ (s : ConnectionsState S). IsFull s) (sym same) full

@@ -17,6 +17,14 @@ grows_twice (Some us) None c xs ys p q = absurd p
 grows_twice (Some us) (Some vs) None xs ys p q = absurd q
 grows_twice (Some us) (Some vs) (Some ws) xs ys p q = q ∙ (ap (λ t. t ++ ys) p ∙ append_assoc us xs ys)
 
+-- more bytes behind both
+pub more_behind : (a b : Option (List ℕ)) (given untaken more : List ℕ) → Keeps (append_known a given) (append_known b untaken)
+    → Keeps (append_known a (given ++ more)) (append_known b (untaken ++ more))
+more_behind None b given untaken more p = tt
+more_behind (Some xs) None given untaken more p = absurd p
+more_behind (Some xs) (Some ys) given untaken more p =
+    sym (append_assoc ys untaken more) ∙ (ap (λ t. t ++ more) p ∙ append_assoc xs given more)
+
 -- what is queued behind bytes that stay
 pub kept_behind : (a b : Option (List ℕ)) (queued : List ℕ) → Keeps a b → Keeps (append_known a queued) (append_known b queued)
 kept_behind None b queued p = tt

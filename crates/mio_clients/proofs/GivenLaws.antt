@@ -15,7 +15,7 @@ use Rattle.mio_clients.specs.declared.event.ClientEvent.TheVariants as events
 use Rattle.mio_clients.specs.Streams.{IsUntouched}
 use Rattle.mio_clients.specs.Events.{asked_by}
 use Rattle.mio_clients.specs.Given.{left_in_pieces, given, Moves}
-use Rattle.mio_clients.specs.Connections.{Reads, Gathers, IsTaken, IsReading}
+use Rattle.mio_clients.specs.Connections.{Reads, ReadsInPart, IsTaken, IsReading}
 use Rattle.client_session.proofs.ByteLaws.{keeps_itself, consumes_nothing, consumes_twice}
 use Rattle.mio_clients.proofs.ByteLaws.{grows_by_none, grows_twice, kept_behind, queued_behind}
 
@@ -115,20 +115,24 @@ module _ {S : Type 0} (remaining contents : S → Option (List ℕ)) where
       (moves_piece a b piece (same ∙ id) unwritten queued taken left reading.goes_on unrefused) added
 
   -- what later pieces ask, where nothing more is read of a client that is to be closed
-  later_asked : (a b c : Client S) (xs : List ℕ) (ys : List ℕ) (ps qs : List (List ℕ)) → Moves remaining contents xs ps a b → Moves remaining contents ys qs b c
+  later_asked : (a b : Client S) (xs : List ℕ) (ps qs : List (List ℕ)) → Moves remaining contents xs ps a b → (b.is_closing ≡ true → qs ≡ [])
       → requests_in_pieces b.session.left qs ≡ requests_in_pieces (left_in_pieces a.session.left ps) qs
-  later_asked a b c xs ys ps qs p q =
+  later_asked a b xs ps qs p closed =
       elim p.left [
-        | inl closing ↦ ap (requests_in_pieces b.session.left) (q.closing closing).0
-            ∙ sym (ap (requests_in_pieces (left_in_pieces a.session.left ps)) (q.closing closing).0)
+        | inl closing ↦ ap (requests_in_pieces b.session.left) (closed closing)
+            ∙ sym (ap (requests_in_pieces (left_in_pieces a.session.left ps)) (closed closing))
         | inr left ↦ ap (λ (l : Unread). requests_in_pieces l qs) left
       ]
 
+  pub pieces_behind : (a b : Client S) (xs : List ℕ) (ps qs : List (List ℕ)) → Moves remaining contents xs ps a b → (b.is_closing ≡ true → qs ≡ [])
+      → requests_in_pieces a.session.left (ps ++ qs) ≡ requests_in_pieces a.session.left ps ++ requests_in_pieces b.session.left qs
+  pieces_behind a b xs ps qs p closed =
+      requests_in_pieces-append a.session.left ps qs
+      ∙ ap (λ t. requests_in_pieces a.session.left ps ++ t) (sym (later_asked a b xs ps qs p closed))
+
   pub pieces_asked : (a b c : Client S) (xs ys : List ℕ) (ps qs : List (List ℕ)) → Moves remaining contents xs ps a b → Moves remaining contents ys qs b c
       → requests_in_pieces a.session.left (ps ++ qs) ≡ requests_in_pieces a.session.left ps ++ requests_in_pieces b.session.left qs
-  pieces_asked a b c xs ys ps qs p q =
-      requests_in_pieces-append a.session.left ps qs
-      ∙ ap (λ t. requests_in_pieces a.session.left ps ++ t) (sym (later_asked a b c xs ys ps qs p q))
+  pieces_asked a b c xs ys ps qs p q = pieces_behind a b xs ps qs p (λ h. (q.closing h).0)
 
   pub reads_twice : (a b c : Client S) (first then last : List ClientEvent) → Reads remaining contents a b first then
       → Reads remaining contents b c then last → Reads remaining contents a c first last
@@ -208,9 +212,82 @@ module _ {S : Type 0} (remaining contents : S → Option (List ℕ)) where
   moves_watched a stream more same = moves_none a (record a { stream = stream; has_more = more }) refl
       (kept_behind (contents a.stream) (contents stream) a.session.queued same.unwritten) same.unread refl (λ h. h) refl
 
-  -- what was gathered before a refusal
-  pub gathers_after : (a b : Client S) (first then : List ClientEvent) → Reads remaining contents a b first then → Gathers a.id first then
-  gathers_after a b first then p = record { requests = requests_in_pieces a.session.left p.pieces; added = p.added }
+  -- a piece was read, and memory was refused
+  pub part_piece : (a b : Client S) (piece : List ℕ) (events after : List ClientEvent) → IsReading a → b.id ≡ a.id
+      → Keeps (contents a.stream) (contents b.stream) → Consumes (remaining a.stream) (remaining b.stream) piece → after ≡ events
+      → ReadsInPart remaining contents a b events after
+  part_piece a b piece events after reading same unwritten taken none = record {
+    same = same;
+    untaken = a.session.queued;
+    unwritten = grows_by_none (given contents a) (append_known (contents b.stream) a.session.queued)
+        (kept_behind (contents a.stream) (contents b.stream) a.session.queued unwritten);
+    goes_on = reading.goes_on;
+    pieces = piece ∷ [];
+    taken = subst (Consumes (remaining a.stream) (remaining b.stream)) (sym (append-nil piece)) taken;
+    requests = [];
+    lost = requests_in_pieces a.session.left (piece ∷ []);
+    whole = refl;
+    added = none ∙ sym (append-nil events);
+  }
+
+  -- pieces were read, and then others, for which memory was refused
+  pub part_behind : (a b c : Client S) (first then last : List ClientEvent) → IsReading a
+      → Reads remaining contents a b first then → ReadsInPart remaining contents b c then last → ReadsInPart remaining contents a c first last
+  part_behind a b c first then last reading p q =
+      let one = requests_in_pieces a.session.left p.pieces in
+      record {
+        same = q.same ∙ p.moves.same;
+        untaken = q.untaken;
+        unwritten = grows_twice (given contents a) (given contents b) (append_known (contents c.stream) q.untaken) [] [] p.moves.grows q.unwritten;
+        goes_on = reading.goes_on;
+        pieces = p.pieces ++ q.pieces;
+        taken = subst (Consumes (remaining a.stream) (remaining c.stream)) (sym (concat-append p.pieces q.pieces))
+            (consumes_twice (remaining a.stream) (remaining b.stream) (remaining c.stream) (concat p.pieces) (concat q.pieces) p.moves.taken q.taken);
+        requests = one ++ q.requests;
+        lost = q.lost;
+        whole = append_assoc one q.requests q.lost ∙ (ap (λ t. one ++ t) q.whole
+            ∙ sym (pieces_behind a b [] p.pieces q.pieces p.moves (λ closing. absurd (cc (closing, q.goes_on)))));
+        added = q.added ∙ (ap (λ t. t ++ asked_by b.id q.requests) p.added
+            ∙ (append_assoc first (asked_by a.id one) (asked_by b.id q.requests)
+            ∙ ap (λ t. first ++ t) (ap (λ (n : ℕ). asked_by a.id one ++ asked_by n q.requests) p.moves.same
+            ∙ sym (asked_by-append a.id one q.requests))));
+      }
+
+  -- pieces were read, and then there was no memory to look whether what has begun is too long
+  pub part_looked : (a m b : Client S) (first then last : List ClientEvent) → IsReading a
+      → Reads remaining contents a m first then → b ≡ record m { session = b.session; is_closing = b.is_closing } → last ≡ then
+      → ReadsInPart remaining contents a b first last
+  part_looked a m b first then last reading p same none =
+      let stream : b.stream ≡ m.stream = ap (λ (x : Client S). x.stream) same in
+      let id : b.id ≡ m.id = ap (λ (x : Client S). x.id) same in
+      let one = requests_in_pieces a.session.left p.pieces in
+      record {
+        same = id ∙ p.moves.same;
+        untaken = m.session.queued;
+        unwritten = subst (λ (s : S). Keeps (append_known (given contents a) []) (append_known (contents s) m.session.queued)) (sym stream) p.moves.grows;
+        goes_on = reading.goes_on;
+        pieces = p.pieces;
+        taken = subst (λ (s : S). Consumes (remaining a.stream) (remaining s) (concat p.pieces)) (sym stream) p.moves.taken;
+        requests = one;
+        lost = [];
+        whole = append-nil one;
+        added = none ∙ p.added;
+      }
+
+  pub part_flag : (a b : Client S) (more : Bool) (first then : List ClientEvent) → ReadsInPart remaining contents a b first then
+      → ReadsInPart remaining contents a (record b { has_more = more }) first then
+  part_flag a b more first then r = record {
+    same = r.same;
+    untaken = r.untaken;
+    unwritten = r.unwritten;
+    goes_on = r.goes_on;
+    pieces = r.pieces;
+    taken = r.taken;
+    requests = r.requests;
+    lost = r.lost;
+    whole = r.whole;
+    added = r.added;
+  }
 
 before_fault : (asked : List Request) (left : Unread) (refusal : SessionError) → fault_before asked left ≡ Some refusal → asked ≡ []
 before_fault [] left refusal h = refl

@@ -11,7 +11,7 @@ use Rattle.mio_clients.specs.declared.event.ClientEvent.{ClientEvent}
 use Rattle.mio_clients.specs.declared.event.ClientEvent.TheVariants as events
 use Rattle.mio_clients.specs.Events.{asked_by_event, asked_in, asked_by, AsksNothing}
 use Rattle.mio_clients.specs.Given.{Moves}
-use Rattle.mio_clients.specs.Connections.{ConnectionsState, QueueState, AreConnections, IsToldGone, IsMovedAt, Reads, IsReadAt, Gathers, IsAdmitted, IsFailedAt, client_limit}
+use Rattle.mio_clients.specs.Connections.{ConnectionsState, QueueState, AreConnections, IsToldGone, IsMovedAt, Reads, IsReadAt, IsAdmitted, IsFailedAt, client_limit}
 use Rattle.mio_clients.specs.Later.{GoesOn, IsNew, IsKept, AllGoOn, IsLater, Accepts, IsFault, Loses, no_bytes, no_requests, bytes_for}
 use Rattle.mio_clients.specs.declared.refusal.ClientsError.{ClientsError}
 use Rattle.mio_clients.specs.declared.refusal.ClientsError.TheVariants.{NetFault}
@@ -35,19 +35,19 @@ asked_in-other c d [] ne = refl
 asked_in-other c d (r ∷ rs) ne =
     ap (λ (t : Bool). cond t (r ∷ []) [] ++ asked_in c (asked_by d rs)) (ne_eqb d c ne) ∙ asked_in-other c d rs ne
 
-bytes_for_own : (c : ℕ) (bytes : List ℕ) → bytes_for c bytes c ≡ bytes
+pub bytes_for_own : (c : ℕ) (bytes : List ℕ) → bytes_for c bytes c ≡ bytes
 bytes_for_own c bytes = ap (λ (t : Bool). cond t bytes []) (eq-eqb c c refl)
 
-bytes_for_other : (c d : ℕ) (bytes : List ℕ) → c ≢ d → bytes_for c bytes d ≡ []
+pub bytes_for_other : (c d : ℕ) (bytes : List ℕ) → c ≢ d → bytes_for c bytes d ≡ []
 bytes_for_other c d bytes ne = ap (λ (t : Bool). cond t bytes []) (ne_eqb c d ne)
 
 -- a client's own requests are added
-gained_own : (c : ℕ) (before after : List ClientEvent) (requests : List Request) → after ≡ before ++ asked_by c requests
+pub gained_own : (c : ℕ) (before after : List ClientEvent) (requests : List Request) → after ≡ before ++ asked_by c requests
     → asked_in c after ≡ asked_in c before ++ requests
 gained_own c before after requests added =
     ap (asked_in c) added ∙ (asked_in-append c before (asked_by c requests) ∙ ap (λ t. asked_in c before ++ t) (asked_in-own c requests))
 
-gained_other : (c d : ℕ) (before after : List ClientEvent) (requests : List Request) → d ≢ c → after ≡ before ++ asked_by d requests
+pub gained_other : (c d : ℕ) (before after : List ClientEvent) (requests : List Request) → d ≢ c → after ≡ before ++ asked_by d requests
     → asked_in c after ≡ asked_in c before
 gained_other c d before after requests ne added =
     ap (asked_in c) added ∙ (asked_in-append c before (asked_by d requests)
@@ -112,27 +112,27 @@ module _ {S : Type 0} (remaining contents : S → Option (List ℕ)) where
   }
 
   -- what is said of the client of a number, said of the same number
-  kept_of : (a b : ConnectionsState S) (sent : ℕ → List ℕ) (served : ℕ → List Request) (key n : ℕ) (x : Client S) → x.id ≡ n
+  pub kept_of : (a b : ConnectionsState S) (sent : ℕ → List ℕ) (served : ℕ → List Request) (key n : ℕ) (x : Client S) → x.id ≡ n
       → IsKept remaining contents (sent x.id) (served x.id) a b key x → IsKept remaining contents (sent n) (served n) a b key x
   kept_of a b sent served key n x is kept =
       subst (λ (i : ℕ). IsKept remaining contents (sent i) (served i) a b key x) is kept
 
-  new_of : (sent : ℕ → List ℕ) (served : ℕ → List Request) (events : List ClientEvent) (last n : ℕ) (x : Client S) → x.id ≡ n
+  pub new_of : (sent : ℕ → List ℕ) (served : ℕ → List Request) (events : List ClientEvent) (last n : ℕ) (x : Client S) → x.id ≡ n
       → IsNew remaining contents (sent x.id) (served x.id) (asked_in x.id events) last x
       → IsNew remaining contents (sent n) (served n) (asked_in n events) last x
   new_of sent served events last n x is new =
       subst (λ (i : ℕ). IsNew remaining contents (sent i) (served i) (asked_in i events) last x) is new
 
-  pub all_itself : (a : ConnectionsState S) → AllGoOn remaining contents no_bytes no_requests a a
-  all_itself a = record {
+  pub go_itself : (a : ConnectionsState S) → AllGoOn remaining contents no_bytes no_requests a a
+  go_itself a = record {
     last_id = refl;
     each = λ key client there. record { before = client; there = there; goes_on = goes_on_itself client (asked_in client.id a.events) };
   }
 
-  pub all_twice : (a b c : ConnectionsState S) (sent more : ℕ → List ℕ) (served then : ℕ → List Request)
+  pub go_twice : (a b c : ConnectionsState S) (sent more : ℕ → List ℕ) (served then : ℕ → List Request)
       → AllGoOn remaining contents sent served a b → AllGoOn remaining contents more then b c
       → AllGoOn remaining contents (λ i. sent i ++ more i) (λ i. served i ++ then i) a c
-  all_twice a b c sent more served then p q = record {
+  go_twice a b c sent more served then p q = record {
     last_id = q.last_id ∙ p.last_id;
     each = λ key client there.
         let k = q.each key client there in
@@ -148,9 +148,9 @@ module _ {S : Type 0} (remaining contents : S → Option (List ℕ)) where
       subst (λ (t : List Request). IsKept remaining contents ys t a b key x) f
       (subst (λ (t : List ℕ). IsKept remaining contents t ss a b key x) e k)
 
-  pub all_same : (a b : ConnectionsState S) (sent more : ℕ → List ℕ) (served then : ℕ → List Request) → ((i : ℕ) → sent i ≡ more i)
+  pub go_same : (a b : ConnectionsState S) (sent more : ℕ → List ℕ) (served then : ℕ → List Request) → ((i : ℕ) → sent i ≡ more i)
       → ((i : ℕ) → served i ≡ then i) → AllGoOn remaining contents sent served a b → AllGoOn remaining contents more then a b
-  all_same a b sent more served then e f p = record {
+  go_same a b sent more served then e f p = record {
     last_id = p.last_id;
     each = λ key client there.
         kept_same a b (sent client.id) (more client.id) (served client.id) (then client.id) key client (e client.id) (f client.id)
@@ -158,12 +158,12 @@ module _ {S : Type 0} (remaining contents : S → Option (List ℕ)) where
   }
 
   -- and then nothing more
-  pub all_then_none : (a b c : ConnectionsState S) (sent : ℕ → List ℕ) (served : ℕ → List Request)
+  pub go_then_none : (a b c : ConnectionsState S) (sent : ℕ → List ℕ) (served : ℕ → List Request)
       → AllGoOn remaining contents sent served a b → AllGoOn remaining contents no_bytes no_requests b c
       → AllGoOn remaining contents sent served a c
-  all_then_none a b c sent served p q =
-      all_same a c (λ i. sent i ++ []) sent (λ i. served i ++ []) served (λ i. append-nil (sent i)) (λ i. append-nil (served i))
-      (all_twice a b c sent no_bytes served no_requests p q)
+  go_then_none a b c sent served p q =
+      go_same a c (λ i. sent i ++ []) sent (λ i. served i ++ []) served (λ i. append-nil (sent i)) (λ i. append-nil (served i))
+      (go_twice a b c sent no_bytes served no_requests p q)
 
   new_twice : (a b c : ConnectionsState S) (xs ys : List ℕ) (ss ts : List Request) (x y : Client S) (waits : List Request)
       → IsNew remaining contents xs ss waits a.last_id x → GoesOn remaining contents ys ts waits (asked_in y.id c.events) x y
@@ -175,10 +175,10 @@ module _ {S : Type 0} (remaining contents : S → Option (List ℕ)) where
     goes_on = goes_on_twice p.first x y xs ys ss ts [] waits (asked_in y.id c.events) p.goes_on q;
   }
 
-  pub later_then : (a b c : ConnectionsState S) (sent more : ℕ → List ℕ) (served then : ℕ → List Request)
+  pub is_later_then : (a b c : ConnectionsState S) (sent more : ℕ → List ℕ) (served then : ℕ → List Request)
       → IsLater remaining contents sent served a b → AllGoOn remaining contents more then b c
       → IsLater remaining contents (λ i. sent i ++ more i) (λ i. served i ++ then i) a c
-  later_then a b c sent more served then p q = record {
+  is_later_then a b c sent more served then p q = record {
     last_id = subst (λ (n : ℕ). a.last_id ≤ n) (sym q.last_id) p.last_id;
     each = λ key client there.
         let k = q.each key client there in
@@ -193,17 +193,17 @@ module _ {S : Type 0} (remaining contents : S → Option (List ℕ)) where
         ];
   }
 
-  pub later_itself : (a : ConnectionsState S) → IsLater remaining contents no_bytes no_requests a a
-  later_itself a = record {
+  pub is_later_itself : (a : ConnectionsState S) → IsLater remaining contents no_bytes no_requests a a
+  is_later_itself a = record {
     last_id = omega arith;
     each = λ key client there.
         inl (record { before = client; there = there; goes_on = goes_on_itself client (asked_in client.id a.events) });
   }
 
   -- nothing is given or served, and more clients connect
-  pub later_more : (a b c : ConnectionsState S) → IsLater remaining contents no_bytes no_requests a b
+  pub is_later_more : (a b c : ConnectionsState S) → IsLater remaining contents no_bytes no_requests a b
       → IsLater remaining contents no_bytes no_requests b c → IsLater remaining contents no_bytes no_requests a c
-  later_more a b c p q = record {
+  is_later_more a b c p q = record {
     last_id = omega (arith, p.last_id, q.last_id);
     each = λ key client there. elim (q.each key client there) [
       | inl k ↦
@@ -271,24 +271,24 @@ module _ {S : Type 0} (remaining contents : S → Option (List ℕ)) where
       at_other a b k x.id client bytes requests before (λ same. apart (distinct k key client x before was (sym same))) added
 
   -- One client moves, and its requests are added to the events that wait; the others stay.
-  pub all_at : (a b : ConnectionsState S) (key : ℕ) (x y : Client S) (bytes : List ℕ) (pieces : List (List ℕ)) (requests : List Request)
+  pub go_at : (a b : ConnectionsState S) (key : ℕ) (x y : Client S) (bytes : List ℕ) (pieces : List (List ℕ)) (requests : List Request)
       → ((c d : ℕ) (u v : Client S) → get a.clients c ≡ Some u → get a.clients d ≡ Some v → u.id ≡ v.id → c ≡ d)
       → get a.clients key ≡ Some x → get b.clients key ≡ Some y
       → ((other : ℕ) → other ≢ key → get b.clients other ≡ get a.clients other) → b.last_id ≡ a.last_id
       → Moves remaining contents bytes pieces x y → requests ≡ requests_in_pieces x.session.left pieces
       → b.events ≡ a.events ++ asked_by x.id requests → AllGoOn remaining contents (bytes_for x.id bytes) no_requests a b
-  all_at a b key x y bytes pieces requests distinct was is others last moves brought added = record {
+  go_at a b key x y bytes pieces requests distinct was is others last moves brought added = record {
     last_id = last;
     each = λ k client there.
         at_key a b key k x y client bytes pieces requests (k == key) refl distinct was is others moves brought added there;
   }
 
   -- These bytes are for a client that isn't there in the end; the others stay, and ask for nothing.
-  pub all_others : (a b : ConnectionsState S) (n : ℕ) (bytes : List ℕ) → b.last_id ≡ a.last_id
+  pub go_others : (a b : ConnectionsState S) (n : ℕ) (bytes : List ℕ) → b.last_id ≡ a.last_id
       → ((k : ℕ) (client : Client S) → get b.clients k ≡ Some client
       → (get a.clients k ≡ Some client) × (n ≢ client.id) × (asked_in client.id b.events ≡ asked_in client.id a.events))
       → AllGoOn remaining contents (bytes_for n bytes) no_requests a b
-  all_others a b n bytes last stay = record {
+  go_others a b n bytes last stay = record {
     last_id = last;
     each = λ k client there.
         let s = stay k client there in
@@ -305,11 +305,11 @@ module _ {S : Type 0} (remaining contents : S → Option (List ℕ)) where
   }
 
   -- clients stay or go, and those that stay ask for nothing
-  pub all_quiet : (a b : ConnectionsState S) → b.last_id ≡ a.last_id
+  pub go_quiet : (a b : ConnectionsState S) → b.last_id ≡ a.last_id
       → ((k : ℕ) (client : Client S) → get b.clients k ≡ Some client
       → (get a.clients k ≡ Some client) × (asked_in client.id b.events ≡ asked_in client.id a.events))
       → AllGoOn remaining contents no_bytes no_requests a b
-  all_quiet a b last stay = record {
+  go_quiet a b last stay = record {
     last_id = last;
     each = λ k client there.
         let s = stay k client there in
@@ -325,14 +325,14 @@ module _ {S : Type 0} (remaining contents : S → Option (List ℕ)) where
   }
 
   -- A client was let go of: of the others nothing changed but that events of this one were added.
-  pub all_without : (a b : ConnectionsState S) (key : ℕ) (x : Client S) (more : List ClientEvent) (n : ℕ) (bytes : List ℕ) → n ≡ x.id
+  pub go_without : (a b : ConnectionsState S) (key : ℕ) (x : Client S) (more : List ClientEvent) (n : ℕ) (bytes : List ℕ) → n ≡ x.id
       → ((c d : ℕ) (u v : Client S) → get a.clients c ≡ Some u → get a.clients d ≡ Some v → u.id ≡ v.id → c ≡ d)
       → get a.clients key ≡ Some x → get b.clients key ≡ None
       → ((other : ℕ) → other ≢ key → get b.clients other ≡ get a.clients other) → b.last_id ≡ a.last_id
       → ((c : ℕ) → x.id ≢ c → asked_in c b.events ≡ asked_in c a.events)
       → AllGoOn remaining contents (bytes_for n bytes) no_requests a b
-  all_without a b key x more n bytes same distinct was gone others last quiet =
-      all_others a b n bytes last (λ k client there.
+  go_without a b key x more n bytes same distinct was gone others last quiet =
+      go_others a b n bytes last (λ k client there.
       let apart : k ≢ key = λ e. absurd (cc (gone, there, ap (get b.clients) e)) in
       let before : get a.clients k ≡ Some client = sym (others k apart) ∙ there in
       let ne : x.id ≢ client.id = λ e. apart (distinct k key client x before was (sym e)) in
@@ -340,11 +340,12 @@ module _ {S : Type 0} (remaining contents : S → Option (List ℕ)) where
 
   -- What holds of all connections holds of those that go on.
   pub are_after : (a b : ConnectionsState S) (p q : QueueState) (sent : ℕ → List ℕ) (served : ℕ → List Request)
-      → AreConnections a.clients p a.last_id → AllGoOn remaining contents sent served a b → q.spare ≡ slab_len b.clients
-      → client_limit ≤ b.clients.capacity → slab_len b.clients ≤ client_limit
-      → ((c : ℕ) → a.last_id < c → asked_in c q.events ≡ []) → AreConnections b.clients q b.last_id
-  are_after a b p q sent served are on spare slots few none = record {
+      → AreConnections a.clients p a.last_id a.places → AllGoOn remaining contents sent served a b → q.spare ≡ slab_len b.clients
+      → slab_len b.clients ≤ b.places → client_limit ≤ b.clients.capacity → slab_len b.clients ≤ client_limit
+      → ((c : ℕ) → a.last_id < c → asked_in c q.events ≡ []) → AreConnections b.clients q b.last_id b.places
+  are_after a b p q sent served are on spare places slots few none = record {
     spare = spare;
+    places = places;
     slots = slots;
     few = few;
     distinct = λ c d x y at_c at_d same.
@@ -374,11 +375,11 @@ module _ {S : Type 0} (remaining contents : S → Option (List ℕ)) where
   told_quiet (Some x) before after told c = ap (asked_in c) told ∙ told_one x.is_released x.id before c
 
   -- the client at a key was let go of
-  pub all_dropped : (a b : ConnectionsState S) (key : ℕ) → get b.clients key ≡ None
+  pub go_dropped : (a b : ConnectionsState S) (key : ℕ) → get b.clients key ≡ None
       → ((other : ℕ) → other ≢ key → get b.clients other ≡ get a.clients other) → b.last_id ≡ a.last_id
       → IsToldGone (get a.clients key) a.events b.events → AllGoOn remaining contents no_bytes no_requests a b
-  all_dropped a b key gone others last told =
-      all_quiet a b last (λ k client there.
+  go_dropped a b key gone others last told =
+      go_quiet a b last (λ k client there.
       let apart : k ≢ key = λ e. absurd (cc (gone, there, ap (get b.clients) e)) in
       (sym (others k apart) ∙ there, told_quiet (get a.clients key) a.events b.events told client.id))
 
@@ -393,22 +394,22 @@ module _ {S : Type 0} (remaining contents : S → Option (List ℕ)) where
       → ((other : ℕ) → other ≢ key → get b.clients other ≡ get a.clients other) → b.last_id ≡ a.last_id
       → (slot ≡ None → b.events ≡ a.events) → AllGoOn remaining contents no_bytes no_requests a b
   moved_some P a b key None after was is moved reads distinct others last quiet =
-      all_quiet a b last (λ k client there.
+      go_quiet a b last (λ k client there.
       let apart : k ≢ key = λ e. absurd (cc (is, moved, there, ap (get b.clients) e)) in
       (sym (others k apart) ∙ there, ap (asked_in client.id) (quiet refl)))
   moved_some P a b key (Some x) None was is moved reads distinct others last quiet = absurd moved
   moved_some P a b key (Some x) (Some y) was is moved reads distinct others last quiet =
       let r = reads x y moved in
-      all_same a b (bytes_for x.id []) no_bytes no_requests no_requests (no_bytes_for x.id) (λ i. refl)
-      (all_at a b key x y [] r.pieces (requests_in_pieces x.session.left r.pieces) distinct was is others last r.moves refl r.added)
+      go_same a b (bytes_for x.id []) no_bytes no_requests no_requests (no_bytes_for x.id) (λ i. refl)
+      (go_at a b key x y [] r.pieces (requests_in_pieces x.session.left r.pieces) distinct was is others last r.moves refl r.added)
 
   -- the client at a key, if there is one, was read or written
-  pub all_moved : (P : Client S → Client S → Type 0) (a b : ConnectionsState S) (key : ℕ) → IsMovedAt P key a.clients b.clients
+  pub go_moved : (P : Client S → Client S → Type 0) (a b : ConnectionsState S) (key : ℕ) → IsMovedAt P key a.clients b.clients
       → ((x y : Client S) → P x y → Reads remaining contents x y a.events b.events)
       → ((c d : ℕ) (u v : Client S) → get a.clients c ≡ Some u → get a.clients d ≡ Some v → u.id ≡ v.id → c ≡ d)
       → ((other : ℕ) → other ≢ key → get b.clients other ≡ get a.clients other) → b.last_id ≡ a.last_id
       → (get a.clients key ≡ None → b.events ≡ a.events) → AllGoOn remaining contents no_bytes no_requests a b
-  all_moved P a b key moved reads distinct others last quiet =
+  go_moved P a b key moved reads distinct others last quiet =
       moved_some P a b key (get a.clients key) (get b.clients key) refl refl moved reads distinct others last quiet
 
   -- what is read of a client that has connected are no requests of a later one
@@ -432,11 +433,11 @@ module _ {S : Type 0} (remaining contents : S → Option (List ℕ)) where
       none_read P old key last before after (get old key) (get new key) refl moved reads known none quiet
 
   -- the client of a number isn't there
-  pub all_vacant : (a : ConnectionsState S) (n : ℕ) (bytes : List ℕ)
+  pub go_vacant : (a : ConnectionsState S) (n : ℕ) (bytes : List ℕ)
       → ((k : ℕ) (client : Client S) → get a.clients k ≡ Some client → client.id ≢ n)
       → AllGoOn remaining contents (bytes_for n bytes) no_requests a a
-  all_vacant a n bytes vacant =
-      all_others a a n bytes refl (λ k client there. (there, (λ e. vacant k client there (sym e)), refl))
+  go_vacant a n bytes vacant =
+      go_others a a n bytes refl (λ k client there. (there, (λ e. vacant k client there (sym e)), refl))
 
   given_some : (a b : ConnectionsState S) (key n : ℕ) (bytes : List ℕ) (slot after : Option (Client S)) → get a.clients key ≡ slot
       → get b.clients key ≡ after → IsSomeAnd slot (λ x. x.id ≡ n)
@@ -448,15 +449,15 @@ module _ {S : Type 0} (remaining contents : S → Option (List ℕ)) where
   given_some a b key n bytes (Some x) None was is number moved distinct others last same = absurd moved
   given_some a b key n bytes (Some x) (Some y) was is number moved distinct others last same =
       subst (λ (m : ℕ). AllGoOn remaining contents (bytes_for m bytes) no_requests a b) number
-      (all_at a b key x y bytes [] [] distinct was is others last moved refl (same ∙ sym (append-nil a.events)))
+      (go_at a b key x y bytes [] [] distinct was is others last moved refl (same ∙ sym (append-nil a.events)))
 
   -- bytes were queued for the client of a number
-  pub all_given : (a b : ConnectionsState S) (key n : ℕ) (bytes : List ℕ) → IsSomeAnd (get a.clients key) (λ x. x.id ≡ n)
+  pub go_given : (a b : ConnectionsState S) (key n : ℕ) (bytes : List ℕ) → IsSomeAnd (get a.clients key) (λ x. x.id ≡ n)
       → IsMovedAt (λ x y. Moves remaining contents bytes [] x y) key a.clients b.clients
       → ((c d : ℕ) (u v : Client S) → get a.clients c ≡ Some u → get a.clients d ≡ Some v → u.id ≡ v.id → c ≡ d)
       → ((other : ℕ) → other ≢ key → get b.clients other ≡ get a.clients other) → b.last_id ≡ a.last_id → b.events ≡ a.events
       → AllGoOn remaining contents (bytes_for n bytes) no_requests a b
-  all_given a b key n bytes number moved distinct others last same =
+  go_given a b key n bytes number moved distinct others last same =
       given_some a b key n bytes (get a.clients key) (get b.clients key) refl refl number moved distinct others last same
 
   refused_some : (a b : ConnectionsState S) (key n : ℕ) (bytes : List ℕ) (slot : Option (Client S)) → get a.clients key ≡ slot
@@ -466,15 +467,15 @@ module _ {S : Type 0} (remaining contents : S → Option (List ℕ)) where
       → ((c : ℕ) → n ≢ c → asked_in c b.events ≡ asked_in c a.events) → AllGoOn remaining contents (bytes_for n bytes) no_requests a b
   refused_some a b key n bytes None was number gone distinct others last quiet = absurd number
   refused_some a b key n bytes (Some x) was number gone distinct others last quiet =
-      all_without a b key x [] n bytes (sym number) distinct was gone others last (λ c ne. quiet c (λ e. ne (number ∙ e)))
+      go_without a b key x [] n bytes (sym number) distinct was gone others last (λ c ne. quiet c (λ e. ne (number ∙ e)))
 
   -- the client of a number was let go of
-  pub all_refused : (a b : ConnectionsState S) (key n : ℕ) (bytes : List ℕ) → IsSomeAnd (get a.clients key) (λ x. x.id ≡ n)
+  pub go_refused : (a b : ConnectionsState S) (key n : ℕ) (bytes : List ℕ) → IsSomeAnd (get a.clients key) (λ x. x.id ≡ n)
       → get b.clients key ≡ None
       → ((c d : ℕ) (u v : Client S) → get a.clients c ≡ Some u → get a.clients d ≡ Some v → u.id ≡ v.id → c ≡ d)
       → ((other : ℕ) → other ≢ key → get b.clients other ≡ get a.clients other) → b.last_id ≡ a.last_id
       → ((c : ℕ) → n ≢ c → asked_in c b.events ≡ asked_in c a.events) → AllGoOn remaining contents (bytes_for n bytes) no_requests a b
-  all_refused a b key n bytes number gone distinct others last quiet =
+  go_refused a b key n bytes number gone distinct others last quiet =
       refused_some a b key n bytes (get a.clients key) refl number gone distinct others last quiet
 
   moved_some_as : (P Q : Client S → Client S → Type 0) (slot after : Option (Client S)) → ((x y : Client S) → P x y → Q x y)
@@ -491,6 +492,10 @@ module _ {S : Type 0} (remaining contents : S → Option (List ℕ)) where
       → MatchOption slot (slot ≡ None) (λ x. IsSomeAnd slot (λ y. Q x y))
   stays_some Q None f = refl
   stays_some Q (Some x) f = f x
+
+  pub some_is : {A : Type 0} {P : Type 0} (result : Option A) (r : A) → result ≡ Some r → IfSome result (λ _. P) → P
+  some_is None r is there = absurd (cc is)
+  some_is (Some s) r is there = there
 
   -- what reading one client comes to, where memory was there
   pub read_some : (result : Option Reading) (key : ℕ) (old new : Slab (Client S)) (before after : List ClientEvent)
@@ -510,43 +515,23 @@ module _ {S : Type 0} (remaining contents : S → Option (List ℕ)) where
   read_quiet None clients new key before after none there gone = none.1
   read_quiet (Some r) clients new key before after none there gone = absurd (cc (subst (λ (o : Option (Client S)). IsSome o) gone there))
 
-  lost_some : (a b : ConnectionsState S) (key : ℕ) (before : List ClientEvent) (slot : Option (Client S)) → get a.clients key ≡ slot
-      → IsSomeAnd slot (λ client. Gathers client.id a.events before) → get b.clients key ≡ None
-      → ((c d : ℕ) (u v : Client S) → get a.clients c ≡ Some u → get a.clients d ≡ Some v → u.id ≡ v.id → c ≡ d)
-      → ((other : ℕ) → other ≢ key → get b.clients other ≡ get a.clients other) → b.last_id ≡ a.last_id
-      → ((c : ℕ) → asked_in c b.events ≡ asked_in c before) → AllGoOn remaining contents no_bytes no_requests a b
-  lost_some a b key before None was g gone distinct others last quiet = absurd g
-  lost_some a b key before (Some x) was g gone distinct others last quiet =
-      all_same a b (bytes_for x.id []) no_bytes no_requests no_requests (no_bytes_for x.id) (λ i. refl)
-      (all_without a b key x [] x.id [] refl distinct was gone others last
-      (λ c ne. quiet c ∙ gained_other c x.id a.events before g.requests ne g.added))
-
   -- a client was let go of for want of memory, behind requests of it that were gathered before
-  pub all_lost : (a b : ConnectionsState S) (key : ℕ) (before : List ClientEvent)
-      → IsSomeAnd (get a.clients key) (λ client. Gathers client.id a.events before) → get b.clients key ≡ None
+  pub go_lost : (a b : ConnectionsState S) (key : ℕ) (x : Client S) (requests : List Request) (before : List ClientEvent)
+      → get a.clients key ≡ Some x → before ≡ a.events ++ asked_by x.id requests → get b.clients key ≡ None
       → ((c d : ℕ) (u v : Client S) → get a.clients c ≡ Some u → get a.clients d ≡ Some v → u.id ≡ v.id → c ≡ d)
       → ((other : ℕ) → other ≢ key → get b.clients other ≡ get a.clients other) → b.last_id ≡ a.last_id
       → ((c : ℕ) → asked_in c b.events ≡ asked_in c before) → AllGoOn remaining contents no_bytes no_requests a b
-  all_lost a b key before g gone distinct others last quiet =
-      lost_some a b key before (get a.clients key) refl g gone distinct others last quiet
-
-  lost_none : (clients : Slab (Client S)) (key last : ℕ) (before after : List ClientEvent) (slot : Option (Client S)) → get clients key ≡ slot
-      → IsSomeAnd slot (λ client. Gathers client.id before after) → ((k : ℕ) (client : Client S) → get clients k ≡ Some client → client.id ≤ last)
-      → ((c : ℕ) → last < c → asked_in c before ≡ []) → (c : ℕ) → last < c → asked_in c after ≡ []
-  lost_none clients key last before after None was g known none c later = absurd g
-  lost_none clients key last before after (Some x) was g known none c later =
-      none_added before after x.id last g.requests g.added (known key x was) none c later
-
-  pub none_lost : (clients : Slab (Client S)) (key last : ℕ) (before after : List ClientEvent)
-      → IsSomeAnd (get clients key) (λ client. Gathers client.id before after) → ((k : ℕ) (client : Client S) → get clients k ≡ Some client → client.id ≤ last)
-      → ((c : ℕ) → last < c → asked_in c before ≡ []) → (c : ℕ) → last < c → asked_in c after ≡ []
-  none_lost clients key last before after g known none c later = lost_none clients key last before after (get clients key) refl g known none c later
+  go_lost a b key x requests before was added gone distinct others last quiet =
+      go_same a b (bytes_for x.id []) no_bytes no_requests no_requests (no_bytes_for x.id) (λ i. refl)
+      (go_without a b key x [] x.id [] refl distinct was gone others last
+      (λ c ne. quiet c ∙ gained_other c x.id a.events before requests ne added))
 
   -- the clients stay as they are
-  pub are_same : (clients : Slab (Client S)) (p q : QueueState) (last : ℕ) → AreConnections clients p last → q.spare ≡ p.spare
-      → ((c : ℕ) → last < c → asked_in c q.events ≡ []) → AreConnections clients q last
-  are_same clients p q last are spare none = record {
+  pub are_same : (clients : Slab (Client S)) (p q : QueueState) (last places : ℕ) → AreConnections clients p last places → q.spare ≡ p.spare
+      → ((c : ℕ) → last < c → asked_in c q.events ≡ []) → AreConnections clients q last places
+  are_same clients p q last places are spare none = record {
     spare = spare ∙ are.spare;
+    places = are.places;
     slots = are.slots;
     few = are.few;
     distinct = are.distinct;
@@ -563,11 +548,13 @@ module _ {S : Type 0} (remaining contents : S → Option (List ℕ)) where
       inl (same, cc (up.changed, there, ap (get new) same))
   stands old new key k x client false e up there = inr (sym (up.others k (eqb-false k key e)) ∙ there)
 
-  pub are_admitted : (old new : Slab (Client S)) (p q : QueueState) (last key : ℕ) (x : Client S) → AreConnections old p last
-      → Updates old new key (Some x) → x.id ≡ last + 1 → x.session.closed ≡ None → q.spare ≡ slab_len new → client_limit ≤ new.capacity
-      → slab_len new ≤ client_limit → q.events ≡ p.events ++ events.Connect (last + 1) ∷ [] → AreConnections new q (last + 1)
-  are_admitted old new p q last key x are up number unrefused spare slots few gathered = record {
+  pub are_admitted : (old new : Slab (Client S)) (p q : QueueState) (last places key : ℕ) (x : Client S) → AreConnections old p last places
+      → Updates old new key (Some x) → x.id ≡ last + 1 → x.session.closed ≡ None → q.spare ≡ slab_len new → slab_len new ≤ places
+      → client_limit ≤ new.capacity
+      → slab_len new ≤ client_limit → q.events ≡ p.events ++ events.Connect (last + 1) ∷ [] → AreConnections new q (last + 1) places
+  are_admitted old new p q last places key x are up number unrefused spare room slots few gathered = record {
     spare = spare;
+    places = room;
     slots = slots;
     few = few;
     distinct = λ c d u v at_c at_d same.
@@ -597,9 +584,9 @@ module _ {S : Type 0} (remaining contents : S → Option (List ℕ)) where
   }
 
   -- a client that was taken in is new; the others go on
-  pub later_admitted : (stream : S) (a b : ConnectionsState S) → IsAdmitted stream a b
+  pub is_later_admitted : (stream : S) (a b : ConnectionsState S) → IsAdmitted stream a b
       → ((c : ℕ) → a.last_id < c → asked_in c a.events ≡ []) → IsLater remaining contents no_bytes no_requests a b
-  later_admitted stream a b ad none = record {
+  is_later_admitted stream a b ad none = record {
     last_id = omega (arith, ad.last_id);
     each = λ k client there.
         let quiet : (c : ℕ) → asked_in c b.events ≡ asked_in c a.events =
@@ -627,9 +614,9 @@ module _ {S : Type 0} (remaining contents : S → Option (List ℕ)) where
         ];
   }
 
-  pub all_is_later : (a b : ConnectionsState S) (sent : ℕ → List ℕ) (served : ℕ → List Request) → AllGoOn remaining contents sent served a b
+  pub go_is_later : (a b : ConnectionsState S) (sent : ℕ → List ℕ) (served : ℕ → List Request) → AllGoOn remaining contents sent served a b
       → IsLater remaining contents sent served a b
-  all_is_later a b sent served p = record {
+  go_is_later a b sent served p = record {
     last_id = omega (arith, p.last_id);
     each = λ key client there. inl (p.each key client there);
   }
@@ -643,18 +630,13 @@ module _ {S : Type 0} (remaining contents : S → Option (List ℕ)) where
   }
 
   -- how much room there is matters to no client
-  pub later_room : (a b : ConnectionsState S) → b ≡ record a { room = b.room } → IsLater remaining contents no_bytes no_requests a b
-  later_room a b same =
+  pub is_later_room : (a b : ConnectionsState S) → b ≡ record a { room = b.room; places = b.places } → IsLater remaining contents no_bytes no_requests a b
+  is_later_room a b same =
       subst (λ (s : ConnectionsState S). IsLater remaining contents no_bytes no_requests a s) (sym same) (record {
         last_id = omega arith;
         each = λ key client there.
             inl (record { before = client; there = there; goes_on = goes_on_itself client (asked_in client.id a.events) });
       })
-
-  -- room was made, and then more clients connected
-  pub later_roomy : (a b m c : ConnectionsState S) → m ≡ record b { room = m.room } → IsLater remaining contents no_bytes no_requests a b
-      → IsLater remaining contents no_bytes no_requests m c → IsLater remaining contents no_bytes no_requests a c
-  later_roomy a b m c same p q = later_more a m c (later_more a b m p (later_room b m same)) q
 
   failed_some : (failed : S → Bool) (P : Client S → Client S → Type 0) (key : ℕ) (a b : ConnectionsState S) (slot after : Option (Client S))
       → get a.clients key ≡ slot → get b.clients key ≡ after → MatchOption slot (after ≡ None) (λ x. IsSomeAnd after (λ y. P x y))

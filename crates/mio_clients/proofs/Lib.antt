@@ -2,6 +2,9 @@ pub mod ByteLaws
 pub mod GivenLaws
 pub mod ConnectionLaws
 pub mod LaterLaws
+pub mod ForgetLaws
+pub mod LeavingLaws
+pub mod FollowLaws
 pub mod AcceptLaws
 pub mod WaitingLaws
 pub mod TurnLaws

@@ -1,7 +1,8 @@
 -- A turn of the loop, part by part.
-use Rattle.std.proofs.Common.{◌≡◌, ◌≢◌, ℕ, ◌+◌, ◌<◌, List, [], ◌∷◌, ◌++◌, Option, Some, Bool, true, false}
+use Rattle.std.proofs.Common.{◌≡◌, ◌≢◌, ℕ, ◌+◌, ◌<◌, ◌==◌, List, [], ◌∷◌, ◌++◌, Option, Some, Bool, true, false}
 use Rattle.std.proofs.Common.{refl, sym, subst, ◌∙◌, ap, append_assoc, arith, inl, inr, length, zero}
 use Rattle.std.proofs.lemmas.List.{append-nil}
+use Rattle.std.proofs.lemmas.Bool.{eqb-true, eqb-false}
 use Rattle.slab.specs.Slab.{Slab, get}
 use Rattle.command_text.specs.declared.request.Request.{Request}
 use Rattle.client_session.specs.Requests.{requests_in_pieces}
@@ -18,12 +19,14 @@ use Rattle.mio_clients.specs.declared.turning.Kept.TheVariants as kept
 use Rattle.mio_clients.specs.Events.{asked_by_event, asked_in}
 use Rattle.mio_clients.specs.Connections.{ConnectionsState, IsVacant, IsAlone}
 use Rattle.mio_clients.specs.Later.{AllGoOn, IsLater, Loses, no_bytes, no_requests, bytes_for}
+use Rattle.mio_clients.specs.Leaving.{AllLeave, IsLeft, AllFollow, IsFollowed}
 use Rattle.mio_clients.specs.Waiting.{QuietBehind}
 use Rattle.stage_workers.specs.declared.refusal.StageError.{StageError}
 use Rattle.stage_workers.specs.declared.refusal.StageError.TheVariants as stage
 use Rattle.stage_workers.specs.Refusals.{number_of}
 use Rattle.mio_clients.specs.Parts.{bytes_in, bytes_of, requests_in, request_of, asked_of, served_count, refuses, RefusesLast, IsRefusal, Serves, IsKeptOf, IsKeptAs, bytes_to, bytes_to_all, sent_by, sent_by_all, sent_by_served}
-use Rattle.mio_clients.proofs.LaterLaws.{all_itself, all_twice, all_then_none, all_same, all_quiet, later_then}
+use Rattle.mio_clients.proofs.LeavingLaws.{all_of, leaves_from, leaves_lost}
+use Rattle.mio_clients.proofs.FollowLaws.{all_itself, all_twice, all_then_none, all_same, all_still, later_then}
 
 module _ {D : Type 0} where
   pub bytes_in-append : (xs ys : List (Part D)) (c : ℕ) → bytes_in (xs ++ ys) c ≡ bytes_in xs c ++ bytes_in ys c
@@ -61,13 +64,12 @@ stage_refusal (stage.Rewound seen found) = inr (inr (inl refl))
 stage_refusal stage.NumbersSpent = inr (inr (inr refl))
 
 module _ {S : Type 0} (remaining contents : S → Option (List ℕ)) where
-  -- First an event is taken, of which these are the requests; then so many are served.
-  pub all_from : (a p b : ConnectionsState S) (sent : ℕ → List ℕ) (served front : ℕ → List Request) → p.clients ≡ a.clients
+  go_from : (a p b : ConnectionsState S) (sent : ℕ → List ℕ) (served front : ℕ → List Request) → p.clients ≡ a.clients
       → p.last_id ≡ a.last_id
       → ((key : ℕ) (client : Client S) → get b.clients key ≡ Some client
       → asked_in client.id a.events ≡ front client.id ++ asked_in client.id p.events)
       → AllGoOn remaining contents sent served p b → AllGoOn remaining contents sent (λ i. front i ++ served i) a b
-  all_from a p b sent served front clients last here q = record {
+  go_from a p b sent served front clients last here q = record {
     last_id = q.last_id ∙ last;
     each = λ key client there.
         let k = q.each key client there in
@@ -84,6 +86,92 @@ module _ {S : Type 0} (remaining contents : S → Option (List ℕ)) where
                 ∙ ap (λ t. t ++ more) (sym (here key client there))));
           };
         };
+  }
+
+  -- First an event is taken, of which these are the requests; then so many are served.
+  left_from : (a p b : ConnectionsState S) (bytes : List ℕ) (front served : List Request) (x : Client S) → p.clients ≡ a.clients
+      → b.last_id ≡ p.last_id → asked_in x.id a.events ≡ front ++ asked_in x.id p.events → IsLeft remaining contents bytes served p b x
+      → IsLeft remaining contents bytes (front ++ served) a b x
+  left_from a p b bytes front served x clients last here l = record {
+    vacant = l.vacant;
+    known = l.known;
+    leaves = elim l.leaves [
+      | inl k ↦ inl (record {
+        key = k.key;
+        before = k.before;
+        there = ap (λ (s : Slab (Client S)). get s k.key) (sym clients) ∙ k.there;
+        leaves = leaves_from remaining contents k.before x bytes front served (asked_in x.id a.events) (asked_in x.id p.events)
+            (asked_in x.id b.events) k.leaves here;
+      })
+      | inr new ↦ absurd (omega (arith, new.later, new.leaves.same, l.known, last))
+    ];
+  }
+
+  vacant_as : (a p : ConnectionsState S) (n : ℕ) → p.clients ≡ a.clients → IsVacant a n → IsVacant p n
+  vacant_as a p n clients vacant = λ k client there. vacant k client (ap (λ (s : Slab (Client S)). get s k) (sym clients) ∙ there)
+
+  pub all_from : (a p b : ConnectionsState S) (sent : ℕ → List ℕ) (served front : ℕ → List Request) → p.clients ≡ a.clients
+      → p.last_id ≡ a.last_id → p.left ≡ a.left → ((c : ℕ) → asked_in c a.events ≡ front c ++ asked_in c p.events)
+      → AllFollow remaining contents sent served p b → AllFollow remaining contents sent (λ i. front i ++ served i) a b
+  all_from a p b sent served front clients last left here q = record {
+    later = go_from a p b sent served front clients last (λ key client there. here client.id) q.later;
+    gone = q.gone;
+    left = q.left ∙ ap (λ t. t ++ q.gone) left;
+    leave = record {
+      each = all_of (λ x. IsLeft remaining contents (sent x.id) (served x.id) p b x)
+          (λ x. IsLeft remaining contents (sent x.id) (front x.id ++ served x.id) a b x) q.gone
+          (λ x l. left_from a p b (sent x.id) (front x.id) (served x.id) x clients q.later.last_id (here x.id) l) q.leave.each;
+      stay = λ key client there. q.leave.stay key client (ap (λ (s : Slab (Client S)). get s key) clients ∙ there);
+      absent = λ n first then apart.
+          let rest = q.leave.absent n (vacant_as a p n clients first) then apart in
+          (rest.0, append_assoc (front n) (served n) (asked_in n b.events ++ rest.0) ∙ (ap (λ t. front n ++ t) rest.1 ∙ sym (here n)));
+    };
+  }
+
+  left_lost : (a p b : ConnectionsState S) (id : ℕ) (x : Client S) (t : Bool) → (id == x.id) ≡ t → p.clients ≡ a.clients
+      → b.last_id ≡ p.last_id → ((c : ℕ) → id ≢ c → asked_in c a.events ≡ asked_in c p.events) → asked_in id b.events ≡ []
+      → IsLeft remaining contents [] [] p b x → IsLeft remaining contents [] [] a b x
+  left_lost a p b id x false e clients last here none l =
+      left_from a p b [] [] [] x clients last (here x.id (eqb-false id x.id e)) l
+  left_lost a p b id x true e clients last here none l = record {
+    vacant = l.vacant;
+    known = l.known;
+    leaves = elim l.leaves [
+      | inl k ↦ inl (record {
+        key = k.key;
+        before = k.before;
+        there = ap (λ (s : Slab (Client S)). get s k.key) (sym clients) ∙ k.there;
+        leaves = leaves_lost remaining contents k.before x [] (asked_in x.id a.events) (asked_in x.id p.events) (asked_in x.id b.events)
+            k.leaves (subst (λ (n : ℕ). asked_in n b.events ≡ []) (eqb-true id x.id e) none);
+      })
+      | inr new ↦ absurd (omega (arith, new.later, new.leaves.same, l.known, last))
+    ];
+  }
+
+  absent_lost : (a b : ConnectionsState S) (id n : ℕ) (t : Bool) → (id == n) ≡ t → asked_in id b.events ≡ []
+      → (id ≢ n → (unserved : List Request) × (asked_in n b.events ++ unserved ≡ asked_in n a.events))
+      → (unserved : List Request) × (asked_in n b.events ++ unserved ≡ asked_in n a.events)
+  absent_lost a b id n true e none others =
+      (asked_in n a.events, ap (λ t. t ++ asked_in n a.events) (subst (λ (m : ℕ). asked_in m b.events ≡ []) (eqb-true id n e) none))
+  absent_lost a b id n false e none others = others (eqb-false id n e)
+
+  -- First a request of a client is taken; then the client is let go of, and all that it asked.
+  all_dropped_behind : (a p b : ConnectionsState S) (id : ℕ) → p.clients ≡ a.clients → p.last_id ≡ a.last_id → p.left ≡ a.left
+      → ((c : ℕ) → id ≢ c → asked_in c a.events ≡ asked_in c p.events) → IsVacant b id → asked_in id b.events ≡ []
+      → AllFollow remaining contents no_bytes no_requests p b → AllFollow remaining contents no_bytes no_requests a b
+  all_dropped_behind a p b id clients last left here vacant none q = record {
+    later = go_from a p b no_bytes no_requests no_requests clients last
+        (λ key client there. here client.id (λ same. vacant key client there (sym same))) q.later;
+    gone = q.gone;
+    left = q.left ∙ ap (λ t. t ++ q.gone) left;
+    leave = record {
+      each = all_of (λ x. IsLeft remaining contents [] [] p b x) (λ x. IsLeft remaining contents [] [] a b x) q.gone
+          (λ x l. left_lost a p b id x (id == x.id) refl clients q.later.last_id here none l) q.leave.each;
+      stay = λ key client there. q.leave.stay key client (ap (λ (s : Slab (Client S)). get s key) clients ∙ there);
+      absent = λ n first then apart. absent_lost a b id n (id == n) refl none (λ ne.
+          let rest = q.leave.absent n (vacant_as a p n clients first) then apart in
+          (rest.0, rest.1 ∙ sym (here n ne)));
+    };
   }
 
   module _ {D : Type 0} where
@@ -122,7 +210,7 @@ module _ {S : Type 0} (remaining contents : S → Option (List ℕ)) where
     pub serves_one : (a p b : ConnectionsState S) (e : ClientEvent) (event : Event) (s : ServedEvent D) (ps qs : List (Part D)) (x y : PassState)
         → p ≡ record a { events = p.events; room = p.room } → a.events ≡ e ∷ p.events
         → ((c : ℕ) → asked_of c event ≡ asked_by_event c e) → s.turn.asked ≡ event
-        → AllGoOn remaining contents (sent_by_served s) no_requests p b → qs ≡ ps ++ Served s ∷ []
+        → AllFollow remaining contents (sent_by_served s) no_requests p b → qs ≡ ps ++ Served s ∷ []
         → y ≡ record { kind = x.kind; seen = s.turn.event; share = x.share + 1 } → x.seen < s.turn.event
         → Serves remaining contents true a b ps qs x y
     serves_one a p b e event s ps qs x y same popped asked carried later added passed grows = record {
@@ -133,7 +221,7 @@ module _ {S : Type 0} (remaining contents : S → Option (List ℕ)) where
           (λ i. sym (append-nil (sent_by_served s i)))
           (λ i. ap (λ t. t ++ []) (sym (ap (asked_of i) carried ∙ asked i)))
           (all_from a p b (sent_by_served s) no_requests (λ i. asked_by_event i e) (ap (λ (t : ConnectionsState S). t.clients) same)
-          (ap (λ (t : ConnectionsState S). t.last_id) same) (λ key client there. ap (asked_in client.id) popped) later);
+          (ap (λ (t : ConnectionsState S). t.last_id) same) (ap (λ (t : ConnectionsState S). t.left) same) (λ i. ap (asked_in i) popped) later);
       kind = ap (λ (t : PassState). t.kind) passed;
       share = ap (λ (t : PassState). t.share) passed;
       seen = (let n = ap (λ (t : PassState). t.seen) passed in omega (arith, n, grows));
@@ -144,7 +232,7 @@ module _ {S : Type 0} (remaining contents : S → Option (List ℕ)) where
 
     -- what was left was collected
     pub serves_collected : (a b : ConnectionsState S) (outbox : List (List Output)) (ps qs : List (Part D)) (x : PassState)
-        → AllGoOn remaining contents (sent_by_all outbox) no_requests a b → qs ≡ ps ++ Collected outbox ∷ []
+        → AllFollow remaining contents (sent_by_all outbox) no_requests a b → qs ≡ ps ++ Collected outbox ∷ []
         → Serves remaining contents true a b ps qs x x
     serves_collected a b outbox ps qs x later added = record {
       added = Collected outbox ∷ [];
@@ -161,7 +249,7 @@ module _ {S : Type 0} (remaining contents : S → Option (List ℕ)) where
 
     -- nothing was served, and a refusal is told
     pub serves_refusal : (a b : ConnectionsState S) (number : ℕ) (ps qs : List (Part D)) (x y : PassState) → IsRefusal number
-        → AllGoOn remaining contents no_bytes no_requests a b → qs ≡ ps ++ Refused number ∷ [] → y ≡ x
+        → AllFollow remaining contents no_bytes no_requests a b → qs ≡ ps ++ Refused number ∷ [] → y ≡ x
         → Serves remaining contents false a b ps qs x y
     serves_refusal a b number ps qs x y is later added same = record {
       added = Refused number ∷ [];
@@ -177,7 +265,7 @@ module _ {S : Type 0} (remaining contents : S → Option (List ℕ)) where
 
     -- nothing was served, and it goes on
     pub serves_nothing : (a b : ConnectionsState S) (ps qs : List (Part D)) (x y : PassState)
-        → AllGoOn remaining contents no_bytes no_requests a b → qs ≡ ps → y ≡ x → Serves remaining contents true a b ps qs x y
+        → AllFollow remaining contents no_bytes no_requests a b → qs ≡ ps → y ≡ x → Serves remaining contents true a b ps qs x y
     serves_nothing a b ps qs x y later added same = record {
       added = [];
       parts = added ∙ sym (append-nil ps);
@@ -192,48 +280,46 @@ module _ {S : Type 0} (remaining contents : S → Option (List ℕ)) where
 
   -- an event was refused
   pub all_kept : (a p b : ConnectionsState S) (e : ClientEvent) (k : Kept) → p ≡ record a { events = p.events; room = p.room }
-      → a.events ≡ e ∷ p.events → IsKeptOf e k → IsKeptAs remaining contents k p b → AllGoOn remaining contents no_bytes no_requests a b
+      → a.events ≡ e ∷ p.events → IsKeptOf e k → IsKeptAs remaining contents k p b → AllFollow remaining contents no_bytes no_requests a b
   all_kept a p b e (kept.Event same) popping popped kind now =
       let there : b.clients ≡ a.clients = ap (λ (t : ConnectionsState S). t.clients) now ∙ ap (λ (t : ConnectionsState S). t.clients) popping in
       let last : b.last_id ≡ a.last_id = ap (λ (t : ConnectionsState S). t.last_id) now ∙ ap (λ (t : ConnectionsState S). t.last_id) popping in
       let again : b.events ≡ a.events =
       ap (λ (t : ConnectionsState S). t.events) now ∙ (ap (λ (t : ClientEvent). t ∷ p.events) kind.0 ∙ sym popped) in
-      all_quiet remaining contents a b last (λ key client at.
-      (ap (λ (s : Slab (Client S)). get s key) (sym there) ∙ at, ap (asked_in client.id) again))
+      all_still remaining contents a b there again last
+      (ap (λ (t : ConnectionsState S). t.left) now ∙ ap (λ (t : ConnectionsState S). t.left) popping)
   all_kept a p b e (kept.Client id) popping popped kind now =
-      all_from a p b no_bytes no_requests no_requests (ap (λ (t : ConnectionsState S). t.clients) popping)
-      (ap (λ (t : ConnectionsState S). t.last_id) popping)
-      (λ key client at. ap (asked_in client.id) popped
-      ∙ ap (λ t. t ++ asked_in client.id p.events) (kind client.id (λ same. now.1 key client at (sym same)))) now.0
+      all_dropped_behind a p b id (ap (λ (t : ConnectionsState S). t.clients) popping) (ap (λ (t : ConnectionsState S). t.last_id) popping)
+      (ap (λ (t : ConnectionsState S). t.left) popping)
+      (λ c ne. ap (asked_in c) popped ∙ ap (λ t. t ++ asked_in c p.events) (kind c ne)) now.1 now.2 now.0
 
   -- the client of a number, which was at this key, was let go of
-  pub vacant_lost : (a b c : ConnectionsState S) (id key : ℕ) → IsAlone a id key → AllGoOn remaining contents no_bytes no_requests a b
+  pub vacant_lost : (a b c : ConnectionsState S) (id key : ℕ) → IsAlone a id key → AllFollow remaining contents no_bytes no_requests a b
       → Loses key b c → IsVacant c id
   vacant_lost a b c id key alone later loses = λ k client at same.
       let apart : k ≢ key = λ is. cc (at, ap (get c.clients) is, loses.gone) in
-      let x = later.each k client (sym (loses.others k apart) ∙ at) in
+      let x = later.later.each k client (sym (loses.others k apart) ∙ at) in
       apart (alone k x.before x.there (sym x.goes_on.moves.same ∙ same))
 
   pub all_as : (a b : ConnectionsState S) → b ≡ record a { events = b.events; room = b.room } → b.events ≡ a.events
-      → AllGoOn remaining contents no_bytes no_requests a b
+      → AllFollow remaining contents no_bytes no_requests a b
   all_as a b same events =
-      let there : b.clients ≡ a.clients = ap (λ (t : ConnectionsState S). t.clients) same in
-      all_quiet remaining contents a b (ap (λ (t : ConnectionsState S). t.last_id) same) (λ key client at.
-      (ap (λ (s : Slab (Client S)). get s key) (sym there) ∙ at, ap (asked_in client.id) events))
+      all_still remaining contents a b (ap (λ (t : ConnectionsState S). t.clients) same) events (ap (λ (t : ConnectionsState S). t.last_id) same)
+      (ap (λ (t : ConnectionsState S). t.left) same)
 
   pub sent_none : (a : ConnectionsState S) (whole : List Output) → length whole ≡ 0
-      → AllGoOn remaining contents (sent_by whole) no_requests a a
+      → AllFollow remaining contents (sent_by whole) no_requests a a
   sent_none a [] none = all_itself remaining contents a
   sent_none a (o ∷ whole) none = absurd (omega (arith, none))
 
   pub sent_all_none : (a : ConnectionsState S) (whole : List (List Output)) → length whole ≡ 0
-      → AllGoOn remaining contents (sent_by_all whole) no_requests a a
+      → AllFollow remaining contents (sent_by_all whole) no_requests a a
   sent_all_none a [] none = all_itself remaining contents a
   sent_all_none a (o ∷ whole) none = absurd (omega (arith, none))
 
   pub sent_first : (a b d : ConnectionsState S) (o : Output) (whole rest : List Output) (bytes : List ℕ) → whole ≡ o ∷ rest
-      → bytes ≡ o.bytes → AllGoOn remaining contents (bytes_for o.client bytes) no_requests a b
-      → AllGoOn remaining contents (sent_by rest) no_requests b d → AllGoOn remaining contents (sent_by whole) no_requests a d
+      → bytes ≡ o.bytes → AllFollow remaining contents (bytes_for o.client bytes) no_requests a b
+      → AllFollow remaining contents (sent_by rest) no_requests b d → AllFollow remaining contents (sent_by whole) no_requests a d
   sent_first a b d o whole rest bytes w e p q =
       all_same remaining contents a d (λ i. bytes_for o.client bytes i ++ sent_by rest i) (sent_by whole)
       (λ i. no_requests i ++ no_requests i) no_requests
@@ -241,8 +327,8 @@ module _ {S : Type 0} (remaining contents : S → Option (List ℕ)) where
       (all_twice remaining contents a b d (bytes_for o.client bytes) (sent_by rest) no_requests no_requests p q)
 
   pub sent_all_first : (a b d : ConnectionsState S) (o given : List Output) (whole rest : List (List Output)) → whole ≡ o ∷ rest
-      → given ≡ o → AllGoOn remaining contents (sent_by given) no_requests a b
-      → AllGoOn remaining contents (sent_by_all rest) no_requests b d → AllGoOn remaining contents (sent_by_all whole) no_requests a d
+      → given ≡ o → AllFollow remaining contents (sent_by given) no_requests a b
+      → AllFollow remaining contents (sent_by_all rest) no_requests b d → AllFollow remaining contents (sent_by_all whole) no_requests a d
   sent_all_first a b d o given whole rest w e p q =
       all_same remaining contents a d (λ i. sent_by given i ++ sent_by_all rest i) (sent_by_all whole)
       (λ i. no_requests i ++ no_requests i) no_requests
@@ -251,8 +337,8 @@ module _ {S : Type 0} (remaining contents : S → Option (List ℕ)) where
 
   pub sent_served : {D : Type 0} (a b c d : ConnectionsState S) (s : ServedEvent D) (before : List (List Output)) (outputs : List Output)
       → before ≡ s.before → outputs ≡ s.turn.outputs
-      → AllGoOn remaining contents (sent_by_all before) no_requests a b → AllGoOn remaining contents (sent_by outputs) no_requests b c
-      → AllGoOn remaining contents no_bytes no_requests c d → AllGoOn remaining contents (sent_by_served s) no_requests a d
+      → AllFollow remaining contents (sent_by_all before) no_requests a b → AllFollow remaining contents (sent_by outputs) no_requests b c
+      → AllFollow remaining contents no_bytes no_requests c d → AllFollow remaining contents (sent_by_served s) no_requests a d
   sent_served a b c d s before outputs f e p q r =
       all_same remaining contents a d (λ i. sent_by_all before i ++ sent_by outputs i) (sent_by_served s)
       (λ i. no_requests i ++ no_requests i) no_requests
@@ -261,11 +347,101 @@ module _ {S : Type 0} (remaining contents : S → Option (List ℕ)) where
       (all_twice remaining contents a b d (sent_by_all before) (sent_by outputs) no_requests no_requests p
       (all_then_none remaining contents b c d (sent_by outputs) no_requests q r))
 
-  pub turn_later : (a b c d : ConnectionsState S) (sent : ℕ → List ℕ) (served : ℕ → List Request)
-      → IsLater remaining contents no_bytes no_requests a b → AllGoOn remaining contents sent served b c
-      → AllGoOn remaining contents no_bytes no_requests c d → IsLater remaining contents sent served a d
+  turn_later : (a b c d : ConnectionsState S) (sent : ℕ → List ℕ) (served : ℕ → List Request)
+      → IsFollowed remaining contents no_bytes no_requests a b → AllFollow remaining contents sent served b c
+      → AllFollow remaining contents no_bytes no_requests c d → IsFollowed remaining contents sent served a d
   turn_later a b c d sent served p q r =
       later_then remaining contents a b d no_bytes sent no_requests served p (all_then_none remaining contents b c d sent served q r)
+
+  -- which clients were let go of before, and which places there are, matters to no other
+  begun_later : (a d : ConnectionsState S) (left gone : List (Client S)) (places : ℕ) (sent : ℕ → List ℕ) (served : ℕ → List Request)
+      → IsLater remaining contents sent served (record a { left = left; places = places; gone = gone }) d
+      → IsLater remaining contents sent served a d
+  begun_later a d left gone places sent served p = record {
+    last_id = p.last_id;
+    each = λ key client there. elim (p.each key client there) [
+      | inl k ↦ inl (record { before = k.before; there = k.there; goes_on = k.goes_on })
+      | inr new ↦ inr new
+    ];
+  }
+
+  ended_later : (a d : ConnectionsState S) (left gone : List (Client S)) (places : ℕ) (sent : ℕ → List ℕ) (served : ℕ → List Request)
+      → IsLater remaining contents sent served a d
+      → IsLater remaining contents sent served a (record d { left = left; places = places; gone = gone })
+  ended_later a d left gone places sent served p = record {
+    last_id = p.last_id;
+    each = λ key client there. elim (p.each key client there) [
+      | inl k ↦ inl (record { before = k.before; there = k.there; goes_on = k.goes_on })
+      | inr new ↦ inr new
+    ];
+  }
+
+  begun_left : (a d : ConnectionsState S) (left gone : List (Client S)) (places : ℕ) (bytes : List ℕ) (served : List Request) (x : Client S)
+      → IsLeft remaining contents bytes served (record a { left = left; places = places; gone = gone }) d x
+      → IsLeft remaining contents bytes served a d x
+  begun_left a d left gone places bytes served x l = record {
+    vacant = l.vacant;
+    known = l.known;
+    leaves = elim l.leaves [
+      | inl k ↦ inl (record { key = k.key; before = k.before; there = k.there; leaves = k.leaves })
+      | inr new ↦ inr new
+    ];
+  }
+
+  ended_left : (a d : ConnectionsState S) (left gone : List (Client S)) (places : ℕ) (bytes : List ℕ) (served : List Request) (x : Client S)
+      → IsLeft remaining contents bytes served a d x
+      → IsLeft remaining contents bytes served a (record d { left = left; places = places; gone = gone }) x
+  ended_left a d left gone places bytes served x l = record {
+    vacant = l.vacant;
+    known = l.known;
+    leaves = elim l.leaves [
+      | inl k ↦ inl (record { key = k.key; before = k.before; there = k.there; leaves = k.leaves })
+      | inr new ↦ inr new
+    ];
+  }
+
+  begun_leave : (a d : ConnectionsState S) (left gone : List (Client S)) (places : ℕ) (sent : ℕ → List ℕ) (served : ℕ → List Request)
+      (xs : List (Client S)) → AllLeave remaining contents sent served (record a { left = left; places = places; gone = gone }) d xs
+      → AllLeave remaining contents sent served a d xs
+  begun_leave a d left gone places sent served xs l = record {
+    each = all_of (λ x. IsLeft remaining contents (sent x.id) (served x.id) (record a { left = left; places = places; gone = gone }) d x)
+        (λ x. IsLeft remaining contents (sent x.id) (served x.id) a d x) xs
+        (λ x h. begun_left a d left gone places (sent x.id) (served x.id) x h) l.each;
+    stay = l.stay;
+    absent = l.absent;
+  }
+
+  ended_leave : (a d : ConnectionsState S) (left gone : List (Client S)) (places : ℕ) (sent : ℕ → List ℕ) (served : ℕ → List Request)
+      (xs : List (Client S)) → AllLeave remaining contents sent served a d xs
+      → AllLeave remaining contents sent served a (record d { left = left; places = places; gone = gone }) xs
+  ended_leave a d left gone places sent served xs l = record {
+    each = all_of (λ x. IsLeft remaining contents (sent x.id) (served x.id) a d x)
+        (λ x. IsLeft remaining contents (sent x.id) (served x.id) a (record d { left = left; places = places; gone = gone }) x) xs
+        (λ x h. ended_left a d left gone places (sent x.id) (served x.id) x h) l.each;
+    stay = l.stay;
+    absent = l.absent;
+  }
+
+  -- a whole turn: those that were let go of before it are closed at its begin, and its own at its end
+  pub turn_whole : (z a b c d e : ConnectionsState S) (sent : ℕ → List ℕ) (served : ℕ → List Request)
+      → a ≡ record z { left = []; places = a.places; gone = z.left }
+      → IsFollowed remaining contents no_bytes no_requests a b → AllFollow remaining contents sent served b c
+      → AllFollow remaining contents no_bytes no_requests c d → e ≡ record d { left = []; places = e.places; gone = d.left }
+      → IsLater remaining contents sent served z e × AllLeave remaining contents sent served z e e.gone
+  turn_whole z a b c d e sent served begins p q r ends =
+      let whole : IsFollowed remaining contents sent served a d = turn_later a b c d sent served p q r in
+      let those : d.left ≡ whole.gone = whole.left ∙ ap (λ (t : ConnectionsState S). t.left ++ whole.gone) begins in
+      let later : IsLater remaining contents sent served z d =
+      begun_later z d [] z.left a.places sent served
+      (subst (λ (t : ConnectionsState S). IsLater remaining contents sent served t d) begins whole.later) in
+      let leave : AllLeave remaining contents sent served z d d.left =
+      begun_leave z d [] z.left a.places sent served d.left
+      (subst (λ (t : ConnectionsState S). AllLeave remaining contents sent served t d d.left) begins
+      (subst (λ (t : List (Client S)). AllLeave remaining contents sent served a d t) (sym those) whole.leave)) in
+      let both : IsLater remaining contents sent served z (record d { left = []; places = e.places; gone = d.left })
+      × AllLeave remaining contents sent served z (record d { left = []; places = e.places; gone = d.left }) d.left =
+      (ended_later z d [] d.left e.places sent served later, ended_leave z d [] d.left e.places sent served d.left leave) in
+      subst (λ (t : ConnectionsState S). IsLater remaining contents sent served z t × AllLeave remaining contents sent served z t t.gone) (sym ends) both
 
   module _ {D : Type 0} where
     pub serves_as : (g h : Bool) (a b : ConnectionsState S) (ps qs : List (Part D)) (x y : PassState) → g ≡ h
@@ -277,9 +453,9 @@ module _ {S : Type 0} (remaining contents : S → Option (List ℕ)) where
     whole_is g a b ps qs x y none s = sym (s.parts ∙ ap (λ t. t ++ s.added) none)
 
     pub whole_later : (g : Bool) (a b : ConnectionsState S) (ps qs : List (Part D)) (x y : PassState) → ps ≡ []
-        → Serves remaining contents g a b ps qs x y → AllGoOn remaining contents (bytes_in qs) (requests_in qs) a b
+        → Serves remaining contents g a b ps qs x y → AllFollow remaining contents (bytes_in qs) (requests_in qs) a b
     whole_later g a b ps qs x y none s =
-        subst (λ (t : List (Part D)). AllGoOn remaining contents (bytes_in t) (requests_in t) a b) (whole_is g a b ps qs x y none s) s.later
+        subst (λ (t : List (Part D)). AllFollow remaining contents (bytes_in t) (requests_in t) a b) (whole_is g a b ps qs x y none s) s.later
 
     pub whole_share : (g : Bool) (a b : ConnectionsState S) (ps qs : List (Part D)) (x y : PassState) → ps ≡ []
         → Serves remaining contents g a b ps qs x y → (y.kind ≡ x.kind) × (y.share ≡ x.share + served_count qs)

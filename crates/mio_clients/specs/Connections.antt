@@ -1,12 +1,14 @@
 -- The clients that are connected.
 use Rattle.std.specs.Prelude.{◌≡◌, ◌⊎◌, ℕ, ◌≢◌, ◌+◌, ◌-◌, ◌^◌, ◌<◌, ◌≤◌, List, [], ◌∷◌, ◌++◌, Option, Some, None, Bool, true, false, MatchOption, IsSomeAnd, if◌then◌else◌}
+use Rattle.std.specs.List.{concat}
+use Rattle.std.specs.Io.KnownBytes.{Keeps, Consumes, append_known}
 use Rattle.slab.specs.Slab.{Slab, get, slab_len, Updates}
 use Rattle.mio_clients.specs.declared.client.Client.{Client}
 use Rattle.mio_clients.specs.declared.event.ClientEvent.{ClientEvent}
 use Rattle.mio_clients.specs.declared.event.ClientEvent.TheVariants as events
 use Rattle.client_session.specs.Session.{fresh}
 use Rattle.mio_clients.specs.Events.{asked_in, asked_by}
-use Rattle.mio_clients.specs.Given.{Moves}
+use Rattle.mio_clients.specs.Given.{given, Moves}
 use Rattle.client_session.specs.Requests.{requests_in_pieces, brought, left_by}
 use Rattle.command_text.specs.declared.request.Request.{Request}
 
@@ -21,16 +23,21 @@ pub record QueueState : Type 0 where
   pub room : ℕ
 
 -- The clients, each under the key by which it is told to be ready; what they did and was not served yet; the number of the client that
--- connected last; and for how many further events there is room.
+-- connected last; for how many further events there is room; the clients that were let go of since the last turn, as they were then; for
+-- how many further ones there is a place; and those that were let go of in that turn.
 pub record ConnectionsState (S : Type 0) : Type 0 where
   pub clients : Slab (Client S)
   pub events : List ClientEvent
   pub last_id : ℕ
   pub room : ℕ
+  pub left : List (Client S)
+  pub places : ℕ
+  pub gone : List (Client S)
 
--- what holds of all connections: there is room for the last event of each client
-pub record AreConnections {S : Type 0} (clients : Slab (Client S)) (queue : QueueState) (last_id : ℕ) : Type 0 where
+-- what holds of all connections: there is room for the last event of each client, and a place for it where it is let go of
+pub record AreConnections {S : Type 0} (clients : Slab (Client S)) (queue : QueueState) (last_id free : ℕ) : Type 0 where
   pub spare : queue.spare ≡ slab_len clients
+  pub places : slab_len clients ≤ free
   pub slots : client_limit ≤ clients.capacity
   pub few : slab_len clients ≤ client_limit
   -- no two clients have one number
@@ -41,10 +48,20 @@ pub record AreConnections {S : Type 0} (clients : Slab (Client S)) (queue : Queu
   -- nothing waits of a client that has not connected yet
   pub none_later : (c : ℕ) → last_id < c → asked_in c queue.events ≡ []
 
--- of this client requests were added to the events that wait
-pub record Gathers (c : ℕ) (before after : List ClientEvent) : Type 0 where
+-- Pieces of the client's stream were read, and then memory was refused: of the requests that they bring, the first were added to the
+-- events that wait.
+pub record ReadsInPart {S : Type 0} (remaining contents : S → Option (List ℕ)) (old new : Client S)
+    (before after : List ClientEvent) : Type 0 where
+  pub same : new.id ≡ old.id
+  pub untaken : List ℕ
+  pub unwritten : Keeps (append_known (given contents old) []) (append_known (contents new.stream) untaken)
+  pub goes_on : old.is_closing ≡ false
+  pub pieces : List (List ℕ)
+  pub taken : Consumes (remaining old.stream) (remaining new.stream) (concat pieces)
   pub requests : List Request
-  pub added : after ≡ before ++ asked_by c requests
+  pub lost : List Request
+  pub whole : requests ++ lost ≡ requests_in_pieces old.session.left pieces
+  pub added : after ≡ before ++ asked_by old.id requests
 
 -- pieces of the client's stream were read, and their requests were added to the events that wait
 pub record Reads {S : Type 0} (remaining contents : S → Option (List ℕ)) (old new : Client S) (before after : List ClientEvent) : Type 0 where

@@ -1,5 +1,5 @@
 -- What clients did, gathered until it is served.
-use Rattle.std.specs.Prelude.{ℕ, zero, suc, ◌+◌, ◌==◌, List, [], ◌∷◌, ◌++◌, map, if◌then◌else◌}
+use Rattle.std.specs.Prelude.{ℕ, zero, suc, ◌+◌, ◌==◌, List, [], ◌∷◌, ◌++◌, map, Bool, false, if◌then◌else◌}
 use Rattle.command_text.specs.declared.request.Request.{Request}
 use Rattle.mio_clients.specs.declared.event.ClientEvent.{ClientEvent}
 use Rattle.mio_clients.specs.declared.event.ClientEvent.TheVariants as events
@@ -14,6 +14,17 @@ asked_by_event c (events.Gone client) = []
 abbrev pub asked_in : ℕ → List ClientEvent → List Request
 asked_in c [] = []
 asked_in c (event ∷ rest) = asked_by_event c event ++ asked_in c rest
+
+-- whether this client asks for something by an event
+abbrev pub is_request_of : ℕ → ClientEvent → Bool
+is_request_of c (events.Connect client) = false
+is_request_of c (events.Request client request) = client == c
+is_request_of c (events.Gone client) = false
+
+-- events without the requests of this client
+abbrev pub without : ℕ → List ClientEvent → List ClientEvent
+without c [] = []
+without c (event ∷ rest) = (if is_request_of c event then [] else event ∷ []) ++ without c rest
 
 -- an event that is no request
 abbrev pub AsksNothing : ClientEvent → Type 0

@@ -3,6 +3,7 @@ pub mod Events
 pub mod Given
 pub mod Connections
 pub mod Later
+pub mod Leaving
 pub mod Refusal
 pub mod Parts
 pub mod Waiting

@@ -16,7 +16,8 @@ use Rattle.mio_clients.specs.declared.turning.Kept.{Kept}
 use Rattle.mio_clients.specs.declared.turning.Kept.TheVariants as kept
 use Rattle.mio_clients.specs.Events.{asked_in, asked_by_event, AsksNothing}
 use Rattle.mio_clients.specs.Connections.{ConnectionsState, IsVacant}
-use Rattle.mio_clients.specs.Later.{AllGoOn, no_bytes, no_requests}
+use Rattle.mio_clients.specs.Later.{no_bytes, no_requests}
+use Rattle.mio_clients.specs.Leaving.{AllFollow}
 
 -- the bytes of these outputs that are for this client
 abbrev pub bytes_to : ℕ → List Output → List ℕ
@@ -105,7 +106,7 @@ pub record Serves {S D : Type 0} (remaining contents : S → Option (List ℕ)) 
     (before after : List (Part D)) (pass passed : PassState) : Type 0 where
   pub added : List (Part D)
   pub parts : after ≡ before ++ added
-  pub later : AllGoOn remaining contents (bytes_in added) (requests_in added) old new
+  pub later : AllFollow remaining contents (bytes_in added) (requests_in added) old new
   pub kind : passed.kind ≡ pass.kind
   pub share : passed.share ≡ pass.share + served_count added
   pub seen : pass.seen ≤ passed.seen
@@ -137,7 +138,8 @@ abbrev pub KeepsNoRequest : Kept → Type 0
 KeepsNoRequest (kept.Event event) = AsksNothing event
 KeepsNoRequest (kept.Client client) = Unit {0}
 
--- an event is gathered anew, or a client was let go of
+-- an event is gathered anew, or a client was let go of, and of its requests
 abbrev pub IsKeptAs : {S : Type 0} → (S → Option (List ℕ)) → (S → Option (List ℕ)) → Kept → ConnectionsState S → ConnectionsState S → Type 0
 IsKeptAs remaining contents (kept.Event event) old new = new ≡ record old { events = event ∷ old.events; room = new.room }
-IsKeptAs remaining contents (kept.Client client) old new = AllGoOn remaining contents no_bytes no_requests old new × IsVacant new client
+IsKeptAs remaining contents (kept.Client client) old new =
+    AllFollow remaining contents no_bytes no_requests old new × IsVacant new client × (asked_in client new.events ≡ [])

@@ -4,7 +4,7 @@ ghost use Rattle.client_session.specs.Requests.{brought, left_by};
 ghost use Rattle.client_session.specs.Session.{fresh};
 ghost use Rattle.mio_clients.specs.Events.{asked_by};
 ghost use Rattle.mio_clients.specs.Given.{Moves};
-ghost use Rattle.mio_clients.specs.Connections.{Gathers, Reads, IsTaken, IsReading};
+ghost use Rattle.mio_clients.specs.Connections.{Reads, ReadsInPart, IsTaken, IsReading};
 
 use crate::CALL_LIMIT;
 use crate::queue::EventQueue;
@@ -199,7 +199,8 @@ impl<S: Stream> Client<S> {
           is_closing = self.new.is_closing;
         } }
         ensures goes_on { (result ≡ Reading.More) ⊎ (result ≡ Reading.Drained) → IsReading self.new }
-        ensures refused { result ≡ Reading.Refused → queue.new.events ≡ queue.old.events }
+        ensures refused { result ≡ Reading.Refused
+            → ReadsInPart S.remaining S.contents self.old self.new queue.old.events queue.new.events }
         ensures failed { result ≡ Reading.Failed → S.failed self.new.stream ≡ true }
         ensures spare { queue.new.spare ≡ queue.old.spare }
     {
@@ -214,7 +215,7 @@ impl<S: Stream> Client<S> {
     }
 
     // Reads until there is nothing to be read, or for `CALL_LIMIT` calls.
-    #[tactic(auto, using(crate::proofs::GivenLaws::reads_none, crate::proofs::GivenLaws::moves_itself, crate::proofs::GivenLaws::gathers_after))]
+    #[tactic(auto, using(crate::proofs::GivenLaws::reads_none, crate::proofs::GivenLaws::moves_itself))]
     fn read_often(&mut self, alloc: Global, buffer: &mut [u8], queue: &mut EventQueue) -> Reading
         requires reading { IsReading self.old }
         ensures reads { result ≢ Reading.Refused → Reads S.remaining S.contents self.old self.new queue.old.events queue.new.events }
@@ -224,7 +225,8 @@ impl<S: Stream> Client<S> {
           is_closing = self.new.is_closing;
         } }
         ensures goes_on { (result ≡ Reading.More) ⊎ (result ≡ Reading.Drained) → IsReading self.new }
-        ensures refused { result ≡ Reading.Refused → Gathers self.old.id queue.old.events queue.new.events }
+        ensures refused { result ≡ Reading.Refused
+            → ReadsInPart S.remaining S.contents self.old self.new queue.old.events queue.new.events }
         ensures failed { result ≡ Reading.Failed → S.failed self.new.stream ≡ true }
         ensures spare { queue.new.spare ≡ queue.old.spare }
     {
@@ -252,7 +254,8 @@ impl<S: Stream> Client<S> {
           session = self.new.session;
           is_closing = self.new.is_closing;
         } }
-        ensures refused { result ≡ Reading.Refused → Gathers self.old.id queue.old.events queue.new.events }
+        ensures refused { result ≡ Reading.Refused
+            → ReadsInPart S.remaining S.contents self.old self.new queue.old.events queue.new.events }
         ensures failed { result ≡ Reading.Failed → S.failed self.new.stream ≡ true }
         ensures spare { queue.new.spare ≡ queue.old.spare }
     {

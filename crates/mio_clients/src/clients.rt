@@ -1,10 +1,11 @@
 // The clients of the daemon: who is accepted, read and written, and what of it is told.
 ghost use Rattle.std.specs.Prelude.{◌≡◌, ◌⊎◌, ◌+◌, ◌≤◌, ◌∷◌, [], false, length, OnSome, IfOk, IfErr, IsErrOf, IfSome, MatchOption};
 ghost use Rattle.slab.specs.Slab.{get, slab_len};
-ghost use Rattle.mio_clients.specs.Events.{AsksNothing};
+ghost use Rattle.mio_clients.specs.Events.{AsksNothing, asked_in};
 ghost use Rattle.mio_clients.specs.Waiting.{StaysQuiet};
 ghost use Rattle.mio_clients.specs.Connections.{IsFull, IsVacant};
-ghost use Rattle.mio_clients.specs.Later.{no_bytes, no_requests, bytes_for, AllGoOn, IsLater, Accepts, IsFault, Loses};
+ghost use Rattle.mio_clients.specs.Later.{no_bytes, no_requests, bytes_for, Accepts, IsFault, Loses};
+ghost use Rattle.mio_clients.specs.Leaving.{AllFollow, IsFollowed};
 
 use crate::client::{Reading, Writing};
 use crate::connections::Connections;
@@ -81,12 +82,19 @@ impl<S: Stream, L: Listener<S>, P: Ready<S>> Clients<S, L, P> {
         self.len() == 0
     }
 
+    /// Closes the connections of the clients that were let go of. A turn of the loop does so at its end.
+    pub fn close_left(&mut self)
+        ensures { self.new ≡ record self.old { left = []; places = self.new.places; gone = self.old.left } }
+    {
+        self.connections.close_left();
+    }
+
     /// Accepts clients until none waits, or for 65,536 calls, and gathers their connects, by rising numbers. A failed `accept` is tried
     /// again in the next turn of the loop.
     ///
     /// `TooManyClients` says that a client was closed without a byte. `NoMemory` leaves the others waiting.
     pub fn accept_all(&mut self, alloc: Global) -> Result<(), ClientsError>
-        ensures later { IsLater S.remaining S.contents no_bytes no_requests self.old self.new }
+        ensures later { IsFollowed S.remaining S.contents no_bytes no_requests self.old self.new }
         ensures accepted { Accepts self.old self.new }
         ensures too_many { IsErrOf result ClientsError.TooManyClients → IsFull self.new }
         ensures neither { IfErr result (λ e. (e ≡ ClientsError.NoMemory) ⊎ (e ≡ ClientsError.TooManyClients)) }
@@ -118,7 +126,8 @@ impl<S: Stream, L: Listener<S>, P: Ready<S>> Clients<S, L, P> {
     // Takes a client in, unless there are too many. One of whose stream nobody would be told is closed.
     fn admit(&mut self, alloc: Global, stream: S) -> bool
         requires room { slab_len self.old.clients + 2 ≤ self.old.room }
-        ensures later { IsLater S.remaining S.contents no_bytes no_requests self.old self.new }
+        requires places { slab_len self.old.clients + 1 ≤ self.old.places }
+        ensures later { IsFollowed S.remaining S.contents no_bytes no_requests self.old self.new }
         ensures accepted { Accepts self.old self.new }
         ensures full { (result ≡ false) ⊎ IsFull self.old → IsFull self.new }
     {
@@ -139,7 +148,7 @@ impl<S: Stream, L: Listener<S>, P: Ready<S>> Clients<S, L, P> {
     /// A client whose stream has failed, or for which memory was refused, is let go of, and its end is gathered, unless the stage closed
     /// it; one whose line or list is too long, or that sends nothing more, once it was sent all that it asked for before.
     pub fn read_ready(&mut self, alloc: Global, key: usize) -> Result<(), ClientsError>
-        ensures later { AllGoOn S.remaining S.contents no_bytes no_requests self.old self.new }
+        ensures later { AllFollow S.remaining S.contents no_bytes no_requests self.old self.new }
         ensures fault { IfErr result (λ e. IsFault S.remaining S.contents S.failed key e self.old self.new) }
     {
         match self.connections.read_at(alloc, key, &mut self.buffer) {
@@ -152,7 +161,7 @@ impl<S: Stream, L: Listener<S>, P: Ready<S>> Clients<S, L, P> {
     ///
     /// A client whose stream has failed, or takes no byte, is let go of, and its end is gathered, unless the stage closed it.
     pub fn write_ready(&mut self, key: usize) -> Result<(), ClientsError>
-        ensures later { AllGoOn S.remaining S.contents no_bytes no_requests self.old self.new }
+        ensures later { AllFollow S.remaining S.contents no_bytes no_requests self.old self.new }
         ensures quiet { StaysQuiet self.old.events self.new.events }
         ensures fault { IfErr result (λ e. IsFault S.remaining S.contents S.failed key e self.old self.new) }
     {
@@ -168,7 +177,7 @@ impl<S: Stream, L: Listener<S>, P: Ready<S>> Clients<S, L, P> {
 
     // Lets go of a client whose stream has failed.
     fn let_go(&mut self, key: usize) -> ClientsError
-        ensures later { AllGoOn S.remaining S.contents no_bytes no_requests self.old self.new }
+        ensures later { AllFollow S.remaining S.contents no_bytes no_requests self.old self.new }
         ensures quiet { StaysQuiet self.old.events self.new.events }
         ensures loses { Loses key self.old self.new }
         ensures number { IfSome (get self.old.clients key) (λ client. result ≡ ClientsError.NetFault client.id) }
@@ -180,7 +189,7 @@ impl<S: Stream, L: Listener<S>, P: Ready<S>> Clients<S, L, P> {
 
     // Waits until something is ready, and gathers what clients did.
     pub(crate) fn gather(&mut self, alloc: Global)
-        ensures later { IsLater S.remaining S.contents no_bytes no_requests self.old self.new }
+        ensures later { IsFollowed S.remaining S.contents no_bytes no_requests self.old self.new }
     {
         let limit = if self.connections.event_count() > 0 {
             0
@@ -201,7 +210,7 @@ impl<S: Stream, L: Listener<S>, P: Ready<S>> Clients<S, L, P> {
 
     // Takes up what is ready.
     fn take_token(&mut self, alloc: Global, token: Token)
-        ensures later { AllGoOn S.remaining S.contents no_bytes no_requests self.old self.new }
+        ensures later { AllFollow S.remaining S.contents no_bytes no_requests self.old self.new }
     {
         match token {
             Token::Client(key) => self.visit(alloc, key),
@@ -212,7 +221,7 @@ impl<S: Stream, L: Listener<S>, P: Ready<S>> Clients<S, L, P> {
 
     // Writes to a client that is ready, and reads of it.
     fn visit(&mut self, alloc: Global, key: usize)
-        ensures later { AllGoOn S.remaining S.contents no_bytes no_requests self.old self.new }
+        ensures later { AllFollow S.remaining S.contents no_bytes no_requests self.old self.new }
     {
         let _written = self.write_ready(key);
         let _read = self.read_ready(alloc, key);
@@ -220,7 +229,7 @@ impl<S: Stream, L: Listener<S>, P: Ready<S>> Clients<S, L, P> {
 
     // Sends what is queued for each client, and lets go of those that are to be closed, were sent all, and asked for nothing that waits.
     pub(crate) fn send_all(&mut self)
-        ensures later { AllGoOn S.remaining S.contents no_bytes no_requests self.old self.new }
+        ensures later { AllFollow S.remaining S.contents no_bytes no_requests self.old self.new }
         ensures quiet { StaysQuiet self.old.events self.new.events }
     {
         for key in 0..self.connections.capacity() {
@@ -230,7 +239,7 @@ impl<S: Stream, L: Listener<S>, P: Ready<S>> Clients<S, L, P> {
 
     // Sends what is queued for one client, unless its stream is known to take nothing.
     fn send_queued(&mut self, key: usize)
-        ensures later { AllGoOn S.remaining S.contents no_bytes no_requests self.old self.new }
+        ensures later { AllFollow S.remaining S.contents no_bytes no_requests self.old self.new }
         ensures quiet { StaysQuiet self.old.events self.new.events }
     {
         if self.connections.may_write(key) {
@@ -240,7 +249,7 @@ impl<S: Stream, L: Listener<S>, P: Ready<S>> Clients<S, L, P> {
 
     // The same of one client, which is let go of where it is to be closed, was sent all, and asked for nothing that waits.
     fn send(&mut self, key: usize)
-        ensures later { AllGoOn S.remaining S.contents no_bytes no_requests self.old self.new }
+        ensures later { AllFollow S.remaining S.contents no_bytes no_requests self.old self.new }
         ensures quiet { StaysQuiet self.old.events self.new.events }
     {
         self.send_queued(key);
@@ -279,7 +288,7 @@ impl<S: Stream, L: Listener<S>, P: Ready<S>> Clients<S, L, P> {
 
     // Queues bytes for the client of this number.
     pub(crate) fn give(&mut self, client: u64, bytes: &[u8])
-        ensures later { AllGoOn S.remaining S.contents (bytes_for client bytes.now) no_requests self.old self.new }
+        ensures later { AllFollow S.remaining S.contents (bytes_for client bytes.now) no_requests self.old self.new }
         ensures quiet { StaysQuiet self.old.events self.new.events }
     {
         self.connections.give(client, bytes);
@@ -288,7 +297,7 @@ impl<S: Stream, L: Listener<S>, P: Ready<S>> Clients<S, L, P> {
     // The same, and sends them, so that no client waits for the events of others behind its own. Where its next request is served next, that
     // one's answer goes with this.
     pub(crate) fn hand_out(&mut self, client: u64, bytes: &[u8])
-        ensures later { AllGoOn S.remaining S.contents (bytes_for client bytes.now) no_requests self.old self.new }
+        ensures later { AllFollow S.remaining S.contents (bytes_for client bytes.now) no_requests self.old self.new }
         ensures quiet { StaysQuiet self.old.events self.new.events }
     {
         self.give(client, bytes);
@@ -299,7 +308,7 @@ impl<S: Stream, L: Listener<S>, P: Ready<S>> Clients<S, L, P> {
 
     // Sends what is queued for the client of this number.
     fn send_to(&mut self, client: u64)
-        ensures later { AllGoOn S.remaining S.contents no_bytes no_requests self.old self.new }
+        ensures later { AllFollow S.remaining S.contents no_bytes no_requests self.old self.new }
         ensures quiet { StaysQuiet self.old.events self.new.events }
     {
         if let Some(key) = self.connections.find(client) {
@@ -309,15 +318,27 @@ impl<S: Stream, L: Listener<S>, P: Ready<S>> Clients<S, L, P> {
 
     // Has the client of this number closed, once what is queued for it is sent: the daemon knows of it no more.
     pub(crate) fn release(&mut self, client: u64)
-        ensures later { AllGoOn S.remaining S.contents no_bytes no_requests self.old self.new }
+        ensures later { AllFollow S.remaining S.contents no_bytes no_requests self.old self.new }
         ensures events { self.new.events ≡ self.old.events }
     {
         self.connections.release(client);
     }
 
-    // Lets go of the client of this number, after what is queued for it was sent as far as its stream takes it.
+    // Lets go of the client of this number, after what is queued for it was sent as far as its stream takes it, and of its requests that
+    // wait.
     pub(crate) fn drop_client(&mut self, client: u64)
-        ensures later { AllGoOn S.remaining S.contents no_bytes no_requests self.old self.new }
+        ensures later { AllFollow S.remaining S.contents no_bytes no_requests self.old self.new }
+        ensures gone { IsVacant self.new client }
+        ensures forgotten { asked_in client self.new.events ≡ [] }
+        ensures quiet { StaysQuiet self.old.events self.new.events }
+    {
+        self.let_go_of(client);
+        self.connections.forget(client);
+    }
+
+    // The same, but for its requests.
+    fn let_go_of(&mut self, client: u64)
+        ensures later { AllFollow S.remaining S.contents no_bytes no_requests self.old self.new }
         ensures gone { IsVacant self.new client }
         ensures quiet { StaysQuiet self.old.events self.new.events }
     {

@@ -3,9 +3,10 @@ ghost use Rattle.std.specs.Prelude.{◌≡◌, ◌↔◌, ◌+◌, ◌≤◌, �
 ghost use Rattle.std.specs.Prelude.{IfOk, IfSome, OnOk, OnSome};
 ghost use Rattle.slab.specs.Slab.{get, slab_len};
 ghost use Rattle.mio_clients.specs.Connections.{IsVacant, IsAt, IsAlone, IsAdmitted, IsFull, IsFailedAt};
-ghost use Rattle.mio_clients.specs.Events.{AsksNothing};
+ghost use Rattle.mio_clients.specs.Events.{AsksNothing, without};
 ghost use Rattle.mio_clients.specs.Waiting.{StaysQuiet};
-ghost use Rattle.mio_clients.specs.Later.{no_bytes, no_requests, bytes_for, AllGoOn, IsLater, Loses};
+ghost use Rattle.mio_clients.specs.Later.{no_bytes, no_requests, bytes_for, Loses};
+ghost use Rattle.mio_clients.specs.Leaving.{AllFollow, IsFollowed};
 
 use crate::CLIENT_LIMIT;
 use crate::client::{Client, Reading, Writing};
@@ -17,6 +18,7 @@ use crate::stream::Stream;
 use slab::Slab;
 use std::alloc::{AllocError, Global};
 use std::marker::Model;
+use std::snapshot::Snapshot;
 
 /// The clients that are connected, and what they did and was not served yet.
 #[derive(Drop)]
@@ -24,16 +26,28 @@ pub(crate) struct Connections<S> {
     clients: Slab<Client<S>>,
     queue: EventQueue,
     last_id: u64,
+    // The clients that were let go of since the last turn. They are closed at its end.
+    left: Vec<Client<S>>,
+    gone: Snapshot<Vec<Client<S>>>,
 }
 
 impl<S> Model for Connections<S> {
+    ghost use Rattle.std.specs.Prelude.{◌-◌, vec_len, vec_capacity};
     ghost use Rattle.mio_clients.specs.Connections.{ConnectionsState, AreConnections};
 
     ghost Value = { ConnectionsState S };
 
-    ghost view = { λ c. record { clients = c.clients; events = c.queue.events; last_id = c.last_id; room = c.queue.room } };
+    ghost view = { λ c. record {
+      clients = c.clients;
+      events = c.queue.events;
+      last_id = c.last_id;
+      room = c.queue.room;
+      left = c.left.items;
+      places = vec_capacity c.left - vec_len c.left;
+      gone = c.gone.value.items;
+    } };
 
-    ghost invariant = { λ c. AreConnections c.clients c.queue c.last_id };
+    ghost invariant = { λ c. AreConnections c.clients c.queue c.last_id (vec_capacity c.left - vec_len c.left) };
 }
 
 // Whether memory was refused.
@@ -50,10 +64,14 @@ impl<S: Stream> Connections<S> {
         ensures events { IfOk result (λ c. c.events ≡ []) }
         ensures last_id { IfOk result (λ c. c.last_id ≡ 0) }
     {
+        let left = Vec::new(alloc);
+        let gone = Snapshot::of(&left);
         Ok(Connections {
             clients: Slab::with_capacity(alloc, CLIENT_LIMIT)?,
             queue: EventQueue::new(alloc),
             last_id: 0,
+            left,
+            gone,
         })
     }
 
@@ -117,7 +135,7 @@ impl<S: Stream> Connections<S> {
 
     /// Has the client at a key told of as it needs; `false` where that can't be had.
     pub(crate) fn watch_at<P: Ready<S>>(&mut self, key: usize, ready: &mut P) -> bool
-        ensures later { AllGoOn S.remaining S.contents no_bytes no_requests self.old self.new }
+        ensures later { AllFollow S.remaining S.contents no_bytes no_requests self.old self.new }
         ensures events { self.new.events ≡ self.old.events }
     {
         watch_slot(&mut self.clients, key, ready)
@@ -131,13 +149,24 @@ impl<S: Stream> Connections<S> {
     {
         self.clients.clear();
         self.queue.clear();
+        self.left.clear();
     }
 
-    /// Makes room for the first and the last event of a client that connects.
-    pub(crate) fn reserve(&mut self) -> Result<(), AllocError>
-        ensures same { self.new ≡ record self.old { room = self.new.room } }
-        ensures room { OnOk result (slab_len self.old.clients + 2 ≤ self.new.room) }
+    /// Closes the clients that were let go of.
+    pub(crate) fn close_left(&mut self)
+        ensures { self.new ≡ record self.old { left = []; places = self.new.places; gone = self.old.left } }
     {
+        self.gone = Snapshot::of(&self.left);
+        self.left.clear();
+    }
+
+    /// Makes room for the first and the last event of a client that connects, and for where it is let go of.
+    pub(crate) fn reserve(&mut self) -> Result<(), AllocError>
+        ensures same { self.new ≡ record self.old { room = self.new.room; places = self.new.places } }
+        ensures room { OnOk result (slab_len self.old.clients + 2 ≤ self.new.room) }
+        ensures places { OnOk result (slab_len self.old.clients + 1 ≤ self.new.places) }
+    {
+        self.left.reserve(self.clients.len() + 1)?;
         self.queue.reserve()
     }
 
@@ -151,9 +180,10 @@ impl<S: Stream> Connections<S> {
     /// Takes a client in, with the next number, and gathers its connect.
     pub(crate) fn admit(&mut self, alloc: Global, stream: S)
         requires room { slab_len self.old.clients + 2 ≤ self.old.room }
+        requires places { slab_len self.old.clients + 1 ≤ self.old.places }
         requires not_full { ¬ IsFull self.old }
         ensures admitted { IsAdmitted stream self.old self.new }
-        ensures later { IsLater S.remaining S.contents no_bytes no_requests self.old self.new }
+        ensures later { IsFollowed S.remaining S.contents no_bytes no_requests self.old self.new }
     {
         self.last_id += 1;
         self.queue.connect(self.last_id);
@@ -180,14 +210,14 @@ impl<S: Stream> Connections<S> {
     pub(crate) fn remove(&mut self, key: usize)
         ensures loses { Loses key self.old self.new }
         ensures quiet { StaysQuiet self.old.events self.new.events }
-        ensures later { AllGoOn S.remaining S.contents no_bytes no_requests self.old self.new }
+        ensures later { AllFollow S.remaining S.contents no_bytes no_requests self.old self.new }
     {
-        drop_slot(&mut self.clients, &mut self.queue, key);
+        drop_slot(&mut self.clients, &mut self.queue, &mut self.left, key);
     }
 
     /// Writes to the client at a key what is queued for it.
     pub(crate) fn write_at(&mut self, key: usize) -> Option<Writing>
-        ensures later { AllGoOn S.remaining S.contents no_bytes no_requests self.old self.new }
+        ensures later { AllFollow S.remaining S.contents no_bytes no_requests self.old self.new }
         ensures events { self.new.events ≡ self.old.events }
         ensures failed { result ≡ Some Writing.Failed → IsFailedAt S.remaining S.contents S.failed key self.old self.new }
     {
@@ -202,37 +232,45 @@ impl<S: Stream> Connections<S> {
         key: usize,
         buffer: &mut [u8],
     ) -> Option<Reading>
-        ensures later { AllGoOn S.remaining S.contents no_bytes no_requests self.old self.new }
+        ensures later { AllFollow S.remaining S.contents no_bytes no_requests self.old self.new }
         ensures failed { result ≡ Some Reading.Failed → IsFailedAt S.remaining S.contents S.failed key self.old self.new }
     {
         let reading = read_slot(alloc, &mut self.clients, key, buffer, &mut self.queue);
         if is_refused(reading) {
-            drop_slot(&mut self.clients, &mut self.queue, key);
+            drop_slot(&mut self.clients, &mut self.queue, &mut self.left, key);
         }
         reading
     }
 
     /// Queues bytes for the client of this number. It is let go of where they are too many, or where memory was refused.
     pub(crate) fn give(&mut self, id: u64, bytes: &[u8])
-        ensures later { AllGoOn S.remaining S.contents (bytes_for id bytes.now) no_requests self.old self.new }
+        ensures later { AllFollow S.remaining S.contents (bytes_for id bytes.now) no_requests self.old self.new }
         ensures quiet { StaysQuiet self.old.events self.new.events }
     {
         let Some(key) = self.find(id) else {
             return;
         };
         if !queue_slot(&mut self.clients, key, bytes) {
-            drop_slot(&mut self.clients, &mut self.queue, key);
+            drop_slot(&mut self.clients, &mut self.queue, &mut self.left, key);
         }
     }
 
     /// Has the client of this number closed, once what is queued for it is sent: the daemon knows of it no more.
     pub(crate) fn release(&mut self, id: u64)
-        ensures later { AllGoOn S.remaining S.contents no_bytes no_requests self.old self.new }
+        ensures later { AllFollow S.remaining S.contents no_bytes no_requests self.old self.new }
         ensures events { self.new.events ≡ self.old.events }
     {
         if let Some(key) = self.find(id) {
             release_slot(&mut self.clients, key);
         }
+    }
+
+    /// Lets go of the requests of the client of this number that wait. It isn't there any more.
+    pub(crate) fn forget(&mut self, id: u64)
+        requires vacant { IsVacant self.old id }
+        ensures same { self.new ≡ record self.old { events = without id self.old.events; room = self.new.room } }
+    {
+        self.queue.forget(id);
     }
 
     /// Whether the first event that waits is a request of this client.

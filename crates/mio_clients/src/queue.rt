@@ -1,6 +1,6 @@
 // Events that wait to be served.
 ghost use Rattle.std.specs.Prelude.{◌≡◌, ◌+◌, ◌-◌, ◌<◌, ◌≤◌, ◌∷◌, ◌++◌, [], length, IfSome, MatchOption, OnOk, OnErr};
-ghost use Rattle.mio_clients.specs.Events.{asked_by};
+ghost use Rattle.mio_clients.specs.Events.{asked_by, is_request_of, without};
 
 use crate::event::ClientEvent;
 use client_session::Requests;
@@ -33,7 +33,9 @@ impl Model for EventQueue {
 }
 
 // Whether an event is a request of this client.
-fn is_request_of(event: &ClientEvent, client: u64) -> bool {
+fn is_request_of(event: &ClientEvent, client: u64) -> bool
+    ensures { result ≡ is_request_of client event.now }
+{
     match event {
         ClientEvent::Request(id, _) => *id == client,
         ClientEvent::Connect(_) | ClientEvent::Gone(_) => false,
@@ -116,6 +118,24 @@ impl EventQueue {
                 .push_back_reserved(ClientEvent::Request(client, request));
         }
         Ok(())
+    }
+
+    /// Lets go of the requests of this client.
+    pub(crate) fn forget(&mut self, client: u64)
+        ensures events { self.new.events ≡ without client self.old.events }
+        ensures spare { self.new.spare ≡ self.old.spare }
+    {
+        // Each event is taken from the front, and put to the end where it stays.
+        let mut left = self.events.len();
+        while left > 0 {
+            left -= 1;
+            let Some(event) = self.events.pop_front() else {
+                return;
+            };
+            if !is_request_of(&event, client) {
+                self.events.push_back_reserved(event);
+            }
+        }
     }
 
     /// Whether the first event is a request of this client.

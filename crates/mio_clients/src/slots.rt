@@ -1,8 +1,9 @@
 // One client where it stands.
-ghost use Rattle.std.specs.Prelude.{◌≡◌, ◌≢◌, ◌≤◌, ◌++◌, ℕ, [], None, Some, true, IsTrue, IsSome, IfSome, IfNone, IsSomeAnd};
+ghost use Rattle.std.specs.Prelude.{◌≡◌, ◌≢◌, ◌≤◌, ◌-◌, ◌++◌, ℕ, [], None, Some, true, vec_len, vec_capacity, IsTrue, IsSome, IfSome, IfNone, IsSomeAnd};
+ghost use Rattle.std.specs.Option.{option_to_list};
 ghost use Rattle.slab.specs.Slab.{get, slab_len};
 ghost use Rattle.mio_clients.specs.Given.{Moves};
-ghost use Rattle.mio_clients.specs.Connections.{Gathers, IsSameElsewhere, IsMovedAt, IsReadAt, IsToldGone};
+ghost use Rattle.mio_clients.specs.Connections.{ReadsInPart, IsSameElsewhere, IsMovedAt, IsReadAt, IsToldGone};
 
 use crate::client::{Client, Reading, Writing};
 use crate::queue::EventQueue;
@@ -30,7 +31,7 @@ pub(crate) fn write_slot<S: Stream>(clients: &mut Slab<Client<S>>, key: usize) -
 
 // Reads of the client at this key what is there, unless something is queued for it or it is to be closed. After `Refused` it is not to be
 // used any more.
-#[tactic(auto, using(crate::proofs::ConnectionLaws::len_with_value, crate::proofs::GivenLaws::reads_flag, crate::proofs::GivenLaws::reads_none, crate::proofs::GivenLaws::moves_itself))]
+#[tactic(auto, using(crate::proofs::ConnectionLaws::len_with_value, crate::proofs::GivenLaws::reads_flag, crate::proofs::GivenLaws::part_flag, crate::proofs::GivenLaws::reads_none, crate::proofs::GivenLaws::moves_itself))]
 pub(crate) fn read_slot<S: Stream>(
     alloc: Global,
     clients: &mut Slab<Client<S>>,
@@ -46,7 +47,7 @@ pub(crate) fn read_slot<S: Stream>(
     ensures there { IfSome result (λ _. IsSome (get clients.old key)) }
     ensures failed { result ≡ Some Reading.Failed → IsSomeAnd (get clients.new key) (λ client. S.failed client.stream ≡ true) }
     ensures refused { result ≡ Some Reading.Refused
-        → IsSomeAnd (get clients.old key) (λ client. Gathers client.id queue.old.events queue.new.events) }
+        → IsMovedAt (λ x y. ReadsInPart S.remaining S.contents x y queue.old.events queue.new.events) key clients.old clients.new }
     ensures spare { queue.new.spare ≡ queue.old.spare }
 {
     match clients.get_mut(key) {
@@ -66,6 +67,7 @@ pub(crate) fn read_slot<S: Stream>(
 #[tactic(auto, using(crate::proofs::ConnectionLaws::len_with_value))]
 pub(crate) fn queue_slot<S: Stream>(clients: &mut Slab<Client<S>>, key: usize, bytes: &[u8]) -> bool
     ensures elsewhere { IsSameElsewhere key clients.old clients.new }
+    ensures session { IsMovedAt (λ x y. y ≡ record x { session = y.session }) key clients.old clients.new }
     ensures queued { IsTrue result → IsMovedAt (λ x y. y ≡ record x { session = record x.session { queued = x.session.queued ++ bytes.now } })
         key clients.old clients.new }
 {
@@ -107,16 +109,20 @@ pub(crate) fn watch_slot<S: Stream, P: Ready<S>>(
     }
 }
 
-// Lets go of the client at this key. Its last event is gathered, unless the daemon has closed it itself.
+// Lets go of the client at this key, for which there is a place. Its last event is gathered, unless the daemon has closed it itself.
 pub(crate) fn drop_slot<S: Stream>(
     clients: &mut Slab<Client<S>>,
     queue: &mut EventQueue,
+    left: &mut Vec<Client<S>>,
     key: usize,
 )
     requires spare { queue.old.spare ≡ slab_len clients.old }
+    requires places { slab_len clients.old ≤ vec_capacity left.old - vec_len left.old }
     ensures gone { get clients.new key ≡ None }
     ensures others { (other : ℕ) → other ≢ key → get clients.new other ≡ get clients.old other }
     ensures told { IsToldGone (get clients.old key) queue.old.events queue.new.events }
+    ensures left { left.new.items ≡ left.old.items ++ option_to_list (get clients.old key) }
+    ensures places { slab_len clients.new ≤ vec_capacity left.new - vec_len left.new }
     ensures spare { queue.new.spare ≡ slab_len clients.new }
     ensures fewer { slab_len clients.new ≤ slab_len clients.old }
     ensures capacity { clients.new.capacity ≡ clients.old.capacity }
@@ -129,4 +135,5 @@ pub(crate) fn drop_slot<S: Stream>(
     } else {
         queue.end(client.id);
     }
+    left.push_reserved(client);
 }

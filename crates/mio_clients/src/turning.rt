@@ -3,7 +3,8 @@ ghost use Rattle.std.specs.Prelude.{◌≡◌, ◌+◌, ◌<◌, ◌≤◌, ℕ,
 ghost use Rattle.slab.specs.Slab.{slab_len};
 ghost use Rattle.mio_clients.specs.Events.{asked_by_event};
 ghost use Rattle.mio_clients.specs.Waiting.{QuietBehind, StaysQuiet, TakesFirst};
-ghost use Rattle.mio_clients.specs.Later.{no_bytes, no_requests, AllGoOn, IsLater};
+ghost use Rattle.mio_clients.specs.Later.{no_bytes, no_requests, IsLater};
+ghost use Rattle.mio_clients.specs.Leaving.{AllFollow, AllLeave};
 ghost use Rattle.mio_clients.specs.Parts.{bytes_in, requests_in, served_count, refuses, RefusesLast, IsServedAll};
 ghost use Rattle.mio_clients.specs.Parts.{sent_by, sent_by_all, sent_by_served, asked_of, IsKeptOf, IsKeptAs, KeepsNoRequest, Serves};
 ghost use Rattle.mio_clients.specs.Parts.{stage_event_of, goes_on_behind};
@@ -67,6 +68,9 @@ impl<S: Stream, L: Listener<S>, P: Ready<S>> Clients<S, L, P> {
     ) -> Result<(Vec<Part<D>>, Pass<C, Q, T>), (u8, Pass<C, Q, T>)>
         // Of each client that is connected in the end: the bytes that it was given in the parts, and its requests that they carry.
         ensures later { IfOk result (λ r. IsLater S.remaining S.contents (bytes_in r.0.items) (requests_in r.0.items) self.old self.new) }
+        // Of each client that was let go of, and of those that were not there: the bytes that it took, and its requests that were served.
+        ensures left { IfOk result (λ r. AllLeave S.remaining S.contents (bytes_in r.0.items) (requests_in r.0.items)
+            self.old self.new self.new.gone) }
         ensures share { IfOk result (λ r. (r.1.kind ≡ pass.kind) × (r.1.share ≡ pass.share + served_count r.0.items)) }
         ensures seen { IfOk result (λ r. pass.seen ≤ r.1.seen) }
         ensures refused { IfOk result (λ r. RefusesLast r.0.items) }
@@ -78,9 +82,11 @@ impl<S: Stream, L: Listener<S>, P: Ready<S>> Clients<S, L, P> {
         if parts.reserve(1).is_err() {
             return Err((ClientsError::NoMemory.number(), pass));
         }
+        self.close_left();
         self.gather(alloc);
         let pass = self.serve_all(rt, alloc, stage, pass, &mut parts);
         self.send_all();
+        self.close_left();
         Ok((parts, pass))
     }
 
@@ -95,7 +101,7 @@ impl<S: Stream, L: Listener<S>, P: Ready<S>> Clients<S, L, P> {
     ) -> Pass<C, Q, T>
         requires empty { parts.old.items ≡ [] }
         requires room { vec_len parts.old < vec_capacity parts.old }
-        ensures later { AllGoOn S.remaining S.contents (bytes_in parts.new.items) (requests_in parts.new.items) self.old self.new }
+        ensures later { AllFollow S.remaining S.contents (bytes_in parts.new.items) (requests_in parts.new.items) self.old self.new }
         ensures share { (result.kind ≡ pass.kind) × (result.share ≡ pass.share + served_count parts.new.items) }
         ensures seen { pass.seen ≤ result.seen }
         ensures refused { RefusesLast parts.new.items }
@@ -197,7 +203,7 @@ impl<S: Stream, L: Listener<S>, P: Ready<S>> Clients<S, L, P> {
 
     // Gives each output to its client, and sends it.
     fn give_outputs(&mut self, outputs: &[Output])
-        ensures later { AllGoOn S.remaining S.contents (sent_by outputs.now) no_requests self.old self.new }
+        ensures later { AllFollow S.remaining S.contents (sent_by outputs.now) no_requests self.old self.new }
         ensures quiet { StaysQuiet self.old.events self.new.events }
     {
         let mut rest = outputs;
@@ -208,14 +214,14 @@ impl<S: Stream, L: Listener<S>, P: Ready<S>> Clients<S, L, P> {
     }
 
     fn give_outbox(&mut self, outbox: &Outbox)
-        ensures later { AllGoOn S.remaining S.contents (sent_by_all outbox.now) no_requests self.old self.new }
+        ensures later { AllFollow S.remaining S.contents (sent_by_all outbox.now) no_requests self.old self.new }
         ensures quiet { StaysQuiet self.old.events self.new.events }
     {
         self.give_each(outbox.as_slice());
     }
 
     fn give_each(&mut self, events: &[Outputs])
-        ensures later { AllGoOn S.remaining S.contents (sent_by_all events.now) no_requests self.old self.new }
+        ensures later { AllFollow S.remaining S.contents (sent_by_all events.now) no_requests self.old self.new }
         ensures quiet { StaysQuiet self.old.events self.new.events }
     {
         let mut rest = events;
@@ -227,7 +233,7 @@ impl<S: Stream, L: Listener<S>, P: Ready<S>> Clients<S, L, P> {
 
     // Gives what an event came to, and closes the clients that it closed.
     fn give_served<D: Disk>(&mut self, served: &Served<D>)
-        ensures later { AllGoOn S.remaining S.contents (sent_by_served served.now) no_requests self.old self.new }
+        ensures later { AllFollow S.remaining S.contents (sent_by_served served.now) no_requests self.old self.new }
         ensures quiet { StaysQuiet self.old.events self.new.events }
     {
         self.give_outbox(&served.before);
@@ -236,7 +242,7 @@ impl<S: Stream, L: Listener<S>, P: Ready<S>> Clients<S, L, P> {
     }
 
     fn release_each(&mut self, clients: &[u64])
-        ensures later { AllGoOn S.remaining S.contents no_bytes no_requests self.old self.new }
+        ensures later { AllFollow S.remaining S.contents no_bytes no_requests self.old self.new }
         ensures events { self.new.events ≡ self.old.events }
     {
         for client in clients {

@@ -1,6 +1,6 @@
 use Rattle.std.proofs.Common.{◌≡◌, inl, ◌∙◌}
 use Rattle.mio_clients.specs.declared.client.Reading.TheVariants.{More}
-use Rattle.mio_clients.proofs.GivenLaws.{reads_twice, same_but_read}
+use Rattle.mio_clients.proofs.GivenLaws.{reads_twice, same_but_read, part_behind}
 use Rattle.mio_clients.proofs.client.Client.read_often.Goals as goal
 
 pub returns-then-not-is_more-clause-reads : goal.returns-then-not-is_more-clause-reads
@@ -8,6 +8,12 @@ returns-then-not-is_more-clause-reads g c =
     λ ok. reads_twice g.S.Stream.remaining g.S.Stream.contents c.args.self.now c.loop-call.self c.read_once-reading.new.self
     c.args.queue.now.events c.loop-call.queue.events c.read_once-reading.new.queue.events c.loop-call.invariant.reads
     (c.read_once-reading.ensures.reads ok)
+
+pub returns-then-not-is_more-clause-refused : goal.returns-then-not-is_more-clause-refused
+returns-then-not-is_more-clause-refused g c =
+    λ no. part_behind g.S.Stream.remaining g.S.Stream.contents c.args.self.now c.loop-call.self c.read_once-reading.new.self
+    c.args.queue.now.events c.loop-call.queue.events c.read_once-reading.new.queue.events c.requires.reading c.loop-call.invariant.reads
+    (c.read_once-reading.ensures.refused no)
 
 pub loop-call-preserved : goal.loop-call-preserved
 loop-call-preserved g c =

@@ -1,7 +1,9 @@
 use Rattle.std.proofs.Common.{◌≡◌, subst, sym, inl, inr, refl, ◌∙◌}
 use Rattle.mio_clients.specs.Connections.{ConnectionsState, IsFull}
-use Rattle.mio_clients.specs.Later.{IsLater, Accepts, no_bytes, no_requests}
-use Rattle.mio_clients.proofs.LaterLaws.{later_itself, later_room, later_more, later_roomy, accepts_none}
+use Rattle.mio_clients.specs.Later.{Accepts, no_bytes, no_requests}
+use Rattle.mio_clients.specs.Leaving.{IsFollowed}
+use Rattle.mio_clients.proofs.LaterLaws.{accepts_none}
+use Rattle.mio_clients.proofs.FollowLaws.{later_itself, later_room, later_more, later_roomy}
 use Rattle.mio_clients.proofs.AcceptLaws.{accepts_twice, accepts_room, accepts_roomy, full_room, refused_is}
 use Rattle.mio_clients.proofs.clients.Clients.accept_all.Goals as goal
 use Rattle.mio_clients.proofs.clients.Clients.accept_all.Goals.{in-Ok+then-not-admit, in-Ok+else-not-admit, in-Err+in-Interrupted}
@@ -17,16 +19,16 @@ pub returns-then-is_err-clause-later : goal.returns-then-is_err-clause-later
 returns-then-is_err-clause-later g c =
     let rem = g.S.Stream.remaining in
     let con = g.S.Stream.contents in
-    let made : c.reserve.new.self ≡ record c.loop-call.self { room = c.reserve.new.self.room } =
-    subst (λ (s : ConnectionsState g.row.S.Denot). c.reserve.new.self ≡ record s { room = c.reserve.new.self.room }) c.self-in-loop-call.view_is c.reserve.ensures.same in
+    let made : c.reserve.new.self ≡ record c.loop-call.self { room = c.reserve.new.self.room; places = c.reserve.new.self.places } =
+    subst (λ (s : ConnectionsState g.row.S.Denot). c.reserve.new.self ≡ record s { room = c.reserve.new.self.room; places = c.reserve.new.self.places }) c.self-in-loop-call.view_is c.reserve.ensures.same in
     later_more rem con c.args.self.now c.loop-call.self c.reserve.new.self
-    (subst (λ (s : ConnectionsState g.row.S.Denot). IsLater rem con no_bytes no_requests s c.loop-call.self) c.self.view_is c.loop-call.invariant.later)
+    (subst (λ (s : ConnectionsState g.row.S.Denot). IsFollowed rem con no_bytes no_requests s c.loop-call.self) c.self.view_is c.loop-call.invariant.later)
     (later_room rem con c.loop-call.self c.reserve.new.self made)
 
 pub returns-then-is_err-clause-accepted : goal.returns-then-is_err-clause-accepted
 returns-then-is_err-clause-accepted g c =
-    let made : c.reserve.new.self ≡ record c.loop-call.self { room = c.reserve.new.self.room } =
-    subst (λ (s : ConnectionsState g.row.S.Denot). c.reserve.new.self ≡ record s { room = c.reserve.new.self.room }) c.self-in-loop-call.view_is c.reserve.ensures.same in
+    let made : c.reserve.new.self ≡ record c.loop-call.self { room = c.reserve.new.self.room; places = c.reserve.new.self.places } =
+    subst (λ (s : ConnectionsState g.row.S.Denot). c.reserve.new.self ≡ record s { room = c.reserve.new.self.room; places = c.reserve.new.self.places }) c.self-in-loop-call.view_is c.reserve.ensures.same in
     accepts_twice c.args.self.now c.loop-call.self c.reserve.new.self
     (subst (λ (s : ConnectionsState g.row.S.Denot). Accepts s c.loop-call.self) c.self.view_is c.loop-call.invariant.accepted)
     (accepts_room c.loop-call.self c.reserve.new.self made)
@@ -35,11 +37,11 @@ pub returns-in_default : goal.returns-in_default
 returns-in_default g c =
     let rem = g.S.Stream.remaining in
     let con = g.S.Stream.contents in
-    let made : c.reserve.new.self ≡ record c.loop-call.self { room = c.reserve.new.self.room } =
-    subst (λ (s : ConnectionsState g.row.S.Denot). c.reserve.new.self ≡ record s { room = c.reserve.new.self.room }) c.self-in-loop-call.view_is c.reserve.ensures.same in
+    let made : c.reserve.new.self ≡ record c.loop-call.self { room = c.reserve.new.self.room; places = c.reserve.new.self.places } =
+    subst (λ (s : ConnectionsState g.row.S.Denot). c.reserve.new.self ≡ record s { room = c.reserve.new.self.room; places = c.reserve.new.self.places }) c.self-in-loop-call.view_is c.reserve.ensures.same in
     record {
       later = later_more rem con c.args.self.now c.loop-call.self c.reserve.new.self
-          (subst (λ (s : ConnectionsState g.row.S.Denot). IsLater rem con no_bytes no_requests s c.loop-call.self) c.self.view_is c.loop-call.invariant.later)
+          (subst (λ (s : ConnectionsState g.row.S.Denot). IsFollowed rem con no_bytes no_requests s c.loop-call.self) c.self.view_is c.loop-call.invariant.later)
           (later_room rem con c.loop-call.self c.reserve.new.self made);
       accepted = accepts_twice c.args.self.now c.loop-call.self c.reserve.new.self
           (subst (λ (s : ConnectionsState g.row.S.Denot). Accepts s c.loop-call.self) c.self.view_is c.loop-call.invariant.accepted)
@@ -58,19 +60,19 @@ loop-call-preserved g c =
     let a : ConnectionsState g.row.S.Denot = c.self.inside.connections in
     let b : ConnectionsState g.row.S.Denot = c.loop-call.self in
     let m : ConnectionsState g.row.S.Denot = c.reserve.new.self in
-    let made : m ≡ record b { room = m.room } =
-    subst (λ (s : ConnectionsState g.row.S.Denot). m ≡ record s { room = m.room }) c.self-in-loop-call.view_is c.reserve.ensures.same in
+    let made : m ≡ record b { room = m.room; places = m.places } =
+    subst (λ (s : ConnectionsState g.row.S.Denot). m ≡ record s { room = m.room; places = m.places }) c.self-in-loop-call.view_is c.reserve.ensures.same in
     let i = c.loop-call.invariant in
     elim c.match-accept.branch [
       | in-Ok+then-not-admit w ↦ record {
-        later = subst (λ (s : ConnectionsState g.row.S.Denot). IsLater rem con no_bytes no_requests a s) (sym w.self-is)
+        later = subst (λ (s : ConnectionsState g.row.S.Denot). IsFollowed rem con no_bytes no_requests a s) (sym w.self-is)
             (later_roomy rem con a b m w.admit.new.self made i.later w.admit.ensures.later);
         accepted = subst (λ (s : ConnectionsState g.row.S.Denot). Accepts a s) (sym w.self-is)
             (accepts_roomy a b m w.admit.new.self made i.accepted w.admit.ensures.accepted);
         full = inr (w.result-is, subst (λ (s : ConnectionsState g.row.S.Denot). IsFull s) (sym w.self-is) (w.admit.ensures.full (inl w.if-not-admit.true)));
       }
       | in-Ok+else-not-admit w ↦ record {
-        later = subst (λ (s : ConnectionsState g.row.S.Denot). IsLater rem con no_bytes no_requests a s) (sym w.self-is)
+        later = subst (λ (s : ConnectionsState g.row.S.Denot). IsFollowed rem con no_bytes no_requests a s) (sym w.self-is)
             (later_roomy rem con a b m w.admit.new.self made i.later w.admit.ensures.later);
         accepted = subst (λ (s : ConnectionsState g.row.S.Denot). Accepts a s) (sym w.self-is)
             (accepts_roomy a b m w.admit.new.self made i.accepted w.admit.ensures.accepted);
@@ -84,7 +86,7 @@ loop-call-preserved g c =
         ];
       }
       | in-Err+in-Interrupted w ↦ record {
-        later = subst (λ (s : ConnectionsState g.row.S.Denot). IsLater rem con no_bytes no_requests a s) (sym w.self-is)
+        later = subst (λ (s : ConnectionsState g.row.S.Denot). IsFollowed rem con no_bytes no_requests a s) (sym w.self-is)
             (later_more rem con a b m i.later (later_room rem con b m made));
         accepted = subst (λ (s : ConnectionsState g.row.S.Denot). Accepts a s) (sym w.self-is)
             (accepts_twice a b m i.accepted (accepts_room b m made));

@@ -1,7 +1,8 @@
 use Rattle.std.proofs.Common.{subst}
 use Rattle.mio_clients.specs.Connections.{ConnectionsState}
-use Rattle.mio_clients.specs.Later.{IsLater, no_bytes, no_requests}
-use Rattle.mio_clients.proofs.LaterLaws.{later_itself}
+use Rattle.mio_clients.specs.Later.{no_bytes, no_requests}
+use Rattle.mio_clients.specs.Leaving.{IsFollowed}
+use Rattle.mio_clients.proofs.FollowLaws.{later_itself}
 use Rattle.mio_clients.proofs.clients.Clients.admit.Goals as goal
 
 pub returns-then-is_full-clause-later : goal.returns-then-is_full-clause-later
@@ -11,10 +12,10 @@ pub returns-then-is_ok-clause-later : goal.returns-then-is_ok-clause-later
 returns-then-is_ok-clause-later g c =
     let rem = g.S.Stream.remaining in
     let con = g.S.Stream.contents in
-    subst (λ (s : ConnectionsState g.row.S.Denot). IsLater rem con no_bytes no_requests s c.admit.new.self) c.self.view_is c.admit.ensures.later
+    subst (λ (s : ConnectionsState g.row.S.Denot). IsFollowed rem con no_bytes no_requests s c.admit.new.self) c.self.view_is c.admit.ensures.later
 
 pub returns-else-is_ok-clause-later : goal.returns-else-is_ok-clause-later
 returns-else-is_ok-clause-later g c =
     let rem = g.S.Stream.remaining in
     let con = g.S.Stream.contents in
-    subst (λ (s : ConnectionsState g.row.S.Denot). IsLater rem con no_bytes no_requests s c.self.inside.connections) c.self.view_is (later_itself rem con c.self.inside.connections)
+    subst (λ (s : ConnectionsState g.row.S.Denot). IsFollowed rem con no_bytes no_requests s c.self.inside.connections) c.self.view_is (later_itself rem con c.self.inside.connections)

@@ -1,7 +1,8 @@
 use Rattle.std.proofs.Common.{subst, sym}
 use Rattle.mio_clients.specs.Connections.{ConnectionsState}
-use Rattle.mio_clients.specs.Later.{AllGoOn, IsLater, no_bytes, no_requests}
-use Rattle.mio_clients.proofs.LaterLaws.{all_itself, all_then_none, later_more, all_is_later}
+use Rattle.mio_clients.specs.Later.{no_bytes, no_requests}
+use Rattle.mio_clients.specs.Leaving.{AllFollow, IsFollowed}
+use Rattle.mio_clients.proofs.FollowLaws.{all_itself, all_then_none, later_more, all_is_later}
 use Rattle.mio_clients.proofs.clients.Clients.gather.Goals as goal
 use Rattle.mio_clients.proofs.clients.Clients.gather.Goals.{else-loop-token-test, then-loop-token-test+in_default}
 
@@ -13,7 +14,7 @@ loop-token-preserved g c =
     let rem = g.S.Stream.remaining in
     let con = g.S.Stream.contents in
     all_then_none rem con _ c.loop-token.self c.take_token.new.self no_bytes no_requests c.loop-token.invariant
-    (subst (λ (s : ConnectionsState g.row.S.Denot). AllGoOn rem con no_bytes no_requests s c.take_token.new.self) c.self-in-loop-token.view_is c.take_token.ensures.later)
+    (subst (λ (s : ConnectionsState g.row.S.Denot). AllFollow rem con no_bytes no_requests s c.take_token.new.self) c.self-in-loop-token.view_is c.take_token.ensures.later)
 
 pub returns-then-self : goal.returns-then-self
 returns-then-self g c =
@@ -21,12 +22,12 @@ returns-then-self g c =
     let con = g.S.Stream.contents in
     let a : ConnectionsState g.row.S.Denot = c.self.inside.connections in
     let b : ConnectionsState g.row.S.Denot = c.loop-token-test.self in
-    let gathered : AllGoOn rem con no_bytes no_requests a b =
+    let gathered : AllFollow rem con no_bytes no_requests a b =
     elim c.loop-token-test.branch [
-      | else-loop-token-test w ↦ subst (λ (s : ConnectionsState g.row.S.Denot). AllGoOn rem con no_bytes no_requests a s) (sym w.self-is) c.loop-token.invariant
-      | then-loop-token-test+in_default w ↦ subst (λ (s : ConnectionsState g.row.S.Denot). AllGoOn rem con no_bytes no_requests a s) (sym w.self-is)
-          (subst (λ (s : ConnectionsState g.row.S.Denot). AllGoOn rem con no_bytes no_requests a s) (sym w.self-in-loop-token.view_is) c.loop-token.invariant)
+      | else-loop-token-test w ↦ subst (λ (s : ConnectionsState g.row.S.Denot). AllFollow rem con no_bytes no_requests a s) (sym w.self-is) c.loop-token.invariant
+      | then-loop-token-test+in_default w ↦ subst (λ (s : ConnectionsState g.row.S.Denot). AllFollow rem con no_bytes no_requests a s) (sym w.self-is)
+          (subst (λ (s : ConnectionsState g.row.S.Denot). AllFollow rem con no_bytes no_requests a s) (sym w.self-in-loop-token.view_is) c.loop-token.invariant)
     ] in
-    let later : IsLater rem con no_bytes no_requests a c.accept_all-refused.new.self =
+    let later : IsFollowed rem con no_bytes no_requests a c.accept_all-refused.new.self =
     later_more rem con a b c.accept_all-refused.new.self (all_is_later rem con a b no_bytes no_requests gathered) c.accept_all-refused.ensures.later in
-    record { later = subst (λ (s : ConnectionsState g.row.S.Denot). IsLater rem con no_bytes no_requests s c.accept_all-refused.new.self) c.self.view_is later }
+    record { later = subst (λ (s : ConnectionsState g.row.S.Denot). IsFollowed rem con no_bytes no_requests s c.accept_all-refused.new.self) c.self.view_is later }

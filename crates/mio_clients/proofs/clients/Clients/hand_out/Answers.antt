@@ -1,5 +1,5 @@
 use Rattle.mio_clients.specs.Later.{bytes_for, no_requests}
-use Rattle.mio_clients.proofs.LaterLaws.{all_then_none}
+use Rattle.mio_clients.proofs.FollowLaws.{all_then_none}
 use Rattle.mio_clients.proofs.clients.Clients.hand_out.Goals as goal
 
 pub returns-then-not-is_next-clause-later : goal.returns-then-not-is_next-clause-later

@@ -1,6 +1,6 @@
 use Rattle.std.proofs.Common.{refl, ◌∙◌}
 use Rattle.mio_clients.specs.Later.{no_bytes, no_requests}
-use Rattle.mio_clients.proofs.LaterLaws.{all_itself, all_then_none}
+use Rattle.mio_clients.proofs.FollowLaws.{all_itself, all_then_none}
 use Rattle.mio_clients.proofs.clients.Clients.release_each.Goals as goal
 
 pub loop-client-init : goal.loop-client-init

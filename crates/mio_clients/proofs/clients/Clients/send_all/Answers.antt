@@ -1,5 +1,5 @@
 use Rattle.mio_clients.specs.Later.{no_bytes, no_requests}
-use Rattle.mio_clients.proofs.LaterLaws.{all_itself, all_then_none}
+use Rattle.mio_clients.proofs.FollowLaws.{all_itself, all_then_none}
 use Rattle.mio_clients.proofs.clients.Clients.send_all.Goals as goal
 
 pub loop-key-init : goal.loop-key-init

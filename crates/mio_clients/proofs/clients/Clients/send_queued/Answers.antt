@@ -1,4 +1,4 @@
-use Rattle.mio_clients.proofs.LaterLaws.{all_itself}
+use Rattle.mio_clients.proofs.FollowLaws.{all_itself}
 use Rattle.mio_clients.proofs.clients.Clients.send_queued.Goals as goal
 
 pub returns-else-may_write-clause-later : goal.returns-else-may_write-clause-later

@@ -1,4 +1,4 @@
-use Rattle.mio_clients.proofs.LaterLaws.{all_itself}
+use Rattle.mio_clients.proofs.FollowLaws.{all_itself}
 use Rattle.mio_clients.proofs.clients.Clients.send_to.Goals as goal
 
 pub returns-in_default-clause-later : goal.returns-in_default-clause-later

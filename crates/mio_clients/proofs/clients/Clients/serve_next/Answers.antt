@@ -2,7 +2,7 @@ use Rattle.std.proofs.Common.{refl, sym, subst, inl, inr, ◌∙◌, ap, List, �
 use Rattle.mio_clients.specs.declared.part.Part.{Part}
 use Rattle.mio_clients.specs.declared.part.Part.TheVariants.{Served, Refused}
 use Rattle.mio_clients.specs.Parts.{IsRefusal}
-use Rattle.mio_clients.proofs.LaterLaws.{all_itself}
+use Rattle.mio_clients.proofs.FollowLaws.{all_itself}
 use Rattle.mio_clients.proofs.TurnLaws.{serves_refusal, serves_nothing, serves_one, all_as, all_kept, stage_refusal}
 use Rattle.mio_clients.proofs.clients.Clients.serve_next.Goals as goal
 

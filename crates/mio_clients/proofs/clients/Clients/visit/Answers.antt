@@ -1,5 +1,5 @@
 use Rattle.mio_clients.specs.Later.{no_bytes, no_requests}
-use Rattle.mio_clients.proofs.LaterLaws.{all_then_none}
+use Rattle.mio_clients.proofs.FollowLaws.{all_then_none}
 use Rattle.mio_clients.proofs.clients.Clients.visit.Goals as goal
 
 pub returns : goal.returns
