@@ -15,14 +15,14 @@ STATUS = """volume: 100|repeat: 0|random: 0|single: 0|consume: 0|playlist: 2|pla
 nextsongid: 2|partition: default|mixrampdb: 0""".replace("\n", "|").split("|")
 NAMES = """albumart binarylimit channels crossfade decoders disableoutput enableoutput getvol listmounts listneighbors listpartitions
 mixrampdb mixrampdelay outputs outputset partition password playlist readcomments readpicture replay_gain_mode replay_gain_status
-sendmessage toggleoutput urlhandlers""".split()
+sendmessage toggleoutput urlhandlers volume""".split()
 NO_OUTPUT, ALWAYS_ON = "50 No such audio output", "2 the only output is always on"
 NO_CROSSFADE, NO_MIXRAMP, NO_GAIN = "2 no crossfade here", "2 no mixramp here", "2 Unrecognized replay gain mode"
 # The names, each with how many arguments it has.
 COUNTS = {it: 0 for it in """channels decoders getvol listmounts listneighbors listpartitions outputs playlist replay_gain_status
 urlhandlers""".split()}
 COUNTS |= {it: 1 for it in """binarylimit crossfade disableoutput enableoutput mixrampdb mixrampdelay partition password readcomments
-replay_gain_mode toggleoutput""".split()}
+replay_gain_mode toggleoutput volume""".split()}
 COUNTS |= {"albumart": 2, "readpicture": 2, "sendmessage": 2, "outputset": 3}
 
 ROWS = [
@@ -110,7 +110,6 @@ ROWS = [
     ('list album "say \\"x\\""', []),
     ("list Artist One", '2 wrong number of arguments for "list"'),
     ("list AlbumArtist One", '2 wrong number of arguments for "list"'),
-    ("list Album group Artist", '2 unknown tag "group"'),
     ("list Title filename d/e.wav", ['Title: say "x"']),
     ("list Title Composer x", []),
     ('list Genre Performer ""', ["Genre: Folk"]),
@@ -152,7 +151,12 @@ ROWS = [
     ("currentsong", QUEUE[0]),
     ("playlistinfo 2:4", [*QUEUE[2], *QUEUE[3]]),
     ("config", '5 unknown command "config"'),
-    ("volume 5", '5 unknown command "volume"'),
+    # What is asked in steps, of which a list has none.
+    ("volume x", "2 bad argument 1"),
+    ("volume 101", "2 bad argument 1"),
+    ("volume -101", "2 bad argument 1"),
+    ('volume ""', "2 bad argument 1"),
+    ("list foo group Artist", '2 unknown tag "foo"'),
     ("subscribe x", '5 unknown command "subscribe"'),
     ("Outputs", '5 unknown command "Outputs"'),
     ("", "5 No command given"),
@@ -167,3 +171,44 @@ def refusal(request, text, index=0):
     code, _, said = text.partition(" ")
     is_named = text not in UNNAMED and not text.startswith("5 unknown command")
     return f"ACK [{code}@{index}] {{{request.split()[0].strip(chr(34)) if is_named else ''}}} {said}"
+
+
+# What is asked in steps, so that it can't stand in a list. Behind each the volume is 100 again.
+STEPS = [
+    ("volume -30", [], "volume: 70"),
+    ("volume +7", [], "volume: 100"),
+    ("volume 0", [], "volume: 100"),
+    ("volume -100", [], "volume: 0"),
+    ("volume -007", [], "volume: 93"),
+    ("list Album group Artist", """Artist: |Album: |Artist: One|Album: First|Album: Second|Artist: Two|Album: First"""),
+    ("list album Artist One group genre", "Genre: |Album: Second|Genre: Folk|Album: First"),
+    ("list Title group Artist group Album", """Album: |Artist: |Title: |Title: Zoë|Album: First|Artist: One|Title: Alpha|Artist: Two
+Title: say "x"|Album: Second|Artist: One|Title: """),
+    ("list AlbumArtist group artist", """Artist: |AlbumArtist: |Artist: One|AlbumArtist: One|Artist: Two|AlbumArtist: Two"""),
+    ("list Composer group Genre", "Genre: |Composer: |Genre: Folk|Composer: "),
+    ("list Genre group Composer", "Composer: |Genre: |Genre: Folk"),
+    ("list Genre group Composer group Date", "Date: |Composer: |Genre: |Genre: Folk|Date: 2001|Composer: |Genre: Folk"),
+    ('list Title "(Artist == \'One\')" group Album', "Album: First|Title: Alpha|Album: Second|Title: "),
+    ('list Album "(Composer == \'\')" group AlbumArtistSort', """AlbumArtistSort: |Album: |AlbumArtistSort: One|Album: First|Album: Second
+AlbumArtistSort: Two|Album: First"""),
+    ("list Album Composer x group Artist", ""),
+    ("list Album Artist gone group Date", ""),
+    ('list Artist Title "say \\"x\\"" group Title', 'Title: say "x"|Artist: Two'),
+    ('list Artist "(Title contains \'x\')" group Title', 'Title: say "x"|Artist: Two'),
+    ("list Album One group Genre", "Genre: |Album: Second|Genre: Folk|Album: First"),
+    ("count group Artist", """Artist: |songs: 2|playtime: 4|Artist: One|songs: 2|playtime: 4|Artist: Two|songs: 1|playtime: 2"""),
+    ("count base d group AlbumArtist", """AlbumArtist: |songs: 1|playtime: 2|AlbumArtist: One|songs: 1|playtime: 2
+AlbumArtist: Two|songs: 1|playtime: 2"""),
+    ("count \"(Genre == 'Folk')\" group Disc", "Disc: |songs: 2|playtime: 4"),
+    ("count Artist gone group Genre", ""),
+    ("list Album group Artist group Artist", "2 Conflicting group"),
+    ("list Album group Album", "2 Conflicting group"),
+    ("list Album group Foo", "2 Unknown tag type"),
+    ("count group Foo", "2 Unknown tag type"),
+    ("count group Artist group Album", '2 unknown tag "group"'),
+    ("list Artist One group Album", '2 wrong number of arguments for "list"'),
+    ("list Album foo x group Artist", '2 unknown tag "foo"'),
+    ('list Album "(foo == \'x\')" group Artist', '2 unknown tag "foo"'),
+    ('list Album "(Artist == \'x\') AND (Genre == \'y\')" group Artist', "2 bad filter"),
+]
+NOT_IN_LIST = "2 not possible in a command list"

@@ -1,7 +1,8 @@
 """What stock MPD clients ask for beside the daemon's own commands, translated line by line: a plain translator, for one connection of a
 daemon without `stock_clients`. It follows the table 'What stock clients ask for beyond it' of docs/PROTOCOL.md.
 
-A client's bytes go into `ask`, which gives those for the daemon, and the daemon's into `answer`, which gives those for the client.
+A client's bytes go into `ask`, which gives those for the daemon, and the daemon's into `answer`, which gives those for the client and
+leaves in `more` what the daemon is to be asked behind them. What `stats` tells of a clock stands in `times`.
 """
 
 import collections
@@ -62,7 +63,8 @@ OUTPUTS = {
     "toggleoutput": (1, "2 the only output is always on"),
     "outputset": (3, "2 Unsupported attribute"),
 }
-FOREIGN = sorted([*PLAIN, *REFUSED, *CHOICES, *OUTPUTS, "playlist", "getvol"])
+FOREIGN = sorted([*PLAIN, *REFUSED, *CHOICES, *OUTPUTS, "playlist", "getvol", "volume"])
+NOT_IN_LIST = "2 not possible in a command list"
 
 
 class Unreadable(Exception):
@@ -113,6 +115,8 @@ class Part(typing.NamedTuple):
     then: typing.Callable = lambda mask: mask
     # The code and text of a refusal, in the place of the daemon's.
     refusal: str | None = None
+    # What takes its place once it is answered; its own answer is not told.
+    step: typing.Callable | None = None
 
 
 def answered(name, lines=(), **how):
@@ -124,19 +128,21 @@ def refused(name, text):
     return Part([b"ping no"], name, refusal=text)
 
 
-def translated(line):
-    """The part of one command line."""
+def translated(line, alone=False):
+    """The part of one command line, in a list or not."""
     try:
         words = words_of(line)
         same = Part([line], has_songs=words[0] in SONGS)
-        found = by_words(line, words[0], words[1:])
+        found = by_words(line, alone, words[0], words[1:])
         return found if found and max(map(len, found.natives)) <= MOST_LINE else same
     except (Unreadable, UnicodeDecodeError):
         return Part([line])  # Which the daemon refuses.
 
 
-def by_words(line, name, given):
+def by_words(line, alone, name, given):
     """None where it stays as it is."""
+    if name == "volume":
+        return volume(alone, given)
     if name in FOREIGN:
         return foreign(name, given)
     if name == "tagtypes":
@@ -147,7 +153,13 @@ def by_words(line, name, given):
         return Part([line], name, more=lambda mask: [f"command: {it}" for it in FOREIGN])
     if name == "lsinfo" and given in ([], [""], ["/"]):
         return Part([b"lsinfo", b"listplaylists"], name, has_songs=True)
+    if name == "stats":
+        return Part([line], name, more=lambda mask: ["uptime", "db_update"])
+    if given[-2:-1] == ["group"] and name == "count":
+        return grouped(alone, "count", [], given, 1)
     if name == "list" and given:
+        if given[1:][-2:-1] == ["group"] and given[0].lower() in ALL:
+            return grouped(alone, "list", given[:1], given[1:], 31)
         return list_of(line, *given)
     if name in TAILS:
         return filtered(line, name, given)
@@ -171,6 +183,75 @@ def foreign(name, given):
     return Part([b"playlistinfo"], name, told=lambda line, number: b"%d:%s" % (number, line) if line.startswith(b"file: ") else None)
 
 
+def volume(alone, given):
+    """The daemon's volume is looked up, and set to another one."""
+    if len(given) != 1:
+        return refused("volume", '2 wrong number of arguments for "volume"')
+    if not re.fullmatch(r"[+-]?[0-9]{1,10}", given[0]) or abs(int(given[0])) > 100:
+        return refused("volume", "2 bad argument 1")
+    if not alone:
+        return refused("volume", NOT_IN_LIST)
+    found = []
+
+    def take(line, number):
+        if line.startswith(b"volume: "):
+            found.append(int(line[8:]))
+
+    def step():
+        return Part([b"setvol %d" % min(100, max(0, found[0] + int(given[0])))], "volume")
+
+    return Part([b"status"], "volume", told=take, step=step)
+
+
+class Songs:
+    """Collects the songs that an answer tells, and groups them by tags, the outermost first."""
+
+    def __init__(self, tags, counts):
+        self.tags, self.counts, self.songs = tags, counts, []
+
+    def take(self, line, number):
+        key, _, value = line.decode().partition(": ")
+        if key == "file":
+            self.songs.append({})
+        self.songs[-1][key.lower()] = value
+
+    def value(self, song, tag):
+        return song.get(ALIASES.get(tag, tag).lower(), "")
+
+    def lines(self, mask=None):
+        return self.below(self.tags, self.songs)
+
+    def below(self, tags, songs):
+        if not tags:
+            time = sum(round(float(it["duration"]) * 1000) for it in songs) // 1000
+            return [f"songs: {len(songs)}", f"playtime: {time}"] if self.counts else []
+        found = []
+        for value in sorted({self.value(it, tags[0]) for it in songs}, key=str.encode):
+            found.append(f"{SPELLED[tags[0]]}: {value}")
+            found += self.below(tags[1:], [it for it in songs if self.value(it, tags[0]) == value])
+        return found
+
+
+def grouped(alone, name, tag, given, most):
+    """`list TAG F group ..`, or `count F group TAG`: all songs are asked for."""
+    if not alone:
+        return refused(name, NOT_IN_LIST)
+    tags, front = [it.lower() for it in tag], list(given)
+    while len(tags) < most + len(tag) and front[-2:-1] == ["group"]:
+        *front, _, last = front
+        if last.lower() not in ALL:
+            return refused(name, "2 Unknown tag type")
+        if last.lower() in tags:
+            return refused(name, "2 Conflicting group")
+        tags.append(last.lower())
+    if tag and tags[0] == "album" and len(front) == 1 and not front[0].startswith("("):
+        front = ["Artist", *front]
+    if front and (len(front) != 1 if front[0].startswith("(") else len(front) % 2):
+        return refused(name, f'2 wrong number of arguments for "{name}"')
+    songs = Songs([*tags[len(tag) :], *tags[: len(tag)]], name == "count")
+    return Part([line_of("find", *(filter_of(front, ()) if front else ["base", ""]))], name, told=songs.take, more=songs.lines)
+
+
 def tag_types(given):
     if not given:
         return Part([b"ping"], "tagtypes", more=lambda mask: [f"tagtype: {it}" for it in TAGS if it.lower() in mask])
@@ -192,8 +273,6 @@ def list_of(line, tag, *given):
     given, kind = list(given), tag.lower()
     if kind == "album" and len(given) == 1 and not given[0].startswith("("):
         return Part([line_of("list", tag, "Artist", *given)], "list")
-    if "group" in given[0::2]:
-        return None
     found = filter_of(given, ()) if given else []
     if kind in NATIVE:
         return Part([line if found == given else line_of("list", tag, *found)], "list")
@@ -208,8 +287,6 @@ def list_of(line, tag, *given):
 def filtered(line, name, given):
     """A command with a filter in it."""
     front = given[:1] if name == "searchaddpl" else []
-    if name == "count" and "group" in given[0::2] + given[1:2]:
-        return None
     found = front + filter_of(given[len(front) :], TAILS[name])
     return Part([line if found == given else line_of(name, *found)], name, has_songs=name in SONGS)
 
@@ -338,22 +415,32 @@ class Awaited:
 class Translator:
     """A connection."""
 
-    def __init__(self):
-        self.unread, self.unheard, self.is_greeted = b"", b"", False
+    def __init__(self, times=(0, 0)):
+        self.unread, self.unheard, self.is_greeted, self.times = b"", b"", False, times
         # The lines of the list that is open, how it began, and whether the client is read no more.
         self.lines, self.begun, self.size, self.is_over = None, None, 0, False
         self.awaited, self.mask = collections.deque(), ALL
+        # Lines that wait for the end of what is asked in steps, and what is to be asked.
+        self.later, self.is_stepping, self.more = collections.deque(), False, b""
 
     def ask(self, piece):
         """What the daemon is sent where the client sent this."""
         *lines, self.unread = (self.unread + piece).split(b"\n")
+        self.later.extend(lines)
+        sent = self.go_on()
+        if not self.later:
+            self.is_over = self.is_over or len(self.unread) > MOST_LINE
+        return sent
+
+    def go_on(self):
+        """What is sent for the lines that wait, up to one that is asked in steps."""
         sent = b""
-        for line in lines:
+        while self.later and not self.is_stepping:
+            line = self.later.popleft()
             if len(line) > MOST_LINE:
                 self.is_over = True
             if not self.is_over:
                 sent += self.take(line[:-1] if line.endswith(b"\r") else line)
-        self.is_over = self.is_over or len(self.unread) > MOST_LINE
         return sent
 
     def take(self, line):
@@ -366,7 +453,7 @@ class Translator:
             if only[0] in BEGINS:
                 self.lines, self.begun, self.size = [], only[0], 0
                 return b""
-            return ended(line) if only[0] == "noidle" else self.single(translated(line))
+            return ended(line) if only[0] == "noidle" else self.single(translated(line, alone=True))
         if only[0] == END:
             parts, self.lines = [translated(it) for it in self.lines], None
             return self.several(parts, self.begun == BEGINS[1])
@@ -378,6 +465,7 @@ class Translator:
     def single(self, part):
         if len(part.natives) > 1:
             return self.several([part], False)
+        self.is_stepping = self.is_stepping or part.step is not None
         self.awaited.append(Awaited([part], False, False))
         return ended(part.natives[0])
 
@@ -397,10 +485,17 @@ class Translator:
         now = self.awaited[0]
         if line == b"OK":
             self.awaited.popleft()
-            return [line] if now.in_list else [*self.finish(now), line]
+            if now.parts and not now.in_list and now.parts[0].step:
+                self.more += self.single(now.parts[0].step())
+                return []
+            found = [line] if now.in_list else [*self.finish(now), line]
+            self.resume()
+            return found
         if line.startswith(b"ACK "):
             self.awaited.popleft()
-            return [self.refusal(now, line)]
+            found = [self.refusal(now, line)]
+            self.resume()
+            return found
         if line == b"list_OK" and now.in_list:
             now.seen += 1
             if now.seen < len(now.parts[now.done].natives):
@@ -411,10 +506,17 @@ class Translator:
         now.number += found is not None
         return [] if found is None else [found]
 
+    def resume(self):
+        """Behind the last step: nothing else is awaited."""
+        if self.is_stepping and not self.awaited:
+            self.is_stepping = False
+            self.more += self.go_on()
+
     def finish(self, now):
         """The end of a part's answer: what is told before it."""
         part = now.parts[now.done]
-        more = [it.encode() for it in part.more(self.mask)]
+        times = {"uptime": f"uptime: {self.times[0]}", "db_update": f"db_update: {self.times[1]}"}
+        more = [times.get(it, it).encode() for it in part.more(self.mask)]
         self.mask = part.then(self.mask)
         now.done, now.seen, now.number = now.done + 1, 0, 0
         return more

@@ -1,4 +1,4 @@
--- What a configuration says: a TOML table of texts and one switch.
+-- What a configuration says: a TOML table of texts and two switches.
 use Rattle.std.specs.Prelude.{ℕ, List, [], ◌∷◌, codes, Bool, true, false, ◌&&◌, ◌||◌, not, Option, Some, None, option_map, is_some, if◌then◌else◌}
 use Rattle.std.specs.Option.{option_and_then}
 use Rattle.std.specs.Result.{result_ok}
@@ -15,8 +15,8 @@ abbrev pub ◌>>=◌ : {A B : Type 0} → Option A → (A → Option B) → Opti
 (Some x) >>= f = f x
 None >>= f = None
 
--- The paths as they stand, the key of 32 bytes, where to listen and to play, where these are said, the form of the sound, and whether a
--- translator stands before clients.
+-- The paths as they stand, the key of 32 bytes, where to listen and to play, where these are said, the form of the sound, whether a
+-- translator stands before clients, and whether the log says more.
 pub record Settings : Type 0 where
   pub music : List ℕ
   pub journal_a : List ℕ
@@ -27,13 +27,14 @@ pub record Settings : Type 0 where
   pub output : Option (List ℕ)
   pub form : Form
   pub stock_clients : Bool
+  pub debug : Bool
 
 -- a key that a configuration may have
 abbrev pub is_known : List ℕ → Bool
 is_known key =
     bytes_eq key (codes "music") || bytes_eq key (codes "journal_a") || bytes_eq key (codes "journal_b") || bytes_eq key (codes "key")
     || bytes_eq key (codes "tcp") || bytes_eq key (codes "unix") || bytes_eq key (codes "output")
-    || bytes_eq key (codes "form") || bytes_eq key (codes "stock_clients")
+    || bytes_eq key (codes "form") || bytes_eq key (codes "stock_clients") || bytes_eq key (codes "debug")
 
 -- it has no key but these
 abbrev pub all_known : Members → Bool
@@ -103,6 +104,7 @@ settings_of table = do
   output ← optional_text_at (codes "output") members
   form ← form_at (codes "form") members
   stock_clients ← switch_at (codes "stock_clients") members
+  debug ← switch_at (codes "debug") members
   if_two_files (record {
     music = music;
     journal_a = journal_a;
@@ -113,6 +115,7 @@ settings_of table = do
     output = output;
     form = form;
     stock_clients = stock_clients;
+    debug = debug;
   })
 
 -- what a text says, if it is a configuration
@@ -129,6 +132,7 @@ pub record ServeSettings : Type 0 where
   pub output : List ℕ
   pub form : Form
   pub stock_clients : Bool
+  pub debug : Bool
 
 -- it says where to listen
 abbrev pub says_where_to_listen : Settings → Bool
@@ -151,6 +155,7 @@ settings_to_serve s output =
       output = output;
       form = s.form;
       stock_clients = s.stock_clients;
+      debug = s.debug;
     })
     else None
 

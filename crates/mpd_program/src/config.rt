@@ -1,4 +1,4 @@
-//! The configuration: a TOML document of texts and one switch.
+//! The configuration: a TOML document of texts and two switches.
 ghost use Rattle.std.specs.Prelude.{◌≡◌, ℕ, None, Some, IfOk, OnErr, IsErrOf, IsTrue, ◌↔◌, true, option_map, string_bytes};
 ghost use Rattle.std.specs.Option.{option_and_then};
 ghost use Rattle.toml.specs.Data.{get_member};
@@ -54,6 +54,8 @@ pub struct Config {
     pub form: Form,
     /// Whether stock clients of MPD are served, by a translator: not where the text doesn't say.
     pub stock_clients: bool,
+    /// Whether the log has a line for each file that a job left out: not where the text doesn't say.
+    pub debug: bool,
 }
 
 impl Model for Config {
@@ -72,6 +74,7 @@ impl Model for Config {
       output = option_map string_bytes c.output;
       form = c.form;
       stock_clients = c.stock_clients;
+      debug = c.debug;
     } };
 }
 
@@ -105,6 +108,7 @@ impl Config {
         let output = optional_text(alloc, table, "output")?;
         let form = form(table, "form")?;
         let stock_clients = switch(table, "stock_clients")?;
+        let debug = switch(table, "debug")?;
         if journal_a.as_str() == journal_b.as_str() {
             return Err(ConfigError::Bad);
         }
@@ -118,6 +122,7 @@ impl Config {
             output,
             form,
             stock_clients,
+            debug,
         })
     }
 }
@@ -135,6 +140,7 @@ fn is_known_key(key: &str) -> bool
         || key == "output"
         || key == "form"
         || key == "stock_clients"
+        || key == "debug"
 }
 
 // Whether a configuration may have each key of the table.

@@ -2,14 +2,17 @@
 ghost use Rattle.std.specs.Prelude.{◌≡◌};
 ghost use Rattle.mpd_program.specs.Daemon.{exit_of_daemon};
 
+use crate::clocked_folder::ClockedFolder;
 use crate::config::Config;
 use crate::console::Status;
+use crate::daemon_clock::DaemonClock;
 use crate::error_lines::{ErrorLines, LoopLog};
 use crate::exit::Exit;
 use crate::listening::{listen_on_address, listen_on_path};
 use crate::music::Music;
 use crate::output::Output;
 use crate::serve_config::ServeConfig;
+use crate::slow_opening::Opening;
 use crate::stop_flag::StopFlag;
 use crate::stopping_folder::StoppingFolder;
 use crate::tasks::{JournalFiles, open_files, tell_fault, tell_migration, tell_refusal, told};
@@ -114,6 +117,7 @@ fn listen<'a>(
     rt: &'a HostRuntime,
     config: &ServeConfig,
     address: Option<SocketAddr>,
+    clock: &'a DaemonClock<'a>,
 ) -> Result<(DaemonClients<'a>, LoopWaker), Exit> {
     let (tcp, unix) = sockets(rt, config, address)?;
     let mut listener = SocketListener::new(tcp, unix);
@@ -121,7 +125,7 @@ fn listen<'a>(
         Ok((ready, wake)) => {
             let alloc = rt.alloc();
             let guarded = GuardedListener::new(alloc, ToldListener::new(rt, listener));
-            let listener = StockListener::new(alloc, guarded, config.stock_clients);
+            let listener = StockListener::new(alloc, guarded, config.stock_clients, clock);
             let ready = StockReady::new(GuardedReady::new(ready));
             let clients = Clients::new(alloc, listener, ready)?;
             Ok((clients, wake))
@@ -185,7 +189,7 @@ fn songs<'a>(
 /// What the daemon's threads work on.
 type DaemonWorkers<'a> = Workers<
     StoppingFolder<Music<'a>>,
-    StoppingFolder<Music<'a>>,
+    ClockedFolder<'a, StoppingFolder<Music<'a>>>,
     Output<'a>,
     StopFlag,
     LoopWaker,
@@ -193,8 +197,8 @@ type DaemonWorkers<'a> = Workers<
 
 /// The clients of a daemon that listens: of what speaks HTTP nothing is served.
 type DaemonClients<'a> = Clients<
-    StockStream<Guarded<Socket>>,
-    StockListener<GuardedListener<ToldListener<'a>>>,
+    StockStream<Guarded<Socket>, &'a DaemonClock<'a>>,
+    StockListener<GuardedListener<ToldListener<'a>>, &'a DaemonClock<'a>>,
     StockReady<GuardedReady<SocketReady>>,
 >;
 
@@ -205,12 +209,13 @@ fn begin<'a>(
     address: Option<SocketAddr>,
     output: Output<'a>,
     stop: StopFlag,
+    clock: &'a DaemonClock<'a>,
 ) -> Result<(DaemonClients<'a>, DaemonWorkers<'a>), Exit> {
-    let (clients, wake) = listen(rt, config, address)?;
+    let (clients, wake) = listen(rt, config, address, clock)?;
     let _cleared = output.clear();
     let workers = Workers {
         sources: songs(rt, config.music.as_str(), &stop)?,
-        folder: songs(rt, config.music.as_str(), &stop)?,
+        folder: ClockedFolder::new(songs(rt, config.music.as_str(), &stop)?, clock),
         output: SoundOutput {
             writer: output,
             form: config.form,
@@ -235,15 +240,23 @@ fn serve_over<R: Threads + Wait + Clock + Log + Sync>(
         b,
         locks: _locks,
     } = open_files(rt, config.journal_a.as_str(), config.journal_b.as_str())?;
+    let opening = Opening::begin(rt, threads, config);
     let opened = match open_journal(rt.alloc(), a, b) {
         Ok(opened) => opened,
         Err(end) => return ended(rt, config, end),
     };
+    opening.end(threads);
     if opened.was_migrated() {
         tell_migration(rt);
     }
-    let (mut clients, workers) = begin(rt, config, address, output, stop)?;
-    let threads = Logged::new(threads, Level::Info, LoopLog { rt });
+    let clock = DaemonClock::new(rt);
+    let (mut clients, workers) = begin(rt, config, address, output, stop, &clock)?;
+    let level = if config.debug {
+        Level::Debug
+    } else {
+        Level::Info
+    };
+    let threads = Logged::new(threads, level, LoopLog { rt });
     let end = mpd_server::serve(&threads, rt.alloc(), opened, &mut clients, workers);
     ended(rt, config, end)
 }

@@ -2,9 +2,12 @@
 #![tactic(auto)]
 
 pub mod arguments;
+mod clocked_folder;
 pub mod config;
 pub mod console;
+mod created;
 mod daemon;
+mod daemon_clock;
 mod error_lines;
 pub mod exit;
 mod file_lock;
@@ -14,6 +17,7 @@ mod music;
 mod output;
 mod readiness;
 mod serve_config;
+mod slow_opening;
 mod stop_flag;
 mod stopping_folder;
 pub mod tasks;

@@ -26,6 +26,8 @@ pub struct ServeConfig {
     pub form: Form,
     /// Whether stock clients of MPD are served, by a translator.
     pub stock_clients: bool,
+    /// Whether the log has a line for each file that a job left out.
+    pub debug: bool,
 }
 
 impl Model for ServeConfig {
@@ -43,6 +45,7 @@ impl Model for ServeConfig {
       output = string_bytes c.output;
       form = c.form;
       stock_clients = c.stock_clients;
+      debug = c.debug;
     } };
 }
 
@@ -62,6 +65,7 @@ impl ServeConfig {
             output,
             form,
             stock_clients,
+            debug,
         } = config;
         let Some(output) = output else {
             return None;
@@ -81,6 +85,7 @@ impl ServeConfig {
             output,
             form,
             stock_clients,
+            debug,
         })
     }
 }

@@ -5,6 +5,7 @@ ghost use Rattle.mpd_program.specs.Lives.{refusal_of, status_of};
 use crate::arguments::Task;
 use crate::config::{Config, ConfigError};
 use crate::console::{ConsoleEnd, Status, run_console};
+use crate::created::tell_created;
 use crate::daemon;
 use crate::error_lines::takes_line;
 use crate::exit::Exit;
@@ -77,7 +78,7 @@ fn read_config(rt: &HostRuntime, path: &str) -> Result<Config, Exit> {
         Err(ConfigError::NoMemory) => Err(Exit::NO_MEMORY),
         Err(ConfigError::Bad) => {
             let _printed = eprintln!(rt;
-                "{path}: wanted are the texts music, journal_a, another journal_b, key (64 hexadecimal digits), perhaps tcp, unix, output, form (bare or wave), and stock_clients (true or false)"
+                "{path}: wanted are the texts music, journal_a, another journal_b, key (64 hexadecimal digits), perhaps tcp, unix, output, form (bare or wave), stock_clients and debug (true or false)"
             );
             Err(Exit::BadConfiguration)
         }
@@ -236,8 +237,7 @@ fn create(rt: &HostRuntime, config: &Config) -> Result<(), Exit> {
     } = open_files(rt, config.journal_a.as_str(), config.journal_b.as_str())?;
     match Live::create(rt.alloc(), a, b, config.key) {
         Ok(_) => {
-            // The journal is made, whether or not somebody reads this.
-            let _printed = println!(rt; "created");
+            tell_created(rt, config);
             Ok(())
         }
         Err(error) => {

@@ -2,14 +2,19 @@
 #![tactic(auto)]
 
 mod ending;
+mod ends;
+mod job_folder;
 mod jobs;
 mod life;
 mod looping;
 mod opening;
+mod scanning;
 mod server;
+mod tally;
 mod workers;
 
 pub use ending::{ServeEnd, ServeStatus};
+pub use job_folder::{JobFolder, MAX_LISTINGS, MAX_OPENINGS, Visits};
 pub use opening::{Opened, open_journal};
 pub use server::serve;
 pub use workers::{NothingWaits, Stop, Workers};

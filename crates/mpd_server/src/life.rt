@@ -3,8 +3,10 @@ ghost use Rattle.std.specs.Prelude.{◌≡◌, ◌≤◌, vec_len, vec_capacity}
 ghost use Rattle.std.specs.Thread.{IsSend, IsSync};
 
 use crate::ending::{Life, ServeStatus};
+use crate::ends::Ends;
 use crate::jobs::Jobs;
 use crate::looping::{Turns, run_loop};
+use crate::scanning::read_jobs;
 use crate::workers::{Signals, Stop, Tools};
 use crossbeam_channel::Receiver;
 use disk_model::Disk;
@@ -13,9 +15,7 @@ use log::{Log, warn};
 use mio_clients::{Clients, Listener, Ready, Stream};
 use song_db::ScanOrder;
 use song_output::{OpenGate, SoundOutput};
-use stage_workers::{
-    Blanks, Kind, Pass, PassesSpent, SharedStage, Wake, Worker, player_worker, scan_worker,
-};
+use stage_workers::{Blanks, Kind, Pass, PassesSpent, SharedStage, Wake, Worker, player_worker};
 use std::alloc::Global;
 use std::io::Write;
 use std::marker::Brand;
@@ -102,7 +102,7 @@ fn play<D: Disk, C: Ledger, P: Ledger, S: Ledger, F: Folder, W: Write, K: Wake, 
     rt: &R,
     alloc: Global,
     stage: &SharedStage<D, C, P, S>,
-    wake: &K,
+    (wake, ends): (&K, &Ends),
     pass: Pass<C, P, S>,
     mut sources: F,
     mut output: SoundOutput<W>,
@@ -114,15 +114,16 @@ fn play<D: Disk, C: Ledger, P: Ledger, S: Ledger, F: Folder, W: Write, K: Wake, 
         wake,
     };
     let pass = player_worker(&worker, pass, &OpenGate, &mut sources, &mut output);
+    ends.player_ended();
     (pass, sources, output)
 }
 
 // The scan's thread. It hands back what it was given.
-fn read<D: Disk, C: Ledger, P: Ledger, S: Ledger, F: Folder, K: Wake, R: Wait + Clock>(
+fn read<D: Disk, C: Ledger, P: Ledger, S: Ledger, F: Folder, K: Wake, R: Wait + Clock + Log>(
     rt: &R,
     alloc: Global,
     stage: &SharedStage<D, C, P, S>,
-    wake: &K,
+    (wake, ends): (&K, &Ends),
     pass: Pass<C, P, S>,
     mut folder: F,
     orders: Receiver<ScanOrder>,
@@ -133,7 +134,8 @@ fn read<D: Disk, C: Ledger, P: Ledger, S: Ledger, F: Folder, K: Wake, R: Wait + 
         stage,
         wake,
     };
-    let pass = scan_worker(&worker, pass, &mut folder, &orders);
+    let pass = read_jobs(&worker, pass, &mut folder, &orders);
+    ends.scan_ended();
     (pass, folder)
 }
 
@@ -154,7 +156,7 @@ fn start_player<
     rt: &'s R,
     alloc: Global,
     stage: &'s SharedStage<D, C, P, S>,
-    wake: &'s K,
+    (wake, ends): (&'s K, &'s Ends),
     pass: Pass<C, P, S>,
     sources: F,
     output: SoundOutput<W>,
@@ -162,7 +164,7 @@ fn start_player<
 where
     F::File: Send,
 {
-    let thread = move || play(rt, alloc, stage, wake, pass, sources, output);
+    let thread = move || play(rt, alloc, stage, (wake, ends), pass, sources, output);
     scope.spawn(thread).ok()
 }
 
@@ -176,13 +178,13 @@ fn start_scan<
     S: Ledger + Send + Sync + 's,
     F: Folder + Send + Drop + 's,
     K: Wake + Sync + 's,
-    R: Wait + Clock + Sync + 's,
+    R: Wait + Clock + Log + Sync + 's,
 >(
     scope: &Scope<'s, E>,
     rt: &'s R,
     alloc: Global,
     stage: &'s SharedStage<D, C, P, S>,
-    wake: &'s K,
+    (wake, ends): (&'s K, &'s Ends),
     pass: Pass<C, P, S>,
     folder: F,
     orders: Receiver<ScanOrder>,
@@ -190,7 +192,7 @@ fn start_scan<
 where
     F::File: Send,
 {
-    let thread = move || read(rt, alloc, stage, wake, pass, folder, orders);
+    let thread = move || read(rt, alloc, stage, (wake, ends), pass, folder, orders);
     scope.spawn(thread).ok()
 }
 
@@ -216,7 +218,7 @@ fn work<
     stage: &'a SharedStage<D, C, P, S>,
     passes: Passes<C, P, S>,
     clients: &'a mut Clients<T, L, Y>,
-    (tools, signals): (Tools<F, G, W>, &'a Signals<H, K>),
+    (tools, signals, ends): (Tools<F, G, W>, &'a Signals<H, K>, &'a Ends),
     (jobs, orders): (Jobs, Receiver<ScanOrder>),
 ) -> Worked<C, P, S, F, G, W>
 where
@@ -228,7 +230,7 @@ where
         folder,
         output,
     } = tools;
-    let wake = &signals.wake;
+    let wake = (&signals.wake, ends);
     let stop = &signals.stop;
     thread::scope(
         thread::scope_env(),
@@ -255,10 +257,12 @@ where
             } else {
                 // A scan's thread ends where nobody is left who could send it an order.
                 drop(jobs);
+                ends.none_begun(player.is_none(), scan.is_none());
                 (Turns::none(), mine)
             };
             stage.close(rt);
             stop.stop();
+            ends.tell_late(rt);
             Worked {
                 turns,
                 clients: mine,
@@ -320,8 +324,10 @@ where
     let mut is_ended = false;
     let mut back = (None, None);
     if let Ok(passes) = Passes::of(rt, &stage) {
-        let ends = (Jobs::new(sender), orders);
-        let worked = work(rt, alloc, &stage, passes, clients, (tools, signals), ends);
+        let ends = Ends::none();
+        let jobs = (Jobs::new(sender), orders);
+        let tools = (tools, signals, &ends);
+        let worked = work(rt, alloc, &stage, passes, clients, tools, jobs);
         is_ended = worked.turns.is_ended;
         back = worked.into_passes(&mut returned);
         if back.0.is_some() {

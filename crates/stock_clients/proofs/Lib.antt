@@ -3,3 +3,5 @@ pub mod AskedLaws
 pub mod Behind
 pub mod HeardLaws
 pub mod PieceLaws
+pub mod AskedSteps
+pub mod CountLaws

@@ -7,10 +7,13 @@ use Rattle.command_text.specs.declared.request.Request.TheVariants as requests
 use Rattle.client_session.specs.Lines.{ended}
 use Rattle.stock_requests.specs.Translation.{translation}
 use Rattle.stock_requests.specs.declared.change.Translation.{Translation}
-use Rattle.stock_requests.specs.declared.change.Translation.TheVariants.{Same, Songs, Changed, Other}
+use Rattle.stock_requests.specs.declared.change.Translation.TheVariants.{Same, Songs, Changed, Other, Stepped}
 use Rattle.stock_requests.specs.declared.change.Change.{Change}
 use Rattle.stock_requests.specs.declared.change.Ending.{Ending}
-use Rattle.stock_requests.specs.declared.change.Ending.TheVariants.{Nothing, Text, Tags, Masks}
+use Rattle.stock_requests.specs.declared.change.Ending.TheVariants.{Nothing, Text, Times, Tags, Masks}
+use Rattle.stock_requests.specs.declared.change.Natives.{Natives}
+use Rattle.stock_requests.specs.declared.steps.Steps.{Steps}
+use Rattle.stock_clients.specs.declared.asking.Noticed.{Noticed}
 use Rattle.stock_clients.specs.declared.awaited.Awaited.{Awaited}
 use Rattle.stock_clients.specs.declared.awaited.Awaited.TheVariants as awaits
 use Rattle.stock_clients.specs.declared.parts.Part.{Part}
@@ -22,6 +25,7 @@ native_lines line Same = line ∷ []
 native_lines line Songs = line ∷ []
 native_lines line (Changed change) = line ∷ []
 native_lines line (Other natives change) = natives.first ∷ option_to_list natives.second
+native_lines line (Stepped first steps) = first ∷ []
 
 -- what becomes of the part of the answer to a command of a list
 abbrev pub part_of : Translation → Part
@@ -29,11 +33,13 @@ part_of Same = parts.Same
 part_of Songs = parts.Songs
 part_of (Changed change) = parts.Changed false change
 part_of (Other natives change) = parts.Changed (is_some natives.second) change
+part_of (Stepped first steps) = parts.Same
 
 -- whether the client asks for other tags
 abbrev pub is_mask : Ending → Bool
 is_mask Nothing = false
 is_mask (Text text) = false
+is_mask Times = false
 is_mask Tags = false
 is_mask (Masks change) = true
 
@@ -42,6 +48,7 @@ changes_mask Same = false
 changes_mask Songs = false
 changes_mask (Changed change) = is_mask change.ending
 changes_mask (Other natives change) = is_mask change.ending
+changes_mask (Stepped first steps) = false
 
 -- whether command and answer pass as they are; so those that tell songs, for a client that has never asked for other tags
 abbrev pub is_plain : Bool → Translation → Bool
@@ -49,6 +56,7 @@ is_plain masks Same = true
 is_plain masks Songs = not masks
 is_plain masks (Changed change) = false
 is_plain masks (Other natives change) = false
+is_plain masks (Stepped first steps) = false
 
 abbrev pub all_plain : Bool → List (List ℕ) → Bool
 all_plain masks [] = true
@@ -83,13 +91,26 @@ pub record Asked : Type 0 where
   pub native : List ℕ
   pub awaited : List Awaited
   pub masks : Bool
+  -- a command that is asked step by step, the last of those that are asked
+  pub steps : Option Steps
+  -- the requests behind it, which the daemon is asked once it is done
+  pub later : List Request
 
 abbrev pub asked : List ℕ → List Awaited → Bool → Asked
-asked native awaited masks = record { native = native; awaited = awaited; masks = masks }
+asked native awaited masks = record { native = native; awaited = awaited; masks = masks; steps = None; later = [] }
+
+abbrev pub asked_step : List ℕ → Steps → Bool → Asked
+asked_step first steps masks =
+    record { native = ended first; awaited = awaits.Step ∷ []; masks = masks; steps = Some steps; later = [] }
 
 -- a list of two commands, each of which is answered by `list_OK`
 abbrev pub pair_text : List ℕ → List ℕ → List ℕ
 pair_text first second = ended (begin_text true) ++ (ended first ++ (ended second ++ ended (codes "command_list_end")))
+
+-- the native commands in the place of one
+abbrev pub natives_text : List ℕ → Option (List ℕ) → List ℕ
+natives_text first None = ended first
+natives_text first (Some second) = pair_text first second
 
 -- two commands stand in a list, so that nothing comes between them
 abbrev pub asked_natives : List ℕ → Option (List ℕ) → Change → Bool → Asked
@@ -103,6 +124,7 @@ asked_single masks line Songs = asked (ended line) ((if masks then awaits.Songs 
 asked_single masks line (Changed change) = asked (ended line) (awaits.One change 0 ∷ []) (masks || is_mask change.ending)
 asked_single masks line (Other natives change) =
     asked_natives natives.first natives.second change (masks || is_mask change.ending)
+asked_single masks line (Stepped first steps) = asked_step first steps masks
 
 -- a list of which all passes goes on as it came
 abbrev pub asked_as_it_is : Bool → Bool → List (List ℕ) → Asked
@@ -123,16 +145,32 @@ asked_of masks (requests.List lines) = asked_list masks false lines
 asked_of masks (requests.OkList lines) = asked_list masks true lines
 asked_of masks requests.Noidle = asked (ended (codes "noidle")) [] masks
 
+-- one request, and others behind it; where it is asked step by step they come later
+abbrev pub asked_before : Asked → List Request → Asked → Option Steps → Asked
+asked_before now requests more None = record {
+  native = now.native ++ more.native;
+  awaited = now.awaited ++ more.awaited;
+  masks = more.masks;
+  steps = more.steps;
+  later = more.later;
+}
+asked_before now requests more (Some steps) = record now { later = requests }
+
 -- requests one behind the other
 abbrev pub asked_all : Bool → List Request → Asked
 asked_all masks [] = asked [] [] masks
 asked_all masks (request ∷ requests) =
-    let now = asked_of masks request in
-    let more = asked_all now.masks requests in
-    asked (now.native ++ more.native) (now.awaited ++ more.awaited) more.masks
+    let now = asked_of masks request in asked_before now requests (asked_all now.masks requests) now.steps
 
 -- the bytes and the requests that were added are those
 pub record IsAsked (asked : Asked) (now : Bool) (before after : List Awaited) (old new : List ℕ) : Type 0 where
   pub native : new ≡ old ++ asked.native
   pub awaited : after ≡ before ++ asked.awaited
   pub masks : now ≡ asked.masks
+
+-- the same, and the steps of the last one
+pub record IsAskedSo (asked : Asked) (now : Noticed) (before after : List Awaited) (old new : List ℕ) : Type 0 where
+  pub native : new ≡ old ++ asked.native
+  pub awaited : after ≡ before ++ asked.awaited
+  pub masks : now.masks ≡ asked.masks
+  pub steps : now.steps ≡ asked.steps

@@ -4,8 +4,9 @@ use Rattle.client_session.specs.Requests.{brought, left_by}
 use Rattle.client_session.specs.Session.{SessionState, fresh, closed_by, output_limit}
 use Rattle.client_session.specs.declared.refusal.SessionError.{SessionError}
 use Rattle.client_session.specs.declared.refusal.SessionError.TheVariants as sessions
-use Rattle.stock_clients.specs.Asked.{Asked, asked_all}
-use Rattle.stock_clients.specs.Heard.{hears, hear_bytes, unheard}
+use Rattle.command_text.specs.declared.request.Request.{Request}
+use Rattle.stock_requests.specs.declared.steps.Steps.{Steps}
+use Rattle.stock_clients.specs.Heard.{hear_bytes, hears, resumed, unheard, Hears}
 use Rattle.stock_clients.specs.declared.awaited.Awaited.{Awaited}
 use Rattle.stock_clients.specs.declared.hearing.Hearing.{Hearing}
 use Rattle.stock_clients.specs.declared.refusal.ConversationError.{ConversationError}
@@ -21,19 +22,24 @@ pub record Talk : Type 0 where
   pub hearing : Hearing
   -- the client has asked for other tags
   pub masks : Bool
+  -- the requests that the daemon is asked once the steps of the one before are done
+  pub later : List Request
   -- the refusal that ended the conversation
   pub fault : Option ConversationError
 
-abbrev pub talk : SessionState → List ℕ → List ℕ → Hearing → Bool → Option ConversationError → Talk
-talk asking native held hearing masks fault =
-    record { asking = asking; native = native; held = held; hearing = hearing; masks = masks; fault = fault }
+abbrev pub talk : SessionState → List ℕ → List ℕ → Hearing → Bool → List Request → Option ConversationError → Talk
+talk asking native held hearing masks later fault =
+    record { asking = asking; native = native; held = held; hearing = hearing; masks = masks; later = later; fault = fault }
 
 abbrev pub begun : Talk
-begun = talk fresh [] [] unheard false None
+begun = talk fresh [] [] unheard false [] None
 
 -- one that a refusal ended holds nothing
 abbrev pub ended_by : ConversationError → Talk
-ended_by refusal = talk fresh [] [] unheard false (Some refusal)
+ended_by refusal = talk fresh [] [] unheard false [] (Some refusal)
+
+abbrev pub talk_of : SessionState → List ℕ → Hears → Option ConversationError → Talk
+talk_of asking held state fault = talk asking state.native held state.hearing state.masks state.later fault
 
 -- how many requests may wait for their answers, and how many bytes a line of the daemon may have
 abbrev pub request_limit : ℕ
@@ -42,31 +48,52 @@ request_limit = 4096
 abbrev pub answer_limit : ℕ
 answer_limit = 16384
 
+-- how many requests wait
+abbrev pub waiting_count : List Awaited → List Request → ℕ
+waiting_count awaited later = length awaited + length later
+
 -- what is held stays within the bounds
 pub record IsBounded (now : Talk) : Type 0 where
-  pub requests : length now.hearing.awaited ≤ request_limit
+  pub requests : waiting_count now.hearing.awaited now.later ≤ request_limit
   pub line : length now.held ≤ answer_limit
+
+-- what the daemon's next bytes find
+abbrev pub hearing_of : Talk → Hears
+hearing_of now = hears now.hearing now.held [] now.native now.masks now.later
+
+abbrev pub left_of : Talk → Hears → Talk
+left_of now state = record now {
+  hearing = state.hearing;
+  held = state.held;
+  native = state.native;
+  masks = state.masks;
+  later = state.later;
+}
+
+-- requests of the client, which wait where steps are at work
+abbrev pub taken_by : Option Steps → Hears → Hears
+taken_by None state = resumed state
+taken_by (Some steps) state = state
+
+abbrev pub taken : Hears → List Request → Hears
+taken state requests = taken_by state.hearing.steps (record state { later = state.later ++ requests })
 
 -- behind a piece of what the client sends
 abbrev pub asked_more : Talk → List ℕ → Talk
-asked_more now piece =
-    let asked = asked_all now.masks (brought now.asking.left piece) in
-    record now {
-      asking = record now.asking { left = left_by now.asking.left piece };
-      native = now.native ++ asked.native;
-      hearing = record now.hearing { awaited = now.hearing.awaited ++ asked.awaited };
-      masks = asked.masks;
-    }
+asked_more now piece = record (left_of now (taken (hearing_of now) (brought now.asking.left piece))) {
+  asking = record now.asking { left = left_by now.asking.left piece };
+}
 
 -- behind a piece of what the daemon says
 abbrev pub heard_more : Talk → List ℕ → Talk
-heard_more now piece =
-    let heard = hear_bytes (hears now.hearing now.held []) piece in
-    record now { held = heard.held; hearing = heard.hearing }
+heard_more now piece = left_of now (hear_bytes (hearing_of now) piece)
 
 -- what the client is given for it
 abbrev pub given_for : Talk → List ℕ → List ℕ
-given_for now piece = (hear_bytes (hears now.hearing now.held []) piece).given
+given_for now piece = (hear_bytes (hearing_of now) piece).given
+
+abbrev pub waiting_in : Talk → ℕ
+waiting_in now = waiting_count now.hearing.awaited now.later
 
 -- A line or a list of the client's that is too long leaves what it asked before; any other refusal ends the conversation. Too many
 -- requests would wait.
@@ -75,7 +102,7 @@ IsRefusedAsking refusals.NoMemory now piece then = then ≡ ended_by refusals.No
 IsRefusedAsking refusals.LineTooLong now piece then = then ≡ record now { asking = closed_by sessions.LineTooLong }
 IsRefusedAsking refusals.ListTooLong now piece then = then ≡ record now { asking = closed_by sessions.ListTooLong }
 IsRefusedAsking refusals.TooManyRequests now piece then =
-    (then ≡ ended_by refusals.TooManyRequests) × (request_limit < length (asked_more now piece).hearing.awaited)
+    (then ≡ ended_by refusals.TooManyRequests) × (request_limit < waiting_in (asked_more now piece))
 IsRefusedAsking refusals.OutputTooLong now piece then = ⊥
 IsRefusedAsking refusals.AnswerTooLong now piece then = ⊥
 
@@ -111,10 +138,10 @@ IsRefusedAnswering refusals.OutputTooLong now piece queued = output_limit < leng
 IsRefusedAnswering refusals.AnswerTooLong now piece queued = answer_limit < length (heard_more now piece).held
 
 -- requests are refused for want of memory, or where too many would wait
-abbrev pub IsRefusedTaking : ConversationError → List Awaited → Asked → Type 0
-IsRefusedTaking refusals.NoMemory waiting asked = Unit {0}
-IsRefusedTaking refusals.LineTooLong waiting asked = ⊥
-IsRefusedTaking refusals.ListTooLong waiting asked = ⊥
-IsRefusedTaking refusals.TooManyRequests waiting asked = request_limit < length (waiting ++ asked.awaited)
-IsRefusedTaking refusals.OutputTooLong waiting asked = ⊥
-IsRefusedTaking refusals.AnswerTooLong waiting asked = ⊥
+abbrev pub IsRefusedTaking : ConversationError → Hears → Type 0
+IsRefusedTaking refusals.NoMemory then = Unit {0}
+IsRefusedTaking refusals.LineTooLong then = ⊥
+IsRefusedTaking refusals.ListTooLong then = ⊥
+IsRefusedTaking refusals.TooManyRequests then = request_limit < waiting_count then.hearing.awaited then.later
+IsRefusedTaking refusals.OutputTooLong then = ⊥
+IsRefusedTaking refusals.AnswerTooLong then = ⊥

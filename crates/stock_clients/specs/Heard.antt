@@ -13,7 +13,10 @@ use Rattle.stock_requests.specs.declared.change.Change.{Change}
 use Rattle.stock_requests.specs.declared.change.LineChange.{LineChange}
 use Rattle.stock_requests.specs.declared.change.LineChange.TheVariants.{Kept, Masked, Dropped, OnlyVolume, Renamed, Numbered}
 use Rattle.stock_requests.specs.declared.change.Ending.{Ending}
-use Rattle.stock_requests.specs.declared.change.Ending.TheVariants.{Nothing, Text, Tags, Masks}
+use Rattle.stock_requests.specs.declared.change.Ending.TheVariants.{Nothing, Text, Times, Tags, Masks}
+use Rattle.stock_requests.specs.declared.change.Natives.{Natives}
+use Rattle.stock_requests.specs.declared.steps.Steps.{Steps}
+use Rattle.stock_requests.specs.Steps.{after_step, step_change, step_line, step_part, After, Told}
 use Rattle.stock_clients.specs.Lines.{kind_of, list_ok_text}
 use Rattle.stock_clients.specs.Refused.{refusal_of, refusal_at}
 use Rattle.stock_clients.specs.declared.kinds.LineKind.{LineKind}
@@ -24,6 +27,12 @@ use Rattle.stock_clients.specs.declared.awaited.Several.{Several}
 use Rattle.stock_clients.specs.declared.parts.Part.{Part}
 use Rattle.stock_clients.specs.declared.parts.Part.TheVariants as parts
 use Rattle.stock_clients.specs.declared.hearing.Hearing.{Hearing}
+use Rattle.stock_clients.specs.declared.next.Next.{Next}
+use Rattle.stock_clients.specs.declared.next.Next.TheVariants.{Stays, Asks, Resumes}
+use Rattle.stock_clients.specs.declared.times.DaemonTimes.{DaemonTimes}
+use Rattle.stock_clients.specs.Asked.{asked_all, natives_text}
+use Rattle.command_text.specs.declared.request.Request.{Request}
+use Rattle.command_text.specs.Answer.{number_pair}
 
 -- a line of a song, where its tag is one that the client wants
 abbrev pub shown_line : TagSet → List ℕ → List ℕ
@@ -58,15 +67,17 @@ told_then told line = if is_file line then min (told + 1) most_told else told
 abbrev pub shown_behind : Ending → TagSet → TagSet
 shown_behind Nothing shown = shown
 shown_behind (Text text) shown = shown
+shown_behind Times shown = shown
 shown_behind Tags shown = shown
 shown_behind (Masks change) shown = after_change change shown
 
 -- what is told before the end of an answer
-abbrev pub told_at_end : Ending → TagSet → List ℕ
-told_at_end Nothing shown = []
-told_at_end (Text text) shown = text_of text
-told_at_end Tags shown = tag_lines shown
-told_at_end (Masks change) shown = []
+abbrev pub told_at_end : Ending → TagSet → DaemonTimes → List ℕ
+told_at_end Nothing shown times = []
+told_at_end (Text text) shown times = text_of text
+told_at_end Times shown times = number_pair (codes "uptime") times.uptime ++ number_pair (codes "db_update") times.db_update
+told_at_end Tags shown times = tag_lines shown
+told_at_end (Masks change) shown times = []
 
 -- what is left of a request behind a line, the tags that the client wants then, and what it is given
 pub record Answered : Type 0 where
@@ -92,12 +103,12 @@ answered_songs shown line kinds.ListOk = answered (Some awaits.Songs) shown (end
 answered_songs shown line kinds.Told = answered (Some awaits.Songs) shown (shown_line shown line)
 
 -- the line is changed; an answer's end brings what is told before it
-abbrev pub answered_one : Change → ℕ → TagSet → List ℕ → LineKind → Answered
-answered_one change told shown line kinds.Ok =
-    answered None (shown_behind change.ending shown) (told_at_end change.ending shown ++ ended line)
-answered_one change told shown line kinds.Ack = answered None shown (ended (refusal_of change 0 line))
-answered_one change told shown line kinds.ListOk = answered (Some (awaits.One change told)) shown (ended line)
-answered_one change told shown line kinds.Told =
+abbrev pub answered_one : Change → ℕ → DaemonTimes → TagSet → List ℕ → LineKind → Answered
+answered_one change told times shown line kinds.Ok =
+    answered None (shown_behind change.ending shown) (told_at_end change.ending shown times ++ ended line)
+answered_one change told times shown line kinds.Ack = answered None shown (ended (refusal_of change 0 line))
+answered_one change told times shown line kinds.ListOk = answered (Some (awaits.One change told)) shown (ended line)
+answered_one change told times shown line kinds.Told =
     answered (Some (awaits.One change (told_then told line))) shown (changed_line change.lines shown told line)
 
 -- how many commands of the list are done
@@ -114,17 +125,17 @@ abbrev pub done_one : Several → List Part → Several
 done_one several rest = record several { has_first = false; told = 0; parts = rest }
 
 -- the first of two native commands, or the command at work, is done
-abbrev pub ended_part : Several → TagSet → List ℕ → List Part → Answered
-ended_part several shown line [] = answered (Some (awaits.Several several)) shown (ended line)
-ended_part several shown line (parts.Same ∷ rest) =
+abbrev pub ended_part : Several → DaemonTimes → TagSet → List ℕ → List Part → Answered
+ended_part several times shown line [] = answered (Some (awaits.Several several)) shown (ended line)
+ended_part several times shown line (parts.Same ∷ rest) =
     answered (Some (awaits.Several (done_one several rest))) shown (part_end several.separated)
-ended_part several shown line (parts.Songs ∷ rest) =
+ended_part several times shown line (parts.Songs ∷ rest) =
     answered (Some (awaits.Several (done_one several rest))) shown (part_end several.separated)
-ended_part several shown line (parts.Changed needs_two change ∷ rest) =
+ended_part several times shown line (parts.Changed needs_two change ∷ rest) =
     if needs_two && not several.has_first
     then answered (Some (awaits.Several (record several { has_first = true }))) shown []
     else answered (Some (awaits.Several (done_one several rest))) (shown_behind change.ending shown)
-    (told_at_end change.ending shown ++ part_end several.separated)
+    (told_at_end change.ending shown times ++ part_end several.separated)
 
 -- what is given for a line of the command at work
 abbrev pub part_line : Several → TagSet → List ℕ → List Part → List ℕ
@@ -140,19 +151,13 @@ part_refusal several line (parts.Same ∷ rest) = refusal_at (done several) line
 part_refusal several line (parts.Songs ∷ rest) = refusal_at (done several) line
 part_refusal several line (parts.Changed needs_two change ∷ rest) = refusal_of change (done several) line
 
-abbrev pub answered_several : Several → TagSet → List ℕ → LineKind → Answered
-answered_several several shown line kinds.Ok = answered None shown (ended line)
-answered_several several shown line kinds.Ack = answered None shown (ended (part_refusal several line several.parts))
-answered_several several shown line kinds.ListOk = ended_part several shown line several.parts
-answered_several several shown line kinds.Told = answered (Some (awaits.Several (record several { told = told_then several.told line })))
-    shown (part_line several shown line several.parts)
-
--- what a line does to the request that is answered
-abbrev pub answered_by : Awaited → TagSet → List ℕ → Answered
-answered_by awaits.Passing shown line = answered_passing shown line (kind_of line)
-answered_by awaits.Songs shown line = answered_songs shown line (kind_of line)
-answered_by (awaits.One change told) shown line = answered_one change told shown line (kind_of line)
-answered_by (awaits.Several several) shown line = answered_several several shown line (kind_of line)
+abbrev pub answered_several : Several → DaemonTimes → TagSet → List ℕ → LineKind → Answered
+answered_several several times shown line kinds.Ok = answered None shown (ended line)
+answered_several several times shown line kinds.Ack = answered None shown (ended (part_refusal several line several.parts))
+answered_several several times shown line kinds.ListOk = ended_part several times shown line several.parts
+answered_several several times shown line kinds.Told =
+    answered (Some (awaits.Several (record several { told = told_then several.told line }))) shown
+    (part_line several shown line several.parts)
 
 -- the request that is answered, the tags and the bytes that were given are those
 pub record IsAnswered (answer : Answered) (found : Option Awaited) (tags : TagSet) (before after : List ℕ) : Type 0 where
@@ -160,50 +165,146 @@ pub record IsAnswered (answer : Answered) (found : Option Awaited) (tags : TagSe
   pub shown : tags ≡ answer.shown
   pub given : after ≡ before ++ answer.given
 
+-- no time is known yet
+abbrev pub no_times : DaemonTimes
+no_times = record { uptime = 0; db_update = 0 }
+
 -- nothing is awaited, and all tags are shown
 abbrev pub unheard : Hearing
-unheard = record { awaited = []; shown = all_in_set; is_greeted = false }
+unheard = record { awaited = []; shown = all_in_set; is_greeted = false; times = no_times; steps = None }
 
 -- The first line is the greeting, and passes. A line is one of the answer to the request that waits longest; behind its end the next one is
 -- answered.
 pub record Heard : Type 0 where
   pub hearing : Hearing
   pub given : List ℕ
+  -- what is asked behind the line
+  pub next : Next
+
+abbrev pub heard_so : Hearing → List ℕ → Next → Heard
+heard_so hearing given next = record { hearing = hearing; given = given; next = next }
 
 -- what is awaited, the request that is answered first
 abbrev pub waiting : Option Awaited → List Awaited → List Awaited
 waiting None rest = rest
 waiting (Some first) rest = first ∷ rest
 
+-- an answer that was asked for at once
+abbrev pub heard_answer : Hearing → List Awaited → Answered → Heard
+heard_answer hearing rest answer =
+    heard_so (record hearing { awaited = waiting answer.left rest; shown = answer.shown }) answer.given Stays
+
+-- what is told where an answer in steps ends: nothing of an end behind which more is asked
+abbrev pub end_of_steps : Option Natives → List ℕ → List ℕ
+end_of_steps None line = ended line
+end_of_steps (Some natives) line = []
+
+abbrev pub steps_left : Option Natives → Steps → Option Steps
+steps_left None steps = None
+steps_left (Some natives) steps = Some steps
+
+abbrev pub next_of : Option Natives → Next
+next_of None = Resumes
+next_of (Some natives) = Asks natives
+
+-- steps go on behind the end of an answer, or are over; they are over at a refusal
+abbrev pub heard_end : Hearing → List Awaited → List ℕ → After → Heard
+heard_end hearing rest line after =
+    heard_so (record hearing { awaited = rest; steps = steps_left after.natives after.steps })
+    (after.given ++ end_of_steps after.natives line) (next_of after.natives)
+
+abbrev pub heard_told : Hearing → List Awaited → Told → Heard
+heard_told hearing rest told =
+    heard_so (record hearing { awaited = awaits.Step ∷ rest; steps = Some told.steps }) told.given Stays
+
+abbrev pub heard_step : Hearing → List Awaited → List ℕ → LineKind → Steps → Heard
+heard_step hearing rest line kinds.Ok steps = heard_end hearing rest line (after_step steps)
+heard_step hearing rest line kinds.Ack steps =
+    heard_so (record hearing { awaited = rest; steps = None }) (ended (refusal_of (step_change steps) 0 line)) Resumes
+heard_step hearing rest line kinds.ListOk steps = heard_told hearing rest (step_part steps)
+heard_step hearing rest line kinds.Told steps = heard_told hearing rest (step_line steps line)
+
+-- without steps the line passes
+abbrev pub heard_steps : Hearing → List Awaited → List ℕ → Option Steps → Heard
+heard_steps hearing rest line None = heard_so (record hearing {
+  awaited = waiting (answered_passing hearing.shown line (kind_of line)).left rest;
+}) (ended line) Stays
+heard_steps hearing rest line (Some steps) = heard_step hearing rest line (kind_of line) steps
+
+-- what a line does to the request that is answered
+abbrev pub heard_first : Awaited → List Awaited → Hearing → List ℕ → Heard
+heard_first awaits.Passing rest hearing line = heard_answer hearing rest (answered_passing hearing.shown line (kind_of line))
+heard_first awaits.Songs rest hearing line = heard_answer hearing rest (answered_songs hearing.shown line (kind_of line))
+heard_first (awaits.One change told) rest hearing line =
+    heard_answer hearing rest (answered_one change told hearing.times hearing.shown line (kind_of line))
+heard_first (awaits.Several several) rest hearing line =
+    heard_answer hearing rest (answered_several several hearing.times hearing.shown line (kind_of line))
+heard_first awaits.Step rest hearing line = heard_steps hearing rest line hearing.steps
+
 -- the line passes, where nothing is awaited
 abbrev pub heard_by : List Awaited → Hearing → List ℕ → Heard
-heard_by [] hearing line = record { hearing = hearing; given = ended line }
-heard_by (first ∷ rest) hearing line =
-    let answer = answered_by first hearing.shown line in
-    record { hearing = record hearing { awaited = waiting answer.left rest; shown = answer.shown }; given = answer.given }
+heard_by [] hearing line = heard_so hearing (ended line) Stays
+heard_by (first ∷ rest) hearing line = heard_first first rest hearing line
 
 abbrev pub heard : Hearing → List ℕ → Heard
 heard hearing line =
     if hearing.is_greeted then heard_by hearing.awaited hearing line
-    else record { hearing = record hearing { is_greeted = true }; given = ended line }
+    else heard_so (record hearing { is_greeted = true }) (ended line) Stays
 
--- the daemon's bytes so far: what is awaited, the beginning of the next line, and what was given
+-- the daemon's bytes so far: what is awaited, the beginning of the next line, what was given, and what the daemon is to be asked; and the
+-- requests that it is asked later, by a client that has asked for other tags or hasn't
 pub record Hears : Type 0 where
   pub hearing : Hearing
   pub held : List ℕ
   pub given : List ℕ
+  pub native : List ℕ
+  pub masks : Bool
+  pub later : List Request
 
-abbrev pub hears : Hearing → List ℕ → List ℕ → Hears
-hears hearing held given = record { hearing = hearing; held = held; given = given }
+abbrev pub hears : Hearing → List ℕ → List ℕ → List ℕ → Bool → List Request → Hears
+hears hearing held given native masks later =
+    record { hearing = hearing; held = held; given = given; native = native; masks = masks; later = later }
+
+abbrev pub with_bytes : List ℕ → List ℕ → Hears → Hears
+with_bytes held given state = record state { held = held; given = given }
+
+abbrev pub unasked : Hears
+unasked = hears unheard [] [] [] false []
+
+-- where no steps are at work, the requests that wait are asked
+abbrev pub resumed : Hears → Hears
+resumed state =
+    let asked = asked_all state.masks state.later in
+    record state {
+      hearing = record state.hearing { awaited = state.hearing.awaited ++ asked.awaited; steps = asked.steps };
+      native = state.native ++ asked.native;
+      masks = asked.masks;
+      later = asked.later;
+    }
+
+-- the next step of a command is asked
+abbrev pub stepped : Natives → Hears → Hears
+stepped natives state = record state {
+  hearing = record state.hearing { awaited = state.hearing.awaited ++ awaits.Step ∷ [] };
+  native = state.native ++ natives_text natives.first natives.second;
+}
+
+-- behind a line
+abbrev pub gone_on : Next → Hears → Hears
+gone_on Stays state = state
+gone_on (Asks natives) state = stepped natives state
+gone_on Resumes state = resumed state
 
 -- a line that is whole
 abbrev pub hear_line : Hears → List ℕ → Hears
-hear_line state line = let now = heard state.hearing line in hears now.hearing [] (state.given ++ now.given)
+hear_line state line =
+    let now = heard state.hearing line in
+    gone_on now.next (record state { hearing = now.hearing; held = []; given = state.given ++ now.given })
 
 -- byte by byte: at a newline the line is whole
 abbrev pub hear_byte : Hears → ℕ → Hears
 hear_byte state byte =
-    if byte == newline then hear_line state state.held else hears state.hearing (state.held ++ byte ∷ []) state.given
+    if byte == newline then hear_line state state.held else record state { held = state.held ++ byte ∷ [] }
 
 abbrev pub hear_bytes : Hears → List ℕ → Hears
 hear_bytes state [] = state

@@ -1,19 +1,20 @@
 // Requests of the client as the daemon is asked them.
-ghost use Rattle.std.specs.Prelude.{◌≡◌, ◌++◌, false, true, Some, option_to_list, OnOk, IfOk};
+ghost use Rattle.std.specs.Prelude.{◌≡◌, ◌++◌, false, true, None, Some, option_to_list, if◌then◌else◌, OnOk, IfOk};
 ghost use Rattle.client_session.specs.Lines.{ended};
 ghost use Rattle.stock_requests.specs.Translation.{translation};
 ghost use Rattle.stock_clients.specs.Asked.{all_plain, any_mask, asked_as_it_is, asked_in_parts, asked_list, asked_natives, begin_text};
-ghost use Rattle.stock_clients.specs.Asked.{asked_of, asked_single, changes_mask, is_mask};
+ghost use Rattle.stock_clients.specs.Asked.{asked_all, asked_of, asked_single, changes_mask, is_mask, natives_text, pair_text, IsAskedSo};
 ghost use Rattle.stock_clients.specs.Asked.{is_plain, lines_of_list, native_lines, part_of, parts_of_list, several, IsAsked};
 ghost use Rattle.std.specs.List.{flat_map};
+ghost use Rattle.stock_clients.specs.declared.awaited.Awaited.TheVariants as awaits;
 
 use crate::awaited::{Awaited, Several};
 use crate::hearing::write_line;
-use crate::parts::{Part, Parts, Queue};
+use crate::parts::{Later, Part, Parts, Queue};
 use command_text::{Lines, LinesRef, Request};
 use no_memory::NoMemory;
 use std::alloc::Global;
-use stock_requests::{Change, Ending, Natives, Translation, translate};
+use stock_requests::{Change, Ending, Natives, Steps, Translation, translate};
 
 const LIST_BEGIN: &[u8] = b"command_list_begin";
 
@@ -34,7 +35,7 @@ fn changes_mask(translation: &Translation) -> bool
     ensures { result ≡ changes_mask translation.now }
 {
     match translation {
-        Translation::Same | Translation::Songs => false,
+        Translation::Same | Translation::Songs | Translation::Stepped(_, _) => false,
         Translation::Changed(change) | Translation::Other(_, change) => is_mask(&change.ending),
     }
 }
@@ -46,7 +47,7 @@ fn is_plain(masks: bool, translation: &Translation) -> bool
     match translation {
         Translation::Same => true,
         Translation::Songs => !masks,
-        Translation::Changed(_) | Translation::Other(_, _) => false,
+        Translation::Changed(_) | Translation::Other(_, _) | Translation::Stepped(_, _) => false,
     }
 }
 
@@ -55,7 +56,7 @@ fn part_of(translation: &Translation) -> Part
     ensures { result ≡ part_of translation.now }
 {
     match translation {
-        Translation::Same => Part::Same,
+        Translation::Same | Translation::Stepped(_, _) => Part::Same,
         Translation::Songs => Part::Songs,
         Translation::Changed(change) => Part::Changed {
             needs_two: false,
@@ -87,6 +88,7 @@ fn write_native(out: &mut Vec<u8>, line: &[u8], translation: &Translation) -> Re
     match translation {
         Translation::Same | Translation::Songs | Translation::Changed(_) => write_line(out, line),
         Translation::Other(natives, _) => write_natives(out, natives),
+        Translation::Stepped(first, _) => write_line(out, first.bytes()),
     }
 }
 
@@ -139,7 +141,28 @@ fn translate_lines(
     Ok(masks)
 }
 
-// Two native commands in a list of their own, so that nothing comes between them.
+// Adds two native commands in a list of their own, so that nothing comes between them.
+fn write_pair(out: &mut Vec<u8>, first: &[u8], second: &[u8]) -> Result<(), NoMemory>
+    ensures { OnOk result (out.new.items ≡ out.old.items ++ pair_text first.now second.now) }
+{
+    write_line(out, list_begin(true))?;
+    write_line(out, first)?;
+    write_line(out, second)?;
+    write_line(out, LIST_END)?;
+    Ok(())
+}
+
+/// Adds the native commands in the place of one.
+pub(crate) fn write_text(out: &mut Vec<u8>, natives: &Natives) -> Result<(), NoMemory>
+    ensures { OnOk result (out.new.items ≡ out.old.items ++ natives_text natives.now.first natives.now.second) }
+{
+    match &natives.second {
+        None => write_line(out, natives.first.bytes()),
+        Some(second) => write_pair(out, natives.first.bytes(), second.bytes()),
+    }
+}
+
+// Two native commands in the place of one.
 fn ask_two(
     alloc: Global,
     out: &mut Vec<u8>,
@@ -156,10 +179,7 @@ fn ask_two(
         needs_two: true,
         change,
     })?;
-    write_line(out, list_begin(true))?;
-    write_line(out, first)?;
-    write_line(out, second)?;
-    write_line(out, LIST_END)?;
+    write_pair(out, first, second)?;
     awaited.push(several(false, 1, parts))?;
     Ok(())
 }
@@ -199,41 +219,75 @@ fn several(separated: bool, count: usize, parts: Parts) -> Awaited
     })
 }
 
-// A command that stands in no list; gives whether the client has asked for other tags by now.
+// An answer that tells songs passes as it is for a client that has never asked for other tags.
+fn songs(masks: bool) -> Awaited
+    ensures { result ≡ (if masks then awaits.Songs else awaits.Passing) }
+{
+    if masks {
+        Awaited::Songs
+    } else {
+        Awaited::Passing
+    }
+}
+
+// A request that isn't asked step by step.
+fn at_once(masks: bool) -> Noticed
+    ensures masks { result.masks ≡ masks }
+    ensures steps { result.steps ≡ None }
+{
+    Noticed { masks, steps: None }
+}
+
+// One that is.
+fn step_by_step(masks: bool, steps: Steps) -> Noticed
+    ensures masks { result.masks ≡ masks }
+    ensures steps { result.steps ≡ Some steps }
+{
+    Noticed {
+        masks,
+        steps: Some(steps),
+    }
+}
+
+// A command that stands in no list.
 fn ask_single(
     alloc: Global,
     out: &mut Vec<u8>,
     awaited: &mut Queue,
     masks: bool,
     line: &[u8],
-) -> Result<bool, NoMemory>
-    ensures { IfOk result (λ now. IsAsked (asked_single masks line.now (translation true line.now)) now
+) -> Result<Noticed, NoMemory>
+    ensures { IfOk result (λ now. IsAskedSo (asked_single masks line.now (translation true line.now)) now
         awaited.old awaited.new out.old.items out.new.items) }
 {
     let translation = translate(alloc, line, true)?;
-    match &translation {
+    let then = masks || changes_mask(&translation);
+    match translation {
         Translation::Same => {
             write_line(out, line)?;
             awaited.push(Awaited::Passing)?;
+            Ok(at_once(masks))
         }
         Translation::Songs => {
             write_line(out, line)?;
-            awaited.push(if masks {
-                Awaited::Songs
-            } else {
-                Awaited::Passing
-            })?;
+            awaited.push(songs(masks))?;
+            Ok(at_once(masks))
         }
         Translation::Changed(change) => {
             write_line(out, line)?;
-            awaited.push(Awaited::One {
-                change: *change,
-                told: 0,
-            })?;
+            awaited.push(Awaited::One { change, told: 0 })?;
+            Ok(at_once(then))
         }
-        Translation::Other(natives, change) => ask_natives(alloc, out, awaited, natives, *change)?,
+        Translation::Other(natives, change) => {
+            ask_natives(alloc, out, awaited, &natives, change)?;
+            Ok(at_once(then))
+        }
+        Translation::Stepped(first, steps) => {
+            write_line(out, first.bytes())?;
+            awaited.push(Awaited::Step)?;
+            Ok(step_by_step(masks, steps))
+        }
     }
-    Ok(masks || changes_mask(&translation))
 }
 
 // The line that begins a list, each command of which is answered by `list_OK` or is not.
@@ -298,23 +352,62 @@ fn ask_list(
     Ok(masks || asks)
 }
 
-/// Adds what the daemon is asked for a request, and what is awaited of it; gives whether the client has asked for other tags by now.
+/// What asking for a request brought.
+#[derive(Debug, Drop)]
+pub(crate) struct Noticed {
+    /// The client has asked for other tags by now.
+    pub masks: bool,
+    /// The request is asked step by step: what comes behind it waits.
+    pub steps: Option<Steps>,
+}
+
+/// Adds what the daemon is asked for a request, and what is awaited of it.
+#[tactic(auto, using(crate::proofs::AskedSteps::list_has_none))]
 pub(crate) fn ask_request(
     alloc: Global,
     out: &mut Vec<u8>,
     awaited: &mut Queue,
     masks: bool,
     request: &Request,
-) -> Result<bool, NoMemory>
-    ensures { IfOk result (λ now. IsAsked (asked_of masks request.now) now awaited.old awaited.new out.old.items out.new.items) }
+) -> Result<Noticed, NoMemory>
+    ensures { IfOk result (λ now. IsAskedSo (asked_of masks request.now) now awaited.old awaited.new out.old.items out.new.items) }
 {
     match request {
         Request::Single(line) => ask_single(alloc, out, awaited, masks, line.bytes()),
-        Request::List(lines) => ask_list(alloc, out, awaited, masks, false, lines),
-        Request::OkList(lines) => ask_list(alloc, out, awaited, masks, true, lines),
+        Request::List(lines) => {
+            let masks = ask_list(alloc, out, awaited, masks, false, lines)?;
+            Ok(at_once(masks))
+        }
+        Request::OkList(lines) => {
+            let masks = ask_list(alloc, out, awaited, masks, true, lines)?;
+            Ok(at_once(masks))
+        }
         Request::Noidle => {
             write_line(out, NOIDLE)?;
-            Ok(masks)
+            Ok(at_once(masks))
         }
     }
+}
+
+/// Adds what the daemon is asked for requests, and what is awaited of them, up to one that is asked step by step: those behind it are left.
+#[tactic(auto, using(crate::proofs::AskedSteps::stops, crate::proofs::AskedSteps::goes_on))]
+pub(crate) fn ask_requests(
+    alloc: Global,
+    out: &mut Vec<u8>,
+    awaited: &mut Queue,
+    masks: bool,
+    later: &mut Later,
+) -> Result<Noticed, NoMemory>
+    ensures asked { IfOk result (λ now. IsAskedSo (asked_all masks later.old) now awaited.old awaited.new out.old.items out.new.items) }
+    ensures later { OnOk result (let asked = asked_all masks later.old in later.new ≡ asked.later) }
+{
+    let mut masks = masks;
+    while let Some(request) = later.take() {
+        let noticed = ask_request(alloc, out, awaited, masks, &request)?;
+        masks = noticed.masks;
+        if let Some(steps) = noticed.steps {
+            return Ok(step_by_step(masks, steps));
+        }
+    }
+    Ok(at_once(masks))
 }

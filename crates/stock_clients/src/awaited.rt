@@ -28,4 +28,6 @@ pub enum Awaited {
     One { change: Change, told: u32 },
     /// It is one of a list, or of two native commands.
     Several(Several),
+    /// It is one of the steps of a command.
+    Step,
 }

@@ -1,18 +1,16 @@
 // One client's conversation: its requests on the way to the daemon, and the answers on their way back.
-ghost use Rattle.std.specs.Prelude.{◌≡◌, ◌≤◌, ◌++◌, length, drop, None, Err, OnOk, OnErr, IfErr, IfOk, IfSome};
+ghost use Rattle.std.specs.Prelude.{◌≡◌, ◌≤◌, ◌++◌, length, drop, is_some, None, Err, OnOk, OnErr, IfErr, IfOk, IfSome};
 ghost use Rattle.client_session.specs.Lines.{HasNoNewline};
 ghost use Rattle.client_session.specs.Requests.{fault_at};
-ghost use Rattle.stock_clients.specs.Asked.{asked_all, IsAsked};
-ghost use Rattle.stock_clients.specs.Heard.{hears, hear_bytes, hear_line};
-ghost use Rattle.stock_clients.specs.Conversation.{begun, ended_by, asked_more, given_for, heard_more, request_limit, IsBounded};
+ghost use Rattle.stock_clients.specs.Heard.{hear_bytes, hear_line, with_bytes};
+ghost use Rattle.stock_clients.specs.Conversation.{begun, ended_by, asked_more, given_for, heard_more, hearing_of, left_of, taken, IsBounded};
 ghost use Rattle.stock_clients.specs.Conversation.{refused_before, IsLeftUnsent, IsRefusedAnswering, IsRefusedAsking, IsRefusedTaking};
 ghost use Rattle.stock_clients.specs.Conversation.{MeetsAsking};
 ghost use Rattle.stock_clients.specs.Refusal.{of_session};
 
-use crate::asking::ask_request;
-use crate::hearing::Hearing;
-use crate::parts::Queue;
+use crate::exchange::Exchange;
 use crate::refusal::ConversationError;
+use crate::times::DaemonTimes;
 use bytes::BytesMut;
 use client_session::{Requests, Session, SessionError};
 use memchr::memchr;
@@ -36,83 +34,56 @@ pub const ANSWER_LIMIT: usize = 16_384;
 pub struct Conversation {
     // Cuts what the client sends.
     asking: Session,
-    // What the daemon is to be asked.
-    native: BytesMut,
     // The beginning of the daemon's next line.
     held: BytesMut,
-    hearing: Hearing,
-    // The client has asked for other tags.
-    masks: bool,
+    exchange: Exchange,
     fault: Option<ConversationError>,
 }
 
 impl Model for Conversation {
-    ghost use Rattle.stock_clients.specs.Conversation.{Talk, talk, IsBounded};
+    ghost use Rattle.stock_clients.specs.Conversation.{Talk, talk_of, IsBounded};
 
     ghost Value = { Talk };
 
-    ghost view = { λ c. talk c.asking c.native.items c.held.items c.hearing c.masks c.fault };
+    ghost view = { λ c. talk_of c.asking c.held.items c.exchange c.fault };
 
-    ghost invariant = { λ c. IsBounded (talk c.asking c.native.items c.held.items c.hearing c.masks c.fault) };
-}
-
-// Adds what the daemon is asked for requests, and what is awaited of them; gives whether the client has asked for other tags by now.
-fn ask_requests(
-    alloc: Global,
-    native: &mut Vec<u8>,
-    awaited: &mut Queue,
-    masks: bool,
-    requests: Requests,
-) -> Result<bool, ConversationError>
-    ensures asked { IfOk result (λ now. IsAsked (asked_all masks requests) now awaited.old awaited.new native.old.items native.new.items) }
-    ensures within { length awaited.old ≤ request_limit → OnOk result (length awaited.new ≤ request_limit) }
-    ensures refused { IfErr result (λ e. IsRefusedTaking e awaited.old (asked_all masks requests)) }
-{
-    let mut requests = requests;
-    let mut masks = masks;
-    while let Some(request) = requests.next() {
-        masks = ask_request(alloc, native, awaited, masks, &request)?;
-        if awaited.len() > REQUEST_LIMIT {
-            return Err(ConversationError::TooManyRequests);
-        }
-    }
-    Ok(masks)
+    ghost invariant = { λ c. IsBounded (talk_of c.asking c.held.items c.exchange c.fault) };
 }
 
 // Hears the end of a line, whose beginning is held; adds what the client is given for it.
 fn hear_last(
-    hearing: &mut Hearing,
+    alloc: Global,
+    exchange: &mut Exchange,
     held: &mut BytesMut,
     given: &mut Vec<u8>,
     last: &[u8],
 ) -> Result<(), NoMemory>
-    ensures heard { OnOk result (hears hearing.new held.new.items given.new.items
-        ≡ hear_line (hears hearing.old held.old.items given.old.items) (held.old.items ++ last.now)) }
-    ensures fewer { OnOk result (length hearing.new.awaited ≤ length hearing.old.awaited) }
+    ensures { OnOk result (with_bytes held.new.items given.new.items exchange.new
+        ≡ hear_line (with_bytes held.old.items given.old.items exchange.old) (held.old.items ++ last.now)) }
 {
     if held.is_empty() {
-        return hearing.hear(given, last);
+        return exchange.hear(alloc, given, last);
     }
     held.extend_from_slice(last)?;
-    hearing.hear(given, held.as_slice())?;
+    exchange.hear(alloc, given, held.as_slice())?;
     held.clear();
     Ok(())
 }
 
 // Hears what the daemon says; adds what the client is given.
 fn hear(
-    hearing: &mut Hearing,
+    alloc: Global,
+    exchange: &mut Exchange,
     held: &mut BytesMut,
     given: &mut Vec<u8>,
     piece: &[u8],
 ) -> Result<(), NoMemory>
-    ensures heard { OnOk result (hears hearing.new held.new.items given.new.items
-        ≡ hear_bytes (hears hearing.old held.old.items given.old.items) piece.now) }
-    ensures fewer { OnOk result (length hearing.new.awaited ≤ length hearing.old.awaited) }
+    ensures { OnOk result (with_bytes held.new.items given.new.items exchange.new
+        ≡ hear_bytes (with_bytes held.old.items given.old.items exchange.old) piece.now) }
 {
     let mut rest = piece;
     while let Some(end) = memchr(b'\n', rest) {
-        hear_last(hearing, held, given, &rest[..end])?;
+        hear_last(alloc, exchange, held, given, &rest[..end])?;
         rest = &rest[end + 1..];
     }
     held.extend_from_slice(rest)?;
@@ -126,10 +97,8 @@ impl Conversation {
     {
         Conversation {
             asking: Session::new(alloc),
-            native: BytesMut::new(alloc),
             held: BytesMut::new(alloc),
-            hearing: Hearing::new(alloc),
-            masks: false,
+            exchange: Exchange::new(alloc),
             fault: None,
         }
     }
@@ -139,7 +108,7 @@ impl Conversation {
         ensures state { self.new ≡ ended_by refusal }
         ensures same { result ≡ refusal }
     {
-        let alloc = *self.native.allocator();
+        let alloc = *self.held.allocator();
         *self = Conversation::new(alloc);
         self.fault = Some(refusal);
         refusal
@@ -178,36 +147,40 @@ impl Conversation {
         }
     }
 
-    // Asks the daemon for these requests. An `Err` leaves a conversation that is to end.
+    // Takes these requests. An `Err` leaves a conversation that is to end.
     fn take_requests(&mut self, alloc: Global, requests: Requests) -> Result<(), ConversationError>
-        ensures asked { OnOk result (let asked = asked_all self.old.masks requests in self.new ≡ record self.old {
-          native = self.old.native ++ asked.native;
-          hearing = record self.old.hearing { awaited = self.old.hearing.awaited ++ asked.awaited };
-          masks = asked.masks;
-        }) }
+        ensures asked { OnOk result (self.new ≡ left_of self.old (taken (hearing_of self.old) requests)) }
         ensures within { OnOk result (IsBounded self.new) }
-        ensures refused { IfErr result (λ e. IsRefusedTaking e self.old.hearing.awaited (asked_all self.old.masks requests)) }
+        ensures refused { IfErr result (λ e. IsRefusedTaking e (taken (hearing_of self.old) requests)) }
     {
-        let mut hearing = mem::replace(&mut self.hearing, Hearing::new(alloc));
-        let mut native = Vec::new(alloc);
-        let masks = ask_requests(
-            alloc,
-            &mut native,
-            &mut hearing.awaited,
-            self.masks,
-            requests,
-        )?;
-        self.native.extend_from_slice(native.as_slice())?;
-        self.hearing = hearing;
-        self.masks = masks;
+        let mut exchange = mem::replace(&mut self.exchange, Exchange::new(alloc));
+        exchange.take(alloc, requests)?;
+        if exchange.is_over(REQUEST_LIMIT) {
+            return Err(ConversationError::TooManyRequests);
+        }
+        self.exchange = exchange;
         Ok(())
+    }
+
+    /// Whether a command is asked step by step: what the client sends behind it waits until it is done.
+    pub fn is_stepping(&self) -> bool
+        ensures { result ≡ is_some self.now.hearing.steps }
+    {
+        self.exchange.hearing.steps.is_some()
+    }
+
+    /// From here on an answer to `stats` tells this of the daemon.
+    pub fn set_times(&mut self, times: DaemonTimes)
+        ensures { self.new ≡ record self.old { hearing = record self.old.hearing { times = times } } }
+    {
+        self.exchange.hearing.times = times;
     }
 
     /// What the daemon is to be asked, and has not been yet.
     pub fn native(&self) -> &[u8]
         ensures { result.now ≡ self.now.native }
     {
-        self.native.as_slice()
+        self.exchange.native.as_slice()
     }
 
     /// Lets go of the first bytes of what the daemon is to be asked: it was.
@@ -215,7 +188,7 @@ impl Conversation {
         requires { count ≤ length self.old.native }
         ensures { self.new ≡ record self.old { native = drop count self.old.native } }
     {
-        self.native.advance(count);
+        self.exchange.native.advance(count);
     }
 
     /// Takes the next piece of what the daemon says, and queues in `giving` what the client is given for it.
@@ -245,6 +218,7 @@ impl Conversation {
     }
 
     // Hears what the daemon says. An `Err` leaves a conversation that is to end.
+    #[tactic(auto, using(crate::proofs::CountLaws::bytes_count))]
     fn take_answer(
         &mut self,
         alloc: Global,
@@ -257,10 +231,10 @@ impl Conversation {
         ensures limits { giving.old.closed ≡ None → IfErr result (λ e. IsRefusedAnswering e self.old piece.now giving.old.queued) }
         ensures unsent { OnErr result (IsLeftUnsent giving.old giving.new) }
     {
-        let mut hearing = mem::replace(&mut self.hearing, Hearing::new(alloc));
+        let mut exchange = mem::replace(&mut self.exchange, Exchange::new(alloc));
         let mut held = mem::replace(&mut self.held, BytesMut::new(alloc));
         let mut given = Vec::new(alloc);
-        hear(&mut hearing, &mut held, &mut given, piece)?;
+        hear(alloc, &mut exchange, &mut held, &mut given, piece)?;
         if held.len() > ANSWER_LIMIT {
             return Err(ConversationError::AnswerTooLong);
         }
@@ -269,7 +243,7 @@ impl Conversation {
             Err(SessionError::OutputTooLong) => return Err(ConversationError::OutputTooLong),
             Err(_) => return Err(ConversationError::NoMemory),
         }
-        self.hearing = hearing;
+        self.exchange = exchange;
         self.held = held;
         Ok(())
     }

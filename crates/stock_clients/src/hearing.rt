@@ -1,19 +1,27 @@
 // The answers as the client is given them, line by line.
-ghost use Rattle.std.specs.Prelude.{◌≡◌, ◌≤◌, ◌++◌, length, IfOk, OnOk};
+ghost use Rattle.std.specs.Prelude.{◌≡◌, ◌∷◌, ◌++◌, codes, Some, IfOk, OnOk};
 ghost use Rattle.client_session.specs.Lines.{ended};
-ghost use Rattle.stock_clients.specs.Heard.{answered_by, answered_one, answered_several, answered_passing, answered_songs, changed_line};
-ghost use Rattle.stock_clients.specs.Heard.{done, ended_part};
-ghost use Rattle.stock_clients.specs.Heard.{is_file, part_end, part_line, part_refusal, renamed_line, shown_behind, shown_line};
-ghost use Rattle.stock_clients.specs.Heard.{told_at_end, told_then, heard, unheard, IsAnswered};
+ghost use Rattle.command_text.specs.Answer.{number_pair};
+ghost use Rattle.stock_clients.specs.Heard.{answered_one, answered_several, answered_passing, answered_songs, changed_line, done, ended_part};
+ghost use Rattle.stock_clients.specs.Heard.{heard, heard_end, heard_first, heard_step, heard_steps, is_file, part_end, part_line};
+ghost use Rattle.stock_clients.specs.Heard.{part_refusal, renamed_line, shown_behind, shown_line, told_at_end, told_then, unheard};
+ghost use Rattle.stock_clients.specs.Heard.{waiting, IsAnswered};
+ghost use Rattle.stock_clients.specs.Lines.{kind_of};
+ghost use Rattle.stock_requests.specs.Steps.{after_step};
+ghost use Rattle.stock_clients.specs.declared.awaited.Awaited.TheVariants.{Step};
+ghost use Rattle.stock_clients.specs.declared.next.Next.TheVariants.{Stays};
 
 use crate::awaited::{Awaited, Several};
 use crate::kinds::LineKind;
+use crate::next::Next;
 use crate::parts::{Part, Queue};
 use crate::refusing::{write_refusal_at, write_refusal_of};
+use crate::times::DaemonTimes;
+use command_text::write_number;
 use itoa::Buffer;
 use no_memory::NoMemory;
 use std::alloc::Global;
-use stock_requests::{Change, Ending, LineChange, TagSet};
+use stock_requests::{Change, Ending, LineChange, Steps, TagSet};
 
 // Adds a line with its newline.
 pub(crate) fn write_line(out: &mut Vec<u8>, line: &[u8]) -> Result<(), NoMemory>
@@ -92,14 +100,29 @@ fn told_then(told: u32, line: &[u8]) -> u32
     }
 }
 
+// Adds what a clock tells of the daemon.
+fn write_times(out: &mut Vec<u8>, times: DaemonTimes) -> Result<(), NoMemory>
+    ensures { OnOk result (out.new.items ≡ out.old.items
+        ++ (number_pair (codes "uptime") times.uptime ++ number_pair (codes "db_update") times.db_update)) }
+{
+    write_number(out, "uptime", times.uptime)?;
+    write_number(out, "db_update", times.db_update)
+}
+
 // Adds what is told before the end of an answer, and lets the mask change.
-fn end_answer(out: &mut Vec<u8>, end: &Ending, shown: &mut TagSet) -> Result<(), NoMemory>
-    ensures told { OnOk result (out.new.items ≡ out.old.items ++ told_at_end end.now shown.old) }
+fn end_answer(
+    out: &mut Vec<u8>,
+    end: &Ending,
+    times: DaemonTimes,
+    shown: &mut TagSet,
+) -> Result<(), NoMemory>
+    ensures told { OnOk result (out.new.items ≡ out.old.items ++ told_at_end end.now shown.old times) }
     ensures shown { OnOk result (shown.new ≡ shown_behind end.now shown.old) }
 {
     match end {
         Ending::Nothing => {}
         Ending::Text(text) => out.extend_from_slice(text.text().as_bytes())?,
+        Ending::Times => write_times(out, times)?,
         Ending::Tags => shown.write_lines(out)?,
         Ending::Masks(change) => *shown = shown.changed(*change),
     }
@@ -151,17 +174,18 @@ fn answer_songs(
 fn answer_one(
     out: &mut Vec<u8>,
     shown: &mut TagSet,
+    times: DaemonTimes,
     change: Change,
     told: u32,
     line: &[u8],
     kind: LineKind,
 ) -> Result<Option<Awaited>, NoMemory>
-    ensures { IfOk result (λ left. IsAnswered (answered_one change told shown.old line.now kind)
+    ensures { IfOk result (λ left. IsAnswered (answered_one change told times shown.old line.now kind)
         left shown.new out.old.items out.new.items) }
 {
     match kind {
         LineKind::Ok => {
-            end_answer(out, &change.ending, shown)?;
+            end_answer(out, &change.ending, times, shown)?;
             write_line(out, line)?;
             Ok(None)
         }
@@ -185,10 +209,11 @@ fn answer_one(
 fn end_part(
     out: &mut Vec<u8>,
     shown: &mut TagSet,
+    times: DaemonTimes,
     several: Several,
     line: &[u8],
 ) -> Result<Option<Awaited>, NoMemory>
-    ensures { IfOk result (λ left. IsAnswered (ended_part several shown.old line.now several.parts)
+    ensures { IfOk result (λ left. IsAnswered (ended_part several times shown.old line.now several.parts)
         left shown.new out.old.items out.new.items) }
 {
     let mut several = several;
@@ -204,7 +229,7 @@ fn end_part(
                 return Ok(Some(Awaited::Several(several)));
             }
             let ending = change.ending;
-            end_answer(out, &ending, shown)?;
+            end_answer(out, &ending, times, shown)?;
         }
     }
     if several.separated {
@@ -249,11 +274,12 @@ fn refuse_part(out: &mut Vec<u8>, several: &Several, line: &[u8]) -> Result<(), 
 fn answer_several(
     out: &mut Vec<u8>,
     shown: &mut TagSet,
+    times: DaemonTimes,
     several: Several,
     line: &[u8],
     kind: LineKind,
 ) -> Result<Option<Awaited>, NoMemory>
-    ensures { IfOk result (λ left. IsAnswered (answered_several several shown.old line.now kind)
+    ensures { IfOk result (λ left. IsAnswered (answered_several several times shown.old line.now kind)
         left shown.new out.old.items out.new.items) }
 {
     match kind {
@@ -265,7 +291,7 @@ fn answer_several(
             refuse_part(out, &several, line)?;
             Ok(None)
         }
-        LineKind::ListOk => end_part(out, shown, several, line),
+        LineKind::ListOk => end_part(out, shown, times, several, line),
         LineKind::Told => {
             tell_part(out, shown, &several, line)?;
             let mut several = several;
@@ -275,22 +301,13 @@ fn answer_several(
     }
 }
 
-// A line of the answer to the request that waits longest: what is left of that.
-fn answer_line(
-    out: &mut Vec<u8>,
-    shown: &mut TagSet,
-    first: Awaited,
-    line: &[u8],
-) -> Result<Option<Awaited>, NoMemory>
-    ensures { IfOk result (λ left. IsAnswered (answered_by first shown.old line.now) left shown.new out.old.items out.new.items) }
+// A line that is one of no answer passes.
+fn pass(out: &mut Vec<u8>, line: &[u8]) -> Result<Next, NoMemory>
+    ensures given { OnOk result (out.new.items ≡ out.old.items ++ ended line.now) }
+    ensures next { IfOk result (λ next. next ≡ Stays) }
 {
-    let kind = LineKind::of(line);
-    match first {
-        Awaited::Passing => answer_passing(out, shown, line, kind),
-        Awaited::Songs => answer_songs(out, shown, line, kind),
-        Awaited::One { change, told } => answer_one(out, shown, change, told, line, kind),
-        Awaited::Several(several) => answer_several(out, shown, several, line, kind),
-    }
+    write_line(out, line)?;
+    Ok(Next::Stays)
 }
 
 /// What is awaited of the daemon, and what becomes of its answers.
@@ -302,6 +319,10 @@ pub struct Hearing {
     pub shown: TagSet,
     /// The daemon's first line has come.
     pub is_greeted: bool,
+    /// What a clock tells of the daemon.
+    pub times: DaemonTimes,
+    /// The command that is asked step by step.
+    pub steps: Option<Steps>,
 }
 
 impl Hearing {
@@ -313,28 +334,174 @@ impl Hearing {
             awaited: Queue::new(alloc),
             shown: TagSet::all(),
             is_greeted: false,
+            times: DaemonTimes {
+                uptime: 0,
+                db_update: 0,
+            },
+            steps: None,
         }
     }
 
-    /// Takes a line of the daemon without its newline, and adds what the client is given for it. An `Err` leaves a hearing that nobody
-    /// may use any more.
-    pub(crate) fn hear(&mut self, out: &mut Vec<u8>, line: &[u8]) -> Result<(), NoMemory>
+    // Puts back what is left of the request that is answered; nothing is asked behind its line.
+    fn put_back(&mut self, left: Option<Awaited>) -> Result<Next, NoMemory>
+        ensures hearing { OnOk result (self.new ≡ record self.old { awaited = waiting left self.old.awaited }) }
+        ensures next { IfOk result (λ next. next ≡ Stays) }
+    {
+        if let Some(first) = left {
+            self.awaited.put_back(first)?;
+        }
+        Ok(Next::Stays)
+    }
+
+    // The same of a command that is asked step by step.
+    fn put_back_step(&mut self, steps: Steps) -> Result<Next, NoMemory>
+        ensures hearing { OnOk result (self.new ≡ record self.old { awaited = Step ∷ self.old.awaited; steps = Some steps }) }
+        ensures next { IfOk result (λ next. next ≡ Stays) }
+    {
+        self.steps = Some(steps);
+        self.awaited.put_back(Awaited::Step)?;
+        Ok(Next::Stays)
+    }
+
+    // The end of an answer to a command that is asked step by step.
+    fn end_step(
+        &mut self,
+        alloc: Global,
+        out: &mut Vec<u8>,
+        line: &[u8],
+        steps: Steps,
+    ) -> Result<Next, NoMemory>
+        ensures hearing { OnOk result (let now = heard_end self.old self.old.awaited line.now (after_step steps) in self.new ≡ now.hearing) }
+        ensures given { OnOk result (let now = heard_end self.old self.old.awaited line.now (after_step steps)
+            in out.new.items ≡ out.old.items ++ now.given) }
+        ensures next { IfOk result (λ next. let now = heard_end self.old self.old.awaited line.now (after_step steps) in next ≡ now.next) }
+    {
+        let mut steps = steps;
+        match steps.go_on(alloc, out)? {
+            None => {
+                write_line(out, line)?;
+                self.steps = None;
+                Ok(Next::Resumes)
+            }
+            Some(natives) => {
+                self.steps = Some(steps);
+                Ok(Next::Asks(natives))
+            }
+        }
+    }
+
+    // A line of an answer to a command that is asked step by step.
+    fn hear_step(
+        &mut self,
+        alloc: Global,
+        out: &mut Vec<u8>,
+        line: &[u8],
+        steps: Steps,
+    ) -> Result<Next, NoMemory>
+        ensures hearing { OnOk result (let now = heard_step self.old self.old.awaited line.now (kind_of line.now) steps
+            in self.new ≡ now.hearing) }
+        ensures given { OnOk result (let now = heard_step self.old self.old.awaited line.now (kind_of line.now) steps
+            in out.new.items ≡ out.old.items ++ now.given) }
+        ensures next { IfOk result (λ next. let now = heard_step self.old self.old.awaited line.now (kind_of line.now) steps
+            in next ≡ now.next) }
+    {
+        let mut steps = steps;
+        match LineKind::of(line) {
+            LineKind::Ok => self.end_step(alloc, out, line, steps),
+            LineKind::Ack => {
+                write_refusal_of(out, &steps.change(), 0, line)?;
+                self.steps = None;
+                Ok(Next::Resumes)
+            }
+            LineKind::ListOk => {
+                steps.end_part(alloc, out)?;
+                self.put_back_step(steps)
+            }
+            LineKind::Told => {
+                steps.take_line(alloc, out, line)?;
+                self.put_back_step(steps)
+            }
+        }
+    }
+
+    // The same; without steps the line passes.
+    fn hear_steps(
+        &mut self,
+        alloc: Global,
+        out: &mut Vec<u8>,
+        line: &[u8],
+    ) -> Result<Next, NoMemory>
+        ensures hearing { OnOk result (let now = heard_steps self.old self.old.awaited line.now self.old.steps
+            in self.new ≡ now.hearing) }
+        ensures given { OnOk result (let now = heard_steps self.old self.old.awaited line.now self.old.steps
+            in out.new.items ≡ out.old.items ++ now.given) }
+        ensures next { IfOk result (λ next. let now = heard_steps self.old self.old.awaited line.now self.old.steps
+            in next ≡ now.next) }
+    {
+        match self.steps.take() {
+            Some(steps) => self.hear_step(alloc, out, line, steps),
+            None => {
+                let left = answer_passing(out, &mut self.shown, line, LineKind::of(line))?;
+                self.put_back(left)
+            }
+        }
+    }
+
+    // A line of the answer to a request that was taken from the others.
+    fn hear_first(
+        &mut self,
+        alloc: Global,
+        out: &mut Vec<u8>,
+        first: Awaited,
+        line: &[u8],
+    ) -> Result<Next, NoMemory>
+        ensures hearing { OnOk result (let now = heard_first first self.old.awaited self.old line.now in self.new ≡ now.hearing) }
+        ensures given { OnOk result (let now = heard_first first self.old.awaited self.old line.now
+            in out.new.items ≡ out.old.items ++ now.given) }
+        ensures next { IfOk result (λ next. let now = heard_first first self.old.awaited self.old line.now in next ≡ now.next) }
+    {
+        let kind = LineKind::of(line);
+        let times = self.times;
+        match first {
+            Awaited::Passing => {
+                let left = answer_passing(out, &mut self.shown, line, kind)?;
+                self.put_back(left)
+            }
+            Awaited::Songs => {
+                let left = answer_songs(out, &mut self.shown, line, kind)?;
+                self.put_back(left)
+            }
+            Awaited::One { change, told } => {
+                let left = answer_one(out, &mut self.shown, times, change, told, line, kind)?;
+                self.put_back(left)
+            }
+            Awaited::Several(several) => {
+                let left = answer_several(out, &mut self.shown, times, several, line, kind)?;
+                self.put_back(left)
+            }
+            Awaited::Step => self.hear_steps(alloc, out, line),
+        }
+    }
+
+    /// Takes a line of the daemon without its newline, adds what the client is given for it, and gives what is asked behind it. An `Err`
+    /// leaves a hearing that nobody may use any more.
+    pub(crate) fn hear(
+        &mut self,
+        alloc: Global,
+        out: &mut Vec<u8>,
+        line: &[u8],
+    ) -> Result<Next, NoMemory>
         ensures hearing { OnOk result (let now = heard self.old line.now in self.new ≡ now.hearing) }
         ensures given { OnOk result (let now = heard self.old line.now in out.new.items ≡ out.old.items ++ now.given) }
-        ensures fewer { OnOk result (length self.new.awaited ≤ length self.old.awaited) }
+        ensures next { IfOk result (λ next. let now = heard self.old line.now in next ≡ now.next) }
     {
         if !self.is_greeted {
             self.is_greeted = true;
-            return write_line(out, line);
+            return pass(out, line);
         }
         match self.awaited.take() {
-            None => write_line(out, line),
-            Some(first) => {
-                if let Some(first) = answer_line(out, &mut self.shown, first, line)? {
-                    self.awaited.put_back(first)?;
-                }
-                Ok(())
-            }
+            None => pass(out, line),
+            Some(first) => self.hear_first(alloc, out, first, line),
         }
     }
 }

@@ -2,6 +2,8 @@
 ghost use Rattle.std.specs.Prelude.{◌≡◌, ◌↔◌, ◌∷◌, ◌++◌, [], length, drop, Some, None, OnOk, MatchOption, IfSome};
 
 use crate::awaited::Awaited;
+use client_session::Requests;
+use command_text::Request;
 use std::alloc::{AllocError, Global};
 use std::collections::VecDeque;
 use std::marker::Model;
@@ -121,6 +123,63 @@ impl Queue {
     {
         self.requests.reserve(1)?;
         self.requests.push_front_reserved(first);
+        Ok(())
+    }
+}
+
+/// Requests of the client that the daemon isn't asked yet, to be taken from the front.
+#[derive(Debug, Drop)]
+pub struct Later {
+    asked: VecDeque<Request>,
+}
+
+impl Model for Later {
+    ghost use Rattle.std.specs.Prelude.{List};
+    ghost use Rattle.command_text.specs.declared.request.Request.{Request};
+
+    ghost Value = { List Request };
+
+    ghost view = { λ l. l.asked.items };
+}
+
+impl Later {
+    pub(crate) fn new(alloc: Global) -> Self
+        ensures { result ≡ [] }
+    {
+        Later {
+            asked: VecDeque::new(alloc),
+        }
+    }
+
+    pub fn len(&self) -> usize
+        ensures { result ≡ length self.now }
+    {
+        self.asked.len()
+    }
+
+    pub(crate) fn push(&mut self, request: Request) -> Result<(), AllocError>
+        ensures ok { OnOk result (self.new ≡ self.old ++ request ∷ []) }
+    {
+        self.asked.reserve(1)?;
+        self.asked.push_back_reserved(request);
+        Ok(())
+    }
+
+    // Takes the first.
+    pub(crate) fn take(&mut self) -> Option<Request>
+        ensures { MatchOption result ((self.old ≡ []) × (self.new ≡ [])) (λ first. self.old ≡ first ∷ self.new) }
+    {
+        self.asked.pop_front()
+    }
+
+    /// Adds these behind the others.
+    pub(crate) fn push_all(&mut self, requests: Requests) -> Result<(), AllocError>
+        ensures { OnOk result (self.new ≡ self.old ++ requests) }
+    {
+        let mut requests = requests;
+        while let Some(request) = requests.next() {
+            self.push(request)?;
+        }
         Ok(())
     }
 }

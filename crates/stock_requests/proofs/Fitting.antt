@@ -1,5 +1,5 @@
 -- No native line of a translation is longer than a line may be.
-use Rattle.std.proofs.Common.{◌≡◌, ℕ, ◌≤◌, List, [], ◌∷◌, ◌++◌, length, Bool, true, false, nat_le, Option, Some, None, refl, arith}
+use Rattle.std.proofs.Common.{◌≡◌, ℕ, ◌≤◌, List, [], ◌∷◌, ◌++◌, length, Bool, true, false, nat_le, Option, Some, None, Result, Ok, Err, refl, arith}
 use Rattle.std.proofs.lemmas.Bool.{leb-true}
 use Rattle.std.specs.Prelude.{if◌then◌else◌, codes}
 use Rattle.std.specs.Str.{bytes_eq}
@@ -19,7 +19,7 @@ use Rattle.stock_requests.specs.declared.change.LineChange.{LineChange}
 use Rattle.stock_requests.specs.declared.change.LineChange.TheVariants as lines
 use Rattle.stock_requests.specs.declared.change.RefusalChange.TheVariants.{Replaced}
 use Rattle.stock_requests.specs.declared.change.Translation.{Translation}
-use Rattle.stock_requests.specs.declared.change.Translation.TheVariants.{Same, Songs, Changed}
+use Rattle.stock_requests.specs.declared.change.Translation.TheVariants.{Same, Songs, Changed, Stepped}
 use Rattle.stock_requests.specs.declared.foreign.Reply.{Reply}
 use Rattle.stock_requests.specs.declared.foreign.Reply.TheVariants as replies
 use Rattle.stock_requests.specs.declared.mask.MaskChange.{MaskChange}
@@ -30,19 +30,28 @@ use Rattle.stock_requests.specs.declared.name.ForeignName.{ForeignName}
 use Rattle.stock_requests.specs.declared.name.ForeignName.TheVariants.{Native, Foreign}
 use Rattle.stock_requests.specs.declared.native.Handling.{Handling}
 use Rattle.stock_requests.specs.declared.native.Handling.TheVariants as handlings
+use Rattle.stock_requests.specs.declared.steps.Steps.{Steps}
+use Rattle.stock_requests.specs.declared.steps.Steps.TheVariants as steps
+use Rattle.stock_requests.specs.declared.steps.Steps.TheVariants.{Group}
 use Rattle.stock_requests.specs.declared.tag.ForeignTag.{ForeignTag}
+use Rattle.stock_requests.specs.declared.volume.VolumeStep.{VolumeStep}
 use Rattle.stock_requests.specs.declared.tag.Standing.{Standing}
 use Rattle.stock_requests.specs.declared.tag.Standing.TheVariants as standings
 use Rattle.stock_requests.specs.Filters.{native_filter}
 use Rattle.stock_requests.specs.Fits.{Fits}
-use Rattle.stock_requests.specs.Foreign.{by_reply, foreign_translation, reply_for}
+use Rattle.stock_requests.specs.Grouped.{begun_group, is_grouped, most_ends, part_ends, Parted}
+use Rattle.stock_requests.specs.Groups.{count_line}
+use Rattle.stock_requests.specs.Foreign.{by_reply, foreign_translation, louder, reply_for}
 use Rattle.stock_requests.specs.Names.{foreign_named}
 use Rattle.stock_requests.specs.Native.{adding_to_playlist, answered, as_it_is, by_handling, by_line, by_one, counting, filtered, handling_of}
-use Rattle.stock_requests.specs.Native.{is_grouped, list_info, listing, listing_by, listing_line, listing_native, listing_nothing, listing_of}
+use Rattle.stock_requests.specs.Native.{by_steps, grouped_count, grouped_count_of, grouped_list, grouped_list_of, grouping, listing_filter}
+use Rattle.stock_requests.specs.Native.{list_info, listing, listing_by, listing_line, listing_native, listing_nothing, listing_of}
 use Rattle.stock_requests.specs.Native.{listing_renamed, listing_words, filter_or_all, has_list_count, is_root, mask_alone, mask_by, mask_change, mask_of}
 use Rattle.stock_requests.specs.Native.{mask_refused, refused, root, songs_lines, tag_types, telling, with_named}
-use Rattle.stock_requests.specs.Masks.{empty_set}
-use Rattle.stock_requests.specs.Spelling.{line_limit, spelled_line, words_eq}
+use Rattle.stock_requests.specs.Masks.{empty_set, only_tag}
+use Rattle.stock_requests.specs.Spelling.{line_limit, spelled_line, spelled_words, words_eq}
+use Rattle.stock_requests.specs.Steps.{group_name}
+use Rattle.stock_requests.specs.Volumes.{begun_volume}
 use Rattle.stock_requests.specs.Tags.{standing_of, tag_named}
 use Rattle.stock_requests.specs.Translation as specs
 use Rattle.stock_requests.specs.Translation.{of_foreign, of_name, of_words, words_or_none}
@@ -96,9 +105,34 @@ filter_fits name songs sorts front words =
     (line_fits (as_it_is songs) (spelled_line (name_text name) (front ++ native_filter sorts words))
     (telling (Native name) (songs_lines songs) endings.Nothing) (itself_fits songs))
 
-count_fits : (words : List Word) → Holds (counting words)
+steps_hold : (line : List ℕ) (steps : Steps) → length line ≤ line_limit → Holds (Stepped line steps)
+unfolding Holds
+steps_hold line steps h = h
+
+steps_fit : (line : List ℕ) (steps : Steps) → Holds (by_steps line steps)
+steps_fit line steps = by_test (nat_le (length line) line_limit) refl
+  where
+    by_test : (b : Bool) → nat_le (length line) line_limit ≡ b → Holds (by_steps line steps)
+    by_test true e = rw e (steps_hold line steps (leb-true (length line) line_limit e))
+    by_test false e = rw e same_holds
+
+grouping_fits : (counts : Bool) (words : List Word) (tags : List ForeignTag) → Holds (grouping counts words tags)
+grouping_fits counts words tags = choice (has_list_count words) _ _
+    (steps_fit (count_line (spelled_words words)) (Group (begun_group counts words tags)))
+    (refusal_fits (group_name counts) refusals.WrongCount)
+
+parted_count_fits : (parted : Result Parted ForeignRefusal) → Holds (grouped_count_of parted)
+parted_count_fits (Err refusal) = refusal_fits (group_name true) refusal
+parted_count_fits (Ok p) = grouping_fits true (native_filter false p.words) p.tags
+
+grouped_count_fits : (is_alone : Bool) (words : List Word) → Holds (grouped_count is_alone words)
+grouped_count_fits false words = refusal_fits (group_name true) refusals.NotInList
+grouped_count_fits true words = parted_count_fits (part_ends 1 empty_set words)
+
+count_fits : (is_alone : Bool) (words : List Word) → Holds (counting is_alone words)
 unfolding counting
-count_fits words = choice (is_grouped words) Same _ same_holds (filter_fits names.Count false false [] words)
+count_fits is_alone words =
+    choice (is_grouped words) (grouped_count is_alone words) _ (grouped_count_fits is_alone words) (filter_fits names.Count false false [] words)
 
 playlist_fits : (words : List Word) → Holds (adding_to_playlist words)
 unfolding adding_to_playlist
@@ -133,10 +167,21 @@ tag_fits : (tag : Option ForeignTag) (name : Word) (words : List Word) → Holds
 tag_fits None name words = same_holds
 tag_fits (Some tag) name words = standing_fits (standing_of tag) tag name words
 
-list_fits : (words : List Word) → Holds (listing words)
+parted_list_fits : (tag : ForeignTag) (parted : Result Parted ForeignRefusal) → Holds (grouped_list_of tag parted)
+parted_list_fits tag (Err refusal) = refusal_fits (group_name false) refusal
+parted_list_fits tag (Ok p) = grouping_fits false (listing_filter (standing_of tag) p.words) (p.tags ++ tag ∷ [])
+
+grouped_list_fits : (is_alone : Bool) (tag : Option ForeignTag) (words : List Word) → Holds (grouped_list is_alone tag words)
+grouped_list_fits is_alone None words = same_holds
+grouped_list_fits false (Some tag) words = refusal_fits (group_name false) refusals.NotInList
+grouped_list_fits true (Some tag) words = parted_list_fits tag (part_ends most_ends (only_tag tag) words)
+
+list_fits : (is_alone : Bool) (words : List Word) → Holds (listing is_alone words)
 unfolding listing
-list_fits [] = same_holds
-list_fits (name ∷ words) = choice (is_grouped words) Same _ same_holds (tag_fits (tag_named name) name words)
+list_fits is_alone [] = same_holds
+list_fits is_alone (name ∷ words) =
+    choice (is_grouped words) (grouped_list is_alone (tag_named name) words) _ (grouped_list_fits is_alone (tag_named name) words)
+    (tag_fits (tag_named name) name words)
 
 root_fits : Holds root
 unfolding Holds
@@ -170,39 +215,46 @@ masks_fit (what ∷ words) =
     let shows = choice (bytes_eq what (codes "all")) (mask_alone All words) _ (alone_fits All words) enables in
     choice (bytes_eq what (codes "clear")) (mask_alone Clear words) _ (alone_fits Clear words) shows
 
-handled_fits : (handling : Handling) (name : CommandName) (words : List Word) → Holds (by_handling handling name words)
-handled_fits handlings.Untouched name words = same_holds
-handled_fits handlings.TellsSongs name words = songs_hold
-handled_fits (handlings.Adds text) name words = changed_holds (telling (Native name) lines.Kept (endings.Text text))
-handled_fits (handlings.Filters songs sorts) name words = filter_fits name songs sorts [] words
-handled_fits handlings.AddsToPlaylist name words = playlist_fits words
-handled_fits handlings.Counts name words = count_fits words
-handled_fits handlings.ListsValues name words = list_fits words
-handled_fits handlings.ListsFolder name words = info_fits words
-handled_fits handlings.Masks name words = masks_fit words
+handled_fits : (is_alone : Bool) (handling : Handling) (name : CommandName) (words : List Word)
+    → Holds (by_handling is_alone handling name words)
+handled_fits is_alone handlings.Untouched name words = same_holds
+handled_fits is_alone handlings.TellsSongs name words = songs_hold
+handled_fits is_alone (handlings.Adds text) name words = changed_holds (telling (Native name) lines.Kept (endings.Text text))
+handled_fits is_alone handlings.AddsTimes name words = changed_holds (telling (Native name) lines.Kept endings.Times)
+handled_fits is_alone (handlings.Filters songs sorts) name words = filter_fits name songs sorts [] words
+handled_fits is_alone handlings.AddsToPlaylist name words = playlist_fits words
+handled_fits is_alone handlings.Counts name words = count_fits is_alone words
+handled_fits is_alone handlings.ListsValues name words = list_fits is_alone words
+handled_fits is_alone handlings.ListsFolder name words = info_fits words
+handled_fits is_alone handlings.Masks name words = masks_fit words
 
-reply_fits : (name : ForeignName) (reply : Reply) → Holds (by_reply name reply)
-reply_fits name (replies.Told ending) = answer_fits name ending
-reply_fits name (replies.Refused refusal) = refusal_fits name refusal
-reply_fits name replies.Volume = one_holds (codes "status") (telling name lines.OnlyVolume endings.Nothing) (omega arith)
-reply_fits name replies.Queue = one_holds (codes "playlistinfo") (telling name lines.Numbered endings.Nothing) (omega arith)
+louder_fits : (is_alone : Bool) (name : ForeignName) (step : VolumeStep) → Holds (louder is_alone name step)
+louder_fits false name step = refusal_fits name refusals.NotInList
+louder_fits true name step = steps_fit (codes "status") (steps.Volume (begun_volume step))
 
-command_fits : (command : ForeignCommand) (words : List Word) → Holds (foreign_translation command words)
+reply_fits : (is_alone : Bool) (name : ForeignName) (reply : Reply) → Holds (by_reply is_alone name reply)
+reply_fits is_alone name (replies.Told ending) = answer_fits name ending
+reply_fits is_alone name (replies.Refused refusal) = refusal_fits name refusal
+reply_fits is_alone name replies.Volume = one_holds (codes "status") (telling name lines.OnlyVolume endings.Nothing) (omega arith)
+reply_fits is_alone name replies.Queue = one_holds (codes "playlistinfo") (telling name lines.Numbered endings.Nothing) (omega arith)
+reply_fits is_alone name (replies.Louder step) = louder_fits is_alone name step
+
+command_fits : (is_alone : Bool) (command : ForeignCommand) (words : List Word) → Holds (foreign_translation is_alone command words)
 unfolding foreign_translation
-command_fits command words = reply_fits (Foreign command) (reply_for command words)
+command_fits is_alone command words = reply_fits is_alone (Foreign command) (reply_for command words)
 
-foreign_fits : (words : List Word) (command : Option ForeignCommand) → Holds (of_foreign words command)
-foreign_fits words None = same_holds
-foreign_fits words (Some command) = command_fits command words
+foreign_fits : (is_alone : Bool) (words : List Word) (command : Option ForeignCommand) → Holds (of_foreign is_alone words command)
+foreign_fits is_alone words None = same_holds
+foreign_fits is_alone words (Some command) = command_fits is_alone command words
 
-name_fits : (name : Word) (words : List Word) (command : Option CommandName) → Holds (of_name name words command)
-name_fits name words None = foreign_fits words (foreign_named name)
-name_fits name words (Some command) = handled_fits (handling_of command) command words
+name_fits : (is_alone : Bool) (name : Word) (words : List Word) (command : Option CommandName) → Holds (of_name is_alone name words command)
+name_fits is_alone name words None = foreign_fits is_alone words (foreign_named name)
+name_fits is_alone name words (Some command) = handled_fits is_alone (handling_of command) command words
 
-words_fit : (words : List Word) → Holds (of_words words)
-words_fit [] = same_holds
-words_fit (name ∷ words) = name_fits name words (named name)
+words_fit : (is_alone : Bool) (words : List Word) → Holds (of_words is_alone words)
+words_fit is_alone [] = same_holds
+words_fit is_alone (name ∷ words) = name_fits is_alone name words (named name)
 
 pub translation_fits : (is_alone : Bool) (line : List ℕ) → Fits (specs.translation is_alone line)
 unfolding specs.translation Holds
-translation_fits is_alone line = words_fit (words_or_none (line_words line))
+translation_fits is_alone line = words_fit is_alone (words_or_none (line_words line))

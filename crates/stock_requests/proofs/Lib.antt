@@ -6,3 +6,7 @@ pub mod AbsentTags
 pub mod SetLaws
 pub mod NameLaws
 pub mod Fitting
+pub mod GroupFits
+pub mod Ends
+pub mod Climbs
+pub mod Words

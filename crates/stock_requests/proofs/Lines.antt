@@ -4,36 +4,38 @@ use Rattle.command_text.specs.declared.name.CommandName.{CommandName}
 use Rattle.command_text.specs.declared.refusal.Refusal.{Refusal}
 use Rattle.command_text.specs.Counts.{Word}
 use Rattle.command_text.specs.Reading.{first_name, line_words, name_of_line}
+use Rattle.stock_requests.specs.declared.change.Ending.TheVariants.{Text, Times}
 use Rattle.stock_requests.specs.declared.change.FixedText.{FixedText}
 use Rattle.stock_requests.specs.declared.change.Translation.TheVariants.{Same, Songs}
 use Rattle.stock_requests.specs.declared.native.Handling.{Handling}
-use Rattle.stock_requests.specs.declared.native.Handling.TheVariants.{Untouched, TellsSongs, Adds}
+use Rattle.stock_requests.specs.declared.native.Handling.TheVariants.{Untouched, TellsSongs, Adds, AddsTimes}
 use Rattle.stock_requests.specs.Native.{adding, by_first, handling_of}
 use Rattle.stock_requests.specs.Translation as specs
 use Rattle.stock_requests.specs.Translation.{of_name, of_unnamed, of_words, words_or_none}
 
 -- a line that begins with no name of the daemon's
 pub unnamed : (is_alone : Bool) (line : List ℕ) → name_of_line line ≡ None
-    → of_unnamed (words_or_none (line_words line)) ≡ specs.translation is_alone line
+    → of_unnamed is_alone (words_or_none (line_words line)) ≡ specs.translation is_alone line
 unfolding specs.translation name_of_line
 unnamed is_alone line h = by_words (line_words line) h
   where
-    by_words : (read : Result (List Word) Refusal) → first_name read ≡ None → of_unnamed (words_or_none read) ≡ of_words (words_or_none read)
+    by_words : (read : Result (List Word) Refusal) → first_name read ≡ None
+        → of_unnamed is_alone (words_or_none read) ≡ of_words is_alone (words_or_none read)
     by_words (Err refusal) h = refl
     by_words (Ok []) h = refl
-    by_words (Ok (word ∷ words)) h = sym (ap (of_name word words) h)
+    by_words (Ok (word ∷ words)) h = sym (ap (of_name is_alone word words) h)
 
 -- a line that begins with one
 pub by_name : (is_alone : Bool) (line : List ℕ) (name : CommandName) → name_of_line line ≡ Some name
-    → by_first (handling_of name) name (words_or_none (line_words line)) ≡ specs.translation is_alone line
+    → by_first is_alone (handling_of name) name (words_or_none (line_words line)) ≡ specs.translation is_alone line
 unfolding specs.translation name_of_line
 by_name is_alone line name h = by_words (line_words line) h
   where
     by_words : (read : Result (List Word) Refusal) → first_name read ≡ Some name
-        → by_first (handling_of name) name (words_or_none read) ≡ of_words (words_or_none read)
+        → by_first is_alone (handling_of name) name (words_or_none read) ≡ of_words is_alone (words_or_none read)
     by_words (Err refusal) h = absurd (cc)
     by_words (Ok []) h = absurd (cc)
-    by_words (Ok (word ∷ words)) h = sym (ap (of_name word words) h)
+    by_words (Ok (word ∷ words)) h = sym (ap (of_name is_alone word words) h)
 
 -- it has its name and words behind it
 pub has_words : (line : List ℕ) (name : CommandName) → name_of_line line ≡ Some name
@@ -48,18 +50,22 @@ has_words line name h = by_words (line_words line) h
     by_words (Ok (word ∷ words)) h = (word, words, refl)
 
 -- a command that is handled without its words
-pub untouched : (handling : Handling) (line : List ℕ) (name : CommandName) → handling ≡ Untouched
-    → Same ≡ by_first handling name (words_or_none (line_words line))
-untouched handling line name e = rw e (by_words (words_or_none (line_words line)))
+pub untouched : (is_alone : Bool) (handling : Handling) (line : List ℕ) (name : CommandName) → handling ≡ Untouched
+    → Same ≡ by_first is_alone handling name (words_or_none (line_words line))
+untouched is_alone handling line name e = rw e (by_words (words_or_none (line_words line)))
   where
-    by_words : (words : List Word) → Same ≡ by_first Untouched name words
+    by_words : (words : List Word) → Same ≡ by_first is_alone Untouched name words
     by_words [] = refl
     by_words (word ∷ words) = refl
 
-pub tells_songs : (handling : Handling) (line : List ℕ) (name : CommandName) → name_of_line line ≡ Some name → handling ≡ TellsSongs
-    → Songs ≡ by_first handling name (words_or_none (line_words line))
-tells_songs handling line name h e = let found = has_words line name h in rw (e, found.2) refl
+pub tells_songs : (is_alone : Bool) (handling : Handling) (line : List ℕ) (name : CommandName) → name_of_line line ≡ Some name
+    → handling ≡ TellsSongs → Songs ≡ by_first is_alone handling name (words_or_none (line_words line))
+tells_songs is_alone handling line name h e = let found = has_words line name h in rw (e, found.2) refl
 
-pub adds : (handling : Handling) (text : FixedText) (line : List ℕ) (name : CommandName) → name_of_line line ≡ Some name
-    → handling ≡ Adds text → adding name text ≡ by_first handling name (words_or_none (line_words line))
-adds handling text line name h e = let found = has_words line name h in rw (e, found.2) refl
+pub adds : (is_alone : Bool) (handling : Handling) (text : FixedText) (line : List ℕ) (name : CommandName) → name_of_line line ≡ Some name
+    → handling ≡ Adds text → adding name (Text text) ≡ by_first is_alone handling name (words_or_none (line_words line))
+adds is_alone handling text line name h e = let found = has_words line name h in rw (e, found.2) refl
+
+pub adds_times : (is_alone : Bool) (handling : Handling) (line : List ℕ) (name : CommandName) → name_of_line line ≡ Some name
+    → handling ≡ AddsTimes → adding name Times ≡ by_first is_alone handling name (words_or_none (line_words line))
+adds_times is_alone handling line name h e = let found = has_words line name h in rw (e, found.2) refl

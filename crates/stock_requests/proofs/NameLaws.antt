@@ -32,6 +32,7 @@ is_found foreign.ReplayGainStatus = refl
 is_found foreign.SendMessage = refl
 is_found foreign.ToggleOutput = refl
 is_found foreign.UrlHandlers = refl
+is_found foreign.Volume = refl
 
 pub is_apart : (command : ForeignCommand) → named (foreign_text command) ≡ None
 unfolding named
@@ -60,3 +61,4 @@ is_apart foreign.ReplayGainStatus = refl
 is_apart foreign.SendMessage = refl
 is_apart foreign.ToggleOutput = refl
 is_apart foreign.UrlHandlers = refl
+is_apart foreign.Volume = refl

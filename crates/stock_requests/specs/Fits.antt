@@ -1,12 +1,17 @@
 -- How long native lines may be.
 use Rattle.std.specs.Prelude.{◌≤◌, length, IfSome}
+use Rattle.stock_requests.specs.declared.change.Natives.{Natives}
 use Rattle.stock_requests.specs.declared.change.Translation.{Translation}
-use Rattle.stock_requests.specs.declared.change.Translation.TheVariants.{Same, Songs, Changed, Other}
+use Rattle.stock_requests.specs.declared.change.Translation.TheVariants.{Same, Songs, Changed, Other, Stepped}
 use Rattle.stock_requests.specs.Spelling.{line_limit}
 
 -- no native line has more bytes than a line may have
+abbrev pub NativesFit : Natives → Type 0
+NativesFit natives = (length natives.first ≤ line_limit) × IfSome natives.second (λ line. length line ≤ line_limit)
+
 abbrev pub Fits : Translation → Type 0
 Fits Same = Unit {0}
 Fits Songs = Unit {0}
 Fits (Changed change) = Unit {0}
-Fits (Other natives change) = (length natives.first ≤ line_limit) × IfSome natives.second (λ line. length line ≤ line_limit)
+Fits (Other natives change) = NativesFit natives
+Fits (Stepped line steps) = length line ≤ line_limit

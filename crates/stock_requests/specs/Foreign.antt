@@ -1,5 +1,5 @@
 -- What becomes of the commands of MPD that the daemon doesn't have.
-use Rattle.std.specs.Prelude.{List, [], ◌∷◌, ◌==◌, ◌||◌, length, Bool, codes, if◌then◌else◌}
+use Rattle.std.specs.Prelude.{List, ◌==◌, ◌||◌, length, Bool, true, false, Option, Some, None, codes, if◌then◌else◌}
 use Rattle.std.specs.Str.{bytes_eq}
 use Rattle.command_text.specs.Counts.{Word}
 use Rattle.stock_requests.specs.declared.change.Ending.TheVariants.{Nothing, Text}
@@ -9,13 +9,17 @@ use Rattle.stock_requests.specs.declared.change.ForeignRefusal.TheVariants as re
 use Rattle.stock_requests.specs.declared.change.LineChange.TheVariants as lines
 use Rattle.stock_requests.specs.declared.change.Translation.{Translation}
 use Rattle.stock_requests.specs.declared.foreign.Reply.{Reply}
-use Rattle.stock_requests.specs.declared.foreign.Reply.TheVariants.{Told, Refused, Volume, Queue}
+use Rattle.stock_requests.specs.declared.foreign.Reply.TheVariants.{Told, Refused, Volume, Queue, Louder}
 use Rattle.stock_requests.specs.declared.name.ForeignCommand.{ForeignCommand}
 use Rattle.stock_requests.specs.declared.name.ForeignCommand.TheVariants as foreign
 use Rattle.stock_requests.specs.declared.name.ForeignName.{ForeignName}
 use Rattle.stock_requests.specs.declared.name.ForeignName.TheVariants.{Foreign}
+use Rattle.stock_requests.specs.declared.steps.Steps.TheVariants as steps
+use Rattle.stock_requests.specs.declared.volume.VolumeStep.{VolumeStep}
+use Rattle.stock_requests.specs.Grouped.{first_of}
 use Rattle.stock_requests.specs.Names.{argument_count}
-use Rattle.stock_requests.specs.Native.{answered, by_one, refused, telling}
+use Rattle.stock_requests.specs.Native.{answered, by_one, by_steps, refused, telling}
+use Rattle.stock_requests.specs.Volumes.{begun_volume, step_of}
 
 -- one of two answers
 abbrev pub told_if : Bool → ForeignRefusal → Reply
@@ -28,6 +32,11 @@ of_output id refusal = if bytes_eq id (codes "0") then Refused refusal else Refu
 -- 0 decibels, as clients spell it
 abbrev pub is_no_gain : Word → Bool
 is_no_gain word = bytes_eq word (codes "0") || bytes_eq word (codes "0.000000")
+
+-- the answer about a change of the volume
+abbrev pub of_step : Option VolumeStep → Reply
+of_step None = Refused refusals.BadArgument
+of_step (Some step) = Louder step
 
 -- how a command is answered that has as many arguments as it takes, of which the first is this
 abbrev pub reply_to : ForeignCommand → Word → Reply
@@ -56,22 +65,24 @@ reply_to foreign.ReplayGainStatus word = Told (Text texts.ReplayGain)
 reply_to foreign.SendMessage word = Refused refusals.NobodySubscribed
 reply_to foreign.ToggleOutput word = of_output word refusals.AlwaysOn
 reply_to foreign.UrlHandlers word = Told Nothing
-
--- the first argument, empty where there is none
-abbrev pub first_of : List Word → Word
-first_of [] = []
-first_of (word ∷ words) = word
+reply_to foreign.Volume word = of_step (step_of word)
 
 -- the count of arguments is looked at first
 abbrev pub reply_for : ForeignCommand → List Word → Reply
 reply_for command words =
     if length words == argument_count command then reply_to command (first_of words) else Refused refusals.WrongCount
 
-abbrev pub by_reply : ForeignName → Reply → Translation
-by_reply name (Told ending) = answered name ending
-by_reply name (Refused refusal) = refused name refusal
-by_reply name Volume = by_one (codes "status") (telling name lines.OnlyVolume Nothing)
-by_reply name Queue = by_one (codes "playlistinfo") (telling name lines.Numbered Nothing)
+-- in a command list nothing can be asked step by step
+abbrev pub louder : Bool → ForeignName → VolumeStep → Translation
+louder false name step = refused name refusals.NotInList
+louder true name step = by_steps (codes "status") (steps.Volume (begun_volume step))
 
-unfoldable pub foreign_translation : ForeignCommand → List Word → Translation
-foreign_translation command words = by_reply (Foreign command) (reply_for command words)
+abbrev pub by_reply : Bool → ForeignName → Reply → Translation
+by_reply is_alone name (Told ending) = answered name ending
+by_reply is_alone name (Refused refusal) = refused name refusal
+by_reply is_alone name Volume = by_one (codes "status") (telling name lines.OnlyVolume Nothing)
+by_reply is_alone name Queue = by_one (codes "playlistinfo") (telling name lines.Numbered Nothing)
+by_reply is_alone name (Louder step) = louder is_alone name step
+
+unfoldable pub foreign_translation : Bool → ForeignCommand → List Word → Translation
+foreign_translation is_alone command words = by_reply is_alone (Foreign command) (reply_for command words)

@@ -34,6 +34,7 @@ foreign_text foreign.ReplayGainStatus = codes "replay_gain_status"
 foreign_text foreign.SendMessage = codes "sendmessage"
 foreign_text foreign.ToggleOutput = codes "toggleoutput"
 foreign_text foreign.UrlHandlers = codes "urlhandlers"
+foreign_text foreign.Volume = codes "volume"
 
 -- all of them, rising by their bytes
 abbrev pub all_foreign : List ForeignCommand
@@ -42,7 +43,7 @@ all_foreign =
     foreign.EnableOutput ∷ foreign.GetVolume ∷ foreign.ListMounts ∷ foreign.ListNeighbors ∷ foreign.ListPartitions ∷
     foreign.MixrampDb ∷ foreign.MixrampDelay ∷ foreign.Outputs ∷ foreign.OutputSet ∷ foreign.Partition ∷ foreign.Password ∷
     foreign.Playlist ∷ foreign.ReadComments ∷ foreign.ReadPicture ∷ foreign.ReplayGainMode ∷ foreign.ReplayGainStatus ∷
-    foreign.SendMessage ∷ foreign.ToggleOutput ∷ foreign.UrlHandlers ∷ []
+    foreign.SendMessage ∷ foreign.ToggleOutput ∷ foreign.UrlHandlers ∷ foreign.Volume ∷ []
 
 -- the command of this name
 unfoldable pub foreign_named : List ℕ → Option ForeignCommand

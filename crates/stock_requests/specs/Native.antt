@@ -1,6 +1,6 @@
 -- What becomes of the daemon's own commands where MPD's do more.
-use Rattle.std.specs.Prelude.{ℕ, List, [], ◌∷◌, ◌++◌, ◌-◌, ◌||◌, ◌&&◌, not, nat_le, length, Bool, true, false, Option, Some, None, option_and_then, slice_index_or, codes}
-use Rattle.std.specs.Prelude.{if◌then◌else◌}
+use Rattle.std.specs.Prelude.{ℕ, List, [], ◌∷◌, ◌++◌, ◌||◌, not, nat_le, length, Bool, true, false, Option, Some, None, option_and_then, codes}
+use Rattle.std.specs.Prelude.{if◌then◌else◌, Result, Ok, Err}
 use Rattle.std.specs.Str.{bytes_eq}
 use Rattle.wave_pcm.specs.declared.tags.Tag.{Tag}
 use Rattle.wave_pcm.specs.declared.tags.Tag.TheVariants as native
@@ -14,7 +14,6 @@ use Rattle.command_text.specs.Names.{name_text}
 use Rattle.stock_requests.specs.declared.change.Change.{Change}
 use Rattle.stock_requests.specs.declared.change.Ending.{Ending}
 use Rattle.stock_requests.specs.declared.change.Ending.TheVariants as endings
-use Rattle.stock_requests.specs.declared.change.FixedText.{FixedText}
 use Rattle.stock_requests.specs.declared.change.FixedText.TheVariants as texts
 use Rattle.stock_requests.specs.declared.change.ForeignRefusal.{ForeignRefusal}
 use Rattle.stock_requests.specs.declared.change.ForeignRefusal.TheVariants as refusals
@@ -22,21 +21,26 @@ use Rattle.stock_requests.specs.declared.change.LineChange.{LineChange}
 use Rattle.stock_requests.specs.declared.change.LineChange.TheVariants as lines
 use Rattle.stock_requests.specs.declared.change.RefusalChange.TheVariants.{Named, Replaced}
 use Rattle.stock_requests.specs.declared.change.Translation.{Translation}
-use Rattle.stock_requests.specs.declared.change.Translation.TheVariants.{Same, Songs, Changed, Other}
+use Rattle.stock_requests.specs.declared.change.Translation.TheVariants.{Same, Songs, Changed, Other, Stepped}
 use Rattle.stock_requests.specs.declared.mask.TagSet.{TagSet}
 use Rattle.stock_requests.specs.declared.mask.MaskChange.{MaskChange}
 use Rattle.stock_requests.specs.declared.mask.MaskChange.TheVariants.{Clear, All, Enable, Disable}
 use Rattle.stock_requests.specs.declared.name.ForeignName.{ForeignName}
 use Rattle.stock_requests.specs.declared.name.ForeignName.TheVariants.{Native}
 use Rattle.stock_requests.specs.declared.native.Handling.{Handling}
-use Rattle.stock_requests.specs.declared.native.Handling.TheVariants.{Untouched, TellsSongs, Adds, Filters, AddsToPlaylist, Counts}
-use Rattle.stock_requests.specs.declared.native.Handling.TheVariants.{ListsValues, ListsFolder, Masks}
+use Rattle.stock_requests.specs.declared.native.Handling.TheVariants.{Untouched, TellsSongs, Adds, AddsTimes, Filters, AddsToPlaylist}
+use Rattle.stock_requests.specs.declared.native.Handling.TheVariants.{Counts, ListsValues, ListsFolder, Masks}
 use Rattle.stock_requests.specs.declared.tag.ForeignTag.{ForeignTag}
 use Rattle.stock_requests.specs.declared.tag.Standing.{Standing}
 use Rattle.stock_requests.specs.declared.tag.Standing.TheVariants as standings
+use Rattle.stock_requests.specs.declared.steps.Steps as declared
+use Rattle.stock_requests.specs.declared.steps.Steps.TheVariants.{Group}
 use Rattle.stock_requests.specs.Filters.{native_filter}
+use Rattle.stock_requests.specs.Grouped.{begun_group, is_grouped, most_ends, part_ends, Parted}
+use Rattle.stock_requests.specs.Groups.{count_line}
 use Rattle.stock_requests.specs.Masks.{empty_set, only_tag, with_tags}
-use Rattle.stock_requests.specs.Spelling.{line_limit, spelled_line, words_eq}
+use Rattle.stock_requests.specs.Spelling.{line_limit, spelled_line, spelled_words, words_eq}
+use Rattle.stock_requests.specs.Steps.{group_name}
 use Rattle.stock_requests.specs.Tags.{standing_of, tag_named}
 
 -- an answer of which these lines are told, and this behind them
@@ -79,12 +83,31 @@ filtered name songs sorts front words =
     else by_line (as_it_is songs) (spelled_line (name_text name) (front ++ native_filter sorts words))
     (telling (Native name) (songs_lines songs) endings.Nothing)
 
--- the words end in `group TAG`
-unfoldable pub is_grouped : List Word → Bool
-is_grouped words = nat_le 2 (length words) && bytes_eq (slice_index_or words (length words - 2) []) (codes "group")
+-- a command that takes more than one request begins with this line, where a line may be so long
+abbrev pub by_steps : List ℕ → declared.Steps → Translation
+by_steps line steps = if nat_le (length line) line_limit then Stepped line steps else Same
 
-unfoldable pub counting : List Word → Translation
-counting words = if is_grouped words then Same else filtered names.Count false false [] words
+abbrev pub has_list_count : List Word → Bool
+has_list_count [] = true
+has_list_count (word ∷ words) = has_filter_count (word ∷ words)
+
+-- a filter over the daemon's tags, within which songs are counted, or the values of the last tag listed, by the others
+abbrev pub grouping : Bool → List Word → List ForeignTag → Translation
+grouping counts words tags =
+    if has_list_count words then by_steps (count_line (spelled_words words)) (Group (begun_group counts words tags))
+    else refused (group_name counts) refusals.WrongCount
+
+-- in a command list nothing can be asked step by step
+abbrev pub grouped_count_of : Result Parted ForeignRefusal → Translation
+grouped_count_of (Err refusal) = refused (group_name true) refusal
+grouped_count_of (Ok p) = grouping true (native_filter false p.words) p.tags
+
+abbrev pub grouped_count : Bool → List Word → Translation
+grouped_count false words = refused (group_name true) refusals.NotInList
+grouped_count true words = grouped_count_of (part_ends 1 empty_set words)
+
+unfoldable pub counting : Bool → List Word → Translation
+counting is_alone words = if is_grouped words then grouped_count is_alone words else filtered names.Count false false [] words
 
 unfoldable pub adding_to_playlist : List Word → Translation
 adding_to_playlist [] = Same
@@ -117,10 +140,6 @@ abbrev pub filter_or_all : List Word → List Word
 filter_or_all [] = codes "base" ∷ [] ∷ []
 filter_or_all (word ∷ words) = native_filter false (word ∷ words)
 
-abbrev pub has_list_count : List Word → Bool
-has_list_count [] = true
-has_list_count (word ∷ words) = has_filter_count (word ∷ words)
-
 -- none; the filter may still be refused
 unfoldable pub listing_nothing : List Word → Translation
 listing_nothing words =
@@ -137,9 +156,25 @@ abbrev pub listing_of : Option ForeignTag → Word → List Word → Translation
 listing_of None name words = Same
 listing_of (Some tag) name words = listing_by (standing_of tag) tag name words
 
-unfoldable pub listing : List Word → Translation
-listing [] = Same
-listing (name ∷ words) = if is_grouped words then Same else listing_of (tag_named name) name words
+-- the words of a filter behind the tag of a `list`
+abbrev pub listing_filter : Standing → List Word → List Word
+listing_filter (standings.Native other) words = listing_words other words
+listing_filter (standings.FallsBackTo other) words = native_filter false words
+listing_filter standings.Absent words = native_filter false words
+
+abbrev pub grouped_list_of : ForeignTag → Result Parted ForeignRefusal → Translation
+grouped_list_of tag (Err refusal) = refused (group_name false) refusal
+grouped_list_of tag (Ok p) = grouping false (listing_filter (standing_of tag) p.words) (p.tags ++ tag ∷ [])
+
+abbrev pub grouped_list : Bool → Option ForeignTag → List Word → Translation
+grouped_list is_alone None words = Same
+grouped_list false (Some tag) words = refused (group_name false) refusals.NotInList
+grouped_list true (Some tag) words = grouped_list_of tag (part_ends most_ends (only_tag tag) words)
+
+unfoldable pub listing : Bool → List Word → Translation
+listing is_alone [] = Same
+listing is_alone (name ∷ words) =
+    if is_grouped words then grouped_list is_alone (tag_named name) words else listing_of (tag_named name) name words
 
 abbrev pub is_root : Word → Bool
 is_root place = bytes_eq place [] || bytes_eq place (codes "/")
@@ -210,6 +245,7 @@ handling_of names.QueueChanges = TellsSongs
 handling_of names.Search = Filters true true
 handling_of names.SearchAdd = Filters false true
 handling_of names.SearchAddPlaylist = AddsToPlaylist
+handling_of names.Stats = AddsTimes
 handling_of names.Status = Adds texts.Status
 handling_of names.TagTypes = Masks
 handling_of name = Untouched
@@ -219,27 +255,29 @@ abbrev pub needs_words : Handling → Bool
 needs_words Untouched = false
 needs_words TellsSongs = false
 needs_words (Adds text) = false
+needs_words AddsTimes = false
 needs_words handling = true
 
-abbrev pub adding : CommandName → FixedText → Translation
-adding name text = Changed (telling (Native name) lines.Kept (endings.Text text))
+abbrev pub adding : CommandName → Ending → Translation
+adding name ending = Changed (telling (Native name) lines.Kept ending)
 
-abbrev pub by_handling : Handling → CommandName → List Word → Translation
-by_handling Untouched name words = Same
-by_handling TellsSongs name words = Songs
-by_handling (Adds text) name words = adding name text
-by_handling (Filters songs sorts) name words = filtered name songs sorts [] words
-by_handling AddsToPlaylist name words = adding_to_playlist words
-by_handling Counts name words = counting words
-by_handling ListsValues name words = listing words
-by_handling ListsFolder name words = list_info words
-by_handling Masks name words = tag_types words
+abbrev pub by_handling : Bool → Handling → CommandName → List Word → Translation
+by_handling is_alone Untouched name words = Same
+by_handling is_alone TellsSongs name words = Songs
+by_handling is_alone (Adds text) name words = adding name (endings.Text text)
+by_handling is_alone AddsTimes name words = adding name endings.Times
+by_handling is_alone (Filters songs sorts) name words = filtered name songs sorts [] words
+by_handling is_alone AddsToPlaylist name words = adding_to_playlist words
+by_handling is_alone Counts name words = counting is_alone words
+by_handling is_alone ListsValues name words = listing is_alone words
+by_handling is_alone ListsFolder name words = list_info words
+by_handling is_alone Masks name words = tag_types words
 
 -- the same of the words of its line, of which the first is its name
-abbrev pub by_first : Handling → CommandName → List Word → Translation
-by_first handling name [] = Same
-by_first handling name (word ∷ words) = by_handling handling name words
+abbrev pub by_first : Bool → Handling → CommandName → List Word → Translation
+by_first is_alone handling name [] = Same
+by_first is_alone handling name (word ∷ words) = by_handling is_alone handling name words
 
 -- what becomes of a command of the daemon, with these arguments
-abbrev pub native_translation : CommandName → List Word → Translation
-native_translation name words = by_handling (handling_of name) name words
+abbrev pub native_translation : Bool → CommandName → List Word → Translation
+native_translation is_alone name words = by_handling is_alone (handling_of name) name words

@@ -37,20 +37,26 @@ refusal_code refusals.NoFile = 50
 refusal_code refusals.NoOutput = 50
 refusal_code refusals.NoPartition = 50
 refusal_code refusals.NobodySubscribed = 50
+refusal_code refusals.NoMixer = 52
 refusal_code refusal = 2
 
 -- what is told at a command of this name
 abbrev pub refusal_text : ForeignName → ForeignRefusal → List ℕ
 refusal_text name refusals.AlwaysOn = codes "the only output is always on"
+refusal_text name refusals.BadArgument = codes "bad argument 1"
+refusal_text name refusals.ConflictingGroup = codes "Conflicting group"
+refusal_text name refusals.FilterTooLong = codes "filter too long"
 refusal_text name refusals.IncorrectPassword = codes "incorrect password"
 refusal_text name refusals.MissingArguments = codes "Not enough arguments"
 refusal_text name refusals.NoCrossfade = codes "no crossfade here"
 refusal_text name refusals.NoFile = codes "No file exists"
+refusal_text name refusals.NoMixer = codes "No mixer"
 refusal_text name refusals.NoMixramp = codes "no mixramp here"
 refusal_text name refusals.NoNeighbors = codes "No neighbor plugin configured"
 refusal_text name refusals.NoOutput = codes "No such audio output"
 refusal_text name refusals.NoPartition = codes "partition does not exist"
 refusal_text name refusals.NobodySubscribed = codes "nobody is subscribed to this channel"
+refusal_text name refusals.NotInList = codes "not possible in a command list"
 refusal_text name refusals.TooManyArguments = codes "Too many arguments"
 refusal_text name refusals.UnknownSubCommand = codes "Unknown sub command"
 refusal_text name refusals.UnknownTag = codes "Unknown tag type"

@@ -14,31 +14,31 @@ use Rattle.stock_requests.specs.Names.{foreign_named}
 use Rattle.stock_requests.specs.Native.{handling_of, native_translation, needs_words}
 
 -- a command that the daemon doesn't have
-abbrev pub of_foreign : List Word → Option ForeignCommand → declared.Translation
-of_foreign words None = Same
-of_foreign words (Some command) = foreign_translation command words
+abbrev pub of_foreign : Bool → List Word → Option ForeignCommand → declared.Translation
+of_foreign is_alone words None = Same
+of_foreign is_alone words (Some command) = foreign_translation is_alone command words
 
-abbrev pub of_name : Word → List Word → Option CommandName → declared.Translation
-of_name name words None = of_foreign words (foreign_named name)
-of_name name words (Some command) = native_translation command words
+abbrev pub of_name : Bool → Word → List Word → Option CommandName → declared.Translation
+of_name is_alone name words None = of_foreign is_alone words (foreign_named name)
+of_name is_alone name words (Some command) = native_translation is_alone command words
 
 -- a command whose name the daemon doesn't know
-abbrev pub of_unnamed : List Word → declared.Translation
-of_unnamed [] = Same
-of_unnamed (name ∷ words) = of_foreign words (foreign_named name)
+abbrev pub of_unnamed : Bool → List Word → declared.Translation
+of_unnamed is_alone [] = Same
+of_unnamed is_alone (name ∷ words) = of_foreign is_alone words (foreign_named name)
 
-abbrev pub of_words : List Word → declared.Translation
-of_words [] = Same
-of_words (name ∷ words) = of_name name words (named name)
+abbrev pub of_words : Bool → List Word → declared.Translation
+of_words is_alone [] = Same
+of_words is_alone (name ∷ words) = of_name is_alone name words (named name)
 
 -- the words of a line, none where it is refused for its bytes or its quoting
 abbrev pub words_or_none : Result (List Word) Refusal → List Word
 words_or_none (Err refusal) = []
 words_or_none (Ok words) = words
 
--- the line of a command, alone or in a list: nothing depends on that yet
+-- the line of a command; what takes more than one request is refused in a list
 unfoldable pub translation : Bool → List ℕ → declared.Translation
-translation is_alone line = of_words (words_or_none (line_words line))
+translation is_alone line = of_words is_alone (words_or_none (line_words line))
 
 -- the lines that may want memory: those that begin with no command of the daemon's, or with one that is handled by its arguments
 abbrev pub may_want_memory : Option CommandName → Bool

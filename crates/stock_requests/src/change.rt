@@ -4,6 +4,7 @@ ghost use Rattle.stock_requests.specs.Texts.{refusal_code, refusal_text, text_of
 
 use crate::mask::MaskChange;
 use crate::name::ForeignName;
+use crate::steps::Steps;
 use crate::tag::ForeignTag;
 use command_text::Line;
 use wave_pcm::Tag;
@@ -19,6 +20,8 @@ pub enum Translation {
     Changed(Change),
     /// These native commands stand in its place, and their answers are changed.
     Other(Natives, Change),
+    /// It is asked step by step, with this line first.
+    Stepped(Line, Steps),
 }
 
 /// The lines of the native commands in the place of a client's one, one or two.
@@ -58,6 +61,8 @@ pub enum LineChange {
 pub enum Ending {
     Nothing,
     Text(FixedText),
+    /// For how long the daemon has run, and when its database was last updated.
+    Times,
     /// The tags that the connection wants to see.
     Tags,
     /// Nothing is told: from the end of this answer on other tags are seen.
@@ -92,15 +97,20 @@ pub enum RefusalChange {
 #[derive(Clone, Copy, Debug)]
 pub enum ForeignRefusal {
     AlwaysOn,
+    BadArgument,
+    ConflictingGroup,
+    FilterTooLong,
     IncorrectPassword,
     MissingArguments,
     NoCrossfade,
     NoFile,
+    NoMixer,
     NoMixramp,
     NoNeighbors,
     NoOutput,
     NoPartition,
     NobodySubscribed,
+    NotInList,
     TooManyArguments,
     UnknownSubCommand,
     UnknownTag,
@@ -139,7 +149,7 @@ impl FixedText {
 }
 
 const COMMANDS: &str =
-    "command: albumart\ncommand: binarylimit\ncommand: channels\ncommand: crossfade\ncommand: decoders\ncommand: disableoutput\ncommand: enableoutput\ncommand: getvol\ncommand: listmounts\ncommand: listneighbors\ncommand: listpartitions\ncommand: mixrampdb\ncommand: mixrampdelay\ncommand: outputs\ncommand: outputset\ncommand: partition\ncommand: password\ncommand: playlist\ncommand: readcomments\ncommand: readpicture\ncommand: replay_gain_mode\ncommand: replay_gain_status\ncommand: sendmessage\ncommand: toggleoutput\ncommand: urlhandlers\n";
+    "command: albumart\ncommand: binarylimit\ncommand: channels\ncommand: crossfade\ncommand: decoders\ncommand: disableoutput\ncommand: enableoutput\ncommand: getvol\ncommand: listmounts\ncommand: listneighbors\ncommand: listpartitions\ncommand: mixrampdb\ncommand: mixrampdelay\ncommand: outputs\ncommand: outputset\ncommand: partition\ncommand: password\ncommand: playlist\ncommand: readcomments\ncommand: readpicture\ncommand: replay_gain_mode\ncommand: replay_gain_status\ncommand: sendmessage\ncommand: toggleoutput\ncommand: urlhandlers\ncommand: volume\n";
 
 impl ForeignRefusal {
     /// The code that `ACK` shows, a number of MPD's.
@@ -153,6 +163,7 @@ impl ForeignRefusal {
             | ForeignRefusal::NoOutput
             | ForeignRefusal::NoPartition
             | ForeignRefusal::NobodySubscribed => 50,
+            ForeignRefusal::NoMixer => 52,
             _ => 2,
         }
     }
@@ -163,15 +174,20 @@ impl ForeignRefusal {
     {
         match self {
             ForeignRefusal::AlwaysOn => whole("the only output is always on"),
+            ForeignRefusal::BadArgument => whole("bad argument 1"),
+            ForeignRefusal::ConflictingGroup => whole("Conflicting group"),
+            ForeignRefusal::FilterTooLong => whole("filter too long"),
             ForeignRefusal::IncorrectPassword => whole("incorrect password"),
             ForeignRefusal::MissingArguments => whole("Not enough arguments"),
             ForeignRefusal::NoCrossfade => whole("no crossfade here"),
             ForeignRefusal::NoFile => whole("No file exists"),
+            ForeignRefusal::NoMixer => whole("No mixer"),
             ForeignRefusal::NoMixramp => whole("no mixramp here"),
             ForeignRefusal::NoNeighbors => whole("No neighbor plugin configured"),
             ForeignRefusal::NoOutput => whole("No such audio output"),
             ForeignRefusal::NoPartition => whole("partition does not exist"),
             ForeignRefusal::NobodySubscribed => whole("nobody is subscribed to this channel"),
+            ForeignRefusal::NotInList => whole("not possible in a command list"),
             ForeignRefusal::TooManyArguments => whole("Too many arguments"),
             ForeignRefusal::UnknownSubCommand => whole("Unknown sub command"),
             ForeignRefusal::UnknownTag => whole("Unknown tag type"),

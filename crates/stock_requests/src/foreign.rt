@@ -1,11 +1,14 @@
 // What becomes of the commands of MPD that the daemon doesn't have.
 ghost use Rattle.std.specs.Prelude.{◌≡◌, IfOk};
-ghost use Rattle.stock_requests.specs.Foreign.{by_reply, foreign_translation, is_no_gain, of_output, reply_for, reply_to, told_if};
+ghost use Rattle.stock_requests.specs.Foreign.{by_reply, foreign_translation, is_no_gain, louder, of_output, of_step};
+ghost use Rattle.stock_requests.specs.Foreign.{reply_for, reply_to, told_if};
 
 use crate::change::{Ending, FixedText, ForeignRefusal, LineChange, Translation};
 use crate::filter::is_word;
 use crate::name::{ForeignCommand, ForeignName};
-use crate::native::{answered, by_one, refused, telling};
+use crate::native::{answered, by_one, by_steps, refused, telling};
+use crate::steps::Steps;
+use crate::volume::{VolumeChange, VolumeStep};
 use filter_expr::LineWord;
 use std::alloc::{AllocError, Global};
 
@@ -19,6 +22,8 @@ pub(crate) enum Reply {
     Volume,
     /// By the files of the queue, numbered.
     Queue,
+    /// By what sets a volume that is so much greater or less.
+    Louder(VolumeStep),
 }
 
 /// Whether the word is 0 decibels, as clients spell it.
@@ -46,6 +51,16 @@ fn of_output(id: &[u8], refusal: ForeignRefusal) -> Reply
         Reply::Refused(refusal)
     } else {
         Reply::Refused(ForeignRefusal::NoOutput)
+    }
+}
+
+/// The answer about a change of the volume.
+fn of_step(step: Option<VolumeStep>) -> Reply
+    ensures { result ≡ of_step step }
+{
+    match step {
+        None => Reply::Refused(ForeignRefusal::BadArgument),
+        Some(step) => Reply::Louder(step),
     }
 }
 
@@ -81,6 +96,7 @@ fn reply_to(command: ForeignCommand, word: &[u8]) -> Reply
         ForeignCommand::SendMessage => Reply::Refused(ForeignRefusal::NobodySubscribed),
         ForeignCommand::ToggleOutput => of_output(word, ForeignRefusal::AlwaysOn),
         ForeignCommand::UrlHandlers => Reply::Told(Ending::Nothing),
+        ForeignCommand::Volume => of_step(VolumeStep::of(word)),
     }
 }
 
@@ -97,8 +113,28 @@ fn reply_for(command: ForeignCommand, words: &[LineWord<'_>]) -> Reply
     }
 }
 
-fn by_reply(alloc: Global, name: ForeignName, reply: Reply) -> Result<Translation, AllocError>
-    ensures { IfOk result (λ t. t ≡ by_reply name reply) }
+/// A volume that is so much greater or less, where the command stands in no list.
+fn louder(
+    alloc: Global,
+    is_alone: bool,
+    name: ForeignName,
+    step: VolumeStep,
+) -> Result<Translation, AllocError>
+    ensures { IfOk result (λ t. t ≡ louder is_alone name step) }
+{
+    if !is_alone {
+        return refused(alloc, name, ForeignRefusal::NotInList);
+    }
+    by_steps(alloc, b"status", Steps::Volume(VolumeChange::new(step)))
+}
+
+fn by_reply(
+    alloc: Global,
+    is_alone: bool,
+    name: ForeignName,
+    reply: Reply,
+) -> Result<Translation, AllocError>
+    ensures { IfOk result (λ t. t ≡ by_reply is_alone name reply) }
 {
     match reply {
         Reply::Told(ending) => answered(alloc, name, ending),
@@ -111,6 +147,7 @@ fn by_reply(alloc: Global, name: ForeignName, reply: Reply) -> Result<Translatio
             let change = telling(name, LineChange::Numbered, Ending::Nothing);
             by_one(alloc, b"playlistinfo", change)
         }
+        Reply::Louder(step) => louder(alloc, is_alone, name, step),
     }
 }
 
@@ -118,11 +155,12 @@ fn by_reply(alloc: Global, name: ForeignName, reply: Reply) -> Result<Translatio
 #[tactic(auto, unfolding(crate::specs::Foreign::foreign_translation))]
 pub(crate) fn foreign_translation(
     alloc: Global,
+    is_alone: bool,
     command: ForeignCommand,
     words: &[LineWord<'_>],
 ) -> Result<Translation, AllocError>
-    ensures { IfOk result (λ t. t ≡ foreign_translation command words.now) }
+    ensures { IfOk result (λ t. t ≡ foreign_translation is_alone command words.now) }
 {
     let reply = reply_for(command, words);
-    by_reply(alloc, ForeignName::Foreign(command), reply)
+    by_reply(alloc, is_alone, ForeignName::Foreign(command), reply)
 }

@@ -1,5 +1,5 @@
 //! Laws of the definitions that the contracts cite.
-ghost use Rattle.std.specs.Prelude.{◌≡◌, ◌≢◌, ◌<◌, ◌^◌, ◌||◌, ◌&&◌, not, ℕ, Bool, true, false, List, ◌∷◌, Some, None};
+ghost use Rattle.std.specs.Prelude.{◌≡◌, ◌≢◌, ◌<◌, ◌^◌, ◌||◌, ◌&&◌, not, ℕ, Bool, true, false, List, ◌∷◌, Some, None, IfSome};
 ghost use Rattle.wave_pcm.specs.declared.tags.Tag.{Tag};
 ghost use Rattle.wave_pcm.specs.Tag.{text_of};
 ghost use Rattle.song_db.specs.Uri.{is_uri};
@@ -12,7 +12,9 @@ ghost use Rattle.stock_requests.specs.declared.expression.Operator.{Operator};
 ghost use Rattle.stock_requests.specs.declared.mask.TagSet.{TagSet};
 ghost use Rattle.stock_requests.specs.declared.name.ForeignCommand.{ForeignCommand};
 ghost use Rattle.stock_requests.specs.declared.tag.ForeignTag.{ForeignTag};
-ghost use Rattle.stock_requests.specs.Fits.{Fits};
+ghost use Rattle.stock_requests.specs.declared.group.Grouping.{Grouping};
+ghost use Rattle.stock_requests.specs.Fits.{Fits, NativesFit};
+ghost use Rattle.stock_requests.specs.Groups.{group_after};
 ghost use Rattle.stock_requests.specs.Masks.{all_in_set, empty_set, has, only_tag, with_tags, without_tags};
 ghost use Rattle.stock_requests.specs.Names.{foreign_named, foreign_text};
 ghost use Rattle.stock_requests.specs.Spelling.{is_bare, spelled_line};
@@ -54,4 +56,9 @@ pub fn foreign_names_are_found()
 /// No native line has more bytes than the daemon takes, so that none closes its client.
 pub fn native_lines_fit()
     ensures { (is_alone : Bool) (line : List ℕ) → Fits (translation is_alone line) }
+{}
+
+/// Nor has one of those that are asked of a group behind an answer.
+pub fn group_lines_fit()
+    ensures { (grouping : Grouping) → IfSome (group_after grouping).natives NativesFit }
 {}

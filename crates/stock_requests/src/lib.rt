@@ -5,19 +5,29 @@ mod change;
 mod expression;
 mod filter;
 mod foreign;
+mod group;
+mod grouped;
 pub mod laws;
 mod line;
 mod mask;
 mod name;
 mod native;
+mod number;
 mod spelling;
+mod steps;
 mod tag;
+mod values;
+mod volume;
 
 pub use change::{
     Change, Ending, FixedText, ForeignRefusal, LineChange, Natives, RefusalChange, RefusalText,
     Translation,
 };
+pub use group::{Grouping, Level, Phase};
 pub use line::translate;
 pub use mask::{MaskChange, TagSet};
 pub use name::{ForeignCommand, ForeignName};
+pub use steps::Steps;
 pub use tag::{ForeignTag, Standing};
+pub use values::{Levels, Tags, Values};
+pub use volume::{VolumeChange, VolumeStep};

@@ -4,7 +4,7 @@ ghost use Rattle.command_text.specs.Reading.{line_words, name_of_line};
 ghost use Rattle.stock_requests.specs.Native.{by_first, needs_words};
 ghost use Rattle.stock_requests.specs.Translation.{may_want_memory, of_unnamed, translation, words_or_none};
 
-use crate::change::Translation;
+use crate::change::{Ending, Translation};
 use crate::foreign::foreign_translation;
 use crate::name::ForeignCommand;
 use crate::native::{Handling, adding, by_handling, handling_of};
@@ -36,81 +36,89 @@ fn words_of_line(alloc: Global, line: &[u8]) -> Result<Vec<LineWord<'_>>, NoMemo
 }
 
 /// What becomes of a line of these words, the first of which names no command of the daemon's.
-fn of_unnamed(alloc: Global, words: &[LineWord<'_>]) -> Result<Translation, AllocError>
-    ensures { IfOk result (λ t. t ≡ of_unnamed words.now) }
+fn of_unnamed(
+    alloc: Global,
+    is_alone: bool,
+    words: &[LineWord<'_>],
+) -> Result<Translation, AllocError>
+    ensures { IfOk result (λ t. t ≡ of_unnamed is_alone words.now) }
 {
     match words {
         [] => Ok(Translation::Same),
         [name, words @ ..] => match ForeignCommand::named(name.bytes()) {
             None => Ok(Translation::Same),
-            Some(command) => foreign_translation(alloc, command, words),
+            Some(command) => foreign_translation(alloc, is_alone, command, words),
         },
     }
 }
 
 /// What becomes of a line that begins with no command of the daemon's.
-fn of_other(alloc: Global, line: &[u8]) -> Result<Translation, NoMemory>
-    ensures { IfOk result (λ t. t ≡ of_unnamed (words_or_none (line_words line.now))) }
+fn of_other(alloc: Global, is_alone: bool, line: &[u8]) -> Result<Translation, NoMemory>
+    ensures { IfOk result (λ t. t ≡ of_unnamed is_alone (words_or_none (line_words line.now))) }
 {
     let words = words_of_line(alloc, line)?;
-    Ok(of_unnamed(alloc, words.as_slice())?)
+    Ok(of_unnamed(alloc, is_alone, words.as_slice())?)
 }
 
 /// What becomes of a line of these words, the first of which names this command.
 fn by_first(
     alloc: Global,
+    is_alone: bool,
     handling: Handling,
     name: CommandName,
     words: &[LineWord<'_>],
 ) -> Result<Translation, AllocError>
-    ensures { IfOk result (λ t. t ≡ by_first handling name words.now) }
+    ensures { IfOk result (λ t. t ≡ by_first is_alone handling name words.now) }
 {
     match words {
         [] => Ok(Translation::Same),
-        [_, words @ ..] => by_handling(alloc, handling, name, words),
+        [_, words @ ..] => by_handling(alloc, is_alone, handling, name, words),
     }
 }
 
 /// The same by its words, where it depends on them.
 fn by_words(
     alloc: Global,
+    is_alone: bool,
     handling: Handling,
     name: CommandName,
     line: &[u8],
 ) -> Result<Translation, NoMemory>
-    ensures { IfOk result (λ t. t ≡ by_first handling name (words_or_none (line_words line.now))) }
+    ensures { IfOk result (λ t. t ≡ by_first is_alone handling name (words_or_none (line_words line.now))) }
 {
     let words = words_of_line(alloc, line)?;
-    Ok(by_first(alloc, handling, name, words.as_slice())?)
+    Ok(by_first(alloc, is_alone, handling, name, words.as_slice())?)
 }
 
 /// What becomes of a line that begins with a command which is handled so.
-#[tactic(auto, using(crate::proofs::Lines::untouched, crate::proofs::Lines::tells_songs, crate::proofs::Lines::adds))]
+#[tactic(auto, using(crate::proofs::Lines::untouched, crate::proofs::Lines::tells_songs, crate::proofs::Lines::adds, crate::proofs::Lines::adds_times))]
 fn of_native(
     alloc: Global,
+    is_alone: bool,
     handling: Handling,
     name: CommandName,
     line: &[u8],
 ) -> Result<Translation, NoMemory>
     requires { name_of_line line.now ≡ Some name }
-    ensures exact { IfOk result (λ t. t ≡ by_first handling name (words_or_none (line_words line.now))) }
+    ensures exact { IfOk result (λ t. t ≡ by_first is_alone handling name (words_or_none (line_words line.now))) }
     ensures memory { OnErr result (needs_words handling ≡ true) }
 {
     match handling {
         Handling::Untouched => Ok(Translation::Same),
         Handling::TellsSongs => Ok(Translation::Songs),
-        Handling::Adds(text) => Ok(adding(name, text)),
+        Handling::Adds(text) => Ok(adding(name, Ending::Text(text))),
+        Handling::AddsTimes => Ok(adding(name, Ending::Times)),
         Handling::Filters(_, _)
         | Handling::AddsToPlaylist
         | Handling::Counts
         | Handling::ListsValues
         | Handling::ListsFolder
-        | Handling::Masks => by_words(alloc, handling, name, line),
+        | Handling::Masks => by_words(alloc, is_alone, handling, name, line),
     }
 }
 
-/// What becomes of a command's line, without its newline, that a client sent; whether it stands alone or in a command list changes nothing
-/// yet (MPD protocol reference 0.23, "Command lists").
+/// What becomes of a command's line, without its newline, that a client sent, alone or in a command list (MPD protocol reference 0.23,
+/// "Command lists").
 ///
 /// A line that the daemon refuses for its bytes, its quoting or its name, and one whose translation would have more than 8,192 bytes, goes on
 /// as it is. `NoMemory` comes only where memory was refused, and never for a line that begins with a command of the daemon's whose arguments
@@ -120,9 +128,8 @@ pub fn translate(alloc: Global, line: &[u8], is_alone: bool) -> Result<Translati
     ensures exact { IfOk result (λ t. t ≡ translation is_alone line.now) }
     ensures memory { OnErr result (may_want_memory (name_of_line line.now) ≡ true) }
 {
-    let _ = is_alone;
     match name_of_line(line) {
-        Some(name) => of_native(alloc, handling_of(name), name, line),
-        None => of_other(alloc, line),
+        Some(name) => of_native(alloc, is_alone, handling_of(name), name, line),
+        None => of_other(alloc, is_alone, line),
     }
 }

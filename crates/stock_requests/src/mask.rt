@@ -138,8 +138,8 @@ impl TagSet {
 }
 
 /// Whether the line has this key.
-fn is_line_of(key: &[u8], line: &[u8]) -> bool
-    ensures { result ≡ is_line_of key.now line.now }
+pub(crate) fn is_line_of(key: &[u8], line: &[u8]) -> bool
+    ensures value { result ≡ is_line_of key.now line.now }
 {
     line.starts_with(key) && line[key.len()..].starts_with(b": ")
 }

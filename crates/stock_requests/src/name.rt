@@ -32,6 +32,7 @@ pub enum ForeignCommand {
     SendMessage,
     ToggleOutput,
     UrlHandlers,
+    Volume,
 }
 
 /// The name of a command as the client gave it.
@@ -43,7 +44,7 @@ pub enum ForeignName {
 
 impl ForeignCommand {
     /// All of them, rising by their bytes.
-    pub const ALL: [ForeignCommand; 25] = [
+    pub const ALL: [ForeignCommand; 26] = [
         ForeignCommand::AlbumArt,
         ForeignCommand::BinaryLimit,
         ForeignCommand::Channels,
@@ -69,6 +70,7 @@ impl ForeignCommand {
         ForeignCommand::SendMessage,
         ForeignCommand::ToggleOutput,
         ForeignCommand::UrlHandlers,
+        ForeignCommand::Volume,
     ];
 
     /// The word that asks for the command.
@@ -101,6 +103,7 @@ impl ForeignCommand {
             ForeignCommand::SendMessage => "sendmessage",
             ForeignCommand::ToggleOutput => "toggleoutput",
             ForeignCommand::UrlHandlers => "urlhandlers",
+            ForeignCommand::Volume => "volume",
         }
     }
 

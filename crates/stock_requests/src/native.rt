@@ -1,9 +1,10 @@
 // What becomes of the daemon's own commands where MPD's do more.
-ghost use Rattle.std.specs.Prelude.{◌≡◌, ◌++◌, IfOk};
-ghost use Rattle.command_text.specs.Finding.{has_filter_count, is_expression};
+ghost use Rattle.std.specs.Prelude.{◌≡◌, ◌++◌, Some, IfOk};
+ghost use Rattle.command_text.specs.Finding.{has_filter_count};
 ghost use Rattle.stock_requests.specs.Native.{adding, answered, as_it_is, by_handling, by_line, by_one, by_two, filtered};
 ghost use Rattle.stock_requests.specs.Native.{handling_of, is_artist_alone, listing_line, listing_words, refused};
-ghost use Rattle.stock_requests.specs.Native.{adding_to_playlist, counting, has_list_count, is_grouped, is_root, list_info, listing};
+ghost use Rattle.stock_requests.specs.Native.{adding_to_playlist, counting, has_list_count, is_root, list_info, listing};
+ghost use Rattle.stock_requests.specs.Native.{by_steps, grouped_count, grouped_list, grouping, listing_filter};
 ghost use Rattle.stock_requests.specs.Native.{filter_or_all, listing_native, listing_nothing, listing_renamed, mask_of, tag_types};
 ghost use Rattle.stock_requests.specs.Native.{mask_alone, mask_refused, masked, songs_lines, telling, with_named};
 ghost use Rattle.stock_requests.specs.Masks.{empty_set};
@@ -12,10 +13,14 @@ use crate::change::{
     Change, Ending, FixedText, ForeignRefusal, LineChange, Natives, RefusalChange, Translation,
 };
 use crate::filter::{begins_so, is_word, native_filter, with_words};
+use crate::group::count_line;
+use crate::grouped::{MOST_ENDS, begun_group, is_expression, is_grouped, part_ends};
 use crate::mask::{MaskChange, TagSet};
 use crate::name::ForeignName;
-use crate::spelling::{LINE_LIMIT, line_of, same_words};
+use crate::spelling::{LINE_LIMIT, line_of, put_words, same_words};
+use crate::steps::{Steps, group_name};
 use crate::tag::{ForeignTag, Standing};
+use crate::values::Tags;
 use command_text::{CommandName, Line};
 use filter_expr::LineWord;
 use std::alloc::{AllocError, Global};
@@ -29,6 +34,8 @@ pub(crate) enum Handling {
     TellsSongs,
     /// These lines are told behind its own.
     Adds(FixedText),
+    /// For how long the daemon has run is told behind its lines, and when its database was last updated.
+    AddsTimes,
     /// It has a filter: whether its answer tells songs, and whether an order may stand behind the filter.
     Filters(bool, bool),
     AddsToPlaylist,
@@ -57,6 +64,7 @@ pub(crate) fn handling_of(name: CommandName) -> Handling
         CommandName::ListTag => Handling::ListsValues,
         CommandName::ListInfo => Handling::ListsFolder,
         CommandName::SearchAddPlaylist => Handling::AddsToPlaylist,
+        CommandName::Stats => Handling::AddsTimes,
         CommandName::Status => Handling::Adds(FixedText::Status),
         CommandName::TagTypes => Handling::Masks,
         _ => Handling::Untouched,
@@ -191,20 +199,66 @@ fn filtered(
     by_line(alloc, songs, line.as_slice(), change)
 }
 
-/// Whether the words end in `group TAG`.
-#[tactic(auto, unfolding(crate::specs::Native::is_grouped))]
-fn is_grouped(words: &[LineWord<'_>]) -> bool
-    ensures { result ≡ is_grouped words.now }
+/// A command that takes more than one request, with this line first, where a line may be so long.
+pub(crate) fn by_steps(alloc: Global, line: &[u8], steps: Steps) -> Result<Translation, AllocError>
+    ensures { IfOk result (λ t. t ≡ by_steps line.now steps) }
 {
-    words.len() >= 2 && is_word(words[words.len() - 2].bytes(), "group")
+    if line.len() <= LINE_LIMIT {
+        return Ok(Translation::Stepped(Line::from_bytes(alloc, line)?, steps));
+    }
+    Ok(Translation::Same)
+}
+
+/// A filter over the daemon's tags, within which songs are counted, or the values of the last tag listed, by the others.
+fn grouping(
+    alloc: Global,
+    counts: bool,
+    words: &[LineWord<'_>],
+    tags: Tags,
+) -> Result<Translation, AllocError>
+    ensures { IfOk result (λ t. t ≡ grouping counts words.now tags) }
+{
+    if !has_list_count(words) {
+        return refused(alloc, group_name(counts), ForeignRefusal::WrongCount);
+    }
+    let group = begun_group(alloc, counts, words, tags)?;
+    let mut spelled = Vec::new(alloc);
+    put_words(&mut spelled, words)?;
+    let line = count_line(alloc, spelled.as_slice())?;
+    by_steps(alloc, line.as_slice(), Steps::Group(group))
+}
+
+/// A `count` with `group` at the end.
+fn grouped_count(
+    alloc: Global,
+    is_alone: bool,
+    words: &[LineWord<'_>],
+) -> Result<Translation, AllocError>
+    ensures { IfOk result (λ t. t ≡ grouped_count is_alone words.now) }
+{
+    if !is_alone {
+        return refused(alloc, group_name(true), ForeignRefusal::NotInList);
+    }
+    let mut tags = Tags::new(alloc);
+    match part_ends(1, TagSet::empty(), words, &mut tags)? {
+        Err(refusal) => refused(alloc, group_name(true), refusal),
+        Ok(end) => {
+            let filter = native_filter(alloc, false, &words[..end])?;
+            grouping(alloc, true, filter.as_slice(), tags)
+        }
+    }
 }
 
 #[tactic(auto, unfolding(crate::specs::Native::counting))]
-fn counting(alloc: Global, words: &[LineWord<'_>]) -> Result<Translation, AllocError>
-    ensures { IfOk result (λ t. t ≡ counting words.now) }
+fn counting(
+    alloc: Global,
+    is_alone: bool,
+    words: &[LineWord<'_>],
+) -> Result<Translation, AllocError>
+    ensures { IfOk result (λ t. t ≡ counting is_alone words.now) }
 {
     if is_grouped(words) {
-        return Ok(Translation::Same);
+        return grouped_count(alloc, is_alone, words);
     }
     filtered(alloc, CommandName::Count, false, false, &[], words)
 }
@@ -225,15 +279,6 @@ fn adding_to_playlist(alloc: Global, words: &[LineWord<'_>]) -> Result<Translati
         list,
         filter,
     )
-}
-
-fn is_expression(words: &[LineWord<'_>]) -> bool
-    ensures { result ≡ is_expression words.now }
-{
-    match words {
-        [] => false,
-        [word, ..] => begins_so(b'(', word.bytes()),
-    }
 }
 
 /// Whether words are as many as a filter has that stands alone.
@@ -368,19 +413,54 @@ fn listing_nothing(alloc: Global, words: &[LineWord<'_>]) -> Result<Translation,
     by_line(alloc, false, line.as_slice(), change)
 }
 
+/// The words of a filter behind the tag of a `list`.
+fn listing_filter<'w>(
+    alloc: Global,
+    standing: Standing,
+    words: &'w [LineWord<'_>],
+) -> Result<Vec<LineWord<'w>>, AllocError>
+    ensures { IfOk result (λ new. new.items ≡ listing_filter standing words.now) }
+{
+    match standing {
+        Standing::Native(other) => listing_words(alloc, other, words),
+        Standing::FallsBackTo(_) | Standing::Absent => native_filter(alloc, false, words),
+    }
+}
+
+/// A `list` of this tag with `group` at the end.
+fn grouped_list(
+    alloc: Global,
+    is_alone: bool,
+    tag: ForeignTag,
+    words: &[LineWord<'_>],
+) -> Result<Translation, AllocError>
+    ensures { IfOk result (λ t. t ≡ grouped_list is_alone (Some tag) words.now) }
+{
+    if !is_alone {
+        return refused(alloc, group_name(false), ForeignRefusal::NotInList);
+    }
+    let mut tags = Tags::new(alloc);
+    match part_ends(MOST_ENDS, TagSet::only(tag), words, &mut tags)? {
+        Err(refusal) => refused(alloc, group_name(false), refusal),
+        Ok(end) => {
+            tags.push(tag)?;
+            let filter = listing_filter(alloc, tag.standing(), &words[..end])?;
+            grouping(alloc, false, filter.as_slice(), tags)
+        }
+    }
+}
+
 #[tactic(auto, unfolding(crate::specs::Native::listing))]
-fn listing(alloc: Global, words: &[LineWord<'_>]) -> Result<Translation, AllocError>
-    ensures { IfOk result (λ t. t ≡ listing words.now) }
+fn listing(alloc: Global, is_alone: bool, words: &[LineWord<'_>]) -> Result<Translation, AllocError>
+    ensures { IfOk result (λ t. t ≡ listing is_alone words.now) }
 {
     if words.is_empty() {
         return Ok(Translation::Same);
     }
     let (name, words) = words.split_at(1);
-    if is_grouped(words) {
-        return Ok(Translation::Same);
-    }
     match ForeignTag::named(name[0].bytes()) {
         None => Ok(Translation::Same),
+        Some(tag) if is_grouped(words) => grouped_list(alloc, is_alone, tag, words),
         Some(tag) => match tag.standing() {
             Standing::Native(other) => listing_native(alloc, other, name, words),
             Standing::FallsBackTo(other) => listing_renamed(alloc, tag, other, words),
@@ -492,29 +572,31 @@ fn tag_types(alloc: Global, words: &[LineWord<'_>]) -> Result<Translation, Alloc
 /// What becomes of a command that is handled so, with these arguments.
 pub(crate) fn by_handling(
     alloc: Global,
+    is_alone: bool,
     handling: Handling,
     name: CommandName,
     words: &[LineWord<'_>],
 ) -> Result<Translation, AllocError>
-    ensures { IfOk result (λ t. t ≡ by_handling handling name words.now) }
+    ensures { IfOk result (λ t. t ≡ by_handling is_alone handling name words.now) }
 {
     match handling {
         Handling::Untouched => Ok(Translation::Same),
         Handling::TellsSongs => Ok(Translation::Songs),
-        Handling::Adds(text) => Ok(adding(name, text)),
+        Handling::Adds(text) => Ok(adding(name, Ending::Text(text))),
+        Handling::AddsTimes => Ok(adding(name, Ending::Times)),
         Handling::Filters(songs, sorts) => filtered(alloc, name, songs, sorts, &[], words),
         Handling::AddsToPlaylist => adding_to_playlist(alloc, words),
-        Handling::Counts => counting(alloc, words),
-        Handling::ListsValues => listing(alloc, words),
+        Handling::Counts => counting(alloc, is_alone, words),
+        Handling::ListsValues => listing(alloc, is_alone, words),
         Handling::ListsFolder => list_info(alloc, words),
         Handling::Masks => tag_types(alloc, words),
     }
 }
 
 /// A command that goes on as it is, behind whose lines these are told.
-pub(crate) fn adding(name: CommandName, text: FixedText) -> Translation
-    ensures { result ≡ adding name text }
+pub(crate) fn adding(name: CommandName, ending: Ending) -> Translation
+    ensures { result ≡ adding name ending }
 {
     let name = ForeignName::Native(name);
-    Translation::Changed(telling(name, LineChange::Kept, Ending::Text(text)))
+    Translation::Changed(telling(name, LineChange::Kept, ending))
 }

@@ -41,7 +41,7 @@ fn put_escaped_byte(out: &mut Vec<u8>, byte: u8) -> Result<(), AllocError>
 }
 
 /// Adds a text with a backslash before each quote and each backslash.
-fn put_escaped(out: &mut Vec<u8>, text: &[u8]) -> Result<(), AllocError>
+pub(crate) fn put_escaped(out: &mut Vec<u8>, text: &[u8]) -> Result<(), AllocError>
     ensures { OnOk result (out.new.items ≡ out.old.items ++ escaped text.now) }
 {
     for byte in text {
@@ -65,7 +65,7 @@ fn put_word(out: &mut Vec<u8>, word: &[u8]) -> Result<(), AllocError>
 }
 
 /// Adds a word behind a space.
-fn put_argument(out: &mut Vec<u8>, word: &[u8]) -> Result<(), AllocError>
+pub(crate) fn put_argument(out: &mut Vec<u8>, word: &[u8]) -> Result<(), AllocError>
     ensures { OnOk result (out.new.items ≡ out.old.items ++ (space ∷ spelled_word word.now)) }
 {
     out.push(b' ')?;
@@ -73,7 +73,7 @@ fn put_argument(out: &mut Vec<u8>, word: &[u8]) -> Result<(), AllocError>
 }
 
 /// Adds words, a space before each.
-fn put_words(out: &mut Vec<u8>, words: &[LineWord<'_>]) -> Result<(), AllocError>
+pub(crate) fn put_words(out: &mut Vec<u8>, words: &[LineWord<'_>]) -> Result<(), AllocError>
     ensures { OnOk result (out.new.items ≡ out.old.items ++ spelled_words words.now) }
 {
     for word in words {

@@ -1,5 +1,6 @@
 // Where such clients connect, and what tells of them.
 use crate::stream::StockStream;
+use crate::telling::TellsTimes;
 use mio_clients::{Interest, Listener, Ready, Stream, Token};
 use std::alloc::Global;
 use std::io;
@@ -7,28 +8,31 @@ use std::time::Duration;
 
 /// A listener whose clients hold conversations, or speak the daemon's own protocol.
 #[derive(Drop)]
-pub struct StockListener<L> {
+pub struct StockListener<L, C> {
     alloc: Global,
     listener: L,
     translates: bool,
+    clock: C,
 }
 
-impl<L> StockListener<L> {
-    /// Clients of this listener, whose conversations are translated or not.
-    pub fn new(alloc: Global, listener: L, translates: bool) -> Self {
+impl<L, C> StockListener<L, C> {
+    /// Clients of this listener, whose conversations are translated or not; this tells what a clock knows of the daemon.
+    pub fn new(alloc: Global, listener: L, translates: bool, clock: C) -> Self {
         StockListener {
             alloc,
             listener,
             translates,
+            clock,
         }
     }
 }
 
-impl<S: Stream, L: Listener<S>> Listener<StockStream<S>> for StockListener<L> {
-    fn accept(&mut self) -> io::Result<StockStream<S>> {
+impl<S: Stream, L: Listener<S>, C: TellsTimes + Copy> Listener<StockStream<S, C>>
+    for StockListener<L, C> {
+    fn accept(&mut self) -> io::Result<StockStream<S, C>> {
         let stream = self.listener.accept()?;
         if self.translates {
-            return Ok(StockStream::translated(self.alloc, stream));
+            return Ok(StockStream::translated(self.alloc, stream, self.clock));
         }
         Ok(StockStream::plain(stream))
     }
@@ -46,21 +50,26 @@ impl<P> StockReady<P> {
     }
 }
 
-impl<S: Stream, P: Ready<S>> Ready<StockStream<S>> for StockReady<P> {
-    fn register(&mut self, stream: &mut StockStream<S>, key: usize) -> io::Result<()> {
+impl<S: Stream, P: Ready<S>, C: TellsTimes> Ready<StockStream<S, C>> for StockReady<P> {
+    fn register(&mut self, stream: &mut StockStream<S, C>, key: usize) -> io::Result<()> {
         self.ready.register(&mut stream.stream, key)
     }
 
     fn watch(
         &mut self,
-        stream: &mut StockStream<S>,
+        stream: &mut StockStream<S, C>,
         key: usize,
         interest: Interest,
     ) -> io::Result<()> {
+        let interest = if stream.has_more() && interest == Interest::Input {
+            Interest::Again
+        } else {
+            interest
+        };
         self.ready.watch(&mut stream.stream, key, interest)
     }
 
-    fn deregister(&mut self, stream: &mut StockStream<S>) -> io::Result<()> {
+    fn deregister(&mut self, stream: &mut StockStream<S, C>) -> io::Result<()> {
         self.ready.deregister(&mut stream.stream)
     }
 

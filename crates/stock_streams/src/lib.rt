@@ -3,7 +3,10 @@
 
 mod accepting;
 mod stream;
+mod telling;
 mod translated;
 
 pub use accepting::{StockListener, StockReady};
+pub use stock_clients::DaemonTimes;
 pub use stream::StockStream;
+pub use telling::TellsTimes;

@@ -1,6 +1,7 @@
 // A client's stream, with a conversation or without.
 ghost use Rattle.std.specs.Prelude.{◌≡◌, ◌≢◌, true};
 
+use crate::telling::TellsTimes;
 use crate::translated::Translated;
 use client_session::Session;
 use mio_clients::Stream;
@@ -9,14 +10,14 @@ use std::io::{self, ErrorKind};
 
 /// A client's stream over which a conversation is held in place of the daemon's own protocol, or that protocol itself is spoken.
 #[derive(Drop)]
-pub struct StockStream<S> {
+pub struct StockStream<S, C> {
     pub(crate) stream: S,
-    translated: Option<Translated>,
+    translated: Option<Translated<C>>,
     // A call has failed.
     has_failed: bool,
 }
 
-impl<S> StockStream<S> {
+impl<S, C> StockStream<S, C> {
     /// The daemon's own protocol.
     pub fn plain(stream: S) -> Self {
         StockStream {
@@ -26,12 +27,20 @@ impl<S> StockStream<S> {
         }
     }
 
-    /// A conversation that has not begun.
-    pub fn translated(alloc: Global, stream: S) -> Self {
+    /// A conversation that has not begun; this tells what a clock knows of the daemon.
+    pub fn translated(alloc: Global, stream: S, clock: C) -> Self {
         StockStream {
             stream,
-            translated: Some(Translated::new(alloc)),
+            translated: Some(Translated::new(alloc, clock)),
             has_failed: false,
+        }
+    }
+
+    /// Whether there may be something to be read without the client's sending anything more.
+    pub(crate) fn has_more(&self) -> bool {
+        match &self.translated {
+            None => false,
+            Some(translated) => translated.has_more(),
         }
     }
 }
@@ -43,7 +52,7 @@ fn is_fault(kind: ErrorKind) -> bool
     !matches!(kind, ErrorKind::WouldBlock | ErrorKind::Interrupted)
 }
 
-impl<S: Stream> Stream for StockStream<S> {
+impl<S: Stream, C: TellsTimes> Stream for StockStream<S, C> {
     ghost failed = { λ s. s.has_failed };
 
     fn read(&mut self, buf: &mut [u8]) -> io::Result<usize> {

@@ -3,6 +3,7 @@ ghost use Rattle.std.specs.Prelude.{◌≡◌, ◌≤◌, [], length, Ok, IfOk, 
 ghost use Rattle.std.specs.Io.{ReadsAtMost};
 ghost use Rattle.stock_streams.specs.Taken.{IsTaken};
 
+use crate::telling::TellsTimes;
 use client_session::Session;
 use mio_clients::Stream;
 use std::alloc::Global;
@@ -17,8 +18,9 @@ const HEARD: usize = 65_536;
 
 /// A client's conversation, and what it is to be sent.
 #[derive(Drop)]
-pub(crate) struct Translated {
+pub(crate) struct Translated<C> {
     alloc: Global,
+    clock: C,
     conversation: Conversation,
     // What is to be sent to the client.
     giving: Session,
@@ -26,6 +28,8 @@ pub(crate) struct Translated {
     ahead: usize,
     // The client sends nothing more that can be taken.
     has_ended: bool,
+    // It was not read, since a command is asked step by step.
+    is_put_off: bool,
 }
 
 // Hears what a session has queued.
@@ -33,11 +37,11 @@ pub(crate) struct Translated {
 // As long as something waits to be sent to the client, the last byte of it is left where it is, though it was heard: so the session's queue
 // is not empty, and whoever looks at it knows that there is something to be sent.
 #[derive(Drop)]
-struct Taker<'a> {
-    translated: &'a mut Translated,
+struct Taker<'a, C> {
+    translated: &'a mut Translated<C>,
 }
 
-impl<'a> Write for Taker<'a> {
+impl<'a, C: TellsTimes> Write for Taker<'a, C> {
     fn write(&mut self, buf: &[u8]) -> io::Result<usize> {
         let end = buf.len().min(HEARD);
         let begin = self.translated.ahead.min(end);
@@ -55,19 +59,31 @@ impl<'a> Write for Taker<'a> {
     }
 }
 
-impl Translated {
-    pub(crate) fn new(alloc: Global) -> Self {
+impl<C> Translated<C> {
+    pub(crate) fn new(alloc: Global, clock: C) -> Self {
         Translated {
             alloc,
+            clock,
             conversation: Conversation::new(alloc),
             giving: Session::new(alloc),
             ahead: 0,
             has_ended: false,
+            is_put_off: false,
         }
     }
 
+    /// Whether the daemon is to be asked something without the client's sending anything more, or the client was not read before and can be
+    /// now.
+    pub(crate) fn has_more(&self) -> bool {
+        !self.conversation.native().is_empty()
+            || self.is_put_off && !self.conversation.is_stepping()
+    }
+}
+
+impl<C: TellsTimes> Translated<C> {
     // Takes what the daemon says.
     fn hear(&mut self, piece: &[u8]) -> io::Result<()> {
+        self.conversation.set_times(self.clock.times());
         match self
             .conversation
             .answer(self.alloc, piece, &mut self.giving)
@@ -104,10 +120,16 @@ impl Translated {
         count
     }
 
-    /// Reads what the daemon is to be asked. Where what the client sent ends no line, the caller reads again.
+    /// Reads what the daemon is to be asked. The client is not read as long as a command of it is asked step by step. Where what the client
+    /// sent ends no line, the caller reads again.
     pub(crate) fn read<S: Stream>(&mut self, stream: &mut S, buf: &mut [u8]) -> io::Result<usize>
         ensures { ReadsAtMost result buf.new }
     {
+        self.is_put_off = false;
+        if self.conversation.native().is_empty() && self.conversation.is_stepping() {
+            self.is_put_off = true;
+            return Err(io::Error::from(ErrorKind::WouldBlock));
+        }
         if self.conversation.native().is_empty() && !self.has_ended {
             let mut piece = [0; PIECE];
             let count = stream.read(&mut piece)?;

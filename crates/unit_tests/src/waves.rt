@@ -1,6 +1,6 @@
 // `wave_pcm`: worked files, files that another program made, and reads that go wrong.
 use crate::assertions::{equal, same_samples};
-use std::alloc::Global;
+use std::alloc::{AllocError, Global};
 use std::process::Abort;
 use std::test::Fail;
 use wave_pcm::{
@@ -133,6 +133,33 @@ fn wave_heads(rt: HostRuntime) -> Result<(), Fail> {
     }
     for (bytes, from, most, want) in &FRAMES {
         sounds(&rt, rt.alloc(), bytes, *from, *most, want)?;
+    }
+    Ok(())
+}
+
+/// A chunk without data, of which nobody knows what it is.
+const EMPTY: [u8; 8] = *b"junk\0\0\0\0";
+
+/// How many such chunks stand behind the two of SQUARE, and what the file gives: 65,536 chunks are read, and one more is refused.
+const MANY: [(usize, Head<'static>); 2] = [
+    (65_534, Ok((48_000, 1, 44, 5, None, None))),
+    (65_535, Err(16)),
+];
+
+fn with_empty_chunks(alloc: Global, count: usize) -> Result<Vec<u8>, AllocError> {
+    let mut file = Vec::new(alloc);
+    file.extend_from_slice(&SQUARE)?;
+    for _ in 0..count {
+        file.extend_from_slice(&EMPTY)?;
+    }
+    Ok(file)
+}
+
+#[test]
+fn chunks_at_their_limit(rt: HostRuntime) -> Result<(), Fail> {
+    for (count, want) in &MANY {
+        let file = with_empty_chunks(rt.alloc(), *count)?;
+        has_head(&rt, rt.alloc(), &file, *want);
     }
     Ok(())
 }

@@ -7,6 +7,7 @@ use super::Ending;
 use super::serving::{Service, ending_of};
 use daemon_core::Event;
 use disk_model::Disk;
+use mpd_server::{JobFolder, Visits};
 use song_db::{Scan, ScanOrder};
 use state_codec::Changes;
 use std::alloc::Global;
@@ -45,8 +46,9 @@ impl<D: Disk, F: Folder, W: Write> Service<'_, D, F, W> {
             Err(_) => return Ok(()),
         };
         let mut batches = 0u64;
+        let mut visits = Visits::NONE;
         while batches < u64::MAX {
-            let changes = match next_changes(self.alloc, &mut scan, self.folder) {
+            let changes = match next_changes(self.alloc, &mut scan, self.folder, &mut visits) {
                 Some(changes) => changes,
                 None => return Ok(()),
             };
@@ -57,9 +59,20 @@ impl<D: Disk, F: Folder, W: Write> Service<'_, D, F, W> {
     }
 }
 
-// What the scan finds next; nothing at its end, or where memory runs out.
-fn next_changes<F: Folder>(alloc: Global, scan: &mut Scan, folder: &mut F) -> Option<Changes> {
-    match scan.next(alloc, folder) {
+// What the scan finds next; nothing at its end, or where memory runs out. The job has read so much already.
+fn next_changes<F: Folder>(
+    alloc: Global,
+    scan: &mut Scan,
+    folder: &mut F,
+    visits: &mut Visits,
+) -> Option<Changes> {
+    let mut files = JobFolder {
+        files: folder,
+        visits: *visits,
+    };
+    let next = scan.next(alloc, &mut files);
+    *visits = files.visits;
+    match next {
         Ok(Some(changes)) => Changes::new(changes),
         Ok(None) | Err(_) => None,
     }

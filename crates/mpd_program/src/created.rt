@@ -1,0 +1,18 @@
+// What `create` has made.
+use crate::config::Config;
+use live_stage::LAYOUT;
+use std::fs;
+
+/// Says on standard output which files were made. They are, whether or not somebody reads this.
+pub(crate) fn tell_created(rt: &HostRuntime, config: &Config) {
+    let Config {
+        journal_a: a,
+        journal_b: b,
+        ..
+    } = config;
+    let bytes = match fs::metadata(rt, a.as_str()) {
+        Ok(found) => found.len(),
+        Err(_) => 0,
+    };
+    let _printed = println!(rt; "created {a} ({bytes} bytes, layout {LAYOUT}) and {b} (empty)");
+}

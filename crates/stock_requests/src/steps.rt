@@ -1,0 +1,115 @@
+// A command that is asked of the daemon step by step.
+ghost use Rattle.std.specs.Prelude.{◌≡◌, ◌++◌, IfOk, OnOk};
+ghost use Rattle.stock_requests.specs.Steps.{after_step, group_name, refusing, step_change, step_line, step_part, volume_natives};
+
+use crate::change::{Change, Ending, LineChange, Natives, RefusalChange};
+use crate::group::{Grouping, one_native};
+use crate::name::{ForeignCommand, ForeignName};
+use crate::volume::VolumeChange;
+use command_text::CommandName;
+use no_memory::NoMemory;
+use std::alloc::{AllocError, Global};
+
+/// A command that takes more than one request of the daemon, each of which depends on the answer to the one before.
+#[derive(Debug, Drop)]
+pub enum Steps {
+    /// `volume`
+    Volume(VolumeChange),
+    /// `list` or `count` with `group`
+    Group(Grouping),
+}
+
+/// A change of refusals alone.
+fn refusing(name: ForeignName, refusal: RefusalChange) -> Change
+    ensures { result ≡ refusing name refusal }
+{
+    Change {
+        name,
+        lines: LineChange::Kept,
+        ending: Ending::Nothing,
+        refusal,
+    }
+}
+
+pub(crate) fn group_name(counts: bool) -> ForeignName
+    ensures { result ≡ group_name counts }
+{
+    ForeignName::Native(if counts {
+        CommandName::Count
+    } else {
+        CommandName::ListTag
+    })
+}
+
+/// What sets the volume, where that wasn't done yet.
+fn volume_natives(alloc: Global, change: &VolumeChange) -> Result<Option<Natives>, AllocError>
+    ensures { IfOk result (λ natives. natives ≡ volume_natives change.now) }
+{
+    if change.is_set {
+        return Ok(None);
+    }
+    let line = change.setting(alloc)?;
+    Ok(Some(one_native(alloc, line.as_slice())?))
+}
+
+impl Steps {
+    /// Takes a line of an answer that tells something, and adds what the client is given for it. An `Err` leaves steps that nobody may use
+    /// any more, here and below.
+    pub fn take_line(
+        &mut self,
+        alloc: Global,
+        out: &mut Vec<u8>,
+        text: &[u8],
+    ) -> Result<(), NoMemory>
+        ensures steps { OnOk result (let now = step_line self.old text.now in self.new ≡ now.steps) }
+        ensures given { OnOk result (let now = step_line self.old text.now in out.new.items ≡ out.old.items ++ now.given) }
+    {
+        match self {
+            Steps::Volume(change) => change.take_line(out, text),
+            Steps::Group(grouping) => grouping.take_line(alloc, out, text),
+        }
+    }
+
+    /// Takes the end of a command's part, `list_OK`, and adds what the client is given for it.
+    pub fn end_part(&mut self, alloc: Global, out: &mut Vec<u8>) -> Result<(), NoMemory>
+        ensures steps { OnOk result (let now = step_part self.old in self.new ≡ now.steps) }
+        ensures given { OnOk result (let now = step_part self.old in out.new.items ≡ out.old.items ++ now.given) }
+    {
+        match self {
+            Steps::Volume(_) => Ok(()),
+            Steps::Group(grouping) => grouping.end_part(alloc, out),
+        }
+    }
+
+    /// Takes the end of an answer, adds what the client is given for it, and gives what the daemon is to be asked next; `None` where the
+    /// command is done.
+    pub fn go_on(&mut self, alloc: Global, out: &mut Vec<u8>) -> Result<Option<Natives>, NoMemory>
+        ensures steps { OnOk result (let now = after_step self.old in self.new ≡ now.steps) }
+        ensures given { OnOk result (let now = after_step self.old in out.new.items ≡ out.old.items ++ now.given) }
+        ensures natives { IfOk result (λ natives. let now = after_step self.old in natives ≡ now.natives) }
+    {
+        match self {
+            Steps::Volume(change) => {
+                let natives = volume_natives(alloc, change)?;
+                change.is_set = true;
+                Ok(natives)
+            }
+            Steps::Group(grouping) => grouping.go_on(alloc, out),
+        }
+    }
+
+    /// What becomes of a refusal.
+    pub fn change(&self) -> Change
+        ensures { result ≡ step_change self.now }
+    {
+        match self {
+            Steps::Volume(change) => {
+                refusing(
+                    ForeignName::Foreign(ForeignCommand::Volume),
+                    change.refusal(),
+                )
+            }
+            Steps::Group(grouping) => refusing(group_name(grouping.counts), grouping.refusal()),
+        }
+    }
+}
