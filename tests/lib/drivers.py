@@ -11,6 +11,7 @@ Each file `NAME.events` is a script, run in a folder of its own. Its lines:
     end
     name NAME HEX..     these bytes have a name: %{NAME} in a line behind it stands for their hex digits, and %{NAME:FROM:TO} for those
                         of a part, where either place may be missing
+    refuse K            of what the line behind it does the allocation of this number is refused
     < LINE              a line that the program must print behind the line before
     any other           a line of the program's input; the README.md of the driver has them
 
@@ -26,6 +27,7 @@ import tempfile
 import threading
 
 sys.path.insert(0, os.path.dirname(os.path.abspath(__file__)))
+import drives
 import fuses
 from scripts import Failure, whole
 
@@ -36,7 +38,8 @@ class Step:
     """A line of the program's input, and what is printed behind it."""
 
     def __init__(self, number, line):
-        self.number, self.line, self.wanted = number, line, []
+        # Of each line that is wanted, `told` has the number in the script.
+        self.number, self.line, self.wanted, self.told, self.refused = number, line, [], [], 0
         # In a script with fuses: whether it is done behind a refusal too, and the state that it leaves.
         self.is_always, self.leaves = False, None
 
@@ -58,7 +61,7 @@ class Script:
     def __init__(self, path):
         with open(path, encoding="utf-8") as file:
             lines = list(enumerate(file.read().split("\n"), 1))
-        self.steps, self.fused, names = [], fuses.Fused(), {}
+        self.steps, self.fused, self.refused, names = [], fuses.Fused(), 0, {}
         # Those to which a line belongs.
         self.present = self.steps
         for number, line in spread(lines):
@@ -75,19 +78,29 @@ class Script:
             raise Failure(f"line {number}: nothing was done before it")
         if word == "<":
             self.present[-1].wanted.append(whole(rest))
+            self.present[-1].told.append(number)
+        elif word == "refuse":
+            self.refused = int(rest)
         elif not self.fused.take(self, number, line):
             self.add(number, line)
 
     def add(self, number, line):
         """Takes a line of the program's input."""
         self.present.append(self.step(number, whole(line)))
+        self.present[-1].refused, self.refused = self.refused, 0
 
     def run(self, program):
         """Runs it, and gives what is to be said of it beside, or None."""
         if self.fused.fuses:
             return fuses.Sweep(self, program).run()
-        self.compare(Run(program, [it.line for it in self.steps]).printed)
+        self.compare(self.printed(program))
         return None
+
+    def printed(self, program):
+        """What the program prints behind each line."""
+        if any(it.refused for it in self.steps):
+            return drives.printed(program, [(it.line, it.refused) for it in self.steps])
+        return Run(program, [it.line for it in self.steps]).printed
 
     def compare(self, printed):
         for step, lines in zip(self.steps, printed):

@@ -5,6 +5,7 @@ No place is relative.
 """
 
 import copy
+import functools
 import typing
 
 MASK = 2**32 - 1
@@ -27,7 +28,9 @@ class Refused(Exception):
         self.code, self.text = code, text
 
 
-NO_FILE = 50, "No such file or directory"
+NO_FILE, NO_SONG = (50, "No such file or directory"), (50, "No such song")
+NO_LIST, LIST_EXISTS = (50, "No such playlist"), (56, "Playlist already exists")
+NO_STICKER, BAD_INDEX = (50, "no such sticker"), (2, "Bad song index")
 
 
 class Song(typing.NamedTuple):
@@ -75,11 +78,21 @@ def by_bytes(texts):
 def span(text, length):
     """The first and the end position of a range."""
     first, colon, end = text.partition(":")
-    return int(first), (min(int(end), length) if end else length) if colon else int(first) + 1
+    if int(first) > length - (not colon):
+        raise Refused(*BAD_INDEX)
+    return int(first), (max(int(first), min(int(end), length)) if end else length) if colon else int(first) + 1
+
+
+def place_in(text, length):
+    """A position among so many."""
+    if int(text) >= length:
+        raise Refused(*BAD_INDEX)
+    return int(text)
 
 
 def moved(items, first, end, to):
     """The block is taken out, and its first item put at a place of the rest."""
+    place_in(to, len(items) - (end - first) + 1)
     rest = items[:first] + items[end:]
     return rest[:to] + items[first:end] + rest[to:]
 
@@ -97,6 +110,7 @@ def quarter_round(now, a, b, c, d):
         now[other] = (mixed << turn | mixed >> 32 - turn) & MASK
 
 
+@functools.lru_cache(1 << 16)
 def random_word(key, stream, place):
     """The word at a place of a stream of ChaCha with 8 rounds, whose counter and stream have 64 bits each."""
     text = b"expand 32-byte k" + key + (place // 16).to_bytes(8, "little") + stream.to_bytes(8, "little")
@@ -125,18 +139,31 @@ class State:
 
     def done(self, words):
         """The state after a command, and the lines that it gives."""
+        state = self.copied()
+        return state, state.perform(words)
+
+    def copied(self):
         state = copy.copy(self)
         state.settings, state.playlists, state.stickers = dict(self.settings), dict(self.playlists), dict(self.stickers)
-        return state, state.perform(words)
+        return state
+
+    def each(self, commands):
+        """The state after each of these commands, and its lines; of the first one that is refused the refusal, and none behind it."""
+        state = self
+        for words in commands:
+            try:
+                state, lines = state.done(words)
+            except Refused as refusal:
+                yield state, refusal
+                return
+            yield state, lines
 
     def after(self, commands, is_list_ok=False):
         """The state after commands, alone or as a list, and their answer."""
         state, given = self, ""
-        for index, words in enumerate(commands):
-            try:
-                state, lines = state.done(words)
-            except Refused as refusal:
-                return state, f"{given}ACK [{refusal.code}@{index}] {{{words[0]}}} {refusal.text}\n".encode()
+        for index, (state, lines) in enumerate(self.each(commands)):
+            if isinstance(lines, Refused):
+                return state, f"{given}ACK [{lines.code}@{index}] {{{commands[index][0]}}} {lines.text}\n".encode()
             given += lines + "list_OK\n" * is_list_ok
         return state, f"{given}OK\n".encode()
 
@@ -156,8 +183,20 @@ class State:
             raise Refused(*NO_FILE)
         return found
 
+    def must_know(self, uri):
+        if uri not in self.songs:
+            raise Refused(*NO_FILE)
+
+    def listed(self, name):
+        if name not in self.playlists:
+            raise Refused(*NO_LIST)
+        return self.playlists[name]
+
     def position(self, number):
-        return next(at for at, entry in enumerate(self.queue) if entry.id == int(number))
+        found = next((at for at, entry in enumerate(self.queue) if entry.id == int(number)), None)
+        if found is None:
+            raise Refused(*NO_SONG)
+        return found
 
     # The settings.
 
@@ -193,7 +232,7 @@ class State:
             self.stamps = tuple(self.stamps[at] if same[at] else self.version for at in range(len(now)))
 
     def insert(self, uris, to):
-        place = len(self.queue) if to is None else int(to)
+        place = len(self.queue) if to is None else place_in(to, len(self.queue) + 1)
         entries = tuple(Entry(number, uri) for number, uri in enumerate(uris, self.next_id))
         self.next_id += len(entries)
         self.edit(self.queue[:place] + entries + self.queue[place:])
@@ -202,6 +241,7 @@ class State:
         self.insert(self.songs_at(uri), to)
 
     def addid(self, uri, to=None):
+        self.must_know(uri)
         self.insert([uri], to)
         return f"Id: {self.next_id - 1}\n"
 
@@ -222,7 +262,7 @@ class State:
         self.move(str(self.position(number)), to)
 
     def swap(self, one, other):
-        self.edit(swapped(self.queue, int(one), int(other)))
+        self.edit(swapped(self.queue, *(place_in(it, len(self.queue)) for it in (one, other))))
 
     def swapid(self, one, other):
         self.swap(self.position(one), self.position(other))
@@ -242,7 +282,7 @@ class State:
         self.prio(prio, *(str(self.position(it)) for it in numbers))
 
     def load(self, name, text="0:", to=None):
-        first, end = span(text, len(self.playlists[name]))
+        first, end = span(text, len(self.listed(name)))
         self.insert([it for it in self.playlists[name][first:end] if it in self.songs], to)
 
     # What is found, by pairs of a tag and a value.
@@ -269,7 +309,8 @@ class State:
             *pairs, name, parts[name] = pairs
         found, order = self.matching(by_bytes(self.songs), pairs, is_folded), parts.get("sort", "file")
         found.sort(key=lambda uri: [it.encode() for it in self.texts(uri, order.removeprefix("-"))], reverse=order.startswith("-"))
-        first, end = span(parts.get("window", "0:"), len(found))
+        # Past the end a window has nothing.
+        first, end = span(parts.get("window", "0:"), max(len(found), int(parts.get("window", "0:").split(":")[0])))
         return found[first:end], parts.get("position")
 
     def findadd(self, *words):
@@ -284,33 +325,45 @@ class State:
     # Playlists.
 
     def save(self, name, mode="create"):
-        kept = self.playlists[name] if mode == "append" else ()
+        if mode == "create" and name in self.playlists:
+            raise Refused(*LIST_EXISTS)
+        kept = () if mode == "create" else self.listed(name) if mode == "append" else self.listed(name)[:0]
         self.playlists[name] = kept + tuple(it.uri for it in self.queue)
 
     def rm(self, name):
+        self.listed(name)
         del self.playlists[name]
 
     def rename(self, name, other):
+        self.listed(name)
+        if other in self.playlists:
+            raise Refused(*LIST_EXISTS)
         self.playlists[other] = self.playlists.pop(name)
 
     def playlistadd(self, name, uri):
         self.playlists[name] = self.playlists.get(name, ()) + tuple(self.songs_at(uri))
 
     def playlistclear(self, name):
+        self.listed(name)
         self.playlists[name] = ()
 
     def playlistdelete(self, name, text):
-        first, end = span(text, len(self.playlists[name]))
+        first, end = span(text, len(self.listed(name)))
         self.playlists[name] = self.playlists[name][:first] + self.playlists[name][end:]
 
     def playlistmove(self, name, place, to):
-        self.playlists[name] = moved(self.playlists[name], int(place), int(place) + 1, int(to))
+        first = place_in(place, len(self.listed(name)))
+        self.playlists[name] = moved(self.playlists[name], first, first + 1, int(to))
 
     # Stickers.
 
     def sticker_set(self, uri, name, value):
+        self.must_know(uri)
         self.stickers[uri, name] = value
 
     def sticker_delete(self, uri, name=None):
+        self.must_know(uri)
         gone = {it for it in self.stickers if it[0] == uri and name in (None, it[1])}
+        if not gone:
+            raise Refused(*NO_STICKER)
         self.stickers = {it: value for it, value in self.stickers.items() if it not in gone}

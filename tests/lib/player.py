@@ -6,7 +6,7 @@ import model
 import readings
 
 STOP, PLAY, PAUSE = "stop", "play", "pause"
-NOT_PLAYING, BAD_INDEX = (55, "Not playing"), (2, "Bad song index")
+NOT_PLAYING, UPDATING = (55, "Not playing"), (54, "already updating")
 
 
 class Player(readings.Readable):
@@ -19,7 +19,7 @@ class Player(readings.Readable):
     def begin(self):
         """What plays behind a start."""
         self.state, self.current, self.ticket, self.frame = STOP, None, 0, 0
-        self.played, self.error, self.jobs = [], None, 0
+        self.played, self.error, self.jobs, self.job = [], None, 0, None
 
     def restarted(self):
         """What is found behind a restart."""
@@ -147,12 +147,12 @@ class Player(readings.Readable):
 
     def id_at(self, position):
         if int(position) >= len(self.queue):
-            raise model.Refused(*BAD_INDEX)
+            raise model.Refused(*model.BAD_INDEX)
         return self.queue[int(position)].id
 
     def known(self, number):
         if self.place(int(number)) is None:
-            raise model.Refused(50, "No such song")
+            raise model.Refused(*model.NO_SONG)
         return int(number)
 
     def play(self, position=None):
@@ -241,15 +241,25 @@ class Player(readings.Readable):
     # Scans.
 
     def update(self, uri=""):
+        if self.job is not None:
+            raise model.Refused(*UPDATING)
         self.jobs += 1
+        self.job = self.jobs
         return f"updating_db: {self.jobs}\n"
 
     rescan = update
 
-    def scanned(self, songs):
-        """A scan finds these songs: those that are gone leave the queue and take their stickers along."""
+    def batch(self, songs):
+        """A batch of a scan finds these songs: those that are gone leave the queue and take their stickers along."""
         self.stickers = {it: value for it, value in self.stickers.items() if it[0] in songs}
         self.leave({it.id for it in self.queue if it.uri not in songs}, songs)
+        if self.current is not None:
+            self.frame = min(self.frame, self.frames())
+
+    def scanned(self, songs):
+        """A whole scan finds these songs."""
+        self.batch(songs)
+        self.job = None
 
     # What a client and the output read.
 
@@ -268,6 +278,7 @@ class Player(readings.Readable):
                 elapsed, whole = self.frame * 1000 // 8000, self.frames() * 1000 // 8000
                 lines += [f"time: {elapsed // 1000}:{whole // 1000}", f"elapsed: {shown(elapsed)}", f"duration: {shown(whole)}"]
                 lines += ["audio: 8000:16:1"]
+        lines += [f"updating_db: {self.job}"] if self.job is not None else []
         lines += [f"error: {self.error}"] if self.error else []
         return "".join(f"{it}\n" for it in lines)
 

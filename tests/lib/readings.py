@@ -3,7 +3,6 @@
 import model
 import refusals
 
-NO_LIST = 50, "No such playlist"
 
 
 def listed_commands():
@@ -111,11 +110,6 @@ class Readable(model.State):
     def listplaylists(self):
         return "".join(f"playlist: {it}\n" for it in model.by_bytes(self.playlists))
 
-    def listed(self, name):
-        if name not in self.playlists:
-            raise model.Refused(*NO_LIST)
-        return self.playlists[name]
-
     def listplaylist(self, name):
         return "".join(f"file: {it}\n" for it in self.listed(name))
 
@@ -123,15 +117,13 @@ class Readable(model.State):
         return "".join(self.song_lines([it]) if it in self.songs else f"file: {it}\n" for it in self.listed(name))
 
     def sticker_get(self, uri, name):
-        if uri not in self.songs:
-            raise model.Refused(*model.NO_FILE)
+        self.must_know(uri)
         if (uri, name) not in self.stickers:
-            raise model.Refused(50, "no such sticker")
+            raise model.Refused(*model.NO_STICKER)
         return f"sticker: {name}={self.stickers[uri, name]}\n"
 
     def sticker_list(self, uri):
-        if uri not in self.songs:
-            raise model.Refused(*model.NO_FILE)
+        self.must_know(uri)
         names = model.by_bytes(name for it, name in self.stickers if it == uri)
         return "".join(f"sticker: {it}={self.stickers[uri, it]}\n" for it in names)
 

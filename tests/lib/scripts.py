@@ -32,6 +32,7 @@ newline.
 import concurrent.futures
 import os
 import re
+import select
 import shutil
 import signal
 import subprocess
@@ -40,6 +41,8 @@ import threading
 
 DEFAULTS = {"music": '"music"', "journal_a": '"a"', "journal_b": '"b"', "key": '"' + "5a" * 32 + '"'}
 SECONDS = 60
+# So many seconds without a byte, and a program that is to be killed has written all.
+QUIET = 1
 
 
 class Failure(Exception):
@@ -50,13 +53,15 @@ class Run:
     """A run of the program, as its lines have it."""
 
     def __init__(self, words, line):
-        self.words, self.line = words, line
+        # Of each of its lines the number, the sign and the bytes.
+        self.words, self.line, self.lines = words, line, []
         self.given, self.wanted, self.told = b"", b"", b""
         self.status, self.is_killed, self.to = 0, False, None
 
-    def take(self, line):
+    def take(self, number, line):
         """Whether the line belongs to the run."""
         word, _, rest = line.partition(" ")
+        self.lines.append((number, word, whole(rest)))
         if word in (">", ">-"):
             self.given += whole(rest) + b"\n" * (word == ">")
         elif word == "<":
@@ -70,30 +75,36 @@ class Run:
         elif line == "kill":
             self.is_killed = True
         else:
+            self.lines.pop()
             return False
         return True
 
     def do(self, program, folder):
+        written, told, ended = self.outcome(program, folder)
+        self.compare("standard output", written, self.wanted)
+        self.compare("standard error", told, self.told)
+        status = -signal.SIGKILL if self.is_killed else self.status
+        if ended != status:
+            raise Failure(f"line {self.line}: it ended with status {ended}, and not {status}")
+
+    def outcome(self, program, folder, is_known=True):
+        """What it writes, what on standard error, and its status. Where it is not known what it writes, it is killed once it is quiet."""
         out = open(self.to, "wb") if self.to else subprocess.PIPE
         how = {"cwd": folder, "stdin": subprocess.PIPE, "stdout": out, "stderr": subprocess.PIPE, "start_new_session": True}
         with subprocess.Popen([program, *self.words], **how) as process:
             ender = threading.Timer(SECONDS, os.killpg, (process.pid, signal.SIGKILL))
             ender.start()
             try:
-                written, told = self.killed(process) if self.is_killed else process.communicate(self.given)
+                written, told = self.killed(process, is_known) if self.is_killed else process.communicate(self.given)
             finally:
                 ender.cancel()
-        self.compare("standard output", written or b"", self.wanted)
-        self.compare("standard error", told, self.told)
-        status = -signal.SIGKILL if self.is_killed else self.status
-        if process.returncode != status:
-            raise Failure(f"line {self.line}: it ended with status {process.returncode}, and not {status}")
+        return written or b"", told, process.returncode
 
-    def killed(self, process):
+    def killed(self, process, is_known):
         process.stdin.write(self.given)
         process.stdin.flush()
         written = b""
-        while len(written) < len(self.wanted):
+        while len(written) < len(self.wanted) if is_known else select.select([process.stdout], [], [], QUIET)[0]:
             piece = os.read(process.stdout.fileno(), 65536)
             if not piece:
                 break
@@ -198,24 +209,29 @@ def prepare(line, folder):
 
 def run_script(program, path):
     """What a script found wrong, or None."""
-    with open(path, encoding="utf-8") as file:
-        lines = file.read().split("\n")
-    run = None
     with tempfile.TemporaryDirectory(prefix="script-") as folder:
         try:
-            for number, line in enumerate([*lines, "end"], 1):
-                if not line or line.startswith("#") or run and run.take(line):
-                    continue
-                if run:
-                    run.do(program, folder)
-                    run = None
-                if line.split()[0] == "run":
-                    run = Run(line.split()[1:], number)
-                elif line != "end":
-                    prepare(line, folder)
+            do_lines(path, folder, lambda run, place: run.do(program, place))
         except (Failure, OSError, ValueError) as fault:
             return str(fault)
     return None
+
+
+def do_lines(path, folder, do):
+    """Does the lines of a script in a folder, each run by `do`."""
+    with open(path, encoding="utf-8") as file:
+        lines = file.read().split("\n")
+    run = None
+    for number, line in enumerate([*lines, "end"], 1):
+        if not line or line.startswith("#") or run and run.take(number, line):
+            continue
+        if run:
+            do(run, folder)
+            run = None
+        if line.split()[0] == "run":
+            run = Run(line.split()[1:], number)
+        elif line != "end":
+            prepare(line, folder)
 
 
 def scripts_in(folder):

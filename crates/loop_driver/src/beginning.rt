@@ -18,6 +18,8 @@ pub struct Fuses {
 pub enum Beginning {
     /// A stage over fresh files, which fail by these fuses.
     Stage(Fuse, Fuse),
+    /// One over the files that there are.
+    Open(Fuse, Fuse),
     /// A daemon over the files that there are.
     Daemon(Fuses),
     /// The files are made anew: those of a fresh journal, or empty ones.
@@ -52,6 +54,10 @@ pub fn beginning_of(line: &str) -> Result<Beginning, Fault> {
         "stage" => {
             let (a, b) = first_word(rest);
             Ok(Beginning::Stage(fuse_of(a)?, fuse_of(b)?))
+        }
+        "open" => {
+            let (a, b) = first_word(rest);
+            Ok(Beginning::Open(fuse_of(a)?, fuse_of(b)?))
         }
         "daemon" => Ok(Beginning::Daemon(fuses_of(rest)?)),
         "fresh" => Ok(Beginning::Fresh),

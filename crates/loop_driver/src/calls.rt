@@ -1,13 +1,19 @@
 //! The calls of the loop and of its stage. The prover reads their long contracts in these functions alone.
+use crate::songs::Sound;
 use crate::wires::TestStream;
 use daemon_core::Event;
 use disk_model::{FuseDisk, MemDisk};
 use live_stage::{Live, Receipt};
 use mio_clients::{Clients, ClientsError, MemListener, MemReady, Part};
-use stage_workers::{Pass, SettleError, SharedStage, StageError};
+use player_core::PlayOrder;
+use song_db::ScanOrder;
+use song_output::OpenGate;
+use stage_workers::{Pass, SettleError, SharedStage, StageError, Worker, laws};
 use std::alloc::{AllocError, Global};
 use std::sync::Wait;
 use std::sync::ledger::Ledger;
+use std::time::Clock;
+use wave_pcm::FileFolder;
 
 /// The disk of each stage: it is in memory, and fails by a fuse.
 pub type TestDisk = FuseDisk<MemDisk>;
@@ -32,11 +38,15 @@ pub fn accept(clients: &mut TestClients, alloc: Global) -> Result<(), ClientsErr
 }
 
 pub fn read(clients: &mut TestClients, alloc: Global, key: usize) -> Result<(), ClientsError> {
-    clients.read_ready(alloc, key)
+    let read = clients.read_ready(alloc, key);
+    clients.close_left();
+    read
 }
 
 pub fn write(clients: &mut TestClients, key: usize) -> Result<(), ClientsError> {
-    clients.write_ready(key)
+    let written = clients.write_ready(key);
+    clients.close_left();
+    written
 }
 
 pub fn close_all(clients: &mut TestClients) {
@@ -64,6 +74,51 @@ pub fn report<R: Wait, C: Ledger, P: Ledger, S: Ledger>(
     event: Event,
 ) -> (Result<(), StageError>, Pass<C, P, S>) {
     match stage.report(rt, alloc, pass, event) {
+        Ok(pass) => (Ok(()), pass),
+        Err((error, pass)) => (Err(error), pass),
+    }
+}
+
+/// An order of the player.
+pub fn play<R: Wait + Clock, C: Ledger, P: Ledger, S: Ledger>(
+    rt: &R,
+    host: &HostRuntime,
+    stage: &SharedStage<TestDisk, C, P, S>,
+    sound: &mut Sound,
+    (pass, order): (Pass<C, P, S>, &PlayOrder),
+) -> (Result<(), StageError>, Pass<C, P, S>) {
+    let alloc = host.alloc();
+    let worker = Worker {
+        rt,
+        alloc,
+        stage,
+        wake: &sound.woken,
+    };
+    let mut folder = FileFolder::new(host, String::new(alloc));
+    let (output, song) = (&mut sound.output, &mut sound.song);
+    match laws::play_once(&worker, pass, &OpenGate, &mut folder, output, song, order) {
+        Ok(pass) => (Ok(()), pass),
+        Err((error, pass)) => (Err(error), pass),
+    }
+}
+
+/// A scan of the present folder.
+pub fn scan<R: Wait + Clock, C: Ledger, P: Ledger, S: Ledger>(
+    rt: &R,
+    host: &HostRuntime,
+    stage: &SharedStage<TestDisk, C, P, S>,
+    sound: &Sound,
+    (pass, order): (Pass<C, P, S>, ScanOrder),
+) -> (Result<(), StageError>, Pass<C, P, S>) {
+    let alloc = host.alloc();
+    let worker = Worker {
+        rt,
+        alloc,
+        stage,
+        wake: &sound.woken,
+    };
+    let mut folder = FileFolder::new(host, String::new(alloc));
+    match laws::scan_once(&worker, pass, &mut folder, order) {
         Ok(pass) => (Ok(()), pass),
         Err((error, pass)) => (Err(error), pass),
     }

@@ -2,12 +2,11 @@
 ghost use Rattle.std.specs.Prelude.{◌≡◌};
 
 use crate::arrivals::Arrivals;
-use crate::beginning::{Fuses, NEVER};
-use crate::calls::TestDisk;
+use crate::beginning::Fuses;
 use crate::desk::Desk;
+use crate::files::{DaemonDisk, Files};
 use crate::wires::TestStream;
-use disk_model::{Disk, FuseDisk, MemDisk};
-use live_stage::Live;
+use disk_model::Disk;
 use log::sink::Discard;
 use log::{Level, Logged};
 use mio_clients::{Clients, MemReady};
@@ -18,52 +17,13 @@ use song_output::{Form, SoundOutput};
 use stage_workers::NoWake;
 use std::alloc::{AllocError, Global};
 use std::io::BufRead;
-use std::mem;
 use std::sync::Wait;
 use std::thread::Threads;
 use std::time::Clock;
 use wave_pcm::MemFolder;
 
-/// A disk of a daemon: it fails by two fuses.
-type DaemonDisk = FuseDisk<TestDisk>;
-
 /// The clients of a daemon.
 type DaemonClients = Clients<TestStream, Arrivals, MemReady>;
-
-/// The files of a daemon, between two runs of it.
-#[derive(Drop)]
-pub struct Files {
-    a: MemDisk,
-    b: MemDisk,
-}
-
-impl Files {
-    /// Empty files.
-    pub fn empty(alloc: Global) -> Self {
-        Files {
-            a: MemDisk::new(alloc),
-            b: MemDisk::new(alloc),
-        }
-    }
-
-    /// The files of a fresh journal, whose key is of zeros.
-    pub fn fresh(alloc: Global) -> Self {
-        let Files { a, b } = Files::empty(alloc);
-        let (a, b) = match Live::create(alloc, a, b, [0; 32]) {
-            Ok(live) => live.into_disks(),
-            Err(refused) => (refused.a, refused.b),
-        };
-        Files { a, b }
-    }
-
-    // The disks of a run.
-    fn take(&mut self, alloc: Global, fuses: Fuses) -> (DaemonDisk, DaemonDisk) {
-        let Files { a, b } = mem::replace(self, Files::empty(alloc));
-        let a = FuseDisk::new(FuseDisk::new(a, fuses.second), fuses.first);
-        let b = FuseDisk::new(FuseDisk::new(b, NEVER), fuses.b);
-        (a, b)
-    }
-}
 
 // Serves clients over a journal that was opened, without a line of the log.
 fn serve_opened<W: Threads + Wait + Clock + Sync>(
@@ -116,8 +76,7 @@ fn tell_end(printer: &mut Printer, files: &mut Files, end: ServeEnd<DaemonDisk>)
     tell_status(printer, status);
     printer.count("faults of a", a.faults());
     printer.count("faults of b", b.faults());
-    files.a = a.into_inner().into_inner();
-    files.b = b.into_inner().into_inner();
+    files.put_back(a.into_inner(), b.into_inner());
 }
 
 // Serves the clients that come. They are all let go of then.
@@ -177,7 +136,7 @@ pub fn run_daemon<R: BufRead, W: Threads + Wait + Clock + Sync>(
     if !prepare(rt, desk, &mut arrivals, lines)? {
         return Ok(());
     }
-    let end = run(waits, alloc, files.take(alloc, fuses), arrivals)?;
+    let end = run(waits, alloc, files.take_for_daemon(alloc, fuses), arrivals)?;
     desk.wires.tell(&mut desk.printer);
     tell_end(&mut desk.printer, files, end);
     write_out(rt, &mut desk.printer)

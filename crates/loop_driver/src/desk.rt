@@ -32,6 +32,10 @@ impl Desk {
     pub fn take(&mut self, word: &str, rest: &str) -> Result<(), Fault> {
         match word {
             "put" => put(&mut self.collected, self.printer.alloc, rest),
+            "reads" => {
+                self.wires.tells_reads = true;
+                Ok(())
+            }
             "drop" => drop_row(&mut self.collected, self.printer.alloc, rest),
             _ => match word.split_once('>') {
                 Some((client, sign)) => self.wires.send(number(client)?, rest, sign != "-"),

@@ -2,6 +2,7 @@
 use crate::calls;
 use crate::calls::{TestClients, TestDisk, Turned};
 use crate::desk::Desk;
+use crate::songs::{Sound, take_song_line, tell_order};
 use daemon_core::Event;
 use live_stage::{Live, Receipt, Turn};
 use mio_clients::{ClientsError, Part};
@@ -13,6 +14,7 @@ use std::alloc::Global;
 use std::slice;
 use std::sync::Wait;
 use std::sync::ledger::Ledger;
+use std::time::Clock;
 
 /// A pass of each kind; none while a call has it.
 #[derive(Drop)]
@@ -64,6 +66,7 @@ pub struct Looped<C: Ledger, P: Ledger, S: Ledger> {
     pub passes: Passes<C, P, S>,
     /// The receipt that was given out last.
     pub receipt: Option<Receipt>,
+    pub sound: Sound,
 }
 
 // Prints of how many events there are outputs that were left, if there are some.
@@ -180,17 +183,19 @@ impl<C: Ledger, P: Ledger, S: Ledger> Looped<C, P, S> {
         desk.wires.tell(&mut desk.printer);
     }
 
-    /// Ends the sharing, with all passes and the receipt that was given out last.
-    pub fn settle(self, printer: &mut Printer) {
+    /// Ends the sharing, with all passes and the receipt that was given out last; the disks.
+    pub fn settle(self, printer: &mut Printer) -> (TestDisk, TestDisk) {
         let Looped {
             stage,
             clients: _,
             passes,
             receipt,
+            sound: _,
         } = self;
         let passes = passes.into_vec(printer.alloc);
         let (settled, live) = calls::settle(stage, passes, receipts_of(&receipt));
         tell_settled(printer, settled, &live);
+        live.into_disks()
     }
 }
 
@@ -209,6 +214,55 @@ fn report<R: Wait, C: Ledger, P: Ledger, S: Ledger>(
             printer.refused(error.number(), error);
         }
     }
+}
+
+// Does what the stage orders of the player, by the player's pass.
+fn play<R: Wait + Clock, C: Ledger, P: Ledger, S: Ledger>(
+    rt: &R,
+    host: &HostRuntime,
+    looped: &mut Looped<C, P, S>,
+    printer: &mut Printer,
+) {
+    let order = match looped.stage.order(rt, printer.alloc) {
+        Ok(order) => order,
+        Err(error) => return printer.refused(error.number(), error),
+    };
+    let Some(order) = tell_order(printer, order) else {
+        return;
+    };
+    if let Some(taken) = looped.passes.player.take() {
+        let given = (taken, &order);
+        let (played, back) = calls::play(rt, host, &looped.stage, &mut looped.sound, given);
+        looped.passes.player = Some(back);
+        if let Err(error) = played {
+            printer.refused(error.number(), error);
+        }
+    }
+    looped.sound.tell(printer);
+}
+
+// Carries out the scan of the job that runs, by the scan's pass.
+fn scan<R: Wait + Clock, C: Ledger, P: Ledger, S: Ledger>(
+    rt: &R,
+    host: &HostRuntime,
+    looped: &mut Looped<C, P, S>,
+    printer: &mut Printer,
+) {
+    let order = match looped.stage.scan_order(rt, printer.alloc) {
+        Ok(Some(order)) => order,
+        Ok(None) => return printer.line("no scan"),
+        Err(error) => return printer.refused(error.number(), error),
+    };
+    printer.count("scan", u64::from(order.job()));
+    if let Some(taken) = looped.passes.scan.take() {
+        let given = (taken, order);
+        let (scanned, back) = calls::scan(rt, host, &looped.stage, &looped.sound, given);
+        looped.passes.scan = Some(back);
+        if let Err(error) = scanned {
+            printer.refused(error.number(), error);
+        }
+    }
+    looped.sound.tell(printer);
 }
 
 // A client waits to connect.
@@ -245,8 +299,9 @@ fn call(clients: &mut TestClients, desk: &mut Desk, word: &str, rest: &str) -> R
 }
 
 /// Does what a line asks for.
-pub fn take_line<R: Wait, C: Ledger, P: Ledger, S: Ledger>(
+pub fn take_line<R: Wait + Clock, C: Ledger, P: Ledger, S: Ledger>(
     rt: &R,
+    host: &HostRuntime,
     looped: &mut Looped<C, P, S>,
     desk: &mut Desk,
     line: &str,
@@ -254,6 +309,9 @@ pub fn take_line<R: Wait, C: Ledger, P: Ledger, S: Ledger>(
     let (word, rest) = first_word(line);
     match word {
         "turn" => looped.turn(rt, desk),
+        "play" => play(rt, host, looped, &mut desk.printer),
+        "scan" => scan(rt, host, looped, &mut desk.printer),
+        "file" | "remove" | "folder" => take_song_line(host, word, rest)?,
         "batch" | "scanned" => {
             let event = scan_report_of(desk, word, rest)?;
             let pass = &mut looped.passes.scan;

@@ -55,8 +55,11 @@ impl Trouble {
 #[derive(Drop)]
 pub struct Wire {
     input: Vec<u8>,
-    /// How many bytes of it were read.
+    /// How many bytes of it were read, and of how many that was told.
     place: usize,
+    told: usize,
+    /// The number, among all reads, of the first one since.
+    first_read: u64,
     /// Whether nothing more comes behind it.
     is_ended: bool,
     /// How many bytes a read gives at most.
@@ -74,6 +77,9 @@ pub struct Wire {
 /// Two halves of a stream have it, and the one who tells what it took.
 pub type SharedWire = Rc<RefCell<Wire>>;
 
+/// How often any stream gave bytes.
+pub type ReadCount = Rc<RefCell<u64>>;
+
 fn width_of(text: &str) -> Result<usize, Fault> {
     if text == "all" {
         return Ok(usize::MAX);
@@ -86,6 +92,8 @@ impl Wire {
         Wire {
             input: Vec::new(alloc),
             place: 0,
+            told: 0,
+            first_read: 0,
             is_ended: false,
             width: usize::MAX,
             budget: usize::MAX,
@@ -105,6 +113,27 @@ impl Wire {
     /// A turn of the loop begins.
     pub fn begin_turn(&mut self) {
         self.left = self.budget;
+    }
+
+    // It gave bytes, as the stream that this read of all was made of.
+    fn note_read(&mut self, number: u64) {
+        if self.first_read == 0 {
+            self.first_read = number;
+        }
+    }
+
+    /// Prints how many bytes were read of it since, and which read of all was the first.
+    pub fn tell_reads(&mut self, printer: &mut Printer, client: u64) {
+        let count = self.place.saturating_sub(self.told);
+        if count > 0 {
+            printer.number(client);
+            printer.add(b" read");
+            printer.next(count as u64);
+            printer.next(self.first_read);
+            printer.add(b"\n");
+        }
+        self.told = self.place;
+        self.first_read = 0;
     }
 
     /// Prints what it took since.
@@ -173,13 +202,30 @@ impl Wire {
 #[derive(Drop)]
 pub struct Input {
     pub wire: SharedWire,
+    pub reads: ReadCount,
+}
+
+impl Input {
+    // The number of the next read.
+    fn next_read(&self) -> u64 {
+        match self.reads.try_borrow_mut() {
+            Ok(mut count) => {
+                *count = count.saturating_add(1);
+                *count
+            }
+            Err(_) => 0,
+        }
+    }
 }
 
 impl Read for Input {
     fn read(&mut self, buf: &mut [u8]) -> io::Result<usize> {
         match self.wire.try_borrow_mut() {
             Ok(mut wire) => match wire.give(buf) {
-                Ok(count) => Ok(count),
+                Ok(count) => {
+                    wire.note_read(self.next_read());
+                    Ok(count)
+                }
                 Err(kind) => Err(kind.into()),
             },
             Err(_) => Err(ErrorKind::Other.into()),

@@ -1,5 +1,5 @@
 //! The connections of all clients, by the numbers that the lines of the input give them.
-use crate::wire::{Input, Output, SharedWire, Wire};
+use crate::wire::{Input, Output, ReadCount, SharedWire, Wire};
 use mio_clients::MemStream;
 use script_lines::signs::bytes_of;
 use script_lines::{Fault, Printer};
@@ -14,6 +14,9 @@ pub type TestStream = MemStream<Input, Output>;
 pub struct Wires {
     alloc: Global,
     named: Vec<Named>,
+    /// Whether it is told what was read of each stream.
+    pub tells_reads: bool,
+    reads: Option<ReadCount>,
 }
 
 #[derive(Drop)]
@@ -26,11 +29,14 @@ struct Named {
 
 impl Named {
     // Prints what its stream took since, and whether it was let go of.
-    fn tell(&mut self, printer: &mut Printer) {
+    fn tell(&mut self, printer: &mut Printer, tells_reads: bool) {
         if self.is_over {
             return;
         }
         if let Ok(mut wire) = self.wire.try_borrow_mut() {
+            if tells_reads {
+                wire.tell_reads(printer, self.client);
+            }
             wire.tell(printer, self.client);
         }
         if Rc::strong_count(&self.wire) == 1 {
@@ -53,12 +59,31 @@ fn shared_wire(alloc: Global) -> Result<SharedWire, Fault> {
     }
 }
 
+fn read_count(alloc: Global) -> Result<ReadCount, Fault> {
+    match Rc::new(alloc, RefCell::new(0)) {
+        Ok(count) => Ok(count),
+        Err(_) => Err(Fault::NoMemory),
+    }
+}
+
 impl Wires {
     pub fn new(alloc: Global) -> Self {
         Wires {
             alloc,
             named: Vec::new(alloc),
+            tells_reads: false,
+            reads: None,
         }
+    }
+
+    // The count of all reads.
+    fn reads(&mut self) -> Result<ReadCount, Fault> {
+        if let Some(reads) = &self.reads {
+            return Ok(reads.clone()?);
+        }
+        let reads = read_count(self.alloc)?;
+        self.reads = Some(reads.clone()?);
+        Ok(reads)
     }
 
     // The connection of this client, unless it is over.
@@ -79,6 +104,7 @@ impl Wires {
         let wire = shared_wire(self.alloc)?;
         let input = Input {
             wire: wire.clone()?,
+            reads: self.reads()?,
         };
         let output = Output {
             wire: wire.clone()?,
@@ -123,7 +149,7 @@ impl Wires {
     /// Prints what each stream took since, and which of them were let go of, in the order in which they came.
     pub fn tell(&mut self, printer: &mut Printer) {
         for named in &mut self.named {
-            named.tell(printer);
+            named.tell(printer, self.tells_reads);
         }
     }
 }

@@ -1,0 +1,118 @@
+"""How far long work is: on a terminal a line that is written anew each second, elsewhere a line a minute."""
+
+import os
+import sys
+import threading
+import time
+
+EACH, SELDOM = 1, 60
+# Without a measure at least so many seconds pass before it is told how long the rest takes.
+FIRST = 10
+
+
+def clock(seconds):
+    """Minutes and seconds, or hours and minutes."""
+    minutes, seconds = divmod(int(seconds), 60)
+    return f"{minutes // 60} h {minutes % 60:02} min" if minutes >= 60 else f"{minutes}:{seconds:02}"
+
+
+class Progress:
+    """Tells what `shown` answers for as long as it is open: a text, or None where there is nothing to tell."""
+
+    def __init__(self, shown, stream=sys.stderr):
+        self.shown, self.stream, self.begun = shown, stream, time.monotonic()
+        self.is_terminal = stream.isatty()
+        self.over, self.lock = threading.Event(), threading.Lock()
+        self.thread = threading.Thread(target=self.tell, daemon=True)
+
+    def __enter__(self):
+        self.thread.start()
+        return self
+
+    def __exit__(self, *_):
+        self.over.set()
+        self.thread.join()
+        self.clear()
+
+    def seconds(self):
+        return time.monotonic() - self.begun
+
+    def tell(self):
+        while not self.over.wait(EACH if self.is_terminal else SELDOM):
+            if text := self.shown():
+                with self.lock:
+                    self.write(f"\r\x1b[K{text[: width() - 1]}" if self.is_terminal else f"{text}\n")
+
+    def say(self, text):
+        """A line that stays."""
+        with self.lock:
+            self.write(f"\r\x1b[K{text}\n" if self.is_terminal else f"{text}\n")
+
+    def clear(self):
+        if self.is_terminal:
+            self.write("\r\x1b[K")
+
+    def write(self, text):
+        self.stream.write(text)
+        self.stream.flush()
+
+
+def width():
+    """How many columns the terminal has."""
+    try:
+        return os.get_terminal_size(sys.stderr.fileno()).columns or 80
+    except OSError:
+        return 80
+
+
+def rest(done, whole, seconds):
+    """Text of how long the rest takes about, where so much of the whole took so many seconds; empty where nobody can tell yet."""
+    if done <= 0 or seconds < FIRST:
+        return ""
+    return f", about {clock(max(0, whole - done) * seconds / done)} to go"
+
+
+class Crates:
+    """Crates that are proved side by side, each weighed by the bytes of what is read of it."""
+
+    def __init__(self, root, names):
+        self.weights = {it: weight_of(f"{root}/crates/{it}") for it in names}
+        self.kept, self.proved = set(), set()
+
+    def take(self, name, is_kept):
+        """Notes that one is done; those that were proved before took no time."""
+        (self.kept if is_kept else self.proved).add(name)
+
+    def count(self):
+        return len(self.kept | self.proved)
+
+    def shown(self, seconds):
+        left = sum(weight for name, weight in self.weights.items() if name not in self.kept)
+        done = sum(self.weights.get(it, 0) for it in self.proved - self.kept)
+        return f"{self.count()} of {len(self.weights)} crates are proved ({clock(seconds)}{rest(done, left, seconds)})"
+
+
+def weight_of(folder):
+    """The bytes of a crate's code, definitions and proofs."""
+    places = (place for part in ("src", "specs", "proofs") for place in os.walk(f"{folder}/{part}"))
+    return sum(os.path.getsize(f"{at}/{it}") for at, _, files in places for it in files)
+
+
+def processor_seconds():
+    """What this process and all that it has begun have taken of processors so far."""
+    ticks, parents = {}, {}
+    for name in filter(str.isdigit, os.listdir("/proc")):
+        try:
+            with open(f"/proc/{name}/stat", encoding="utf-8", errors="replace") as file:
+                words = file.read().rpartition(")")[2].split()
+        except OSError:
+            continue
+        parents[int(name)], ticks[int(name)] = int(words[1]), sum(map(int, words[11:15]))
+    return sum(it for pid, it in ticks.items() if is_below(pid, parents)) / os.sysconf("SC_CLK_TCK")
+
+
+def is_below(pid, parents):
+    """Whether a process was begun by this one, or by one that was."""
+    while pid in parents and pid != os.getpid():
+        pid = parents[pid]
+    return pid == os.getpid()

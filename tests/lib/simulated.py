@@ -1,0 +1,676 @@
+"""An episode of tests/simulation: a stage of loop_driver with clients, workers and disks, to which steps happen that a seed draws, and
+beside it the plain model (lib/sessions.py, player.py), which says what each client may see and what a restart may find.
+
+A step is drawn by a number of its own for what there is then: so any of them can be left out, and the others still make sense.
+"""
+
+import collections
+import random
+
+import changes
+import drives
+import player
+import sessions
+import speaker
+from streams import Finding, Over, Stream, Turn, shown
+
+KEY = bytes(32)
+# The songs that there may be, each with its frames and its title.
+SONGS = {"a.wav": (800, "One"), "b.wav": (80, ""), "d/c.wav": (5000, "Zwei und drei"), "d/e/f.wav": (1, ""), "ö.wav": (0, "4")}
+MOST_CLIENTS, MOST_WAITING, MOST_RECORDS_LEFT = 6, 4_000, 12
+# Turns in which what is left behind want of memory must have been done.
+PATIENCE = 3
+NO_MEMORY = "no memory for the line itself"
+BROKEN, OUT_OF_MEMORY = "refused 42 broken by a disk fault", "refused 43 out of memory"
+FIXED = {
+    b"foo": b'ACK [5@0] {} unknown command "foo"\n',
+    b"": b"ACK [5@0] {} No command given\n",
+    b"setvol 101": b"ACK [2@0] {setvol} bad argument 1\n",
+    b'"ping': b"ACK [2@0] {} bad quoting\n",
+    b"ping x": b'ACK [2@0] {ping} wrong number of arguments for "ping"\n',
+    b"command_list_end": b"ACK [1@0] {command_list_end} not in a command list\n",
+    b"playid 999999": b"ACK [50@0] {playid} No such song\n",
+    b"\xff": b"ACK [2@0] {} invalid UTF-8\n",
+    b"ping\r": b"OK\n",
+}
+
+
+def unlike(found, greeting, asked):
+    """The first answer that is another one."""
+    found = found.removeprefix(greeting)
+    for words, answer in asked:
+        if not found.startswith(answer):
+            return f"{' '.join(words)} answers {found[: len(answer) + 40]!r} and not {answer!r}"
+        found = found[len(answer) :]
+    return f"behind the answers stands {found[:200]!r}"
+
+
+class Episode:
+    """A run of the driver from a fresh stage on."""
+
+    def __init__(self, program, seed, library=None):
+        self.drive, self.seed = drives.Drive(program, library), seed
+        self.files, self.songs = {}, {}
+        self.speaker, self.streams, self.waiting = speaker.Speaker(), {}, []
+        # The event that was last, how many of the workers' left outputs, and how few and how many ends of clients are still to be served.
+        self.event, self.left, self.gones = 0, 0, (0, 0)
+        # What there may be behind a fault or a restart, and whether the life is over.
+        self.possible, self.is_over, self.counts = [], False, collections.Counter()
+        self.last_client, self.contents = 0, (b"", b"")
+
+    def do(self, *lines):
+        try:
+            return self.drive.do(*lines)
+        except drives.Ended as ended:
+            if NO_MEMORY in str(ended):
+                raise Over from ended
+            raise Finding(str(ended)) from ended
+
+    def is_silent(self, *lines):
+        """Does lines that print nothing."""
+        for line, printed in zip(lines, self.do(*lines)):
+            if printed:
+                raise Finding(f"{line[:80]!r} printed {printed[:3]}")
+
+    # The beginning.
+
+    def begin(self):
+        draw = random.Random(f"{self.seed}")
+        self.clients = sessions.Clients(player.Player({}, KEY))
+        self.is_silent("folder d/e", *(self.put_song(uri, *SONGS[uri], draw) for uri in SONGS), "stage - -", "reads")
+        self.connect(draw)
+        self.turn(draw)
+        self.ask_alone(sessions.line(["update"]))
+        self.turn(draw)
+        self.scan(draw)
+        self.turn(draw)
+
+    def put_song(self, uri, frames, title, draw):
+        self.files[uri] = speaker.song_file(frames, title, draw)
+        self.songs[uri] = player.model.Song(frames, title)
+        return f"file {uri} {self.files[uri].hex()}"
+
+    # Steps of clients.
+
+    def open_streams(self):
+        """Those that may send something."""
+        return [it for it in self.streams.values() if not it.has_ended and it.number not in self.clients.closed]
+
+    def connect(self, draw):
+        if len(self.streams) < MOST_CLIENTS:
+            self.last_client += 1
+            self.is_silent(f"connect {self.last_client}")
+            self.streams[self.last_client] = Stream(self.last_client)
+            self.waiting.append(self.last_client)
+
+    def ask_alone(self, *requests):
+        """The one client sends these."""
+        stream = next(iter(self.streams.values()))
+        for request in requests:
+            stream.ask(request)
+        self.is_silent(f"{stream.number}>- {shown(stream.unsent)}")
+        stream.sent, stream.unsent = stream.made, b""
+        return stream
+
+    def request(self, draw):
+        state, chance = self.clients.state, draw.random()
+        if chance < 0.12:
+            names = draw.sample(sessions.SUBSYSTEMS, draw.choice([0, 0, 1, 2]))
+            return sessions.line(["idle", *names])
+        if chance < 0.18:
+            return sessions.line(["noidle"])
+        if chance < 0.19:
+            return sessions.line(["close" if chance < 0.188 else "kill"])
+        if chance < 0.23:
+            text = draw.choice([*FIXED])
+            name = text[:4] if text == b"ping\r" else FIXED[text].partition(b"{")[2].partition(b"}")[0]
+            return sessions.Request(text + b"\n", fixed=FIXED[text], name=name)
+        if not state.songs or chance < 0.25:
+            return sessions.line(["update"])
+        if chance < 0.33:
+            return sessions.line(changes.reading(state, draw))
+        if chance < 0.53:
+            return sessions.line(changes.playing(state, draw))
+        if chance < 0.63:
+            return sessions.listing(changes.listed(state, draw), draw.random() < 0.5)
+        return sessions.line(changes.change(state, draw))
+
+    def send(self, draw):
+        streams = self.open_streams()
+        # One that waits mostly goes on to wait.
+        others = [it for it in streams if not self.clients.waiting.get(it.number)]
+        if draw.random() < 0.9:
+            streams = others
+        if not streams:
+            return self.connect(draw)
+        stream = draw.choice(streams)
+        if len(stream.unsent) < MOST_WAITING and (not stream.unsent or draw.random() < 0.5):
+            for _ in range(draw.choice([1, 1, 1, 2, 3])):
+                stream.ask(self.request(draw))
+        return self.is_silent(f"{stream.number}>- {shown(stream.next_piece(draw))}")
+
+    def slow(self, draw):
+        """A client's stream gives or takes otherwise from now on."""
+        if not (streams := [it for it in self.streams.values() if not it.may_fail]):
+            return
+        stream = draw.choice(streams)
+        word = draw.choice(["takes", "takes", "takes", "gives", "budget", "calls"])
+        if word == "takes":
+            self.is_silent(f"{stream.number} takes {draw.choice(['none', 'none', 'all', 'all', '1', '3', '64'])}")
+            stream.is_blocked = self.drive.log[-1][0].endswith("none")
+        elif word == "calls":
+            way, how = draw.choice(["read", "write"]), draw.choice(["blocks", "interrupted", "fails"])
+            number = draw.randint(1, 3)
+            self.is_silent(f"{stream.number} {way} {number} {how}")
+            stream.may_fail, stream.may_lag = how == "fails", 0 if how == "fails" else 100
+        else:
+            count = draw.choice(["1", "2", "3", "7", "50", "all", "all"])
+            self.is_silent(f"{stream.number} {word} {count}")
+            if word == "budget":
+                stream.budget = None if count == "all" else int(count)
+
+    def end_stream(self, draw):
+        if streams := self.open_streams():
+            stream = draw.choice(streams)
+            stream.has_ended = True
+            self.is_silent(f"{stream.number} ends")
+
+    # A turn of the loop.
+
+    def turn(self, draw):
+        return self.take_turn(Turn(self.do("turn")[0]))
+
+    def take_turn(self, turn):
+        asked = self.asked(turn)
+        if turn.refused == 42:
+            return self.broken_turn(turn, asked)
+        if turn.refused is not None or turn.is_nothing or turn.stops:
+            raise Finding("a turn is refused though no disk failed and memory is enough")
+        self.take_events(turn, len(asked))
+        self.take_left(turn)
+        self.serve(asked)
+        self.take_streams(turn)
+        if turn.has_ended != self.clients.has_ended:
+            raise Finding(f"the daemon {'ends' if turn.has_ended else 'goes on'}")
+        self.end_life([self.clients.state], self.clients.has_ended)
+        return None
+
+    def end_life(self, states, is_over):
+        """Where it is over, a restart may find one of these."""
+        if is_over:
+            self.possible, self.is_over = states, True
+
+    def asked(self, turn):
+        """What was read of clients, in the order in which it was, as pairs of a client and a request; then those who connect, with none."""
+        found = []
+        for _, number, count in sorted(turn.reads):
+            found += [(number, it) for it in self.streams[number].taken(count)]
+        for stream in self.streams.values():
+            is_read = stream.is_free() and not stream.budget and stream.number not in [*self.clients.closed, *self.waiting]
+            if is_read and stream.read < stream.sent:
+                raise Finding(f"client {stream.number} sent {stream.sent} bytes, and {stream.read} were read")
+        found += [(number, None) for number in self.waiting]
+        self.waiting = []
+        return found
+
+    def take_events(self, turn, count):
+        """The numbers of events go on, and there is one for each request, connect and end."""
+        ends = len(turn.events) - count
+        if turn.events != [*range(self.event + 1, self.event + 1 + len(turn.events))]:
+            raise Finding(f"events {turn.events[:1]}..{turn.events[-1:]} come behind event {self.event}")
+        low, high = self.gones
+        if not low <= ends <= high + len(turn.closed):
+            raise Finding(f"{len(turn.events)} events for {count} requests and connects, and {low} to {high} ends of clients")
+        self.event += len(turn.events)
+        # Those from before the turn are served in it.
+        self.gones = low - ends, min(high - ends, 0)
+
+    def take_left(self, turn):
+        if turn.left != self.left:
+            raise Finding(f"the outputs of {turn.left} events were left, and not of {self.left}")
+        self.left = 0
+
+    def give(self, given):
+        for client, text in given:
+            if client in self.streams:
+                self.streams[client].due += text
+
+    def serve(self, asked):
+        for number, request in asked:
+            self.counts["connects" if request is None else "requests"] += 1
+            self.give(self.clients.connect(number) if request is None else self.clients.request(number, request))
+
+    def take_streams(self, turn):
+        """What clients got, and who was let go of."""
+        wanted = turn.wanted(*self.owed(turn))
+        try:
+            for number, text in turn.got.items():
+                self.streams[number].get(text)
+            for number in turn.closed:
+                self.let_go(number)
+            for stream in self.streams.values():
+                self.look_at(stream)
+        except Finding as fault:
+            fault.wanted = wanted
+            raise
+        self.gones = max(0, self.gones[0]), self.gones[1]
+
+    def owed(self, turn):
+        """What each client is to get in a turn, and who is let go of in it."""
+        got = {it.number: it.due if it.is_free() else turn.got.get(it.number, b"") for it in self.streams.values()}
+        goes = lambda it: it.must_go(self.clients.closed) or it.may_fail and it.number in turn.closed
+        return got, {it.number for it in self.streams.values() if goes(it)}
+
+    def let_go(self, number):
+        stream = self.streams.pop(number)
+        is_closed = number in self.clients.closed
+        if not (is_closed or stream.has_ended or stream.may_fail):
+            raise Finding(f"client {number} is let go of")
+        if stream.due and not stream.may_fail:
+            raise Finding(f"client {number} is let go of, and is owed {stream.due[:300]!r}")
+        self.clients.gone(number)
+        self.clients.closed.discard(number)
+        low, high = self.gones
+        self.gones = low + (not is_closed), high + (not is_closed or stream.may_fail)
+
+    def look_at(self, stream):
+        """What it is owed has come, where nothing holds it up; and it is let go of then."""
+        if stream.due and stream.is_free():
+            raise Finding(f"client {stream.number} is owed {stream.due[:300]!r}")
+        if stream.must_go(self.clients.closed):
+            raise Finding(f"client {stream.number} is not let go of")
+        stream.may_lag, stream.is_new = max(0, stream.may_lag - 1), False
+
+    def broken_turn(self, turn, asked):
+        """A disk has failed in it: the events before were answered, and the one that was refused is kept whole, or not at all."""
+        if not self.may_break:
+            raise Finding("a disk failed that was not to")
+        served, ends, last = len(turn.events), self.gones[1] + len(turn.closed), None
+        for count in range(max(0, served - ends), min(len(asked), served) + 1):
+            try:
+                self.possible += self.after_fault(turn, asked, count)
+            except Finding as fault:
+                last = fault
+        if not self.possible:
+            raise last or Finding(f"{served} events for {len(asked)} requests and connects, and at most {ends} ends of clients")
+        self.is_over = True
+
+    def after_fault(self, turn, asked, count):
+        """The states that there may be, if so many of these requests were answered; a finding where clients got something else."""
+        clients, due = self.clients.copy(), {number: it.due for number, it in self.streams.items()}
+        for number, request in asked[:count]:
+            for client, text in clients.connect(number) if request is None else clients.request(number, request):
+                if client in due:
+                    due[client] += text
+        for number, text in turn.got.items():
+            if not due[number].startswith(text):
+                raise Finding(f"client {number} got {text[:300]!r} before a fault, and is owed {due[number][:300]!r}")
+        states = [clients.state]
+        if count < len(asked) and asked[count][1] is not None:
+            clients.request(*asked[count])
+            states.append(clients.state)
+        return states
+
+    # Steps of the workers and of the music.
+
+    def is_reported(self, printed, events):
+        """Takes what a worker printed of its reports, each a function that does it; whether all were made."""
+        woken = [int(it.removeprefix("woken ")) for it in printed if it.startswith("woken ")]
+        if BROKEN in printed and self.may_break:
+            states = [self.clients.state]
+            for event in events:
+                event()
+                states.append(self.clients.state)
+            self.possible, self.is_over = states, True
+            return False
+        if woken != [len(events)]:
+            wanted = [f"woken {len(events)}" if it.startswith("woken ") else it for it in printed]
+            raise Finding(f"for {len(events)} reports the loop was woken so often: {woken}", wanted)
+        for event in events:
+            self.give(event())
+        self.event, self.left = self.event + len(events), self.left + len(events)
+        return True
+
+    def play(self, draw):
+        return self.take_play(self.do("play")[0])
+
+    def take_play(self, printed):
+        state = self.clients.state
+        if state.state != player.PLAY:
+            return self.is_printed("play", printed, ["wait"])
+        order = state.ticket, state.frame, int(state.settings["volume"]), state.current_uri()
+        reports, sound = self.speaker.play(order, self.files)
+        self.counts["plays"] += 1
+        wanted = [f"play {order[0]} {order[1]} {order[2]} {order[3]}"] + [f"sound {sound.hex()}"] * bool(sound)
+        rest = [it for it in printed if it != BROKEN and not it.startswith("woken")]
+        self.is_printed("play", rest, wanted)
+        return self.is_reported(printed, [lambda it=it: self.clients.report(*it) for it in reports])
+
+    def is_printed(self, what, printed, wanted):
+        if printed != wanted:
+            found, missed = ([it[:80] for it in some] for some in (printed, wanted))
+            raise Finding(f"{what} printed {found} and not {missed}", wanted)
+
+    def scan(self, draw):
+        return self.take_scan(self.do("scan")[0])
+
+    def take_scan(self, printed):
+        state = self.clients.state
+        if state.job is None:
+            return self.is_printed("scan", printed, ["no scan"])
+        self.counts["scans"] += 1
+        self.is_printed("scan", printed[:1], [f"scan {state.job}"])
+        job, songs = state.job, dict(self.songs)
+        # A batch has what was read, changed or not, and what is gone.
+        events = [lambda: self.clients.batch(job, songs)] * bool(songs or state.songs) + [lambda: self.clients.scan_done(job)]
+        return self.is_reported(printed, events)
+
+    def scan_in_parts(self, draw):
+        """The scan's thread reports some of what it finds, or the end; or something of a job that doesn't run."""
+        state = self.clients.state
+        job = state.job if state.job is not None and draw.random() < 0.9 else draw.choice([state.jobs, state.jobs + 1, 0])
+        if draw.random() < 0.3:
+            return self.reported(f"scanned {job}", lambda: self.clients.scan_done(job))
+        uris = [it for it in SONGS if self.songs.get(it) != state.songs.get(it)]
+        chosen = draw.sample(uris, min(len(uris), draw.choice([1, 2]))) or [draw.choice([*SONGS])]
+        songs = {**state.songs}
+        lines = []
+        for uri in sorted(chosen, key=str.encode):
+            songs.pop(uri, None)
+            if uri in self.songs:
+                songs[uri] = self.songs[uri]
+                title = f" Title {songs[uri].title.replace(' ', '_')}" if songs[uri].title else ""
+                lines.append(f"put {uri} {songs[uri].frames}{title}")
+            elif uri in state.songs:
+                lines.append(f"drop {uri}")
+        if not lines:
+            return None
+        self.is_silent(*lines)
+        return self.reported(f"batch {job}", lambda: self.clients.batch(job, songs))
+
+    def reported(self, line, event):
+        """A thread reports something by a line of the script."""
+        printed = self.do(line)[0]
+        self.counts["reports"] += 1
+        if printed and printed != [BROKEN]:
+            raise Finding(f"{line!r} printed {printed[:3]}")
+        return self.is_reported([*printed, "woken 1"], [event])
+
+    # Memory that is refused.
+
+    def scarce(self, draw):
+        """One allocation of a turn, of the player or of a scan is refused, in a life in which no disk fails."""
+        if self.may_break:
+            return self.turn(draw)
+        line, take, take_scarce = draw.choice([("turn", lambda it: self.take_turn(Turn(it)), self.scarce_turn)] * 3 + [
+            ("play", self.take_play, self.scarce_play), ("scan", self.take_scan, self.scarce_scan)])
+        before = self.drive.refused()
+        self.drive.refuse(int(2 ** draw.uniform(0, 6)))
+        printed = self.do(line)[0]
+        self.drive.refuse(0)
+        if self.drive.refused() == before:
+            return take(printed)
+        self.counts["refused memory"] += 1
+        # A disk in memory that finds none has a fault.
+        self.may_break = True
+        taken = take_scarce(printed)
+        self.may_break = False
+        return taken
+
+    def scarce_play(self, printed):
+        if OUT_OF_MEMORY in printed:
+            if len(printed) > 1:
+                self.speaker.song = None
+            return None
+        if any(it.startswith("sound") for it in printed) or self.clients.state.state != player.PLAY or BROKEN in printed:
+            return self.take_play(printed)
+        was, ticket = self.speaker.song, self.clients.state.ticket
+        try:
+            return self.take_play(printed)
+        except Finding:
+            # The output itself found no room for what it is written.
+            self.speaker.song = None
+            return self.is_reported(printed, [lambda: self.clients.report("broken", ticket, "output")])
+
+    def scarce_scan(self, printed):
+        """Where the reading finds no memory, the scan is left off."""
+        if printed[:1] == [OUT_OF_MEMORY]:
+            return None
+        job, state = self.clients.state.job, self.clients.state
+        if job is not None and printed[1:] == ["woken 1"] and (self.songs or state.songs):
+            return self.is_reported(printed, [lambda: self.clients.scan_done(job)])
+        return self.take_scan(printed)
+
+    def scarce_turn(self, printed):
+        """A turn in which an allocation was refused: nothing was done, it ended early, one request was answered so, or one client was let
+        go of. What it left is served by the next ones."""
+        first = Turn(printed)
+        if first.refused == 42:
+            return self.broken_turn(first, self.asked_of(first))
+        asked, turns = [self.asked_of(first)], [first]
+        for _ in range(PATIENCE):
+            turns.append(Turn(self.do("turn")[0]))
+            if turns[-1].refused is not None:
+                raise Finding("a turn is refused though no disk failed and memory is enough")
+            asked.append(self.asked_of(turns[-1]))
+        events = [it for turn in turns for it in turn.events]
+        if events != [*range(self.event + 1, self.event + 1 + len(events))]:
+            raise Finding(f"events {events} come behind event {self.event}")
+        if sum(it.left for it in turns) != self.left:
+            raise Finding(f"outputs of {self.left} events were left, and others were given out")
+        got, closed = collections.defaultdict(bytes), {it for turn in turns for it in turn.closed}
+        for turn in turns:
+            for number, text in turn.got.items():
+                got[number] += text
+        worlds, faults = {}, []
+        for world in self.worlds(self.orders(asked), first.stops, closed):
+            try:
+                clients, due = self.in_world(world, got, closed)
+                worlds.setdefault(clients.key(), (clients, due))
+            except Finding as fault:
+                faults.append(fault)
+        if not worlds:
+            raise faults[0]
+        self.event, self.left, self.gones = self.event + len(events), 0, (0, len(closed))
+        if len(worlds) > 1 or any(it in self.streams and not self.is_explained(it) for it in closed):
+            return self.look_again([clients.state for clients, _ in worlds.values()])
+        self.clients, due = next(iter(worlds.values()))
+        for number in closed:
+            self.streams.pop(number)
+            self.clients.gone(number)
+            self.clients.closed.discard(number)
+        for number, stream in self.streams.items():
+            stream.due = due[number]
+        return self.end_life([self.clients.state], self.clients.has_ended)
+
+    def asked_of(self, turn):
+        """What was read of clients in a turn."""
+        return [(number, it) for _, number, count in sorted(turn.reads) for it in self.streams[number].taken(count)]
+
+    def orders(self, asked):
+        """In which order all was served: those who wait to connect came in the first turn, or in the second one."""
+        coming, self.waiting = [(number, None) for number in self.waiting], []
+        first, second, *rest = asked
+        rest = [it for requests in rest for it in requests]
+        return [[*first, *coming, *second, *rest]] + [[*first, *second, *coming, *rest]] * bool(coming)
+
+    def is_explained(self, number):
+        """Whether a client may be let go of with memory enough."""
+        stream = self.streams[number]
+        return number in self.clients.closed or stream.has_ended or stream.may_fail
+
+    def worlds(self, orders, stops, closed):
+        """What may have been done: lists of a client, its request, and the command at which memory was refused, or None."""
+        for asked in orders:
+            plain = [(*it, None) for it in asked]
+            for place in stops.values():
+                for at, (number, request, _) in enumerate(plain):
+                    if request is not None and place < max(1, len(request.commands)):
+                        yield [*plain[:at], (number, request, place), *plain[at + 1 :]]
+            if not stops:
+                yield plain
+                for at, (number, _, _) in enumerate(plain):
+                    if number in closed:
+                        yield plain[:at] + plain[at + 1 :]
+                        yield [it for place, it in enumerate(plain) if place < at or it[0] != number]
+
+    def in_world(self, world, got, closed):
+        """The clients and what each is still owed, if this was done; a finding where they got something else."""
+        clients, due = self.clients.copy(), {number: it.due for number, it in self.streams.items()}
+        for number, request, stop in world:
+            for client, text in clients.connect(number) if request is None else clients.request(number, request, stop):
+                if client in due:
+                    due[client] += text
+        for number, stream in self.streams.items():
+            if not due[number].startswith(got[number]):
+                raise Finding(f"client {number} got {got[number][:300]!r}, and is owed {due[number][:300]!r}")
+            due[number] = due[number][len(got[number]) :]
+            if due[number] and stream.is_free() and number not in closed:
+                raise Finding(f"client {number} is owed {due[number][:300]!r}")
+        return clients, due
+
+    def look_again(self, states):
+        """All clients are let go of, and the state is looked at."""
+        self.do("close_all")
+        self.streams, self.waiting = {}, []
+        self.look(states)
+
+    def stray(self, draw):
+        """The output reports something, mostly of a song that it plays no more."""
+        ticket = max(0, self.clients.state.ticket - draw.choice([0, 1, 1, 2]))
+        name, *given = draw.choice([("fed", draw.choice([0, 1, 100])), ("ended",), ("broken", draw.choice(["source", "output"]))])
+        line = " ".join(map(str, [name, ticket, *given]))
+        return self.reported(line, lambda: self.clients.report(name, ticket, *given))
+
+    def change_music(self, draw):
+        uri = draw.choice([*SONGS])
+        lines = []
+        if uri in self.songs:
+            lines.append(f"remove {uri}")
+            del self.songs[uri], self.files[uri]
+        if not lines or draw.random() < 0.6:
+            lines.append(self.put_song(uri, draw.choice([0, 1, 80, 800]), draw.choice(["", "One", f"Take {draw.randrange(9)}"]), draw))
+        self.is_silent(*lines)
+
+    # Lives.
+
+    def life(self, draw):
+        """The life ends, and the next one begins over what is left of the files."""
+        possible = self.possible if self.is_over else [self.clients.state]
+        printed = self.do("settle")[0]
+        if not self.is_over and printed != [f"settled {self.event}"]:
+            raise Finding(f"behind event {self.event} settling printed {printed}")
+        self.counts["lives"] += 1
+        self.counts["faults"] += self.is_over
+        contents = [bytes.fromhex(it[0].removeprefix("bytes ").replace("-", "")) for it in self.do("a bytes", "b bytes")]
+        self.counts["checkpoints"] += drives.generation(contents) > drives.generation(self.contents)
+        if draw.random() < 0.7:
+            self.counts["crashes"] += 1
+            contents = [self.crashed(*it, draw) for it in zip("ab", self.contents, contents)]
+        volume = {it.settings["volume"] for it in possible}
+        if is_near := draw.random() < 0.5 and len(volume) == 1:
+            contents = drives.filled(contents, draw.randrange(MOST_RECORDS_LEFT), int(*volume), self.drive.folder.name)
+            self.is_silent(*(f"{name} has {it.hex()}" for name, it in zip("ab", contents)))
+        self.contents = contents
+        self.open(draw, is_near)
+        self.find(possible, draw)
+
+    def crashed(self, name, old, new, draw):
+        """Puts an image in a file's place that a crash may leave."""
+        images = [*dict.fromkeys([*(drives.torn(old, new, draw) for _ in range(5)), new])]
+        answers = self.do(*(f"{name} left {it.hex()}" for it in images))
+        image = next((it for it, answer in zip(images, answers) if answer == ["yes"]), None)
+        if image is None:
+            raise Finding(f"a crash can't leave what file {name} has")
+        self.counts["torn"] += image != new
+        self.is_silent(f"{name} has {image.hex()}")
+        return image
+
+    def open(self, draw, is_near):
+        """Opens the stage, over disks of which one may fail; where a checkpoint is near, often in it. It writes the file not in use."""
+        fuses, way = ["-", "-"], draw.choice(["stop", "fail"])
+        if is_near and draw.random() < 0.5:
+            ages = [drives.generation([it]) for it in self.contents]
+            fuses[ages.index(min(ages))] = f"{way}:{draw.randint(1, 14)}"
+        elif draw.random() < 0.4:
+            fuses[draw.random() < 0.4] = f"{way}:{int(2 ** draw.uniform(0, 8))}"
+        self.may_break = fuses != ["-", "-"]
+        printed = self.do(f"open {fuses[0]} {fuses[1]}")[0]
+        if printed and self.may_break:
+            self.counts["openings that failed"] += 1
+            self.may_break = False
+            printed = self.do("open - -")[0]
+        if printed:
+            raise Finding(f"the journal is not opened: {printed}")
+
+    def find(self, possible, draw):
+        """Looks which of the states that there may be is there."""
+        self.streams, self.waiting = {}, []
+        self.event, self.left, self.gones = 0, 0, (0, 0)
+        self.speaker = speaker.Speaker()
+        self.is_silent("reads")
+        self.look([it.restarted() for it in possible])
+
+    def look(self, states):
+        """A client comes and reads which of these states there is; nobody else is connected."""
+        self.possible, self.is_over = [], False
+        self.clients = sessions.Clients(states[0])
+        self.connect(None)
+        states = self.looked(states, lambda it: [*it.readings(changes.PLAYLISTS, SONGS)], "the state found")
+        if states:
+            states = self.looked(states, lambda it: [*it.stamp_readings()], "the stamps found")
+        # A disk may have failed while it was looked at.
+        if len({(it.order_number, it.next_id, it.stamps, it.ticket, it.frame, *it.played) for it in states}) > 1:
+            raise Over
+        if states:
+            self.clients.state = states[0]
+
+    def looked(self, states, readings, what):
+        """Those of the states that answer so; none where a disk failed at the look."""
+        asked = readings(states[0])
+        stream = self.ask_alone(*(sessions.line(words) for words, _ in asked))
+        stream.read = stream.sent
+        stream.requests.clear()
+        found = b""
+        for _ in range(1 + len(self.waiting)):
+            turn = Turn(self.do("turn")[0])
+            if turn.refused == 42 and self.may_break:
+                self.possible, self.is_over = states, True
+                return []
+            self.event += len(turn.events)
+            found += turn.got.get(stream.number, b"")
+        greeting = b"".join(text for number in self.waiting for _, text in self.clients.connect(number))
+        self.waiting = []
+        kept = [it for it in states if greeting + b"".join(answer for _, answer in readings(it)) == found]
+        if not kept:
+            wanted = turn.wanted({stream.number: b"".join(answer for _, answer in asked)}, ())
+            raise Finding(f"{what} is none of {len(states)}: {unlike(found, greeting, asked)}", wanted)
+        return kept
+
+    may_break = False
+
+    # All of them.
+
+    KINDS = {
+        turn: 40,
+        send: 36,
+        connect: 5,
+        slow: 5,
+        end_stream: 1,
+        play: 10,
+        scan: 3,
+        scan_in_parts: 3,
+        stray: 2,
+        change_music: 3,
+        scarce: 0.5,
+        life: 2,
+    }
+
+    def step(self, number):
+        """The step of a number."""
+        draw = random.Random(number)
+        kind = Episode.life if self.is_over else draw.choices([*self.KINDS], [*self.KINDS.values()])[0]
+        kind(self, draw)
+
+    def end(self):
+        self.drive.end()
