@@ -24,6 +24,7 @@ pub use case::Case;
 pub use filter::Filter;
 pub use name::tag_named;
 pub use order::{SortKey, SortOrder, sort_rows, window};
+pub use parts::{ends_name, is_blank, is_quote};
 pub use refusal::{FilterError, FilterPlace};
 pub use subject::{Comparison, Subject};
 pub use word::LineWord;

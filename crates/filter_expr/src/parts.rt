@@ -35,20 +35,22 @@ impl<'a, T: Drop> From<AllocFailed<T>> for Stop<'a> {
     }
 }
 
-fn is_blank(byte: u8) -> bool
+/// Whether the byte parts what stands in an expression: a space or a tab.
+pub fn is_blank(byte: u8) -> bool
     ensures { result ≡ is_blank byte }
 {
     byte == b' ' || byte == b'\t'
 }
 
-fn is_quote(byte: u8) -> bool
+/// Whether a value in quotes begins with this byte, and ends with it.
+pub fn is_quote(byte: u8) -> bool
     ensures { result ≡ is_quote byte }
 {
     byte == b'\'' || byte == b'"'
 }
 
-/// Whether no name goes on with this byte.
-fn ends_name(byte: u8) -> bool
+/// Whether a name in an expression ends before this byte.
+pub fn ends_name(byte: u8) -> bool
     ensures { result ≡ ends_name byte }
 {
     is_blank(byte) || byte == b'(' || byte == b')' || is_quote(byte) || byte == b'=' || byte == b'!'

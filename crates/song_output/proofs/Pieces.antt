@@ -1,8 +1,11 @@
 -- A piece with its head, as the buffer has it.
-use Rattle.std.proofs.Common.{◌≡◌, ◌+◌, ◌-◌, ℕ, List, [], ◌++◌, length, take, drop, map, replicate, slice_range, arith, ap, sym, ◌∙◌}
+use Rattle.std.proofs.Common.{◌≡◌, ◌+◌, ◌-◌, ◌*◌, ◌<◌, ◌≤◌, ◌^◌, ◌⊎◌, ℕ, List, [], ◌++◌, length, take, drop, map, min, replicate}
+use Rattle.std.proofs.Common.{slice_range, Option, Some, None, IfSome, inl, inr, arith, ap, sym, subst, ◌∙◌}
+use Rattle.std.proofs.lemmas.Bool.{cases_lt}
+use Rattle.std.proofs.Math.Nat.{mul-le-mul_left}
 use Rattle.std.proofs.lemmas.List.{take_at, drop_all, append-nil, length-append, length-replicate, length-drop, length-take}
 use borrow.Rule.Slice.PartMut.{put_mid}
-use Rattle.wave_pcm.specs.Pcm.{at_volume, range_from, samples_in, frames_from}
+use Rattle.wave_pcm.specs.Pcm.{at_volume, frame_len, range_from, samples_in, frames_from}
 use Rattle.wave_pcm.specs.declared.info.WaveInfo.{WaveInfo}
 use Rattle.wave_pcm.proofs.FrameList.{frames_are}
 use Rattle.song_output.specs.declared.output.Form.{Form}
@@ -45,3 +48,21 @@ piece_len n len items now head same blank all =
     ∙ ap (λ k. length head + k) (length-replicate len 0) in
     let given : length now ≡ length items = ap length same in
     length-take (length now - (n - len)) (drop (n - len) now) ∙ (omega (arith, length-drop (n - len) now, size, given, all))
+
+-- a piece has few bytes
+piece_short : (info : WaveInfo) (from : ℕ) → info.channels < 65536 → (range_from info from 4096).1 < 2 ^ 30
+piece_short info from few =
+    let count = min (info.frames - min from info.frames) 4096 in
+    let bound : frame_len info * count ≤ frame_len info * 4096 = mul-le-mul_left (frame_len info) (omega arith) in
+    omega (arith, bound, few)
+
+-- the place of a piece is none, or the one that the head tells of
+pub range_short : (info : WaveInfo) (from end : ℕ) (range : Option (ℕ × ℕ)) → info.channels < 65536
+    → (info.first_byte + frame_len info * info.frames ≤ end → range ≡ Some (range_from info from 4096))
+    → (end < info.first_byte + frame_len info * info.frames → range ≡ None) → IfSome range (λ r. r.1 < 2 ^ 30)
+range_short info from end range few place short = by_end (cases_lt end (info.first_byte + frame_len info * info.frames))
+  where
+    by_end : (end < info.first_byte + frame_len info * info.frames) ⊎ (info.first_byte + frame_len info * info.frames ≤ end)
+        → IfSome range (λ r. r.1 < 2 ^ 30)
+    by_end (inl less) = subst (λ o. IfSome o (λ r. r.1 < 2 ^ 30)) (sym (short less)) tt
+    by_end (inr all) = subst (λ o. IfSome o (λ r. r.1 < 2 ^ 30)) (sym (place all)) (piece_short info from few)

@@ -12,7 +12,7 @@ use crate::scaling::scale_bytes;
 use no_memory::NoMemory;
 use player_core::{PlayOrder, Volume};
 use std::alloc::{AllocError, Global};
-use wave_pcm::{Source, SourceFault, WaveInfo};
+use wave_pcm::{Source, WaveError, WaveInfo, frame_range, read_exact};
 
 /// The place of the samples of a piece, and how many bytes they take, if the frames that the head tells of stand before `end`.
 fn piece_range(info: &WaveInfo, from: u64, end: u64) -> Option<(u64, u64)>
@@ -22,15 +22,9 @@ fn piece_range(info: &WaveInfo, from: u64, end: u64) -> Option<(u64, u64)>
     ensures short { IfSome result (λ range. range.1 < 2 ^ 30) }
     ensures whole { IfSome result (λ range. range.1 % 2 ≡ 0) }
 {
-    let frame_len = 2 * u64::from(info.channels);
-    let len = info.frames.checked_mul(frame_len)?;
-    let after = info.first_byte.checked_add(len)?;
-    if after > end {
-        return None;
-    }
-    let start = from.min(info.frames);
-    let count = (info.frames - start).min(MAX_FRAMES as u64);
-    Some((info.first_byte + frame_len * start, frame_len * count))
+    // So that a piece is short.
+    prove!(info.channels <= u16::MAX);
+    frame_range(info, from, MAX_FRAMES, end)
 }
 
 /// What stands in front of so many bytes of samples, and as many zeros behind it.
@@ -48,32 +42,13 @@ fn blank_piece(alloc: Global, info: &WaveInfo, form: Form, len: u64) -> Result<V
     Ok(bytes)
 }
 
-/// Fills the buffer with the bytes from `at` on. A read that gives fewer bytes is followed by another; one that gives none is
-/// a fault.
-fn read_all<S: Source>(source: &mut S, at: u64, buffer: &mut [u8]) -> Result<(), SourceFault>
-    requires { at + length buffer.old < 2 ^ 64 }
-    ensures read { S.honest source.old → OnOk result (buffer.new ≡ slice_range (S.bytes source.old) at (at + length buffer.old)) }
-    ensures fault { S.honest source.old → at + length buffer.old ≤ length (S.bytes source.old) →
-        OnErr result (Grows (S.faults source.old) (S.faults source.new)) }
-    ensures kept { S.honest source.old → Keeps S.bytes S.honest S.faults S.steady source.old source.new }
-{
-    let mut filled = 0;
-    while filled < buffer.len() {
-        match source.read_at(at + filled as u64, &mut buffer[filled..]) {
-            Ok(count) if count > 0 => filled += count,
-            _ => return Err(SourceFault),
-        }
-    }
-    Ok(())
-}
-
 /// Fills the buffer with the samples from the byte `at` on, at a volume.
 fn read_scaled<S: Source>(
     source: &mut S,
     at: u64,
     buffer: &mut [u8],
     volume: Volume,
-) -> Result<(), SourceFault>
+) -> Result<(), WaveError>
     requires fits { at + length buffer.old < 2 ^ 64 }
     requires whole { length buffer.old % 2 ≡ 0 }
     ensures sound { S.honest source.old → OnOk result (buffer.new ≡ bytes_of (map (at_volume volume)
@@ -82,7 +57,7 @@ fn read_scaled<S: Source>(
         OnErr result (Grows (S.faults source.old) (S.faults source.new)) }
     ensures kept { S.honest source.old → Keeps S.bytes S.honest S.faults S.steady source.old source.new }
 {
-    read_all(source, at, buffer)?;
+    read_exact(source, at, buffer)?;
     scale_bytes(buffer, volume.percent());
     Ok(())
 }

@@ -28,9 +28,10 @@ fn decode_into(samples: &mut [i16], bytes: &[u8])
     }
 }
 
-/// The place of the samples of at most `most` frames from one frame on, and how many bytes they take, if
-/// the frames that the head tells of stand before `end`.
-fn frame_range(info: &WaveInfo, from: u64, most: usize, end: u64) -> Option<(u64, u64)>
+/// The place of the samples of at most `most` frames from the frame `from` on (the first is 0), in bytes from the file's first one,
+/// and how many bytes they take: fewer at the end, none past it. `None` where the frames that the head tells of don't all stand
+/// before the byte `end`, which is the file's length.
+pub fn frame_range(info: &WaveInfo, from: u64, most: usize, end: u64) -> Option<(u64, u64)>
     ensures place { info.now.first_byte + frame_len info.now * info.now.frames ≤ end →
         result ≡ Some (range_from info.now from most) }
     ensures short { end < info.now.first_byte + frame_len info.now * info.now.frames → result ≡ None }

@@ -5,7 +5,7 @@ ghost use Rattle.wave_pcm.specs.Source.{Grows, Keeps};
 use crate::{Source, WaveError};
 
 /// Fills the buffer with the bytes from `at` on. A read that gives fewer bytes is followed by another;
-/// one that gives none is a fault.
+/// one that gives none is a fault: `ReadFault`, which leaves the buffer filled in part, and the source as any read does.
 pub fn read_exact<S: Source>(source: &mut S, at: u64, buffer: &mut [u8]) -> Result<(), WaveError>
     requires { at + length buffer.old < 2 ^ 64 }
     ensures read { S.honest source.old → OnOk result (buffer.new ≡ slice_range (S.bytes source.old) at (at + length buffer.old)) }
