@@ -20,3 +20,4 @@ pub mod Where
 pub mod WordOrder
 pub mod Shuffled
 pub mod Moved
+pub mod Settled

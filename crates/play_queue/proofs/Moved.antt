@@ -1,6 +1,6 @@
 -- The stamp rule where the entries of a block stand in another order.
-use Rattle.std.proofs.Common.{Bool, ◌≡◌, ◌≢◌, ℕ, zero, suc, ◌+◌, ◌-◌, ◌<◌, ◌≤◌, true, false, cond, eqb, ◌==◌, ◌⊎◌, inl, inr, List, [], ◌∷◌}
-use Rattle.std.proofs.Common.{◌++◌, length, get_or, set, map, take, drop, slice_range, refl, sym, ap, ◌∙◌, arith}
+use Rattle.std.proofs.Common.{Bool, ◌≡◌, ◌≢◌, ℕ, suc, ◌+◌, ◌-◌, ◌<◌, ◌≤◌, true, false, cond, eqb, ◌==◌, ◌⊎◌, inl, inr, List, [], ◌∷◌}
+use Rattle.std.proofs.Common.{◌++◌, length, get_or, map, take, drop, slice_range, refl, sym, ap, ◌∙◌, arith}
 use Rattle.std.specs.List.{zip, Contains}
 use Rattle.std.specs.List.Sorted.{IsPermutation}
 use Rattle.std.proofs.lemmas.Bool.{cases_eq, eq-eqb}
@@ -24,21 +24,6 @@ use Rattle.play_queue.proofs.Shuffled.{own_ids-block}
 use Rattle.play_queue.proofs.Sound.{AreFit, fit-reordered, fit-queue, ids-with_stamp}
 use Rattle.play_queue.proofs.Where.{is_unchanged-at}
 use Rattle.play_queue.proofs.WordOrder.{Drawn, in_word_order-permutes}
-
--- the code's step: one more position
-pub stamped_moved-more : (ids : List ℕ) (stamp : ℕ) (entries : List Entry) (i : ℕ) (d : Entry) → i < length ids
-    → length ids ≡ length entries → set (stamped_moved (take i ids) stamp entries) i
-    (stamped_if_moved (get_or ids i 0) stamp (get_or (stamped_moved (take i ids) stamp entries) i d))
-    ≡ stamped_moved (take (i + 1) ids) stamp entries
-stamped_moved-more [] stamp entries i d within long = absurd (omega arith)
-stamped_moved-more (id ∷ ids) stamp [] i d within long = absurd (omega arith)
-stamped_moved-more (id ∷ ids) stamp (entry ∷ entries) zero d within long = refl
-stamped_moved-more (id ∷ ids) stamp (entry ∷ entries) (suc i) d within long =
-    let rest = stamped_moved-more ids stamp entries i d (omega arith) (omega arith) in
-    ap (λ l. stamped_if_moved id stamp entry ∷ l) rest ∙ ap (λ n. stamped_moved (take n (id ∷ ids)) stamp (entry ∷ entries)) (one_more i)
-  where
-    one_more : (k : ℕ) → suc (k + 1) ≡ suc k + 1
-    one_more k = omega arith
 
 -- at each position where the same id stands, the same entry stands
 abbrev pub SameById : List Entry → List Entry → Type 0

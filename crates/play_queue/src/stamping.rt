@@ -4,7 +4,7 @@ ghost use Rattle.std.specs.Bool.{OnTrue, OnFalse};
 ghost use Rattle.play_queue.specs.Latest.{AreRestamped, Between, Either};
 ghost use Rattle.play_queue.specs.Queue.{ids_of, with_stamp};
 ghost use Rattle.play_queue.specs.Restamp.{restamped, restamped_pair, stamped_where, next_version};
-ghost use Rattle.play_queue.specs.Shuffle.{stamped_if_moved, stamped_moved, restamped_moved};
+ghost use Rattle.play_queue.specs.Shuffle.{begun_again, settled, settled_one, with_stamps};
 
 use crate::entry::Entry;
 use crate::latest::{BLOCKS, raise_latest};
@@ -116,22 +116,19 @@ fn has_moved(entries: &[Entry], ids: &[u32]) -> bool
     false
 }
 
-// Gives the entries of a range at whose positions others stood, with these ids, a new stamp, as `restamp` does.
-pub(crate) fn restamp_moved(
+// Entries of a range have a new stamp, the version after this one: raises the blocks of the range to it. After the greatest version, all
+// get 1. Answers the new version.
+pub(crate) fn raise_or_begin_again(
     entries: &mut Vec<Entry>,
     latest: &mut [u32; BLOCKS],
     start: usize,
     end: usize,
-    ids: &[u32],
     version: u32,
 ) -> u32
-    requires forward { start ≤ end }
-    requires in_range { end ≤ length entries.old.items }
-    requires ids { length ids.now ≡ end - start }
     requires within { version ≤ MAX_VERSION }
     requires few { end ≤ MAX_ENTRIES }
     ensures version { result ≡ next_version version }
-    ensures entries { entries.new.items ≡ restamped_moved version start end ids.now entries.old.items }
+    ensures entries { entries.new.items ≡ begun_again version entries.old.items }
     ensures latest { AreRestamped latest.old latest.new (Between start end) version }
 {
     if version == MAX_VERSION {
@@ -139,34 +136,39 @@ pub(crate) fn restamp_moved(
         *latest = [1; BLOCKS];
         return 1;
     }
-    stamp_moved_in(entries, start, end, ids, version + 1);
     raise_latest(latest, start, end, version + 1);
     version + 1
 }
 
-fn stamp_moved_in(entries: &mut [Entry], start: usize, end: usize, ids: &[u32], stamp: u32)
-    requires forward { start ≤ end }
-    requires in_range { end ≤ length entries.old }
-    requires ids { length ids.now ≡ end - start }
-    ensures { entries.new ≡ take start entries.old
-        ++ (stamped_moved ids.now stamp (slice_range entries.old start end) ++ drop end entries.old) }
-{
-    stamp_moved(&mut entries[start..end], ids, stamp);
-}
-
-fn stamp_moved(entries: &mut [Entry], ids: &[u32], stamp: u32)
-    requires { length ids.now ≡ length entries.old }
-    ensures { entries.new ≡ stamped_moved ids.now stamp entries.old }
+// Gives each entry the stamp at its place.
+pub(crate) fn set_stamps(entries: &mut [Entry], stamps: &[u32])
+    requires { length stamps.now ≡ length entries.old }
+    ensures { entries.new ≡ with_stamps stamps.now entries.old }
 {
     for at in 0..entries.len() {
-        stamp_if_moved(&mut entries[at], ids[at], stamp);
+        set_stamp(&mut entries[at], stamps[at]);
     }
 }
 
-fn stamp_if_moved(entry: &mut Entry, id: u32, stamp: u32)
-    ensures { entry.new ≡ stamped_if_moved id stamp entry.old }
+fn set_stamp(entry: &mut Entry, stamp: u32)
+    ensures { entry.new ≡ with_stamp stamp entry.old }
 {
-    if entry.id != id {
-        entry.stamp = stamp;
+    entry.stamp = stamp;
+}
+
+// Gives the entries at whose places others stood, by these ids, a new stamp, and each other one that of its place.
+pub(crate) fn settle(entries: &mut [Entry], ids: &[u32], stamps: &[u32], stamp: u32)
+    requires ids { length ids.now ≡ length entries.old }
+    requires stamps { length stamps.now ≡ length entries.old }
+    ensures { entries.new ≡ settled ids.now stamps.now stamp entries.old }
+{
+    for at in 0..entries.len() {
+        settle_one(&mut entries[at], ids[at], stamps[at], stamp);
     }
+}
+
+fn settle_one(entry: &mut Entry, id: u32, own: u32, stamp: u32)
+    ensures { entry.new ≡ settled_one id own stamp entry.old }
+{
+    entry.stamp = if entry.id == id { own } else { stamp };
 }

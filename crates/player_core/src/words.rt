@@ -2,7 +2,7 @@
 ghost use Rattle.std.specs.Prelude.{◌≡◌, map, IfOk};
 ghost use Rattle.player_core.specs.Words.{word, next_order};
 
-use crate::round_words::RoundWords;
+use crate::round_words::WordTable;
 use play_queue::Entry;
 use rand_chacha::ChaCha8Rng;
 use rand_core::SeedableRng;
@@ -19,7 +19,8 @@ pub fn word(key: [u8; 32], order: u64, id: u32) -> u32
     words.next_word()
 }
 
-/// The words of entries, in their order, as a shuffle of them takes.
+/// The words of entries, in their order, as a shuffle of them takes. Beside them it takes memory for words that were made: entries whose
+/// ids lie near each other share them, however far apart they stand.
 pub fn words_of(
     alloc: Global,
     key: [u8; 32],
@@ -28,10 +29,10 @@ pub fn words_of(
 ) -> Result<Vec<u32>, AllocError>
     ensures { IfOk result (λ words. words.items ≡ map (λ entry. word key order entry.id) entries.now) }
 {
-    let mut round = RoundWords::new(key, order);
+    let mut table = WordTable::new(alloc, key, order, entries.len())?;
     let mut words = Vec::with_capacity(alloc, entries.len())?;
     for entry in entries {
-        words.push(round.word(entry.id))?;
+        words.push(table.word(entry.id))?;
     }
     Ok(words)
 }

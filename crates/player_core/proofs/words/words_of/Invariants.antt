@@ -5,6 +5,6 @@ use Rattle.player_core.proofs.words.words_of.Given as goal
 -- the words so far
 abbrev pub invariant-loop-entry : goal.invariant-loop-entry
 invariant-loop-entry l = record {
-  round : l.round ≡ record { key = l.fn.key; order = l.fn.order };
+  round : l.table ≡ record { key = l.fn.key; order = l.fn.order };
   words : l.words.items ≡ map (λ entry. word l.fn.key l.fn.order entry.id) (take l.entry-index l.entries);
 }
