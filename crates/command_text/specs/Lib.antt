@@ -1,6 +1,5 @@
 pub mod Words
 pub mod Names
-pub mod Topics
 pub mod Arguments
 pub mod Counts
 pub mod NameArguments

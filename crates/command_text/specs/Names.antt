@@ -1,82 +1,98 @@
--- The names of the commands, one equation a command, the one list of them, and where a command may stand.
+-- The commands: the table of them, one equation a command, the list of their names, and where a command may stand.
 use Rattle.std.specs.Prelude.{ℕ, List, [], ◌∷◌, Bool, true, false, not, Option, codes}
 use Rattle.std.specs.List.{find}
 use Rattle.std.specs.Str.{bytes_eq}
 use Rattle.command_text.specs.declared.name.CommandName.{CommandName}
 use Rattle.command_text.specs.declared.name.CommandName.TheVariants as names
+use Rattle.command_text.specs.declared.topic.Topic.{Topic}
+use Rattle.command_text.specs.declared.topic.Topic.TheVariants as topics
+use Rattle.command_text.specs.declared.topic.SettingsName.TheVariants as settings
+use Rattle.command_text.specs.declared.topic.DatabaseName.TheVariants as database
+use Rattle.command_text.specs.declared.topic.QueueName.TheVariants as queue
+use Rattle.command_text.specs.declared.topic.FindingName.TheVariants as finding
+use Rattle.command_text.specs.declared.topic.ListsName.TheVariants as lists
+use Rattle.command_text.specs.declared.topic.PlayingName.TheVariants as playing
+use Rattle.command_text.specs.declared.topic.SessionName.TheVariants as session
+
+-- The table of the commands: the word that asks for each, and its topic.
+abbrev pub row_of : CommandName → List ℕ × Topic
+row_of names.Add = (codes "add", topics.Queue queue.Add)
+row_of names.AddId = (codes "addid", topics.Queue queue.AddId)
+row_of names.Clear = (codes "clear", topics.Queue queue.Clear)
+row_of names.ClearError = (codes "clearerror", topics.Playing playing.ClearError)
+row_of names.Close = (codes "close", topics.Settings settings.Close)
+row_of names.CommandListBegin = (codes "command_list_begin", topics.Session session.CommandListBegin)
+row_of names.CommandListEnd = (codes "command_list_end", topics.Session session.CommandListEnd)
+row_of names.CommandListOkBegin = (codes "command_list_ok_begin", topics.Session session.CommandListOkBegin)
+row_of names.Commands = (codes "commands", topics.Database database.Commands)
+row_of names.Consume = (codes "consume", topics.Settings settings.Consume)
+row_of names.Count = (codes "count", topics.Finding finding.Count)
+row_of names.CurrentSong = (codes "currentsong", topics.Playing playing.CurrentSong)
+row_of names.Delete = (codes "delete", topics.Queue queue.Delete)
+row_of names.DeleteId = (codes "deleteid", topics.Queue queue.DeleteId)
+row_of names.Find = (codes "find", topics.Finding finding.Find)
+row_of names.FindAdd = (codes "findadd", topics.Finding finding.FindAdd)
+row_of names.Idle = (codes "idle", topics.Session session.Idle)
+row_of names.Kill = (codes "kill", topics.Settings settings.Kill)
+row_of names.ListTag = (codes "list", topics.Finding finding.ListTag)
+row_of names.ListAll = (codes "listall", topics.Database database.ListAll)
+row_of names.ListAllInfo = (codes "listallinfo", topics.Database database.ListAllInfo)
+row_of names.ListPlaylist = (codes "listplaylist", topics.Lists lists.ListPlaylist)
+row_of names.ListPlaylistInfo = (codes "listplaylistinfo", topics.Lists lists.ListPlaylistInfo)
+row_of names.ListPlaylists = (codes "listplaylists", topics.Lists lists.ListPlaylists)
+row_of names.Load = (codes "load", topics.Lists lists.Load)
+row_of names.ListInfo = (codes "lsinfo", topics.Database database.ListInfo)
+row_of names.Move = (codes "move", topics.Queue queue.Move)
+row_of names.MoveId = (codes "moveid", topics.Queue queue.MoveId)
+row_of names.Next = (codes "next", topics.Playing playing.Next)
+row_of names.NoIdle = (codes "noidle", topics.Session session.NoIdle)
+row_of names.NotCommands = (codes "notcommands", topics.Database database.NotCommands)
+row_of names.Pause = (codes "pause", topics.Playing playing.Pause)
+row_of names.Ping = (codes "ping", topics.Settings settings.Ping)
+row_of names.Play = (codes "play", topics.Playing playing.Play)
+row_of names.PlayId = (codes "playid", topics.Playing playing.PlayId)
+row_of names.PlaylistAdd = (codes "playlistadd", topics.Lists lists.PlaylistAdd)
+row_of names.PlaylistClear = (codes "playlistclear", topics.Lists lists.PlaylistClear)
+row_of names.PlaylistDelete = (codes "playlistdelete", topics.Lists lists.PlaylistDelete)
+row_of names.QueueFind = (codes "playlistfind", topics.Finding finding.QueueFind)
+row_of names.QueueId = (codes "playlistid", topics.Queue queue.QueueId)
+row_of names.QueueInfo = (codes "playlistinfo", topics.Queue queue.QueueInfo)
+row_of names.PlaylistMove = (codes "playlistmove", topics.Lists lists.PlaylistMove)
+row_of names.QueueSearch = (codes "playlistsearch", topics.Finding finding.QueueSearch)
+row_of names.QueueChanges = (codes "plchanges", topics.Queue queue.QueueChanges)
+row_of names.QueueChangesPositions = (codes "plchangesposid", topics.Queue queue.QueueChangesPositions)
+row_of names.Previous = (codes "previous", topics.Playing playing.Previous)
+row_of names.Priority = (codes "prio", topics.Queue queue.Priority)
+row_of names.PriorityId = (codes "prioid", topics.Queue queue.PriorityId)
+row_of names.Random = (codes "random", topics.Settings settings.Random)
+row_of names.Rename = (codes "rename", topics.Lists lists.Rename)
+row_of names.Repeat = (codes "repeat", topics.Settings settings.Repeat)
+row_of names.Rescan = (codes "rescan", topics.Database database.Rescan)
+row_of names.Remove = (codes "rm", topics.Lists lists.Remove)
+row_of names.Save = (codes "save", topics.Lists lists.Save)
+row_of names.Search = (codes "search", topics.Finding finding.Search)
+row_of names.SearchAdd = (codes "searchadd", topics.Finding finding.SearchAdd)
+row_of names.SearchAddPlaylist = (codes "searchaddpl", topics.Finding finding.SearchAddPlaylist)
+row_of names.Seek = (codes "seek", topics.Playing playing.Seek)
+row_of names.SeekCurrent = (codes "seekcur", topics.Playing playing.SeekCurrent)
+row_of names.SeekId = (codes "seekid", topics.Playing playing.SeekId)
+row_of names.SetVolume = (codes "setvol", topics.Settings settings.SetVolume)
+row_of names.Shuffle = (codes "shuffle", topics.Queue queue.Shuffle)
+row_of names.Single = (codes "single", topics.Settings settings.Single)
+row_of names.Stats = (codes "stats", topics.Database database.Stats)
+row_of names.Status = (codes "status", topics.Settings settings.Status)
+row_of names.Sticker = (codes "sticker", topics.Stickers)
+row_of names.Stop = (codes "stop", topics.Playing playing.Stop)
+row_of names.Swap = (codes "swap", topics.Queue queue.Swap)
+row_of names.SwapId = (codes "swapid", topics.Queue queue.SwapId)
+row_of names.TagTypes = (codes "tagtypes", topics.Database database.TagTypes)
+row_of names.Update = (codes "update", topics.Database database.Update)
 
 abbrev pub name_text : CommandName → List ℕ
-name_text names.Add = codes "add"
-name_text names.AddId = codes "addid"
-name_text names.Clear = codes "clear"
-name_text names.ClearError = codes "clearerror"
-name_text names.Close = codes "close"
-name_text names.CommandListBegin = codes "command_list_begin"
-name_text names.CommandListEnd = codes "command_list_end"
-name_text names.CommandListOkBegin = codes "command_list_ok_begin"
-name_text names.Commands = codes "commands"
-name_text names.Consume = codes "consume"
-name_text names.Count = codes "count"
-name_text names.CurrentSong = codes "currentsong"
-name_text names.Delete = codes "delete"
-name_text names.DeleteId = codes "deleteid"
-name_text names.Find = codes "find"
-name_text names.FindAdd = codes "findadd"
-name_text names.Idle = codes "idle"
-name_text names.Kill = codes "kill"
-name_text names.ListTag = codes "list"
-name_text names.ListAll = codes "listall"
-name_text names.ListAllInfo = codes "listallinfo"
-name_text names.ListPlaylist = codes "listplaylist"
-name_text names.ListPlaylistInfo = codes "listplaylistinfo"
-name_text names.ListPlaylists = codes "listplaylists"
-name_text names.Load = codes "load"
-name_text names.ListInfo = codes "lsinfo"
-name_text names.Move = codes "move"
-name_text names.MoveId = codes "moveid"
-name_text names.Next = codes "next"
-name_text names.NoIdle = codes "noidle"
-name_text names.NotCommands = codes "notcommands"
-name_text names.Pause = codes "pause"
-name_text names.Ping = codes "ping"
-name_text names.Play = codes "play"
-name_text names.PlayId = codes "playid"
-name_text names.PlaylistAdd = codes "playlistadd"
-name_text names.PlaylistClear = codes "playlistclear"
-name_text names.PlaylistDelete = codes "playlistdelete"
-name_text names.QueueFind = codes "playlistfind"
-name_text names.QueueId = codes "playlistid"
-name_text names.QueueInfo = codes "playlistinfo"
-name_text names.PlaylistMove = codes "playlistmove"
-name_text names.QueueSearch = codes "playlistsearch"
-name_text names.QueueChanges = codes "plchanges"
-name_text names.QueueChangesPositions = codes "plchangesposid"
-name_text names.Previous = codes "previous"
-name_text names.Priority = codes "prio"
-name_text names.PriorityId = codes "prioid"
-name_text names.Random = codes "random"
-name_text names.Rename = codes "rename"
-name_text names.Repeat = codes "repeat"
-name_text names.Rescan = codes "rescan"
-name_text names.Remove = codes "rm"
-name_text names.Save = codes "save"
-name_text names.Search = codes "search"
-name_text names.SearchAdd = codes "searchadd"
-name_text names.SearchAddPlaylist = codes "searchaddpl"
-name_text names.Seek = codes "seek"
-name_text names.SeekCurrent = codes "seekcur"
-name_text names.SeekId = codes "seekid"
-name_text names.SetVolume = codes "setvol"
-name_text names.Shuffle = codes "shuffle"
-name_text names.Single = codes "single"
-name_text names.Stats = codes "stats"
-name_text names.Status = codes "status"
-name_text names.Sticker = codes "sticker"
-name_text names.Stop = codes "stop"
-name_text names.Swap = codes "swap"
-name_text names.SwapId = codes "swapid"
-name_text names.TagTypes = codes "tagtypes"
-name_text names.Update = codes "update"
+name_text name = (row_of name).0
+
+abbrev pub topic_of : CommandName → Topic
+topic_of name = (row_of name).1
 
 -- every name, rising by its bytes
 abbrev pub all_names : List CommandName

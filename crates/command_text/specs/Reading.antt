@@ -22,8 +22,7 @@ use Rattle.command_text.specs.declared.stop.Stop.TheVariants as stops
 use Rattle.command_text.specs.declared.topic.Topic.{Topic}
 use Rattle.command_text.specs.declared.topic.Topic.TheVariants as topics
 use Rattle.command_text.specs.Words.{words_of}
-use Rattle.command_text.specs.Names.{named, stands_in_lists}
-use Rattle.command_text.specs.Topics.{topic_of}
+use Rattle.command_text.specs.Names.{named, stands_in_lists, topic_of}
 use Rattle.command_text.specs.Counts.{◌>>=◌, Word}
 use Rattle.command_text.specs.Settings.{settings_of}
 use Rattle.command_text.specs.Database.{database_of, keeps_place}

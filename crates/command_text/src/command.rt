@@ -2,7 +2,7 @@
 ghost use Rattle.std.specs.Prelude.{◌≡◌, Err, true};
 ghost use Rattle.command_text.specs.Reading.{Gives, MayWantMemory, command_of, command_with, in_place, of_command, is_allowed};
 ghost use Rattle.command_text.specs.Reading.{takes_memory, TellsUnknown, error_of};
-ghost use Rattle.command_text.specs.Topics.{topic_of};
+ghost use Rattle.command_text.specs.Names.{topic_of};
 ghost use Rattle.command_text.specs.Stops.{Reads};
 ghost use Rattle.command_text.specs.declared.stop.Stop.TheVariants as stops;
 
@@ -10,7 +10,8 @@ use crate::name::CommandName;
 use crate::place::Place;
 use crate::refusal::{CommandRefusal, ReadError, Refusal};
 use crate::stop::Stop;
-use crate::topic::{Topic, topic_of};
+use crate::table::topic_of;
+use crate::topic::Topic;
 use crate::words::Word;
 use filter_expr::LineWord;
 use std::alloc::Global;

@@ -17,6 +17,7 @@ pub mod range;
 pub mod refusal;
 pub mod request;
 mod stop;
+mod table;
 pub mod text;
 mod time;
 mod topic;

@@ -3,6 +3,7 @@ ghost use Rattle.std.specs.Prelude.{◌≡◌};
 ghost use Rattle.command_text.specs.Names.{name_text, all_names, is_control, is_listed, stands_in_lists, named};
 ghost use Rattle.command_text.specs.NextWord.{spelled};
 
+use crate::table::row;
 use crate::words::WordText;
 
 /// The name of a command of the MPD protocol reference 0.23, or of a line that begins or ends a command list or an `idle`.
@@ -168,79 +169,7 @@ impl CommandName {
     pub fn text(self) -> &'static str
         ensures { result.now ≡ name_text self }
     {
-        match self {
-            CommandName::Add => "add",
-            CommandName::AddId => "addid",
-            CommandName::Clear => "clear",
-            CommandName::ClearError => "clearerror",
-            CommandName::Close => "close",
-            CommandName::CommandListBegin => "command_list_begin",
-            CommandName::CommandListEnd => "command_list_end",
-            CommandName::CommandListOkBegin => "command_list_ok_begin",
-            CommandName::Commands => "commands",
-            CommandName::Consume => "consume",
-            CommandName::Count => "count",
-            CommandName::CurrentSong => "currentsong",
-            CommandName::Delete => "delete",
-            CommandName::DeleteId => "deleteid",
-            CommandName::Find => "find",
-            CommandName::FindAdd => "findadd",
-            CommandName::Idle => "idle",
-            CommandName::Kill => "kill",
-            CommandName::ListTag => "list",
-            CommandName::ListAll => "listall",
-            CommandName::ListAllInfo => "listallinfo",
-            CommandName::ListPlaylist => "listplaylist",
-            CommandName::ListPlaylistInfo => "listplaylistinfo",
-            CommandName::ListPlaylists => "listplaylists",
-            CommandName::Load => "load",
-            CommandName::ListInfo => "lsinfo",
-            CommandName::Move => "move",
-            CommandName::MoveId => "moveid",
-            CommandName::Next => "next",
-            CommandName::NoIdle => "noidle",
-            CommandName::NotCommands => "notcommands",
-            CommandName::Pause => "pause",
-            CommandName::Ping => "ping",
-            CommandName::Play => "play",
-            CommandName::PlayId => "playid",
-            CommandName::PlaylistAdd => "playlistadd",
-            CommandName::PlaylistClear => "playlistclear",
-            CommandName::PlaylistDelete => "playlistdelete",
-            CommandName::QueueFind => "playlistfind",
-            CommandName::QueueId => "playlistid",
-            CommandName::QueueInfo => "playlistinfo",
-            CommandName::PlaylistMove => "playlistmove",
-            CommandName::QueueSearch => "playlistsearch",
-            CommandName::QueueChanges => "plchanges",
-            CommandName::QueueChangesPositions => "plchangesposid",
-            CommandName::Previous => "previous",
-            CommandName::Priority => "prio",
-            CommandName::PriorityId => "prioid",
-            CommandName::Random => "random",
-            CommandName::Rename => "rename",
-            CommandName::Repeat => "repeat",
-            CommandName::Rescan => "rescan",
-            CommandName::Remove => "rm",
-            CommandName::Save => "save",
-            CommandName::Search => "search",
-            CommandName::SearchAdd => "searchadd",
-            CommandName::SearchAddPlaylist => "searchaddpl",
-            CommandName::Seek => "seek",
-            CommandName::SeekCurrent => "seekcur",
-            CommandName::SeekId => "seekid",
-            CommandName::SetVolume => "setvol",
-            CommandName::Shuffle => "shuffle",
-            CommandName::Single => "single",
-            CommandName::Stats => "stats",
-            CommandName::Status => "status",
-            CommandName::Sticker => "sticker",
-            CommandName::Stop => "stop",
-            CommandName::Swap => "swap",
-            CommandName::SwapId => "swapid",
-            CommandName::TagTypes => "tagtypes",
-            CommandName::Update => "update",
-        }
+        row(self).0
     }
 
     /// Whether `commands` lists the command: every one, but for the lines of command lists and `noidle`.

@@ -49,33 +49,18 @@ killed_if (Some ending) = is_killed ending
 
 -- `kill` alone ends a request so
 settings_kill : (command : SettingsCommand) → kills command ≡ killed_if (settings_ending command)
-settings_kill settings.Close = refl
-settings_kill (settings.Consume consume) = refl
 settings_kill settings.Kill = refl
-settings_kill settings.Ping = refl
-settings_kill (settings.Random on) = refl
-settings_kill (settings.Repeat on) = refl
-settings_kill (settings.SetVolume volume) = refl
-settings_kill (settings.Single single) = refl
-settings_kill settings.Status = refl
+settings_kill other = refl
 
 session_kill : (command : SessionCommand) → false ≡ killed_if (session_ending command)
 session_kill (session.Idle mask) = refl
-session_kill session.BeginList = refl
-session_kill session.BeginOkList = refl
-session_kill session.EndList = refl
-session_kill session.NoIdle = refl
+session_kill other = refl
 
 command_kill : (command : Command) → is_kill command ≡ killed_if (ending_of command)
 unfolding ending_of
 command_kill (commands.Settings command) = settings_kill command
-command_kill (commands.Database _) = refl
-command_kill (commands.Queue _) = refl
-command_kill (commands.Finding _) = refl
-command_kill (commands.Lists _) = refl
-command_kill (commands.Stickers _) = refl
-command_kill (commands.Playing _) = refl
 command_kill (commands.Session command) = session_kill command
+command_kill other = refl
 
 -- what a line did is the end of the daemon exactly where it reads as `kill`
 abbrev EndsAs : Bool → Did → Type 0

@@ -17,10 +17,4 @@ mod UnchangedLaws
 mod Lasting
 mod SoundLaws
 mod SongForms
-mod SongSettings
-mod SongDatabase
-mod SongQueue
-mod SongFinding
-mod SongLists
-mod SongStickers
 mod SongLaws

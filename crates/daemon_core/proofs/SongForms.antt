@@ -1,18 +1,13 @@
--- Each form of a command's meaning keeps it that in play and in pause a song is current.
+-- Each op and each step of the player keeps it that in play and in pause a song is current.
 use Rattle.std.proofs.Common.{◌≡◌, ℕ, Bool, true, false, ◌||◌, ◌==◌, List, [], Option, Some, None, cond, Result, Ok, Err}
 use Rattle.std.proofs.Common.{refl, sym, ◌∙◌, ap}
 use Rattle.std.specs.Prelude.{is_some, unwrap_or}
 use Rattle.std.proofs.lemmas.Bool.{or_right}
-use Rattle.command_text.specs.declared.refusal.CommandRefusal.{CommandRefusal}
 use Rattle.machine_core.specs.Followed.{followed as follows, follows_queue, follows_setting, cut_to}
 use Rattle.machine_core.specs.Followed.{no_block}
-use Rattle.machine_core.specs.Lists.{replaced, replaces}
-use Rattle.machine_core.specs.Meaning.{Meaning, Meant, says, answers, turns, begins, stands, edited, made, unless_refused, edits}
-use Rattle.machine_core.specs.Meaning.{refusal_of_all}
+use Rattle.machine_core.specs.Meaning.{Meant}
 use Rattle.machine_core.specs.State.{MachineState, settings_of}
 use Rattle.machine_core.specs.Steps.{moves, puts, from_named, step_of, step_in}
-use Rattle.machine_core.specs.Told.{told}
-use Rattle.machine_core.specs.declared.job.Job.{Job}
 use Rattle.machine_core.specs.declared.steps.PlayerStep.{PlayerStep}
 use Rattle.machine_core.specs.declared.steps.PlayerStep.TheVariants.{Resume, Play as PlayNamed, Seek, Next, Ended}
 use Rattle.play_queue.specs.Entries.{Uris}
@@ -35,15 +30,13 @@ use Rattle.player_core.specs.declared.seek.SeekTime.{SeekTime}
 use Rattle.player_core.specs.declared.seek.SongLength.{SongLength}
 use Rattle.player_core.specs.declared.settings.PlaySettings.{PlaySettings}
 use Rattle.song_db.specs.Row.{Row}
-use Rattle.state_codec.specs.Applied.{refusal_of, changes_nothing, after}
-use Rattle.state_codec.specs.Replacing.{replace_ops, replaces_nothing}
-use Rattle.state_codec.specs.Steps.{◌>>=◌}
 use Rattle.state_codec.specs.declared.op.Op.{Op}
 use Rattle.state_codec.specs.declared.op.Op.TheVariants.{SetOption, SetVolume, SetOrder, Queue, List as Lists, Sticker, Batch}
 use Rattle.state_codec.specs.declared.op.queue_op.QueueOp.{QueueOp}
 use Rattle.state_codec.specs.declared.op.queue_op.QueueOp.TheVariants as queue
 use Rattle.state_codec.specs.declared.op.setting.Setting.{Setting}
 use Rattle.state_codec.specs.declared.op.setting.Setting.TheVariants as setting
+use Rattle.machine_core.proofs.CommandForms.{Holds}
 use Rattle.daemon_core.specs.Running.{has_song}
 use Rattle.daemon_core.specs.Stray.{is_stop}
 
@@ -52,8 +45,7 @@ abbrev pub Keeps : PlayerState → PlayerState → Type 0
 Keeps before after = has_song before ≡ true → has_song after ≡ true
 
 abbrev pub KeepsSong : MachineState → Meant → Type 0
-KeepsSong m (Ok x) = Keeps m.player x.after.player
-KeepsSong m (Err refusal) = Unit {0}
+KeepsSong m meant = Holds (λ n x. Keeps n.player x.after.player) m meant
 
 pub one_of_two : (before a b : PlayerState) (which : Bool) → Keeps before a → Keeps before b → Keeps before (cond which a b)
 one_of_two before a b true first second = first
@@ -252,37 +244,3 @@ pub halted_song : (state : PlayState) (player : PlayerState) → Keeps player (h
 halted_song Stop player = λ h. h
 halted_song Play player = λ h. refl
 halted_song Pause player = λ h. refl
-
-pub answers_song : (lines : Result (List ℕ) CommandRefusal) (m : MachineState) → KeepsSong m (answers lines m)
-answers_song (Ok text) m = λ h. h
-answers_song (Err refusal) m = tt
-
-pub then_song : {A : Type 0} (m : MachineState) (looked : Result A CommandRefusal) (rest : A → Meant) →
-    ((found : A) → KeepsSong m (rest found)) → KeepsSong m (looked >>= rest)
-then_song m (Ok found) rest keeps = keeps found
-then_song m (Err refusal) rest keeps = tt
-
-made_song : (op : Op) (text : List ℕ) (m : MachineState) (nothing : Bool) →
-    let x = cond nothing (stands text m) (edited op text (follows op m) m) in Keeps m.player x.after.player
-made_song op text m true = λ h. h
-made_song op text m false = op_song op m
-
-unless_song : (m : MachineState) (refusal : Option CommandRefusal) (x : Meaning) → Keeps m.player x.after.player →
-    KeepsSong m (unless_refused refusal x)
-unless_song m None x keeps = keeps
-unless_song m (Some refusal) x keeps = tt
-
-pub edits_song : (op : Op) (text : List ℕ) (m : MachineState) → KeepsSong m (edits op text m)
-unfolding edits
-edits_song op text m =
-    unless_song m (told (refusal_of op m.saved)) (made op text m) (made_song op text m (changes_nothing op m.saved))
-
-replaced_song : (name : List ℕ) (m : MachineState) (nothing : Bool) →
-    let x = cond nothing (stands [] m) (replaced name m) in Keeps m.player x.after.player
-replaced_song name m true = λ h. h
-replaced_song name m false = λ h. h
-
-pub replaces_song : (name : List ℕ) (m : MachineState) → KeepsSong m (replaces name m)
-replaces_song name m =
-    unless_song m (told (refusal_of_all (replace_ops name) m.saved)) (cond (replaces_nothing name m.saved) (stands [] m) (replaced name m))
-    (replaced_song name m (replaces_nothing name m.saved))

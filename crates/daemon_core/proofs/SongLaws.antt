@@ -1,75 +1,56 @@
 -- After any history a song is current in play and in pause.
 use Rattle.std.proofs.Common.{◌≡◌, ℕ, Bool, true, false, List, [], ◌∷◌, Option, Some, None, cond, Ok, refl, subst}
 use Rattle.command_text.specs.declared.command.Command.{Command}
-use Rattle.command_text.specs.declared.command.Command.TheVariants as topics
-use Rattle.command_text.specs.declared.command.playing.PlayingCommand.{PlayingCommand}
-use Rattle.command_text.specs.declared.command.playing.PlayingCommand.TheVariants as playing
 use Rattle.machine_core.specs.Command.{meaning}
 use Rattle.machine_core.specs.Followed.{current_row}
 use Rattle.machine_core.specs.Happening.{Happening, nothing_happens}
 use Rattle.machine_core.specs.Meaning.{Meaning}
-use Rattle.machine_core.specs.Playing.{playing_meaning}
 use Rattle.machine_core.specs.Reports.{fed_in, broken_in}
 use Rattle.machine_core.specs.Scanning.{is_running, telling, finds, ends_scan}
 use Rattle.machine_core.specs.State.{MachineState, settings_of}
-use Rattle.machine_core.specs.Steps.{named_length, current_length}
+use Rattle.machine_core.specs.Steps.{current_length, puts}
 use Rattle.machine_core.specs.declared.steps.PlayerStep.TheVariants as steps
 use Rattle.play_queue.specs.declared.entry.Entry.{Entry as QueueEntry}
-use Rattle.player_core.specs.Commands.{previous_one}
 use Rattle.player_core.specs.Order.{current_entry}
 use Rattle.player_core.specs.Player.{PlayerState}
 use Rattle.player_core.specs.Reports.{counts, failure}
-use Rattle.player_core.specs.Seek.{sought_here}
 use Rattle.player_core.specs.declared.failure.BrokenCause.{BrokenCause}
 use Rattle.player_core.specs.declared.playing.PlayState.TheVariants.{Stop}
 use Rattle.song_db.specs.Row.{Row}
 use Rattle.song_db.specs.declared.change.RowChange.{RowChange}
 use Rattle.state_codec.specs.SavedState.{SavedState}
 use Rattle.state_codec.specs.declared.op.Op.TheVariants.{Batch}
+use Rattle.machine_core.proofs.CommandForms.{OfForms, Turn, command_so, turned}
 use Rattle.daemon_core.specs.Replay.{Entry, replay}
 use Rattle.daemon_core.specs.Running.{has_song}
 use Rattle.daemon_core.proofs.Lasting.{IsKept, lasts}
-use Rattle.daemon_core.proofs.SongDatabase.{database_song}
-use Rattle.daemon_core.proofs.SongFinding.{finding_song}
 use Rattle.daemon_core.proofs.SongForms.{Keeps, KeepsSong, one_of_two, op_song, moves_song, puts_song, previous_song, sought_here_song}
 use Rattle.daemon_core.proofs.SongForms.{paused_song, halted_song}
-use Rattle.daemon_core.proofs.SongLists.{lists_song}
-use Rattle.daemon_core.proofs.SongQueue.{queue_song}
-use Rattle.daemon_core.proofs.SongSettings.{settings_song}
-use Rattle.daemon_core.proofs.SongStickers.{stickers_song}
 
--- the commands
-playing_song : (command : PlayingCommand) (m : MachineState) → KeepsSong m (playing_meaning command m)
-unfolding playing_meaning
-playing_song playing.ClearError m = λ h. h
-playing_song playing.CurrentSong m = λ h. h
-playing_song playing.Next m = moves_song steps.Next m
-playing_song (playing.Pause switch) m = paused_song switch m.player m.player.state refl
-playing_song (playing.Play None) m = moves_song steps.Resume m
-playing_song (playing.Play (Some selector)) m = moves_song (steps.Play selector) m
-playing_song playing.Previous m =
-    puts_song (previous_one m.saved.queue.entries (settings_of m.saved) m.player) m
-    (previous_song m.saved.queue.entries (settings_of m.saved) m.player)
-playing_song (playing.Seek selector milliseconds) m = moves_song (steps.Seek selector (named_length selector m) milliseconds) m
-playing_song (playing.SeekCurrent time) m =
-    puts_song (sought_here (settings_of m.saved) (current_length m) time m.player) m
-    (sought_here_song (settings_of m.saved) (current_length m) time m.player)
-playing_song playing.Stop m = halted_song m.player.state m.player
+-- the commands, by the forms of their meanings
+turn_song : (turn : Turn) (m : MachineState) → KeepsSong m (puts (turned turn m) m)
+turn_song Turn.ClearError m = λ h. h
+turn_song (Turn.Pause switch) m = paused_song switch m.player m.player.state refl
+turn_song Turn.Previous m =
+    puts_song (turned Turn.Previous m) m (previous_song m.saved.queue.entries (settings_of m.saved) m.player)
+turn_song (Turn.SeekCurrent time) m =
+    puts_song (turned (Turn.SeekCurrent time) m) m (sought_here_song (settings_of m.saved) (current_length m) time m.player)
+turn_song Turn.Stop m = halted_song m.player.state m.player
 
-command_song : (command : Command) (m : MachineState) → KeepsSong m (meaning command m)
-unfolding meaning
-command_song (topics.Settings command) m = settings_song command m
-command_song (topics.Database command) m = database_song command m
-command_song (topics.Queue command) m = queue_song command m
-command_song (topics.Finding command) m = finding_song command m
-command_song (topics.Lists command) m = lists_song command m
-command_song (topics.Stickers command) m = stickers_song command m
-command_song (topics.Playing command) m = playing_song command m
-command_song (topics.Session command) m = λ h. h
+forms_song : OfForms (λ m x. Keeps m.player x.after.player)
+forms_song = record {
+  says = λ text m h. h;
+  edits = λ op text m fits free other. op_song op m;
+  replaces = λ name m free other h. h;
+  begins = λ job text m own h. h;
+  moves = λ step m knows. moves_song step m;
+  turns = turn_song;
+}
 
 command_kept : (command : Command) (m : MachineState) (x : Meaning) → has_song m.player ≡ true → meaning command m ≡ Ok x →
     has_song x.after.player ≡ true
-command_kept command m x h means = subst (KeepsSong m) means (command_song command m) h
+command_kept command m x h means =
+    subst (KeepsSong m) means (command_so (λ n y. Keeps n.player y.after.player) forms_song command m) h
 
 -- the events
 fed_song : (row : Option Row) (ticket frames : ℕ) (player : PlayerState) → Keeps player (fed_in row ticket frames player)

@@ -1,11 +1,10 @@
 -- What every command keeps, proved of the shared forms of meanings: its ops rebuild the saved half, it makes none where the saved
 -- half stays, and an op of playlists or of stickers stands among them exactly where that part differs.
-use Rattle.std.proofs.Common.{◌≡◌, ℕ, Bool, true, false, not, ◌||◌, if◌then◌else◌, List, [], ◌∷◌, ◌++◌, refl, sym, ap, ◌∙◌}
-use Rattle.std.proofs.Common.{Option, Some, None, Result, Ok, Err}
+use Rattle.std.proofs.Common.{◌≡◌, ℕ, Bool, true, false, not, ◌||◌, List, [], ◌∷◌, ◌++◌, refl, sym, ap, ◌∙◌}
+use Rattle.std.proofs.Common.{Option, Some, None}
 use Rattle.std.specs.List.{list_any}
 use Rattle.std.specs.Option.{ok_or}
 use Rattle.std.specs.Result.{result_ok}
-use Rattle.command_text.specs.declared.refusal.CommandRefusal.{CommandRefusal}
 use Rattle.player_core.specs.Player.{PlayerState}
 use Rattle.state_codec.specs.Applied.{refusal_of, changes_nothing, after, after_all, all_applied, applied_from}
 use Rattle.state_codec.specs.Applied.{unless_refused as unless_op_refused}
@@ -16,17 +15,16 @@ use Rattle.state_codec.specs.declared.op.Op.{Op}
 use Rattle.state_codec.specs.declared.op.Op.TheVariants.{SetOption, SetVolume, SetOrder, Queue, List as Lists, Sticker, Batch}
 use Rattle.state_codec.specs.declared.op.queue_op.QueueOp.{QueueOp}
 use Rattle.state_codec.specs.declared.op.queue_op.QueueOp.TheVariants as queue
-use Rattle.state_codec.specs.declared.refusal.OpRefusal.{OpRefusal}
 use Rattle.state_codec.proofs.OpsUnchanged.{op_only, op_refused, op_first}
 use Rattle.stickers.specs.Sticker.{Sticker as Stuck}
 use Rattle.stored_lists.specs.Lists.{Stored}
 use Rattle.machine_core.specs.Before.{is_of_lists, is_of_stickers}
 use Rattle.machine_core.specs.Changed.{same_lists, same_stickers}
 use Rattle.machine_core.specs.Followed.{Following, followed}
-use Rattle.machine_core.specs.Meaning.{Meaning, Meant, stands, says, answers, turns, begins, order_ops, edited, made, unless_refused, edits}
+use Rattle.machine_core.specs.Meaning.{Meaning, Meant, stands, turns, begins, order_ops, edited}
 use Rattle.machine_core.specs.State.{MachineState}
-use Rattle.machine_core.specs.Told.{told}
 use Rattle.machine_core.specs.declared.job.Job.{Job}
+use Rattle.machine_core.proofs.CommandForms.{Holds}
 use Rattle.machine_core.proofs.OrderSteps.{IsApart, followed_apart, order_stays}
 use Rattle.machine_core.proofs.SameParts.{lists_decide, stickers_decide, told_apart, told_same}
 
@@ -42,8 +40,7 @@ pub record IsLawful (m : MachineState) (x : Meaning) : Type 0 where
   pub place : x.after.job.number ≡ m.job.number → x.after.job.place ≡ m.job.place
 
 abbrev pub Lawful : MachineState → Meant → Type 0
-Lawful m (Ok x) = IsLawful m x
-Lawful m (Err refusal) = Unit {0}
+Lawful m meant = Holds IsLawful m meant
 
 -- a part that stays tells nothing
 pub same_lists_told : (s t : SavedState) → t.lists ≡ s.lists → false ≡ not (same_lists s.lists t.lists)
@@ -60,25 +57,17 @@ stays_told m x empty same = record {
   stickers = ap (list_any is_of_stickers) empty ∙ same_stickers_told m.saved x.after.saved (ap (λ (s : SavedState). s.stickers) same);
 }
 
-pub says_lawful : (text : List ℕ) (m : MachineState) → Lawful m (says text m)
+-- lines alone
+pub says_lawful : (text : List ℕ) (m : MachineState) → IsLawful m (stands text m)
 says_lawful text m = record { rebuilt = refl; tells = λ kept. stays_told m (stands text m) refl refl; place = λ e. refl }
 
+-- the player alone changes
 pub turns_lawful : (player : PlayerState) (m : MachineState) → Lawful m (turns player m)
 turns_lawful player m = record { rebuilt = refl; tells = λ kept. stays_told m _ refl refl; place = λ e. refl }
-
-pub answers_lawful : (lines : Result (List ℕ) CommandRefusal) (m : MachineState) → Lawful m (answers lines m)
-answers_lawful (Ok text) m = says_lawful text m
-answers_lawful (Err refusal) m = tt
 
 -- a job begins under a number of its own
 pub begins_lawful : (job : Job) (text : List ℕ) (m : MachineState) → (job.number ≡ m.job.number → ⊥) → Lawful m (begins job text m)
 begins_lawful job text m own = record { rebuilt = refl; tells = λ kept. stays_told m _ refl refl; place = λ e. absurd (own e) }
-
--- look-ups before the rest
-pub then_lawful : {A : Type 0} (m : MachineState) (looked : Result A CommandRefusal) (rest : A → Meant) →
-    ((found : A) → Lawful m (rest found)) → Lawful m (looked >>= rest)
-then_lawful m (Ok found) rest lawful = lawful found
-then_lawful m (Err refusal) rest lawful = tt
 
 -- what an edit does to the saved half
 abbrev done : Op → Option ℕ → SavedState → SavedState
@@ -183,27 +172,11 @@ edited_tells op text next m fits apart free changes kept =
           ∙ ap (λ l. not (same_stickers s.stickers l)) (sym (done_stickers op next.order s apart));
     }
 
-edited_lawful : (op : Op) (text : List ℕ) (next : Following) (m : MachineState) → is_batch op ≡ false → IsApart op next.order →
-    refusal_of op m.saved ≡ None → changes_nothing op m.saved ≡ false → IsLawful m (edited op text next m)
-edited_lawful op text next m fits apart free changes = record {
-  rebuilt = done_rebuilt op next.order m.saved free;
-  tells = edited_tells op text next m fits apart free changes;
+-- an op that changes something, behind the random order that begins before it
+pub edited_lawful : (op : Op) (text : List ℕ) (m : MachineState) → is_batch op ≡ false → refusal_of op m.saved ≡ None →
+    changes_nothing op m.saved ≡ false → IsLawful m (edited op text (followed op m) m)
+edited_lawful op text m fits free changes = record {
+  rebuilt = done_rebuilt op (followed op m).order m.saved free;
+  tells = edited_tells op text (followed op m) m fits (followed_apart op m) free changes;
   place = λ e. refl;
 }
-
-made_lawful : (op : Op) (text : List ℕ) (m : MachineState) → is_batch op ≡ false → refusal_of op m.saved ≡ None →
-    IsLawful m (made op text m)
-made_lawful op text m fits free = of (changes_nothing op m.saved) refl
-  where
-    of : (b : Bool) → changes_nothing op m.saved ≡ b → IsLawful m (if b then stands text m else edited op text (followed op m) m)
-    of true is = says_lawful text m
-    of false is = edited_lawful op text (followed op m) m fits (followed_apart op m) free is
-
--- the shared form of edits
-pub edits_lawful : (op : Op) (text : List ℕ) (m : MachineState) → is_batch op ≡ false → Lawful m (edits op text m)
-unfolding edits
-edits_lawful op text m fits = of (refusal_of op m.saved) refl
-  where
-    of : (r : Option OpRefusal) → refusal_of op m.saved ≡ r → Lawful m (unless_refused (told r) (made op text m))
-    of None free = made_lawful op text m fits free
-    of (Some refusal) refused = tt

@@ -1,7 +1,7 @@
 -- A playlist that gets the songs of the queue in place of its own.
 use Rattle.std.proofs.Common.{◌≡◌, ℕ, ◌+◌, ◌≤◌, Bool, true, false, not, List, [], ◌∷◌, length, is_some, nat_le}
 use Rattle.std.proofs.Common.{refl, sym, ap, subst, ◌∙◌, arith}
-use Rattle.std.proofs.Common.{Option, Some, None, Result, Ok, Err}
+use Rattle.std.proofs.Common.{Some, None, Result, Ok, Err}
 use Rattle.std.proofs.lemmas.Bool.Decides.{nat_tests}
 use Rattle.std.specs.Prelude.{IfErr, if◌then◌else◌}
 use Rattle.std.specs.Result.{IsErrAnd, result_ok}
@@ -32,7 +32,7 @@ use Rattle.machine_core.specs.declared.work.Failure.{Failure}
 use Rattle.machine_core.specs.declared.work.Failure.TheVariants.{Refused, NoMemory}
 use Rattle.machine_core.specs.declared.work.Work.{Work}
 use Rattle.machine_core.proofs.Edits.{allowed_by, refused_by}
-use Rattle.machine_core.proofs.FormLaws.{TellsChanges, IsLawful, Lawful, same_stickers_told, says_lawful}
+use Rattle.machine_core.proofs.FormLaws.{TellsChanges, IsLawful, same_stickers_told}
 use Rattle.machine_core.proofs.InTurn.{all_apply, none_refused}
 use Rattle.machine_core.proofs.SameParts.{lists_decide, told_apart}
 
@@ -139,19 +139,10 @@ replaced_tells name m none changes kept =
     }
 
 -- and is lawful
-pub replaces_lawful : (name : List ℕ) (m : MachineState) → Lawful m (replaces name m)
-replaces_lawful name m = of (refusal_of_all (replace_ops name) m.saved) refl
-  where
-    made : (nothing : Bool) → replaces_nothing name m.saved ≡ nothing → refusal_of_all (replace_ops name) m.saved ≡ None →
-        IsLawful m (if nothing then stands [] m else replaced name m)
-    made true is none = says_lawful [] m
-    made false is none = record {
-      rebuilt = ap result_ok (all_apply 0 (replace_ops name) m.saved (none_refused (replace_ops name) m.saved none));
-      tells = replaced_tells name m none is;
-      place = λ e. refl;
-    }
-
-    of : (r : Option OpRefusal) → refusal_of_all (replace_ops name) m.saved ≡ r →
-        Lawful m (unless_refused (told r) (if replaces_nothing name m.saved then stands [] m else replaced name m))
-    of None none = made (replaces_nothing name m.saved) refl none
-    of (Some refusal) refused = tt
+pub replaced_lawful : (name : List ℕ) (m : MachineState) → refusal_of_all (replace_ops name) m.saved ≡ None →
+    replaces_nothing name m.saved ≡ false → IsLawful m (replaced name m)
+replaced_lawful name m none changes = record {
+  rebuilt = ap result_ok (all_apply 0 (replace_ops name) m.saved (none_refused (replace_ops name) m.saved none));
+  tells = replaced_tells name m none changes;
+  place = λ e. refl;
+}

@@ -2,14 +2,11 @@
 use Rattle.std.proofs.Common.{◌≡◌, ℕ, Bool, true, false, cond, ◌+◌, List, [], ◌∷◌, ◌++◌, Option, Some, None, Ok, subst}
 use Rattle.std.specs.Prelude.{min}
 use Rattle.command_text.specs.declared.command.Command.{Command}
-use Rattle.command_text.specs.declared.command.playing.PlayingCommand.{PlayingCommand}
-use Rattle.command_text.specs.declared.command.playing.PlayingCommand.TheVariants as playing
 use Rattle.play_queue.specs.declared.entry.Entry.{Entry as QueueEntry}
-use Rattle.player_core.specs.Commands.{paused, previous_one}
+use Rattle.player_core.specs.Commands.{paused}
 use Rattle.player_core.specs.Order.{current_entry}
 use Rattle.player_core.specs.Player.{PlayerState}
 use Rattle.player_core.specs.Reports.{counts, failure}
-use Rattle.player_core.specs.Seek.{sought_here}
 use Rattle.player_core.specs.declared.failure.BrokenCause.{BrokenCause}
 use Rattle.player_core.specs.declared.playing.PlayState.TheVariants.{Stop}
 use Rattle.song_db.specs.Row.{Row}
@@ -20,44 +17,43 @@ use Rattle.machine_core.specs.Command.{meaning}
 use Rattle.machine_core.specs.Followed.{current_row, followed}
 use Rattle.machine_core.specs.Happening.{nothing_happens}
 use Rattle.machine_core.specs.Meaning.{Meaning, order_ops}
-use Rattle.machine_core.specs.Playing.{playing_meaning}
 use Rattle.machine_core.specs.Reports.{fed_in, broken_in, when_fed, when_ended, when_broken}
 use Rattle.machine_core.specs.Scanning.{is_running, telling, finds, ends_scan, when_found, when_scanned}
 use Rattle.machine_core.specs.Sound.{IsSoundPlayer, IsSound}
 use Rattle.machine_core.specs.State.{MachineState, settings_of}
-use Rattle.machine_core.specs.Steps.{named_length, current_length}
-use Rattle.machine_core.specs.declared.steps.PlayerStep.TheVariants as steps
-use Rattle.machine_core.proofs.Lasting.{KeptBy, command_lasts}
-use Rattle.machine_core.proofs.SoundForms.{batch_sound, edits_sound, moves_sound, puts_sound, steps_sound}
+use Rattle.machine_core.specs.Steps.{current_length, puts}
+use Rattle.machine_core.proofs.CommandForms.{KeptBy, OfForms, Turn, command_so, turned}
+use Rattle.machine_core.proofs.SoundForms.{batch_sound, edited_sound, moves_sound, puts_sound, steps_sound}
 use Rattle.machine_core.proofs.SoundPlaying.{previous_sound, sought_here_sound, halted_sound, ended_sound}
 use Rattle.machine_core.proofs.SoundSteps.{sound_from, played_of}
 
-pub playing_sound : (command : PlayingCommand) (m : MachineState) → KeptBy IsSound m (playing_meaning command m)
-unfolding playing_meaning
-playing_sound playing.ClearError m = λ sound.
+pub turn_sound : (turn : Turn) (m : MachineState) → KeptBy IsSound m (puts (turned turn m) m)
+turn_sound Turn.ClearError m = λ sound.
     sound_from m.saved.queue.entries m.saved.options.random (record m.player { error = None }) sound.current
     (played_of m.saved.queue.entries m.saved.options.random m.player sound)
-playing_sound playing.CurrentSong m = λ sound. sound
-playing_sound playing.Next m = moves_sound steps.Next m
-playing_sound (playing.Pause switch) m = λ sound.
+turn_sound (Turn.Pause switch) m = λ sound.
     sound_from m.saved.queue.entries m.saved.options.random (record m.player { state = paused switch m.player.state }) sound.current
     (played_of m.saved.queue.entries m.saved.options.random m.player sound)
-playing_sound (playing.Play None) m = moves_sound steps.Resume m
-playing_sound (playing.Play (Some selector)) m = moves_sound (steps.Play selector) m
-playing_sound playing.Previous m =
-    puts_sound (previous_one m.saved.queue.entries (settings_of m.saved) m.player) m
-    (previous_sound m.saved.queue.entries (settings_of m.saved) m.player)
-playing_sound (playing.Seek selector milliseconds) m = moves_sound (steps.Seek selector (named_length selector m) milliseconds) m
-playing_sound (playing.SeekCurrent time) m =
-    puts_sound (sought_here (settings_of m.saved) (current_length m) time m.player) m
+turn_sound Turn.Previous m =
+    puts_sound (turned Turn.Previous m) m (previous_sound m.saved.queue.entries (settings_of m.saved) m.player)
+turn_sound (Turn.SeekCurrent time) m =
+    puts_sound (turned (Turn.SeekCurrent time) m) m
     (sought_here_sound m.saved.queue.entries (settings_of m.saved) (current_length m) time m.player)
-playing_sound playing.Stop m = halted_sound m.player.state m.saved.queue.entries m.saved.options.random m.player
+turn_sound Turn.Stop m = halted_sound m.player.state m.saved.queue.entries m.saved.options.random m.player
 
-command_kept : (command : Command) (m : MachineState) → KeptBy IsSound m (meaning command m)
-command_kept command m = command_lasts IsSound (λ n job sound. sound) (λ n lists sound. sound) edits_sound playing_sound command m
+forms_sound : OfForms (λ m x. IsSound m → IsSound x.after)
+forms_sound = record {
+  says = λ text m sound. sound;
+  edits = λ op text m fits free other. edited_sound op text m free;
+  replaces = λ name m free other sound. sound;
+  begins = λ job text m own sound. sound;
+  moves = λ step m knows. moves_sound step m;
+  turns = turn_sound;
+}
 
 pub command_sound : (command : Command) (m : MachineState) (x : Meaning) → IsSound m → meaning command m ≡ Ok x → IsSound x.after
-command_sound command m x sound means = subst (λ meant. KeptBy IsSound m meant) means (command_kept command m) sound
+command_sound command m x sound means =
+    subst (λ meant. KeptBy IsSound m meant) means (command_so (λ n y. IsSound n → IsSound y.after) forms_sound command m) sound
 
 -- ---- events
 

@@ -1,5 +1,5 @@
 -- Each form of a command's meaning keeps the player sound.
-use Rattle.std.proofs.Common.{◌≡◌, ℕ, ◌+◌, ◌==◌, Bool, true, false, cond, List, [], ◌∷◌}
+use Rattle.std.proofs.Common.{◌≡◌, ℕ, ◌+◌, ◌==◌, Bool, true, false, List, [], ◌∷◌}
 use Rattle.std.proofs.Common.{◌++◌, Option, Some, None, Result, Ok, Err, refl, sym, subst}
 use Rattle.std.specs.List.{AllByRecursion}
 use Rattle.std.specs.Prelude.{IfSome}
@@ -19,7 +19,7 @@ use Rattle.player_core.specs.declared.refusal.PlayerError.{PlayerError}
 use Rattle.song_db.specs.Row.{Row}
 use Rattle.song_db.specs.Scan.{drops_of}
 use Rattle.song_db.specs.declared.change.RowChange.{RowChange}
-use Rattle.state_codec.specs.Applied.{refusal_of, changes_nothing, after, after_all}
+use Rattle.state_codec.specs.Applied.{refusal_of, after, after_all}
 use Rattle.state_codec.specs.OpsQueue.{queue_refusal, after_queue}
 use Rattle.state_codec.specs.OpsSettings.{with_setting}
 use Rattle.state_codec.specs.SavedState.{SavedState}
@@ -29,16 +29,14 @@ use Rattle.state_codec.specs.declared.op.queue_op.QueueOp.{QueueOp}
 use Rattle.state_codec.specs.declared.op.queue_op.QueueOp.TheVariants as queue
 use Rattle.state_codec.specs.declared.op.setting.Setting.{Setting}
 use Rattle.state_codec.specs.declared.op.setting.Setting.TheVariants as setting
-use Rattle.state_codec.specs.declared.refusal.OpRefusal.{OpRefusal}
 use Rattle.machine_core.specs.Followed.{followed, follows_queue, follows_setting, follows_batch, cut_to, no_block}
-use Rattle.machine_core.specs.Meaning.{stands, edited, made, unless_refused, edits, order_ops}
+use Rattle.machine_core.specs.Meaning.{edited, order_ops}
 use Rattle.machine_core.specs.Sound.{IsIn, AreOwn, IsSoundPlayer, IsSound}
 use Rattle.machine_core.specs.State.{MachineState, settings_of}
 use Rattle.machine_core.specs.Steps.{moves, puts, from_named, step_in, steps, removal_ops, single_ops, consume_ops}
-use Rattle.machine_core.specs.Told.{told}
 use Rattle.machine_core.specs.declared.steps.PlayerStep.{PlayerStep}
 use Rattle.machine_core.specs.declared.steps.PlayerStep.TheVariants.{Resume, Play as PlayNamed, Seek, Next, Ended}
-use Rattle.machine_core.proofs.Lasting.{KeptBy}
+use Rattle.machine_core.proofs.CommandForms.{KeptBy}
 use Rattle.machine_core.proofs.SoundEdits.{id_test, op_has, ruled_has}
 use Rattle.machine_core.proofs.SoundLeaving.{stays_deleted, stays_kept}
 use Rattle.machine_core.proofs.SoundPlaying.{StepSound, PlayerSound, left_of, over_sound, ended_sound, resumed_sound}
@@ -211,20 +209,11 @@ puts_sound (Err refusal) m keeps = tt
 
 -- ---- edits
 
-pub made_sound : (op : Op) (text : List ℕ) (m : MachineState) (nothing : Bool) → refusal_of op m.saved ≡ None
-    → let x = cond nothing (stands text m) (edited op text (followed op m) m) in IsSound m → IsSound x.after
-made_sound op text m true none = λ sound. sound
-made_sound op text m false none = λ sound. of (let next = followed op m in next.order) sound
+pub edited_sound : (op : Op) (text : List ℕ) (m : MachineState) → refusal_of op m.saved ≡ None → IsSound m
+    → let x = edited op text (followed op m) m in IsSound x.after
+edited_sound op text m none sound = of (let next = followed op m in next.order)
   where
-    of : (order : Option ℕ) → IsSound m → let s = after_all (order_ops order ++ op ∷ []) m.saved in let next = followed op m in
+    of : (order : Option ℕ) → let s = after_all (order_ops order ++ op ∷ []) m.saved in let next = followed op m in
         IsSoundPlayer s.queue.entries s.options.random next.player
-    of None sound = op_sound op m.saved.order m none sound
-    of (Some order) sound = op_sound op order m none sound
-
-pub edits_sound : (op : Op) (text : List ℕ) (m : MachineState) → KeptBy IsSound m (edits op text m)
-unfolding edits
-edits_sound op text m = of (refusal_of op m.saved) refl
-  where
-    of : (refusal : Option OpRefusal) → refusal_of op m.saved ≡ refusal → KeptBy IsSound m (unless_refused (told refusal) (made op text m))
-    of None none = made_sound op text m (changes_nothing op m.saved) none
-    of (Some refusal) refused = tt
+    of None = op_sound op m.saved.order m none sound
+    of (Some order) = op_sound op order m none sound

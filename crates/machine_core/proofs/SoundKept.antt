@@ -2,69 +2,74 @@
 use Rattle.std.proofs.Common.{◌≡◌, ℕ, ◌+◌, Bool, true, false, cond, List, [], ◌∷◌, ◌++◌, Option, Some, None, Ok, refl, sym, subst, arith}
 use Rattle.std.specs.Prelude.{min}
 use Rattle.command_text.specs.declared.command.Command.{Command}
-use Rattle.command_text.specs.declared.command.playing.PlayingCommand.{PlayingCommand}
-use Rattle.command_text.specs.declared.command.playing.PlayingCommand.TheVariants as playing
 use Rattle.play_queue.specs.Queue.{IsQueue}
 use Rattle.play_queue.specs.declared.entry.Entry.{Entry as QueueEntry}
 use Rattle.player_core.specs.Order.{current_entry}
 use Rattle.player_core.specs.Reports.{counts, failure}
 use Rattle.player_core.specs.declared.failure.BrokenCause.{BrokenCause}
 use Rattle.player_core.specs.declared.playing.PlayState.TheVariants.{Stop}
+use Rattle.player_core.specs.declared.seek.SongLength.{SongLength}
 use Rattle.song_db.specs.Row.{Row}
 use Rattle.song_db.specs.Scan.{drops_of}
 use Rattle.song_db.specs.declared.change.RowChange.{RowChange}
 use Rattle.state_codec.specs.Applied.{after_all}
 use Rattle.state_codec.specs.declared.op.Op.TheVariants.{Batch}
-use Rattle.stored_lists.specs.Lists.{Stored}
 use Rattle.machine_core.specs.Command.{meaning}
 use Rattle.machine_core.specs.Followed.{current_row, followed}
 use Rattle.machine_core.specs.Happening.{nothing_happens}
 use Rattle.machine_core.specs.Meaning.{Meaning, order_ops}
-use Rattle.machine_core.specs.Playing.{playing_meaning}
 use Rattle.machine_core.specs.Reports.{broken_in, fed_in, when_broken, when_ended, when_fed}
 use Rattle.machine_core.specs.Scanning.{ends_scan, finds, is_running, telling, when_found, when_scanned}
 use Rattle.machine_core.specs.Sound.{IsSoundMachine, IsWithinSong}
 use Rattle.machine_core.specs.State.{MachineState}
-use Rattle.machine_core.specs.declared.job.Job.{Job}
-use Rattle.machine_core.proofs.Lasting.{KeptBy, command_lasts}
-use Rattle.machine_core.proofs.SoundCommands.{playing_sound, when_broken_sound, when_fed_sound, when_found_sound}
+use Rattle.machine_core.specs.Steps.{moves, puts, step_in}
+use Rattle.machine_core.specs.declared.steps.PlayerStep.{PlayerStep}
+use Rattle.machine_core.specs.declared.steps.PlayerStep.TheVariants as steps
+use Rattle.machine_core.proofs.CommandForms.{KeptBy, KnowsLength, OfForms, Turn, command_so, turned}
+use Rattle.machine_core.proofs.SoundCommands.{turn_sound, when_broken_sound, when_fed_sound, when_found_sound}
 use Rattle.machine_core.proofs.SoundFrame.{FrameWithin}
 use Rattle.machine_core.proofs.SoundQueues.{batch_stays}
-use Rattle.machine_core.proofs.SoundWithin.{batch_framed, edits_holds, ended_holds, halted_within, next_holds, play_holds, previous_holds}
+use Rattle.machine_core.proofs.SoundWithin.{batch_framed, edited_holds, ended_holds, halted_within, next_holds, play_holds, previous_holds}
 use Rattle.machine_core.proofs.SoundWithin.{resume_holds, seek_current_holds, seek_holds}
 
-playing_holds : (command : PlayingCommand) (m : MachineState) → KeptBy IsSoundMachine m (playing_meaning command m)
-unfolding playing_meaning
-playing_holds playing.ClearError m = λ holds.
-    record { queue = holds.queue; sound = playing_sound playing.ClearError m holds.sound; frame = holds.frame }
-playing_holds playing.CurrentSong m = λ holds. holds
-playing_holds playing.Next m = next_holds m
-playing_holds (playing.Pause switch) m = λ holds.
-    record { queue = holds.queue; sound = playing_sound (playing.Pause switch) m holds.sound; frame = holds.frame }
-playing_holds (playing.Play None) m = resume_holds m
-playing_holds (playing.Play (Some selector)) m = play_holds m selector
-playing_holds playing.Previous m = previous_holds m (playing_sound playing.Previous m)
-playing_holds (playing.Seek selector milliseconds) m = seek_holds m selector milliseconds
-playing_holds (playing.SeekCurrent time) m = seek_current_holds m time (playing_sound (playing.SeekCurrent time) m)
-playing_holds playing.Stop m = λ holds.
+turn_holds : (turn : Turn) (m : MachineState) → KeptBy IsSoundMachine m (puts (turned turn m) m)
+turn_holds Turn.ClearError m = λ holds.
+    record { queue = holds.queue; sound = turn_sound Turn.ClearError m holds.sound; frame = holds.frame }
+turn_holds (Turn.Pause switch) m = λ holds.
+    record { queue = holds.queue; sound = turn_sound (Turn.Pause switch) m holds.sound; frame = holds.frame }
+turn_holds Turn.Previous m = previous_holds m (turn_sound Turn.Previous m)
+turn_holds (Turn.SeekCurrent time) m = seek_current_holds m time (turn_sound (Turn.SeekCurrent time) m)
+turn_holds Turn.Stop m = λ holds.
     record {
       queue = holds.queue;
-      sound = playing_sound playing.Stop m holds.sound;
+      sound = turn_sound Turn.Stop m holds.sound;
       frame = halted_within m m.player.state holds.frame;
     }
 
-without_job : (m : MachineState) (job : Job) → IsSoundMachine m → IsSoundMachine (record m { job = job })
-without_job m job holds = record { queue = holds.queue; sound = holds.sound; frame = holds.frame }
+move_holds : (step : PlayerStep) (m : MachineState) → KnowsLength step m → KeptBy IsSoundMachine m (moves (step_in step m) m)
+move_holds steps.Resume m knows = resume_holds m
+move_holds (steps.Play selector) m knows = play_holds m selector
+move_holds (steps.Seek selector song milliseconds) m knows =
+    subst (λ (length : SongLength). KeptBy IsSoundMachine m (moves (step_in (steps.Seek selector length milliseconds) m) m)) (sym knows)
+    (seek_holds m selector milliseconds)
+move_holds steps.Next m knows = next_holds m
+move_holds (steps.Ended ticket) m knows = ended_holds m ticket
 
-without_lists : (m : MachineState) (lists : Stored) → IsSoundMachine m
-    → IsSoundMachine (record m { saved = record m.saved { lists = lists } })
-without_lists m lists holds = record { queue = holds.queue; sound = holds.sound; frame = holds.frame }
+forms_hold : OfForms (λ m x. IsSoundMachine m → IsSoundMachine x.after)
+forms_hold = record {
+  says = λ text m holds. holds;
+  edits = λ op text m fits free other. edited_holds op text m free;
+  replaces = λ name m free other holds. record { queue = holds.queue; sound = holds.sound; frame = holds.frame };
+  begins = λ job text m own holds. record { queue = holds.queue; sound = holds.sound; frame = holds.frame };
+  moves = move_holds;
+  turns = turn_holds;
+}
 
 pub command_holds : (command : Command) (m : MachineState) (x : Meaning) → IsSoundMachine m → meaning command m ≡ Ok x
     → IsSoundMachine x.after
 command_holds command m x holds means =
     subst (λ meant. KeptBy IsSoundMachine m meant) means
-    (command_lasts IsSoundMachine without_job without_lists edits_holds playing_holds command m) holds
+    (command_so (λ n y. IsSoundMachine n → IsSoundMachine y.after) forms_hold command m) holds
 
 -- ---- events
 

@@ -29,7 +29,7 @@ use Rattle.player_core.specs.declared.settings.PlaySettings.{PlaySettings}
 use Rattle.song_db.specs.Row.{Row}
 use Rattle.song_db.specs.Scan.{drops_of}
 use Rattle.song_db.specs.declared.change.RowChange.{RowChange}
-use Rattle.state_codec.specs.Applied.{after, after_all, changes_nothing, refusal_of}
+use Rattle.state_codec.specs.Applied.{after, after_all, refusal_of}
 use Rattle.state_codec.specs.OpsQueue.{after_queue, queue_refusal}
 use Rattle.state_codec.specs.SavedState.{SavedState}
 use Rattle.state_codec.specs.declared.op.Op.{Op}
@@ -38,20 +38,18 @@ use Rattle.state_codec.specs.declared.op.queue_op.QueueOp.{QueueOp}
 use Rattle.state_codec.specs.declared.op.queue_op.QueueOp.TheVariants as queue
 use Rattle.state_codec.specs.declared.op.setting.Setting.{Setting}
 use Rattle.state_codec.specs.declared.op.setting.Setting.TheVariants as setting
-use Rattle.state_codec.specs.declared.refusal.OpRefusal.{OpRefusal}
 use Rattle.machine_core.specs.Followed.{Following, current_row, cut_to, entry_row, followed, follows_batch, follows_queue, follows_setting}
 use Rattle.machine_core.specs.Followed.{no_block, of_step, step_as_they_leave}
-use Rattle.machine_core.specs.Meaning.{edited, edits, made, order_ops, stands, unless_refused}
+use Rattle.machine_core.specs.Meaning.{edited, order_ops}
 use Rattle.machine_core.specs.Sound.{IsSound, IsSoundMachine, IsWithinSong}
 use Rattle.machine_core.specs.State.{MachineState, settings_of}
 use Rattle.machine_core.specs.Steps.{consume_ops, current_length, from_named, length_of, moves, named_entry, named_length}
 use Rattle.machine_core.specs.Steps.{puts, removal_ops, single_ops, step_in, steps}
-use Rattle.machine_core.specs.Told.{told}
 use Rattle.machine_core.specs.declared.steps.PlayerStep.{PlayerStep}
 use Rattle.machine_core.specs.declared.steps.PlayerStep.TheVariants.{Resume, Play as PlayNamed, Seek, Next, Ended}
-use Rattle.machine_core.proofs.Lasting.{KeptBy}
+use Rattle.machine_core.proofs.CommandForms.{KeptBy}
 use Rattle.machine_core.proofs.SoundEdits.{op_has, ruled_has, song_test}
-use Rattle.machine_core.proofs.SoundForms.{made_sound, moves_sound}
+use Rattle.machine_core.proofs.SoundForms.{edited_sound, moves_sound}
 use Rattle.machine_core.proofs.SoundFrame.{FrameWithin, is_song, least_within, named_row, none_within, row_kept, row_kept_at}
 use Rattle.machine_core.proofs.SoundLeaving.{stays_deleted}
 use Rattle.machine_core.proofs.SoundQueues.{consumed_stays, batch_stays, queue_stays}
@@ -213,13 +211,11 @@ op_queue (Lists op) order m none h = h
 op_queue (Sticker op) order m none h = h
 op_queue (Batch changes) order m none h = batch_stays m.saved.queue (drops_of changes) _ h
 
-made_holds : (op : Op) (text : List ℕ) (m : MachineState) (nothing : Bool) → refusal_of op m.saved ≡ None
-    → let x = cond nothing (stands text m) (edited op text (followed op m) m) in (IsSound m → IsSound x.after)
-    → IsSoundMachine m → IsSoundMachine x.after
-made_holds op text m true none keeps holds = holds
-made_holds op text m false none keeps holds = record {
+pub edited_holds : (op : Op) (text : List ℕ) (m : MachineState) → refusal_of op m.saved ≡ None → IsSoundMachine m
+    → let x = edited op text (followed op m) m in IsSoundMachine x.after
+edited_holds op text m none holds = record {
   queue = queue_of next.order;
-  sound = keeps holds.sound;
+  sound = edited_sound op text m none holds.sound;
   frame = frame_of next.order;
 }
   where
@@ -233,16 +229,6 @@ made_holds op text m false none keeps holds = record {
     frame_of : (order : Option ℕ) → let s = after_all (order_ops order ++ op ∷ []) m.saved in Framed s.songs s.queue.entries next.player
     frame_of None = op_framed op m.saved.order m none holds
     frame_of (Some order) = op_framed op order m none holds
-
-pub edits_holds : (op : Op) (text : List ℕ) (m : MachineState) → KeptBy IsSoundMachine m (edits op text m)
-unfolding edits
-edits_holds op text m = of (refusal_of op m.saved) refl
-  where
-    of : (refusal : Option OpRefusal) → refusal_of op m.saved ≡ refusal
-        → KeptBy IsSoundMachine m (unless_refused (told refusal) (made op text m))
-    of None none =
-        made_holds op text m (changes_nothing op m.saved) none (made_sound op text m (changes_nothing op m.saved) none)
-    of (Some refusal) refused = tt
 
 -- ---- steps
 

@@ -1,0 +1,211 @@
+-- The forms of a command's meaning. What holds of each form, between the machine before and the meaning, holds of every command that isn't
+-- refused. So a law of all commands is proved of the forms alone; a command that is added is found to have one, or has its line here.
+use Rattle.std.proofs.Common.{◌≡◌, ℕ, Bool, true, false, not, suc, List, [], Option, Some, None, Result, Ok, Err, refl, arith}
+use Rattle.std.specs.Prelude.{nat_lt, if◌then◌else◌}
+use Rattle.command_text.specs.declared.command.Command.{Command}
+use Rattle.command_text.specs.declared.command.Command.TheVariants as topics
+use Rattle.command_text.specs.declared.command.database.DatabaseCommand.{DatabaseCommand}
+use Rattle.command_text.specs.declared.command.database.DatabaseCommand.TheVariants as database
+use Rattle.command_text.specs.declared.command.finding.FindingCommand.{FindingCommand}
+use Rattle.command_text.specs.declared.command.finding.FindingCommand.TheVariants as finding
+use Rattle.command_text.specs.declared.command.lists.ListsCommand.{ListsCommand}
+use Rattle.command_text.specs.declared.command.lists.ListsCommand.TheVariants as lists
+use Rattle.command_text.specs.declared.command.lists.SaveMode.TheVariants.{Replace}
+use Rattle.command_text.specs.declared.command.playing.PlayingCommand.{PlayingCommand}
+use Rattle.command_text.specs.declared.command.playing.PlayingCommand.TheVariants as playing
+use Rattle.command_text.specs.declared.command.queue.QueueCommand.{QueueCommand}
+use Rattle.command_text.specs.declared.command.queue.QueueCommand.TheVariants as queue
+use Rattle.command_text.specs.declared.command.settings.SettingsCommand.{SettingsCommand}
+use Rattle.command_text.specs.declared.command.settings.SettingsCommand.TheVariants as settings
+use Rattle.command_text.specs.declared.command.sticker.StickersCommand.{StickersCommand}
+use Rattle.command_text.specs.declared.command.sticker.StickersCommand.TheVariants as stickers
+use Rattle.command_text.specs.declared.refusal.CommandRefusal.{CommandRefusal}
+use Rattle.command_text.specs.declared.refusal.CommandRefusal.TheVariants.{AlreadyUpdating}
+use Rattle.play_queue.specs.declared.target.Target.{Target}
+use Rattle.player_core.specs.Commands.{halted, paused, previous_one}
+use Rattle.player_core.specs.Player.{PlayerState}
+use Rattle.player_core.specs.Seek.{sought_here}
+use Rattle.player_core.specs.declared.refusal.PlayerError.{PlayerError}
+use Rattle.player_core.specs.declared.seek.SeekTime.{SeekTime}
+use Rattle.state_codec.specs.Applied.{changes_nothing, refusal_of}
+use Rattle.state_codec.specs.Laws.{is_batch}
+use Rattle.state_codec.specs.Replacing.{replace_ops, replaces_nothing}
+use Rattle.state_codec.specs.Steps.{◌>>=◌}
+use Rattle.state_codec.specs.declared.op.Op.{Op}
+use Rattle.state_codec.specs.declared.op.Op.TheVariants.{Queue as OfQueue}
+use Rattle.state_codec.specs.declared.op.queue_op.QueueOp.TheVariants.{Shuffle}
+use Rattle.state_codec.specs.declared.refusal.OpRefusal.{OpRefusal}
+use Rattle.machine_core.specs.Adding.{adds, place_in}
+use Rattle.machine_core.specs.Command.{meaning}
+use Rattle.machine_core.specs.Database.{begun, database_meaning, last_job_number, next_job}
+use Rattle.machine_core.specs.Finding.{finding_meaning}
+use Rattle.machine_core.specs.Followed.{followed}
+use Rattle.machine_core.specs.Lists.{lists_meaning, replaced, replaces}
+use Rattle.machine_core.specs.Meaning.{Meaning, Meant, begins, edited, edits, must, refusal_of_all, says, stands, unless_refused}
+use Rattle.machine_core.specs.Playing.{playing_meaning}
+use Rattle.machine_core.specs.Queue.{moves as moves_block, place_in_rest, queue_meaning, shuffles}
+use Rattle.machine_core.specs.Settings.{settings_meaning}
+use Rattle.machine_core.specs.Spans.{count_of}
+use Rattle.machine_core.specs.State.{MachineState, settings_of}
+use Rattle.machine_core.specs.Steps.{current_length, moves, named_length, puts, step_in}
+use Rattle.machine_core.specs.Stickers.{stickers_meaning}
+use Rattle.machine_core.specs.Told.{told}
+use Rattle.machine_core.specs.declared.job.Job.{Job}
+use Rattle.machine_core.specs.declared.span.Span.{Span}
+use Rattle.machine_core.specs.declared.steps.PlayerStep.{PlayerStep}
+use Rattle.machine_core.specs.declared.steps.PlayerStep.TheVariants as steps
+
+-- what holds of a command that isn't refused
+abbrev pub Holds : (MachineState → Meaning → Type 0) → MachineState → Meant → Type 0
+Holds Q m (Ok x) = Q m x
+Holds Q m (Err refusal) = Unit {0}
+
+-- a command that isn't refused keeps what holds of a machine
+abbrev pub KeptBy : (MachineState → Type 0) → MachineState → Meant → Type 0
+KeptBy P m meant = Holds (λ n x. P n → P x.after) m meant
+
+-- what commands do that change the player alone
+pub data Turn : Type 0 where
+  ClearError : Turn
+  Pause : (switch : Option Bool) → Turn
+  Previous : Turn
+  SeekCurrent : (time : SeekTime) → Turn
+  Stop : Turn
+
+abbrev pub turned : Turn → MachineState → Result PlayerState PlayerError
+turned Turn.ClearError m = Ok (record m.player { error = None })
+turned (Turn.Pause switch) m = Ok (record m.player { state = paused switch m.player.state })
+turned Turn.Previous m = previous_one m.saved.queue.entries (settings_of m.saved) m.player
+turned (Turn.SeekCurrent time) m = sought_here (settings_of m.saved) (current_length m) time m.player
+turned Turn.Stop m = Ok (halted m.player.state m.player)
+
+-- the length that a step goes by is that of the song that it names
+abbrev pub KnowsLength : PlayerStep → MachineState → Type 0
+KnowsLength (steps.Seek selector song milliseconds) m = song ≡ named_length selector m
+KnowsLength other m = Unit {0}
+
+-- The forms: lines alone; an op, which no command makes of a batch, that isn't refused and changes something; the songs of the queue in
+-- place of a playlist's; a job that begins under a number of its own; a step of the player; a turn of the player alone.
+pub record OfForms (Q : MachineState → Meaning → Type 0) : Type 0 where
+  pub says : (text : List ℕ) (m : MachineState) → Q m (stands text m)
+  pub edits : (op : Op) (text : List ℕ) (m : MachineState) → is_batch op ≡ false → refusal_of op m.saved ≡ None →
+      changes_nothing op m.saved ≡ false → Q m (edited op text (followed op m) m)
+  pub replaces : (name : List ℕ) (m : MachineState) → refusal_of_all (replace_ops name) m.saved ≡ None →
+      replaces_nothing name m.saved ≡ false → Q m (replaced name m)
+  pub begins : (job : Job) (text : List ℕ) (m : MachineState) → (job.number ≡ m.job.number → ⊥) → Holds Q m (begins job text m)
+  pub moves : (step : PlayerStep) (m : MachineState) → KnowsLength step m → Holds Q m (moves (step_in step m) m)
+  pub turns : (turn : Turn) (m : MachineState) → Holds Q m (puts (turned turn m) m)
+
+-- the next job has another number
+pub next_is_other : (number : ℕ) → next_job number ≡ number → ⊥
+next_is_other number same = by_cases (nat_lt number last_job_number) refl same where
+  by_cases : (b : Bool) → nat_lt number last_job_number ≡ b → (if b then suc number else 1) ≡ number → ⊥
+  by_cases true less e = omega (arith, e)
+  by_cases false more e = absurd (let one : number ≡ 1 = omega (arith, e) in cc)
+
+module _ (Q : MachineState → Meaning → Type 0) (of : OfForms Q) where
+  -- ---- the forms with their refusals
+
+  says_so : (text : List ℕ) (m : MachineState) → Holds Q m (says text m)
+  says_so text m = of.says text m
+
+  -- a look-up before the rest
+  then_so : {A : Type 0} (m : MachineState) (looked : Result A CommandRefusal) (rest : A → Meant) →
+      ((found : A) → Holds Q m (rest found)) → Holds Q m (looked >>= rest)
+  then_so m (Ok found) rest so = so found
+  then_so m (Err refusal) rest so = tt
+
+  edits_so : (op : Op) (text : List ℕ) (m : MachineState) → is_batch op ≡ false → Holds Q m (edits op text m)
+  unfolding edits
+  edits_so op text m fits = by_cases (refusal_of op m.saved) refl (changes_nothing op m.saved) refl
+    where
+      by_cases : (refusal : Option OpRefusal) → refusal_of op m.saved ≡ refusal → (nothing : Bool) → changes_nothing op m.saved ≡ nothing
+          → Holds Q m (unless_refused (told refusal) (if nothing then stands text m else edited op text (followed op m) m))
+      by_cases None free true same = of.says text m
+      by_cases None free false other = of.edits op text m fits free other
+      by_cases (Some refusal) refused nothing is = tt
+
+  replaces_so : (name : List ℕ) (m : MachineState) → Holds Q m (replaces name m)
+  replaces_so name m = by_cases (refusal_of_all (replace_ops name) m.saved) refl (replaces_nothing name m.saved) refl
+    where
+      by_cases : (refusal : Option OpRefusal) → refusal_of_all (replace_ops name) m.saved ≡ refusal → (nothing : Bool)
+          → replaces_nothing name m.saved ≡ nothing
+          → Holds Q m (unless_refused (told refusal) (if nothing then stands [] m else replaced name m))
+      by_cases None free true same = of.says [] m
+      by_cases None free false other = of.replaces name m free other
+      by_cases (Some refusal) refused nothing is = tt
+
+  adds_so : (to : Option Target) (rows text : List ℕ) (m : MachineState) → Holds Q m (adds to rows text m)
+  adds_so to rows text m = then_so m (place_in to m) _ (λ at. edits_so _ _ m refl)
+
+  moves_so : (block : Span) (to : Target) (m : MachineState) → Holds Q m (moves_block block to m)
+  moves_so block to m = then_so m (place_in_rest to block m) _ (λ at. edits_so _ _ m refl)
+
+  shuffles_so : (span : Span) (m : MachineState) → Holds Q m (shuffles span m)
+  shuffles_so span m = by_cases (nat_lt (count_of span) 2)
+    where
+      by_cases : (b : Bool) → Holds Q m (if b then says [] m else edits (OfQueue (Shuffle span.start span.end)) [] m)
+      by_cases true = of.says [] m
+      by_cases false = edits_so _ _ m refl
+
+  ruleset forms = (says_so, then_so, edits_so, replaces_so, adds_so, moves_so, shuffles_so)
+
+  -- ---- Each command, by the form that its equation ends in, behind what it looks up. The first case of a topic sets the others apart, so
+  -- that the form of each is searched by itself.
+
+  settings_so : (command : SettingsCommand) (m : MachineState) → Holds Q m (settings_meaning command m)
+  unfolding settings_meaning
+  settings_so settings.Status m = says_so _ m
+  settings_so other m = search forms
+
+  database_so : (command : DatabaseCommand) (m : MachineState) → Holds Q m (database_meaning command m)
+  unfolding database_meaning
+  database_so (database.Update place) m =
+      then_so m (must (not m.job.runs) AlreadyUpdating) _
+      (λ free. of.begins (begun (next_job m.job.number) place) _ m (next_is_other m.job.number))
+  database_so other m = search forms
+
+  queue_so : (command : QueueCommand) (m : MachineState) → Holds Q m (queue_meaning command m)
+  unfolding queue_meaning
+  queue_so (queue.InfoId None) m = says_so _ m
+  queue_so other m = search forms
+
+  finding_so : (command : FindingCommand) (m : MachineState) → Holds Q m (finding_meaning command m)
+  unfolding finding_meaning
+  finding_so (finding.Count tree) m = says_so _ m
+  finding_so other m = search forms
+
+  lists_so : (command : ListsCommand) (m : MachineState) → Holds Q m (lists_meaning command m)
+  unfolding lists_meaning
+  lists_so (lists.Save name Replace) m = search forms
+  lists_so other m = search forms
+
+  stickers_so : (command : StickersCommand) (m : MachineState) → Holds Q m (stickers_meaning command m)
+  unfolding stickers_meaning
+  stickers_so (stickers.List uri) m = search forms
+  stickers_so other m = search forms
+
+  playing_so : (command : PlayingCommand) (m : MachineState) → Holds Q m (playing_meaning command m)
+  unfolding playing_meaning
+  playing_so playing.ClearError m = of.turns Turn.ClearError m
+  playing_so playing.CurrentSong m = says_so _ m
+  playing_so playing.Next m = of.moves steps.Next m tt
+  playing_so (playing.Pause switch) m = of.turns (Turn.Pause switch) m
+  playing_so (playing.Play None) m = of.moves steps.Resume m tt
+  playing_so (playing.Play (Some selector)) m = of.moves (steps.Play selector) m tt
+  playing_so playing.Previous m = of.turns Turn.Previous m
+  playing_so (playing.Seek selector milliseconds) m = of.moves (steps.Seek selector (named_length selector m) milliseconds) m refl
+  playing_so (playing.SeekCurrent time) m = of.turns (Turn.SeekCurrent time) m
+  playing_so playing.Stop m = of.turns Turn.Stop m
+
+  -- all commands
+  pub command_so : (command : Command) (m : MachineState) → Holds Q m (meaning command m)
+  unfolding meaning
+  command_so (topics.Settings command) m = settings_so command m
+  command_so (topics.Database command) m = database_so command m
+  command_so (topics.Queue command) m = queue_so command m
+  command_so (topics.Finding command) m = finding_so command m
+  command_so (topics.Lists command) m = lists_so command m
+  command_so (topics.Stickers command) m = stickers_so command m
+  command_so (topics.Playing command) m = playing_so command m
+  command_so (topics.Session command) m = says_so [] m
