@@ -6,3 +6,7 @@ pub mod ValidLaws
 pub mod RunLaws
 pub mod TurnLaws
 pub mod OpeningLaws
+pub mod GroupLaws
+pub mod StagingLaws
+pub mod PhaseLaws
+pub mod HandledLaws

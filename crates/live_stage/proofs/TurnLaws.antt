@@ -41,7 +41,7 @@ pub record KeepsTo (file : FileNumbers) : Type 0 where
   pub few : file.records < most_records
   pub short : file.bytes ≤ most_bytes file.snapshot_len
 
-keeps_to : (file : FileNumbers) → is_due file ≡ false → KeepsTo file
+pub keeps_to : (file : FileNumbers) → is_due file ≡ false → KeepsTo file
 keeps_to file is =
     let both = or_parts _ _ is in
     record {

@@ -7,3 +7,5 @@ pub mod Decoding
 pub mod Transcript
 pub mod Turns
 pub mod Writing
+pub mod Group
+pub mod Staging

@@ -1,12 +1,22 @@
 //! Laws of the definitions, for the layers above: a call brings its clauses into their proofs.
-ghost use Rattle.std.specs.Prelude.{◌≡◌, List};
+ghost use Rattle.std.specs.Prelude.{◌≡◌, List, [], ◌∷◌};
 ghost use Rattle.daemon_core.specs.Replay.{Entry, replay};
 ghost use Rattle.daemon_core.specs.State.{start};
+ghost use Rattle.live_stage.specs.Answer.{Answer, IsTurn};
+ghost use Rattle.live_stage.specs.Group.{IsGroup};
+ghost use Rattle.live_stage.specs.LiveState.{LiveState};
 ghost use Rattle.live_stage.specs.Transcript.{replayed};
 ghost use Rattle.state_codec.specs.SavedState.{SavedState};
+
+use disk_model::Disk;
 
 /// The state that a run comes to from the start of a life, by its history, is the replay of that history: runs that follow one another
 /// in a life have one history.
 pub fn run_from_the_start_is_the_replay()
     ensures { (kept : SavedState) (history : List Entry) → replayed (start kept) history ≡ replay kept history }
+{}
+
+/// A group that gives one answer is a turn.
+pub fn group_of_one_is_a_turn<D: Disk>()
+    ensures { (old new : LiveState D) (t : Answer) → IsGroup old (t ∷ []) new → IsTurn old t.asked t new }
 {}

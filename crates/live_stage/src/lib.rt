@@ -3,14 +3,18 @@
 
 mod checkpointing;
 mod decoding;
+mod due;
 pub mod laws;
 mod live;
 mod recording;
 mod refusal;
 mod run;
+mod staging;
 mod turn;
+mod turns;
 
 pub use live::Live;
 pub use play_journal::LAYOUT;
 pub use refusal::{LiveError, Refused, StartError};
 pub use turn::{Receipt, Turn, TurnResult};
+pub use turns::{RefusedTurns, Turns};

@@ -19,26 +19,22 @@ ghost use Rattle.live_stage.specs.Writing.{KeepsEvent};
 ghost use Rattle.live_stage.specs.Found.{found_state, AllFindNow, AllFindSince, KeepsFoundState};
 
 use crate::checkpointing::write_snapshot;
+use crate::due::is_due_at;
 use crate::recording::{LONGEST_BODY, record_ops};
 use crate::turn::Turn;
 use crate::{LiveError, Refused, StartError};
 use daemon_core::{Core, Event};
 use disk_model::Disk;
 use opening::{refused_over, state_in};
-use play_journal::{Journal, JournalError};
+use play_journal::{Group, Journal, JournalError};
 use state_codec::{Saved, put_saved};
 use std::alloc::Global;
 use std::marker::Model;
 use std::snapshot::Snapshot;
 
+mod grouping;
 mod looks;
 mod opening;
-
-/// A turn that finds so many records behind the snapshot makes a checkpoint first.
-const MOST_RECORDS: u64 = 4_096;
-
-/// So does one that finds more bytes of records than these, 4 MiB, and than the snapshot has.
-const MOST_BYTES: u64 = 4_194_304;
 
 /// The daemon's state, and the journal that keeps it: what an event changes is on the disk when its answer is given out.
 ///
@@ -48,6 +44,7 @@ pub struct Live<D: Disk> {
     core: Core,
     journal: Journal<D>,
     room: Vec<u8>,
+    group: Group,
     event: u64,
     migrated: bool,
 }
@@ -114,7 +111,7 @@ impl<D: Disk> Live<D> {
             });
         }
         let saved = Saved::fresh(alloc, key);
-        let (room, snapshot) = match rooms_for(alloc, &saved) {
+        let (room, group, snapshot) = match rooms_for(alloc, &saved) {
             Ok(rooms) => rooms,
             Err(error) => return Err(Refused { error, a, b }),
         };
@@ -123,6 +120,7 @@ impl<D: Disk> Live<D> {
                 core: Core::new(alloc, saved),
                 journal,
                 room,
+                group,
                 event: 0,
                 migrated: false,
             }),
@@ -162,14 +160,10 @@ impl<D: Disk> Live<D> {
         ensures later { MatchResult result (λ live. AreLater D.honest D.history D.faults a b live.a live.b)
             (λ e. AreLater D.honest D.history D.faults a b e.a e.b) }
     {
-        let room = match Vec::with_capacity(alloc, LONGEST_BODY) {
-            Ok(room) => room,
-            Err(_) => {
-                return Err(Refused {
-                    error: StartError::NoMemory,
-                    a,
-                    b,
-                });
+        let (room, group) = match room_for(alloc) {
+            Ok(rooms) => rooms,
+            Err(error) => {
+                return Err(Refused { error, a, b });
             }
         };
         let (journal, stored) = match Journal::open(alloc, a, b) {
@@ -177,7 +171,7 @@ impl<D: Disk> Live<D> {
             Err(refused) => return Err(refused_start(refused)),
         };
         match state_in(alloc, &journal, stored) {
-            Ok(saved) => Live::over(alloc, journal, saved, room),
+            Ok(saved) => Live::over(alloc, journal, saved, room, group),
             Err(error) => Err(refused_over(error, journal)),
         }
     }
@@ -268,9 +262,11 @@ impl<D: Disk> Live<D> {
     fn is_checkpoint_due(&self) -> bool
         ensures { result ≡ is_due self.now.file }
     {
-        let most_bytes = self.journal.snapshot_len().max(MOST_BYTES);
-        self.journal.records_since_checkpoint() >= MOST_RECORDS
-            || self.journal.bytes_since_checkpoint() > most_bytes
+        is_due_at(
+            self.journal.records_since_checkpoint(),
+            self.journal.bytes_since_checkpoint(),
+            self.journal.snapshot_len(),
+        )
     }
 
     // Makes the checkpoint that is due, if one is, and says whether it is overdue, since it found no memory.
@@ -386,6 +382,7 @@ impl<D: Disk> Live<D> {
             core: _,
             journal,
             room: _,
+            group: _,
             event: _,
             migrated: _,
         } = self;
@@ -393,18 +390,26 @@ impl<D: Disk> Live<D> {
     }
 }
 
-// Room for one record's body, and the snapshot of a state.
-fn rooms_for(alloc: Global, saved: &Saved) -> Result<(Vec<u8>, Vec<u8>), StartError>
+// Room for one record's body, and for a group of records.
+fn room_for(alloc: Global) -> Result<(Vec<u8>, Group), StartError>
     ensures room { IfOk result (λ rooms. LONGEST_BODY ≤ vec_capacity rooms.0) }
-    ensures snapshot { IfOk result (λ rooms. rooms.1.items ≡ saved_bytes saved.now) }
+    ensures no_memory { IfErr result (λ e. e ≡ StartError.NoMemory) }
+{
+    match (Vec::with_capacity(alloc, LONGEST_BODY), Group::new(alloc)) {
+        (Ok(room), Ok(group)) => Ok((room, group)),
+        _ => Err(StartError::NoMemory),
+    }
+}
+
+// The same, and the snapshot of a state.
+fn rooms_for(alloc: Global, saved: &Saved) -> Result<(Vec<u8>, Group, Vec<u8>), StartError>
+    ensures room { IfOk result (λ rooms. LONGEST_BODY ≤ vec_capacity rooms.0) }
+    ensures snapshot { IfOk result (λ rooms. rooms.2.items ≡ saved_bytes saved.now) }
     ensures in_range { OnOk result (IsSavedState saved.now) }
     ensures no_memory { IfErr result (λ e. e ≡ StartError.NoMemory) }
 {
-    match (
-        Vec::with_capacity(alloc, LONGEST_BODY),
-        put_saved(alloc, saved),
-    ) {
-        (Ok(room), Ok(snapshot)) => Ok((room, snapshot)),
+    match (room_for(alloc), put_saved(alloc, saved)) {
+        (Ok((room, group)), Ok(snapshot)) => Ok((room, group, snapshot)),
         _ => Err(StartError::NoMemory),
     }
 }

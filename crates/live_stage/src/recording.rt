@@ -1,23 +1,24 @@
 // One record for the ops of one event.
-ghost use Rattle.std.specs.Prelude.{◌≡◌, ◌≢◌, ◌≤◌, [], length, Ok, None, IfOk, vec_capacity};
+ghost use Rattle.std.specs.Prelude.{◌≡◌, ◌≢◌, ◌≤◌, [], length, Ok, None, IfOk, OnOk, vec_capacity};
 ghost use Rattle.play_journal.specs.Calls.{StaysInFile};
-ghost use Rattle.play_journal.specs.Content.{with_record};
+ghost use Rattle.play_journal.specs.Content.{with_record, with_records};
 ghost use Rattle.std.specs.List.{AllByRecursion};
 ghost use Rattle.state_codec.specs.Ops.{IsOp};
 ghost use Rattle.state_codec.specs.Spelling.{ops_bytes};
+ghost use Rattle.live_stage.specs.Staging.{TakesRecords, HasRecordedAll};
 ghost use Rattle.live_stage.specs.Writing.{TakesRecord, GoesOver, HasRecorded, RefusesRecording, CallsDisks};
 
 use crate::LiveError;
 use disk_model::Disk;
-use play_journal::Journal;
+use play_journal::{Group, Journal};
 use state_codec::{Op, put_op};
 
 /// The greatest length of a record's body in bytes.
 pub(crate) const LONGEST_BODY: usize = 2_097_152;
 
-// Spells the ops into room that was taken before.
+/// Spells the ops into room that was taken before.
 #[tactic(auto, using(crate::proofs::ValidLaws::valid_more, crate::proofs::ValidLaws::valid_all))]
-fn spell(room: &mut Vec<u8>, ops: &[Op])
+pub(crate) fn spell(room: &mut Vec<u8>, ops: &[Op])
     requires { length (ops_bytes ops.now) ≤ vec_capacity room.old }
     ensures spelled { room.new.items ≡ ops_bytes ops.now }
     ensures valid { AllByRecursion IsOp ops.now }
@@ -57,5 +58,25 @@ pub(crate) fn record_ops<D: Disk>(
     match journal.append(room) {
         Ok(number) => Ok(Some(number)),
         Err(_) => Err(LiveError::Broken),
+    }
+}
+
+/// Writes the records of a group together; where there are none, it makes no call of a disk.
+pub(crate) fn record_group<D: Disk>(
+    journal: &mut Journal<D>,
+    group: &Group,
+) -> Result<(), LiveError>
+    requires takes { TakesRecords journal.old (length group.now) }
+    ensures none { group.now ≡ [] → OnOk result (journal.new ≡ journal.old) }
+    ensures numbers { OnOk result (HasRecordedAll journal.old journal.new group.now) }
+    ensures file { StaysInFile journal.old journal.new }
+    ensures any_moment { D.honest journal.old.a → D.honest journal.old.b
+        → GoesOver D.history journal.old journal.new (with_records journal.old.content group.now) result }
+    ensures refuses { RefusesRecording journal.new result }
+    ensures disks { CallsDisks D.honest D.history D.faults journal.old journal.new LiveError.Broken result }
+{
+    match journal.append_all(group) {
+        Ok(_last) => Ok(()),
+        Err(_fault) => Err(LiveError::Broken),
     }
 }

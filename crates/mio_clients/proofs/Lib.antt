@@ -8,3 +8,4 @@ pub mod FollowLaws
 pub mod AcceptLaws
 pub mod WaitingLaws
 pub mod TurnLaws
+pub mod GroupLaws

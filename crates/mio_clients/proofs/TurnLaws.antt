@@ -64,7 +64,7 @@ stage_refusal (stage.Rewound seen found) = inr (inr (inl refl))
 stage_refusal stage.NumbersSpent = inr (inr (inr refl))
 
 module _ {S : Type 0} (remaining contents : S → Option (List ℕ)) where
-  go_from : (a p b : ConnectionsState S) (sent : ℕ → List ℕ) (served front : ℕ → List Request) → p.clients ≡ a.clients
+  pub go_from : (a p b : ConnectionsState S) (sent : ℕ → List ℕ) (served front : ℕ → List Request) → p.clients ≡ a.clients
       → p.last_id ≡ a.last_id
       → ((key : ℕ) (client : Client S) → get b.clients key ≡ Some client
       → asked_in client.id a.events ≡ front client.id ++ asked_in client.id p.events)
@@ -89,7 +89,7 @@ module _ {S : Type 0} (remaining contents : S → Option (List ℕ)) where
   }
 
   -- First an event is taken, of which these are the requests; then so many are served.
-  left_from : (a p b : ConnectionsState S) (bytes : List ℕ) (front served : List Request) (x : Client S) → p.clients ≡ a.clients
+  pub left_from : (a p b : ConnectionsState S) (bytes : List ℕ) (front served : List Request) (x : Client S) → p.clients ≡ a.clients
       → b.last_id ≡ p.last_id → asked_in x.id a.events ≡ front ++ asked_in x.id p.events → IsLeft remaining contents bytes served p b x
       → IsLeft remaining contents bytes (front ++ served) a b x
   left_from a p b bytes front served x clients last here l = record {
@@ -107,7 +107,7 @@ module _ {S : Type 0} (remaining contents : S → Option (List ℕ)) where
     ];
   }
 
-  vacant_as : (a p : ConnectionsState S) (n : ℕ) → p.clients ≡ a.clients → IsVacant a n → IsVacant p n
+  pub vacant_as : (a p : ConnectionsState S) (n : ℕ) → p.clients ≡ a.clients → IsVacant a n → IsVacant p n
   vacant_as a p n clients vacant = λ k client there. vacant k client (ap (λ (s : Slab (Client S)). get s k) (sym clients) ∙ there)
 
   pub all_from : (a p b : ConnectionsState S) (sent : ℕ → List ℕ) (served front : ℕ → List Request) → p.clients ≡ a.clients

@@ -7,3 +7,4 @@ pub mod Leaving
 pub mod Refusal
 pub mod Parts
 pub mod Waiting
+pub mod Grouping

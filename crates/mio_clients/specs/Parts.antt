@@ -128,6 +128,13 @@ goes_on_behind errors.NumbersSpent (kept.Client client) = true
 goes_on_behind errors.Broken (kept.Client client) = false
 goes_on_behind (errors.Rewound seen found) (kept.Client client) = false
 
+-- whether it goes on behind requests that were refused
+abbrev pub goes_on_behind_front : StageError → Bool
+goes_on_behind_front errors.NoMemory = true
+goes_on_behind_front errors.NumbersSpent = true
+goes_on_behind_front errors.Broken = false
+goes_on_behind_front (errors.Rewound seen found) = false
+
 -- what is kept of an event: itself, unless it is a request, of which its client's number is
 abbrev pub IsKeptOf : ClientEvent → Kept → Type 0
 IsKeptOf event (kept.Event same) = (same ≡ event) × AsksNothing same

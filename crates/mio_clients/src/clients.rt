@@ -1,7 +1,8 @@
 // The clients of the daemon: who is accepted, read and written, and what of it is told.
-ghost use Rattle.std.specs.Prelude.{◌≡◌, ◌⊎◌, ◌+◌, ◌≤◌, ◌∷◌, [], false, length, OnSome, IfOk, IfErr, IsErrOf, IfSome, MatchOption};
+ghost use Rattle.std.specs.Prelude.{◌≡◌, ◌⊎◌, ◌+◌, ◌<◌, ◌≤◌, ℕ, ◌∷◌, [], false, length, OnSome, IfOk, IfErr, IsErrOf, IfSome, MatchOption};
 ghost use Rattle.slab.specs.Slab.{get, slab_len};
-ghost use Rattle.mio_clients.specs.Events.{AsksNothing, asked_in};
+ghost use Rattle.mio_clients.specs.Events.{asked_by_event, asked_in};
+ghost use Rattle.mio_clients.specs.Grouping.{group_len, group_limit};
 ghost use Rattle.mio_clients.specs.Waiting.{StaysQuiet};
 ghost use Rattle.mio_clients.specs.Connections.{IsFull, IsVacant};
 ghost use Rattle.mio_clients.specs.Later.{no_bytes, no_requests, bytes_for, Accepts, IsFault, Loses};
@@ -22,6 +23,14 @@ use std::time::Duration;
 
 /// How long the loop waits where nothing happens, in milliseconds.
 const PATIENCE: u64 = 100;
+
+/// When a client is sent what it is given.
+#[derive(Clone, Copy, Debug, PartialEq, Eq)]
+pub(crate) enum Sending {
+    AtOnce,
+    /// With what it is given later, by a call of `send_all`.
+    Together,
+}
 
 /// The clients of the daemon, on one thread: each is accepted, read and written without waiting for it.
 #[derive(Drop)]
@@ -267,12 +276,21 @@ impl<S: Stream, L: Listener<S>, P: Ready<S>> Clients<S, L, P> {
         self.connections.event_count()
     }
 
+    // How many events are served together next.
+    pub(crate) fn group_len(&self) -> usize
+        ensures { result ≡ group_len group_limit self.now.events }
+    {
+        self.connections.group_len()
+    }
+
     // Takes the first event that waits.
     pub(crate) fn pop(&mut self) -> Option<ClientEvent>
         ensures same { self.new ≡ record self.old { events = self.new.events; room = self.new.room } }
         ensures event { MatchOption result ((self.old.events ≡ []) × (self.new.events ≡ []))
             (λ event. self.old.events ≡ event ∷ self.new.events) }
         ensures room { OnSome result (slab_len self.new.clients + 1 ≤ self.new.room) }
+        ensures grows { OnSome result (self.old.room + 1 ≤ self.new.room) }
+        ensures known { IfSome result (λ event. (c : ℕ) → self.new.last_id < c → asked_by_event c event ≡ []) }
     {
         self.connections.pop()
     }
@@ -280,8 +298,9 @@ impl<S: Stream, L: Listener<S>, P: Ready<S>> Clients<S, L, P> {
     // Puts an event back at the front.
     pub(crate) fn put_back(&mut self, event: ClientEvent)
         requires room { slab_len self.old.clients + 1 ≤ self.old.room }
-        requires no_request { AsksNothing event }
+        requires known { (c : ℕ) → self.old.last_id < c → asked_by_event c event ≡ [] }
         ensures same { self.new ≡ record self.old { events = event ∷ self.old.events; room = self.new.room } }
+        ensures room { self.old.room ≤ self.new.room + 1 }
     {
         self.connections.put_back(event);
     }
@@ -295,13 +314,13 @@ impl<S: Stream, L: Listener<S>, P: Ready<S>> Clients<S, L, P> {
     }
 
     // The same, and sends them, so that no client waits for the events of others behind its own. Where its next request is served next, that
-    // one's answer goes with this.
-    pub(crate) fn hand_out(&mut self, client: u64, bytes: &[u8])
+    // one's answer goes with this; and where other answers are given with it, all are sent together.
+    pub(crate) fn hand_out(&mut self, client: u64, bytes: &[u8], sending: Sending)
         ensures later { AllFollow S.remaining S.contents (bytes_for client bytes.now) no_requests self.old self.new }
         ensures quiet { StaysQuiet self.old.events self.new.events }
     {
         self.give(client, bytes);
-        if !self.connections.is_next(client) {
+        if sending == Sending::AtOnce && !self.connections.is_next(client) {
             self.send_to(client);
         }
     }

@@ -1,9 +1,10 @@
 // Who is connected, under which key and number, and what they did and was not served yet.
-ghost use Rattle.std.specs.Prelude.{◌≡◌, ◌↔◌, ◌+◌, ◌≤◌, ◌∷◌, [], length, Some, IsTrue, MatchOption};
+ghost use Rattle.std.specs.Prelude.{◌≡◌, ◌↔◌, ◌+◌, ◌<◌, ◌≤◌, ℕ, ◌∷◌, [], length, Some, IsTrue, MatchOption};
 ghost use Rattle.std.specs.Prelude.{IfOk, IfSome, OnOk, OnSome};
 ghost use Rattle.slab.specs.Slab.{get, slab_len};
 ghost use Rattle.mio_clients.specs.Connections.{IsVacant, IsAt, IsAlone, IsAdmitted, IsFull, IsFailedAt};
-ghost use Rattle.mio_clients.specs.Events.{AsksNothing, without};
+ghost use Rattle.mio_clients.specs.Events.{asked_by_event, without};
+ghost use Rattle.mio_clients.specs.Grouping.{group_len, group_limit};
 ghost use Rattle.mio_clients.specs.Waiting.{StaysQuiet};
 ghost use Rattle.mio_clients.specs.Later.{no_bytes, no_requests, bytes_for, Loses};
 ghost use Rattle.mio_clients.specs.Leaving.{AllFollow, IsFollowed};
@@ -278,12 +279,21 @@ impl<S: Stream> Connections<S> {
         self.queue.is_next(id)
     }
 
+    /// How many events are served together next.
+    pub(crate) fn group_len(&self) -> usize
+        ensures { result ≡ group_len group_limit self.now.events }
+    {
+        self.queue.group_len()
+    }
+
     /// Takes the first event that waits.
     pub(crate) fn pop(&mut self) -> Option<ClientEvent>
         ensures same { self.new ≡ record self.old { events = self.new.events; room = self.new.room } }
         ensures event { MatchOption result ((self.old.events ≡ []) × (self.new.events ≡ []))
             (λ event. self.old.events ≡ event ∷ self.new.events) }
         ensures room { OnSome result (slab_len self.new.clients + 1 ≤ self.new.room) }
+        ensures grows { OnSome result (self.old.room + 1 ≤ self.new.room) }
+        ensures known { IfSome result (λ event. (c : ℕ) → self.new.last_id < c → asked_by_event c event ≡ []) }
     {
         self.queue.pop()
     }
@@ -291,8 +301,9 @@ impl<S: Stream> Connections<S> {
     /// Puts an event back at the front.
     pub(crate) fn put_back(&mut self, event: ClientEvent)
         requires room { slab_len self.old.clients + 1 ≤ self.old.room }
-        requires no_request { AsksNothing event }
+        requires known { (c : ℕ) → self.old.last_id < c → asked_by_event c event ≡ [] }
         ensures same { self.new ≡ record self.old { events = event ∷ self.old.events; room = self.new.room } }
+        ensures room { self.old.room ≤ self.new.room + 1 }
     {
         self.queue.put_back(event);
     }

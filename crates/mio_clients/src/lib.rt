@@ -5,6 +5,7 @@ pub mod client;
 pub mod clients;
 mod connections;
 pub mod event;
+mod grouping;
 pub mod listener;
 pub mod memory;
 pub mod part;
@@ -32,6 +33,9 @@ pub const CLIENT_LIMIT: usize = 100;
 
 /// How many calls are made on a socket before the next turn of the loop.
 const CALL_LIMIT: u32 = 65_536;
+
+/// How many events are served together, at most.
+const GROUP_LIMIT: usize = 64;
 
 /// How many bytes are read at once, at most.
 const READ_SIZE: usize = 1_024;

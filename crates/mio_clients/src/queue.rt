@@ -1,9 +1,12 @@
 // Events that wait to be served.
 ghost use Rattle.std.specs.Prelude.{◌≡◌, ◌+◌, ◌-◌, ◌<◌, ◌≤◌, ◌∷◌, ◌++◌, [], length, IfSome, MatchOption, OnOk, OnErr};
 ghost use Rattle.mio_clients.specs.Events.{asked_by, is_request_of, without};
+ghost use Rattle.mio_clients.specs.Grouping.{group_len, group_limit, place_of};
 
+use crate::GROUP_LIMIT;
 use crate::event::ClientEvent;
 use client_session::Requests;
+use command_text::Request;
 use std::alloc::{AllocError, Global};
 use std::collections::VecDeque;
 use std::marker::Model;
@@ -39,6 +42,27 @@ fn is_request_of(event: &ClientEvent, client: u64) -> bool
     match event {
         ClientEvent::Request(id, _) => *id == client,
         ClientEvent::Connect(_) | ClientEvent::Gone(_) => false,
+    }
+}
+
+/// What an event is to a group of requests that stand behind one another.
+#[derive(Clone, Copy, Debug, PartialEq, Eq)]
+pub(crate) enum Place {
+    /// It is none of them.
+    Outside,
+    Inside,
+    /// It is one, and the last: a command list.
+    Last,
+}
+
+// What an event is to a group.
+fn place_of(event: &ClientEvent) -> Place
+    ensures { result ≡ place_of event.now }
+{
+    match event {
+        ClientEvent::Request(_, Request::Single(_) | Request::Noidle) => Place::Inside,
+        ClientEvent::Request(_, Request::List(_) | Request::OkList(_)) => Place::Last,
+        ClientEvent::Connect(_) | ClientEvent::Gone(_) => Place::Outside,
     }
 }
 
@@ -156,12 +180,31 @@ impl EventQueue {
         false
     }
 
+    /// How many events are served together next: the requests that stand first, at most `GROUP_LIMIT`, up to a command list.
+    pub(crate) fn group_len(&self) -> usize
+        ensures len { result ≡ group_len group_limit self.now.events }
+    {
+        let mut count = 0;
+        while count < GROUP_LIMIT {
+            let Some(event) = self.events.get(count) else {
+                return count;
+            };
+            match place_of(event) {
+                Place::Outside => return count,
+                Place::Inside => count += 1,
+                Place::Last => return count + 1,
+            }
+        }
+        count
+    }
+
     /// Takes the first event.
     pub(crate) fn pop(&mut self) -> Option<ClientEvent>
         ensures event { MatchOption result ((self.old.events ≡ []) × (self.new.events ≡ []))
             (λ event. self.old.events ≡ event ∷ self.new.events) }
         ensures spare { self.new.spare ≡ self.old.spare }
         ensures room { IfSome result (λ _. self.new.spare + 1 ≤ self.new.room) }
+        ensures grows { IfSome result (λ _. self.old.room + 1 ≤ self.new.room) }
     {
         self.events.pop_front()
     }
@@ -171,6 +214,7 @@ impl EventQueue {
         requires { self.old.spare + 1 ≤ self.old.room }
         ensures events { self.new.events ≡ event ∷ self.old.events }
         ensures spare { self.new.spare ≡ self.old.spare }
+        ensures room { self.old.room ≤ self.new.room + 1 }
     {
         self.events.push_front_reserved(event);
     }

@@ -1,7 +1,8 @@
 // One turn of the loop: what clients did is gathered and served, and what they are given is sent.
-ghost use Rattle.std.specs.Prelude.{◌≡◌, ◌+◌, ◌<◌, ◌≤◌, ℕ, [], zero, false, true, vec_len, vec_capacity, IfOk, IfErr};
+ghost use Rattle.std.specs.Prelude.{◌≡◌, ◌+◌, ◌<◌, ◌≤◌, ℕ, [], zero, false, true, is_some, vec_len, vec_capacity, IfOk, IfErr, IfSome};
 ghost use Rattle.slab.specs.Slab.{slab_len};
 ghost use Rattle.mio_clients.specs.Events.{asked_by_event};
+ghost use Rattle.mio_clients.specs.Grouping.{TakesMany};
 ghost use Rattle.mio_clients.specs.Waiting.{QuietBehind, StaysQuiet, TakesFirst};
 ghost use Rattle.mio_clients.specs.Later.{no_bytes, no_requests, IsLater};
 ghost use Rattle.mio_clients.specs.Leaving.{AllFollow, AllLeave};
@@ -9,8 +10,9 @@ ghost use Rattle.mio_clients.specs.Parts.{bytes_in, requests_in, served_count, r
 ghost use Rattle.mio_clients.specs.Parts.{sent_by, sent_by_all, sent_by_served, asked_of, IsKeptOf, IsKeptAs, KeepsNoRequest, Serves};
 ghost use Rattle.mio_clients.specs.Parts.{stage_event_of, goes_on_behind};
 
-use crate::clients::Clients;
+use crate::clients::{Clients, Sending};
 use crate::event::ClientEvent;
+use crate::grouping::GroupRoom;
 use crate::listener::Listener;
 use crate::part::Part;
 use crate::ready::Ready;
@@ -110,7 +112,7 @@ impl<S: Stream, L: Listener<S>, P: Ready<S>> Clients<S, L, P> {
         let (goes_on, pass) = self.serve_each(rt, alloc, stage, pass, parts);
         if goes_on {
             let outbox = stage.collect(rt, alloc);
-            self.give_outbox(&outbox);
+            self.give_outbox(&outbox, Sending::AtOnce);
             parts.push_reserved(Part::Collected(outbox));
         }
         pass
@@ -133,14 +135,44 @@ impl<S: Stream, L: Listener<S>, P: Ready<S>> Clients<S, L, P> {
         let mut pass = pass;
         let mut left = self.event_count();
         while left > 0 {
-            let (goes_on, passed) = self.serve_next(rt, alloc, stage, pass, parts);
-            if !goes_on {
+            let (served, passed) = self.serve_some(rt, alloc, stage, pass, parts);
+            let Some(count) = served else {
                 return (false, passed);
-            }
+            };
             pass = passed;
-            left -= 1;
+            left = left.saturating_sub(count);
         }
         (true, pass)
+    }
+
+    // Serves the requests that stand first as a group, or the first event; it answers how many were served or let go of, or none where the
+    // turn ends.
+    fn serve_some<R: Wait, D: Disk, C: Ledger, Q: Ledger, T: Ledger>(
+        &mut self,
+        rt: &R,
+        alloc: Global,
+        stage: &SharedStage<D, C, Q, T>,
+        pass: Pass<C, Q, T>,
+        parts: &mut Vec<Part<D>>,
+    ) -> (Option<usize>, Pass<C, Q, T>)
+        requires room { vec_len parts.old < vec_capacity parts.old }
+        ensures serves { Serves S.remaining S.contents (is_some result.0) self.old self.new parts.old.items parts.new.items pass result.1 }
+        ensures some { IfSome result.0 (λ n. 0 < n) }
+        ensures quiet { IfSome result.0 (λ n. TakesMany n self.old.events self.new.events) }
+        ensures room { IfSome result.0 (λ _. vec_len parts.new < vec_capacity parts.new) }
+    {
+        let count = self.group_len();
+        if count > 1 {
+            if let Some(room) = GroupRoom::new(alloc, count, parts) {
+                return self.serve_group(rt, alloc, stage, pass, parts, room, count);
+            }
+        }
+        let (goes_on, pass) = self.serve_next(rt, alloc, stage, pass, parts);
+        if goes_on {
+            (Some(1), pass)
+        } else {
+            (None, pass)
+        }
     }
 
     // Serves the first event that was gathered; `false` where the turn ends.
@@ -167,7 +199,7 @@ impl<S: Stream, L: Listener<S>, P: Ready<S>> Clients<S, L, P> {
         let (event, kept) = event.handed_over();
         match stage.serve(rt, alloc, pass, event) {
             Ok((served, pass)) => {
-                self.give_served(&served);
+                self.give_served(&served, Sending::AtOnce);
                 parts.push_reserved(Part::Served(served));
                 (true, pass)
             }
@@ -182,6 +214,7 @@ impl<S: Stream, L: Listener<S>, P: Ready<S>> Clients<S, L, P> {
     }
 
     // Keeps what can be kept of an event that was refused; `true` where the turn goes on.
+    #[tactic(auto, using(crate::proofs::LaterLaws::asks_nothing))]
     fn keep(&mut self, error: StageError, kept: Kept) -> bool
         requires room { slab_len self.old.clients + 1 ≤ self.old.room }
         requires no_request { KeepsNoRequest kept }
@@ -201,43 +234,43 @@ impl<S: Stream, L: Listener<S>, P: Ready<S>> Clients<S, L, P> {
         }
     }
 
-    // Gives each output to its client, and sends it.
-    fn give_outputs(&mut self, outputs: &[Output])
+    // Gives each output to its client.
+    fn give_outputs(&mut self, outputs: &[Output], sending: Sending)
         ensures later { AllFollow S.remaining S.contents (sent_by outputs.now) no_requests self.old self.new }
         ensures quiet { StaysQuiet self.old.events self.new.events }
     {
         let mut rest = outputs;
         while let Some((output, after)) = rest.split_first() {
-            self.hand_out(output.client, output.bytes.as_slice());
+            self.hand_out(output.client, output.bytes.as_slice(), sending);
             rest = after;
         }
     }
 
-    fn give_outbox(&mut self, outbox: &Outbox)
+    fn give_outbox(&mut self, outbox: &Outbox, sending: Sending)
         ensures later { AllFollow S.remaining S.contents (sent_by_all outbox.now) no_requests self.old self.new }
         ensures quiet { StaysQuiet self.old.events self.new.events }
     {
-        self.give_each(outbox.as_slice());
+        self.give_each(outbox.as_slice(), sending);
     }
 
-    fn give_each(&mut self, events: &[Outputs])
+    fn give_each(&mut self, events: &[Outputs], sending: Sending)
         ensures later { AllFollow S.remaining S.contents (sent_by_all events.now) no_requests self.old self.new }
         ensures quiet { StaysQuiet self.old.events self.new.events }
     {
         let mut rest = events;
         while let Some((outputs, after)) = rest.split_first() {
-            self.give_outputs(outputs.as_slice());
+            self.give_outputs(outputs.as_slice(), sending);
             rest = after;
         }
     }
 
     // Gives what an event came to, and closes the clients that it closed.
-    fn give_served<D: Disk>(&mut self, served: &Served<D>)
+    pub(crate) fn give_served<D: Disk>(&mut self, served: &Served<D>, sending: Sending)
         ensures later { AllFollow S.remaining S.contents (sent_by_served served.now) no_requests self.old self.new }
         ensures quiet { StaysQuiet self.old.events self.new.events }
     {
-        self.give_outbox(&served.before);
-        self.give_outputs(served.turn.outputs());
+        self.give_outbox(&served.before, sending);
+        self.give_outputs(served.turn.outputs(), sending);
         self.release_each(served.turn.closes());
     }
 

@@ -4,10 +4,10 @@ use std::sync::atomic::{AtomicBool, Ordering};
 use std::thread;
 use std::time::{Clock, Duration};
 
-// How often it is looked for, and after how many milliseconds each time: half a second in all.
-const LOOKS: u32 = 100;
+// How often it is looked for: after a millisecond each of the first times, then after five, half a second in all.
+const LOOKS: u32 = 116;
 
-const STEP: u64 = 5;
+const FIRST_LOOKS: u32 = 20;
 
 /// Which of the two threads have ended.
 #[derive(Drop)]
@@ -58,15 +58,16 @@ impl Ends {
 
     /// Returns once both have ended, or behind a line of the log that says which has not: a thread can't be left behind.
     pub(crate) fn tell_late<R: Clock + Log>(&self, rt: &R) {
-        for _ in 0..LOOKS {
+        for look in 0..LOOKS {
             if self.late().is_none() {
                 return;
             }
-            thread::sleep(rt, Duration::from_millis(STEP));
+            let step = if look < FIRST_LOOKS { 1 } else { 5 };
+            thread::sleep(rt, Duration::from_millis(step));
         }
         if let Some(late) = self.late() {
             warn!(rt;
-                "the end waits for {late}, in a call of the system that does not come back; what was answered is kept, and a signal ends it"
+                "the end waits for {late}, which has not come back from the system so far; what was answered is kept, and a signal ends it"
             );
         }
     }

@@ -1,5 +1,5 @@
 // The folder of one job, of which no more than so much is read.
-ghost use Rattle.std.specs.Prelude.{◌≡◌, ◌+◌, ◌<◌, ◌≤◌, Err, Some, None, IfOk, IfSome, IsOkUnless, MatchOption};
+ghost use Rattle.std.specs.Prelude.{◌≡◌, ◌+◌, ◌<◌, ◌≤◌, Ok, Err, Some, None, IfOk, IfSome, IsOkUnless, MatchOption};
 ghost use Rattle.wave_pcm.specs.Folder.{bytes_at};
 ghost use Rattle.wave_pcm.specs.Listing.{IsListing, IsNoFile, entries_of};
 
@@ -25,6 +25,32 @@ impl Visits {
         folders: 0,
         files: 0,
     };
+
+    /// Counts a folder that is to be listed; a fault where the job has listed as many as it may.
+    pub fn count_folder(&mut self) -> Result<(), FolderFault>
+        ensures full { MAX_LISTINGS ≤ self.old.folders → (result ≡ Err FolderFault.Source) × (self.new ≡ self.old) }
+        ensures counted { self.old.folders < MAX_LISTINGS →
+            (result ≡ Ok tt) × (self.new ≡ record self.old { folders = self.old.folders + 1 }) }
+    {
+        if self.folders >= MAX_LISTINGS {
+            return Err(FolderFault::Source);
+        }
+        self.folders += 1;
+        Ok(())
+    }
+
+    /// Counts a file that is to be opened; a fault where the job has opened as many as it may.
+    pub fn count_file(&mut self) -> Result<(), FolderFault>
+        ensures full { MAX_OPENINGS ≤ self.old.files → (result ≡ Err FolderFault.Source) × (self.new ≡ self.old) }
+        ensures counted { self.old.files < MAX_OPENINGS →
+            (result ≡ Ok tt) × (self.new ≡ record self.old { files = self.old.files + 1 }) }
+    {
+        if self.files >= MAX_OPENINGS {
+            return Err(FolderFault::Source);
+        }
+        self.files += 1;
+        Ok(())
+    }
 }
 
 /// The folder that one job reads. Where the job has listed as many folders as it may, each further one is a fault, and so is a file behind
@@ -57,11 +83,10 @@ impl<F: Folder> Folder for JobFolder<'_, F> {
         ensures honest { F.honest self.old.files.now → F.honest self.new.files.now }
         ensures files { F.honest self.old.files.now → F.files self.new.files.now ≡ F.files self.old.files.now }
     {
-        if self.visits.folders >= MAX_LISTINGS {
-            return Err(FolderFault::Source);
+        match self.visits.count_folder() {
+            Ok(()) => self.files.list(alloc, path),
+            Err(fault) => Err(fault),
         }
-        self.visits.folders += 1;
-        self.files.list(alloc, path)
     }
 
     fn open(&mut self, alloc: Global, path: &str) -> Result<Option<F::File>, FolderFault>
@@ -76,10 +101,9 @@ impl<F: Folder> Folder for JobFolder<'_, F> {
         ensures honest { F.honest self.old.files.now → F.honest self.new.files.now }
         ensures files { F.honest self.old.files.now → F.files self.new.files.now ≡ F.files self.old.files.now }
     {
-        if self.visits.files >= MAX_OPENINGS {
-            return Err(FolderFault::Source);
+        match self.visits.count_file() {
+            Ok(()) => self.files.open(alloc, path),
+            Err(fault) => Err(fault),
         }
-        self.visits.files += 1;
-        self.files.open(alloc, path)
     }
 }

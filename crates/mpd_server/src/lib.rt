@@ -8,7 +8,6 @@ mod jobs;
 mod life;
 mod looping;
 mod opening;
-mod scanning;
 mod server;
 mod tally;
 mod workers;

@@ -6,7 +6,7 @@ use crate::ending::{Life, ServeStatus};
 use crate::ends::Ends;
 use crate::jobs::Jobs;
 use crate::looping::{Turns, run_loop};
-use crate::scanning::read_jobs;
+use crate::tally::TalliedFolder;
 use crate::workers::{Signals, Stop, Tools};
 use crossbeam_channel::Receiver;
 use disk_model::Disk;
@@ -15,7 +15,9 @@ use log::{Log, warn};
 use mio_clients::{Clients, Listener, Ready, Stream};
 use song_db::ScanOrder;
 use song_output::{OpenGate, SoundOutput};
-use stage_workers::{Blanks, Kind, Pass, PassesSpent, SharedStage, Wake, Worker, player_worker};
+use stage_workers::{
+    Blanks, Kind, Pass, PassesSpent, SharedStage, Wake, Worker, player_worker, scan_worker,
+};
 use std::alloc::Global;
 use std::io::Write;
 use std::marker::Brand;
@@ -125,7 +127,7 @@ fn read<D: Disk, C: Ledger, P: Ledger, S: Ledger, F: Folder, K: Wake, R: Wait + 
     stage: &SharedStage<D, C, P, S>,
     (wake, ends): (&K, &Ends),
     pass: Pass<C, P, S>,
-    mut folder: F,
+    folder: F,
     orders: Receiver<ScanOrder>,
 ) -> (Pass<C, P, S>, F) {
     let worker = Worker {
@@ -134,9 +136,10 @@ fn read<D: Disk, C: Ledger, P: Ledger, S: Ledger, F: Folder, K: Wake, R: Wait + 
         stage,
         wake,
     };
-    let pass = read_jobs(&worker, pass, &mut folder, &orders);
+    let folder = TalliedFolder::new(rt, folder);
+    let (pass, folder) = scan_worker(&worker, pass, folder, &orders);
     ends.scan_ended();
-    (pass, folder)
+    (pass, folder.into_files())
 }
 
 // Starts the player's thread; none where it can't be made. (Its closure is of few types here, which the prover goes through.)

@@ -1,8 +1,9 @@
 // What a job of the database came to, for the log.
-use crate::job_folder::{JobFolder, MAX_LISTINGS, MAX_OPENINGS, Visits};
+use crate::job_folder::{MAX_LISTINGS, MAX_OPENINGS, Visits};
 use log::{Log, debug, info};
-use song_db::Uri;
-use std::alloc::Global;
+use song_db::{ScanOrder, Uri};
+use stage_workers::ScanFolder;
+use std::alloc::{AllocError, Global};
 use wave_pcm::{Folder, FolderEntry, FolderFault, WaveError, read_head};
 
 /// What was found in the files that a job has read.
@@ -38,47 +39,95 @@ impl Tally {
     };
 }
 
-/// The folder of one job, of which is noted what is found there. Each file that is left out has a line of the log.
+// What was known before a job.
+#[derive(Drop)]
+struct Before {
+    // The folder or the song of the job; empty for the root.
+    place: String,
+    // The URIs of the rows there, rising.
+    known: Vec<Uri>,
+}
+
+impl Before {
+    fn of(alloc: Global, order: &ScanOrder) -> Result<Before, AllocError> {
+        let place = match order.uri() {
+            Some(uri) => String::from_str(alloc, uri.as_str())?,
+            None => String::new(alloc),
+        };
+        let mut known = Vec::with_capacity(alloc, order.known().len())?;
+        for uri in order.known() {
+            known.push(uri.try_clone(alloc)?)?;
+        }
+        Ok(Before { place, known })
+    }
+
+    // How many rows are known in a folder.
+    fn count_in(&self, path: &str) -> usize {
+        if path == self.place.as_str() {
+            return self.known.len();
+        }
+        let start = place_before(&self.known, path, b'/');
+        place_before(&self.known, path, b'/' + 1).saturating_sub(start)
+    }
+
+    fn has(&self, path: &str) -> bool {
+        self.known
+            .binary_search_by(|uri| uri.as_str().cmp(path))
+            .is_ok()
+    }
+}
+
+/// The folder that scans read. Of each job no more is read than it may, and is noted what is found there; each file that is left out has
+/// a line of the log.
 #[derive(Drop)]
 pub(crate) struct TalliedFolder<'a, F, R> {
     rt: &'a R,
-    files: JobFolder<'a, F>,
-    // The URIs of the rows in the job's place, rising, and how its own path is.
-    known: &'a [Uri],
-    place: &'a str,
+    files: F,
+    visits: Visits,
+    // While a job runs; where memory for it is wanting, nothing is said of the job.
+    before: Option<Before>,
     tally: Tally,
 }
 
-impl<'a, F: Folder, R: Log> TalliedFolder<'a, F, R> {
-    pub(crate) fn new(rt: &'a R, files: &'a mut F, place: &'a str, known: &'a [Uri]) -> Self {
+impl<'a, F, R> TalliedFolder<'a, F, R> {
+    pub(crate) fn new(rt: &'a R, files: F) -> Self {
         TalliedFolder {
             rt,
-            files: JobFolder {
-                files,
-                visits: Visits::NONE,
-            },
-            known,
-            place,
+            files,
+            visits: Visits::NONE,
+            before: None,
             tally: Tally::NONE,
         }
     }
 
+    pub(crate) fn into_files(self) -> F {
+        let TalliedFolder {
+            rt: _,
+            files,
+            visits: _,
+            before: _,
+            tally: _,
+        } = self;
+        files
+    }
+}
+
+impl<F: Folder, R: Log> TalliedFolder<'_, F, R> {
     // A folder could not be listed: what is known below it is kept.
     fn note_folder(&mut self, path: &str) {
         self.tally.folders = self.tally.folders.saturating_add(1);
-        let kept = if path == self.place {
-            self.known.len()
-        } else {
-            let start = place_before(self.known, path, b'/');
-            place_before(self.known, path, b'/' + 1).saturating_sub(start)
+        let kept = match &self.before {
+            Some(before) => before.count_in(path),
+            None => 0,
         };
         self.tally.kept = self.tally.kept.saturating_add(kept as u64);
     }
 
     fn is_known(&self, path: &str) -> bool {
-        self.known
-            .binary_search_by(|uri| uri.as_str().cmp(path))
-            .is_ok()
+        match &self.before {
+            Some(before) => before.has(path),
+            None => false,
+        }
     }
 
     // A file could not be read.
@@ -114,13 +163,14 @@ impl<'a, F: Folder, R: Log> TalliedFolder<'a, F, R> {
         }
     }
 
-    // Whether the job may read no further folder, or file.
-    fn note_full(&mut self, is_full: bool) {
-        self.tally.is_full |= is_full;
+    // The job may read no further folder, or file.
+    fn note_full(&mut self, fault: FolderFault) -> FolderFault {
+        self.tally.is_full = true;
+        fault
     }
 
-    /// Says what the job came to.
-    pub(crate) fn tell(&self, job: u32) {
+    // Says what the job came to, before which so many rows were known.
+    fn tell(&self, job: u32, before: u64) {
         let Tally {
             songs,
             known,
@@ -132,7 +182,7 @@ impl<'a, F: Folder, R: Log> TalliedFolder<'a, F, R> {
             files,
             is_full,
         } = self.tally;
-        let (before, new) = (self.known.len() as u64, songs.saturating_sub(known));
+        let new = songs.saturating_sub(known);
         let gone = before.saturating_sub(known).saturating_sub(kept);
         info!(self.rt;
             "update {job}: {songs} songs, {new} of them new, {gone} gone; left out: {not_wave} not WAVE, {other_format} of another format, {broken} broken; not read: {folders} folders, {files} files"
@@ -157,8 +207,10 @@ impl<F: Folder, R: Log> Folder for TalliedFolder<'_, F, R> {
     ghost steady = { λ _. ⊥ };
 
     fn list(&mut self, alloc: Global, path: &str) -> Result<Option<Vec<FolderEntry>>, FolderFault> {
-        self.note_full(self.files.visits.folders >= MAX_LISTINGS);
-        let listed = self.files.list(alloc, path);
+        let listed = match self.visits.count_folder() {
+            Ok(()) => self.files.list(alloc, path),
+            Err(fault) => Err(self.note_full(fault)),
+        };
         if matches!(listed, Err(FolderFault::Source)) {
             self.note_folder(path);
         }
@@ -166,8 +218,11 @@ impl<F: Folder, R: Log> Folder for TalliedFolder<'_, F, R> {
     }
 
     fn open(&mut self, alloc: Global, path: &str) -> Result<Option<F::File>, FolderFault> {
-        self.note_full(self.files.visits.files >= MAX_OPENINGS);
-        match self.files.open(alloc, path) {
+        let opened = match self.visits.count_file() {
+            Ok(()) => self.files.open(alloc, path),
+            Err(fault) => Err(self.note_full(fault)),
+        };
+        match opened {
             Ok(Some(mut source)) => {
                 match read_head(alloc, &mut source) {
                     Ok(_) => self.note_song(path),
@@ -183,6 +238,21 @@ impl<F: Folder, R: Log> Folder for TalliedFolder<'_, F, R> {
                 Err(fault)
             }
         }
+    }
+}
+
+impl<F: Folder, R: Log> ScanFolder for TalliedFolder<'_, F, R> {
+    fn begin_job(&mut self, alloc: Global, order: &ScanOrder) {
+        self.visits = Visits::NONE;
+        self.before = Before::of(alloc, order).ok();
+        self.tally = Tally::NONE;
+    }
+
+    fn end_job(&mut self, job: u32) {
+        if let Some(before) = &self.before {
+            self.tell(job, before.known.len() as u64);
+        }
+        self.before = None;
     }
 }
 

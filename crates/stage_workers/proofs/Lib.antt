@@ -1,3 +1,4 @@
 pub mod EntryLaws
+pub mod GroupLaws
 pub mod SettlingLaws
 pub mod Sounding

@@ -4,6 +4,7 @@ pub mod Books
 pub mod Refusals
 pub mod LockState
 pub mod Entry
+pub mod Group
 pub mod Settling
 pub mod Working
 pub mod Played

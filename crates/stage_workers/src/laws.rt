@@ -1,26 +1,32 @@
 //! What the calls of a shared stage do while they hold the lock.
-ghost use Rattle.std.specs.Prelude.{◌≡◌, ◌↔◌, ◌+◌, ◌<◌, ◌≤◌, true, [], IsErr, IfOk, IfErr, OnErr, OnOk, MatchResult, option_map};
+ghost use Rattle.std.specs.Prelude.{◌≡◌, ◌↔◌, ◌+◌, ◌<◌, ◌≤◌, true, false, List, []};
+ghost use Rattle.std.specs.Prelude.{IsErr, IfOk, IfErr, OnErr, OnOk, MatchResult, option_map};
 ghost use Rattle.disk_model.specs.Later.{AreLater};
 ghost use Rattle.daemon_core.specs.Orders.{play_order, scan_order};
+ghost use Rattle.daemon_core.specs.Replay.{Entry};
+ghost use Rattle.live_stage.specs.Group.{EndsThere, IsOfFront, history_in};
 ghost use Rattle.live_stage.specs.Turns.{RefusesToTell};
 ghost use Rattle.stage_workers.specs.declared.kind.Kind.{Kind};
 ghost use Rattle.stage_workers.specs.PassState.{new_pass};
 ghost use Rattle.stage_workers.specs.Books.{events_of, left_of, with_pass};
 ghost use Rattle.stage_workers.specs.LockState.{first_lock, FindsItsState};
 ghost use Rattle.stage_workers.specs.Entry.{IsEntered, IsCounted, AnyMoment, TellsFaults, RefusesInOrder};
+ghost use Rattle.stage_workers.specs.Group.{AreCounted, FindsNoneOrAll, IsGroupEntered, RefusesFrontOf, as_an_event};
 ghost use Rattle.stage_workers.specs.Settling.{AddsUp, AllAgree, IsReason, shares_in};
 
 use crate::books::Books;
+use crate::grouping::{behind_first, counted_group};
 use crate::locked::counted_turn;
 pub use crate::player::play_once;
 pub use crate::scan::scan_once;
 use crate::settling::{ReturnedBooks, first_foreign};
 use crate::{
-    Blanks, Kind, Locked, Outbox, Outputs, Pass, PassesSpent, Served, SettleError, StageError, Way,
+    Blanks, Kind, Locked, Outbox, Outputs, Pass, PassesSpent, Served, ServedGroup, SettleError,
+    StageError, Way,
 };
 use daemon_core::Event;
 use disk_model::Disk;
-use live_stage::{Live, LiveError, Receipt};
+use live_stage::{Live, LiveError, Receipt, Turns};
 use player_core::Order;
 use song_db::ScanOrder;
 use std::alloc::Global;
@@ -125,6 +131,63 @@ pub fn enter<D: Disk, C: Ledger, P: Ledger, S: Ledger>(
             Ok(None)
         }
     }
+}
+
+/// Handles events in order as a group, whose records reach the disk together: each that is answered is a turn of the stage, which the pass
+/// has made and its book counts. Their answers are handed over with all that was left in the outbox, also where there is no event.
+///
+/// It refuses in the order `Broken` (from before), `Rewound`, `NumbersSpent`, `NoMemory`, `Broken` (by a disk fault now). A refusal leaves
+/// books, outbox and pass as they were, and hands the events back that were not begun.
+pub fn enter_group<D: Disk, C: Ledger, P: Ledger, S: Ledger>(
+    locked: &mut Locked<D, C, P, S>,
+    alloc: Global,
+    pass: &mut Pass<C, P, S>,
+    events: Vec<Event>,
+) -> Result<ServedGroup<D>, (StageError, Vec<Event>)>
+    // Events are taken in order as long as they may be. Each is answered, refused or handed back.
+    ensures events { MatchResult result (λ g. EndsThere locked.old.live events.items g.turns.items g.is_refused g.rest.items)
+        (λ e. RefusesFrontOf locked.old.live events.items e.0 e.1.items) }
+    ensures entered { IfOk result (λ g. IsGroupEntered D.honest D.history locked.old locked.new g.before g.turns.items) }
+    ensures counted { IfOk result (λ g. AreCounted locked.old locked.new pass.old pass.new g.turns.items) }
+
+    // Stopped at any moment, a restart finds the saved state from before or the one behind the last event, with one history throughout,
+    // which is that of the answers; from then on, the stage's own.
+    ensures any_moment { D.honest locked.old.live.a → D.honest locked.old.live.b → locked.old.live.is_broken ≡ false
+        → (whole : List Entry)
+        × MatchResult result (λ g. whole ≡ history_in g.turns.items) (λ e. IsOfFront whole events.items e.1.items)
+        × FindsNoneOrAll D.history locked.old.live locked.new.live whole }
+    ensures kept { FindsItsState D.honest D.history locked.new.live }
+    ensures sum { locked.new.live.numbers.event ≡ events_of locked.new.books }
+
+    ensures refuses { RefusesInOrder locked.old locked.new pass.old (as_an_event result) }
+    ensures pass { OnErr result (pass.new ≡ pass.old) }
+    ensures fault { TellsFaults D.honest D.faults locked.old.live locked.new.live (as_an_event result) }
+    ensures disks { AreLater D.honest D.history D.faults locked.old.live.a locked.old.live.b locked.new.live.a locked.new.live.b }
+{
+    if locked.live.is_broken() {
+        return Err((StageError::Broken, behind_first(events)));
+    }
+    if let Err(error) = rewound(pass.seen, locked.live.last_event()) {
+        return Err((error, behind_first(events)));
+    }
+    if locked.live.are_numbers_spent() {
+        return Err((StageError::NumbersSpent, behind_first(events)));
+    }
+    let group = match counted_group(&mut locked.live, &mut locked.books, alloc, pass, events) {
+        Ok(group) => group,
+        Err(refused) => return Err(refused),
+    };
+    let Turns {
+        turns,
+        is_refused,
+        rest,
+    } = group;
+    Ok(ServedGroup {
+        before: taken(locked, alloc),
+        turns,
+        is_refused,
+        rest,
+    })
 }
 
 /// Refuses a pass that has seen more events than there were.

@@ -3,6 +3,7 @@
 
 mod account;
 mod books;
+mod grouping;
 mod kind;
 pub mod laws;
 mod locked;
@@ -23,7 +24,7 @@ pub use outbox::{Outbox, Outputs};
 pub use pass::Pass;
 pub use player::player_worker;
 pub use refusal::{PassesSpent, SettleError, StageError};
-pub use scan::scan_worker;
-pub use served::{Served, Way};
+pub use scan::{ScanFolder, next_changes, scan_worker};
+pub use served::{Served, ServedGroup, Way};
 pub use shared::SharedStage;
 pub use worker::{NoWake, Wake, Worker};

@@ -1,5 +1,6 @@
 // What events left for the clients, until it is handed over.
 use daemon_core::Output;
+use std::alloc::Global;
 use std::marker::Model;
 
 /// The outputs of one event, in order. Contracts see them as a list.
@@ -57,12 +58,21 @@ impl Model for Outbox {
 }
 
 impl Outbox {
-    ghost use Rattle.std.specs.Prelude.{◌≡◌};
+    ghost use Rattle.std.specs.Prelude.{◌≡◌, []};
 
     pub(crate) fn new(events: Vec<Outputs>) -> Self
         ensures { result ≡ events.items }
     {
         Outbox { events }
+    }
+
+    /// Nothing was left. It takes no memory.
+    pub fn empty(alloc: Global) -> Self
+        ensures { result ≡ [] }
+    {
+        Outbox {
+            events: Vec::new(alloc),
+        }
     }
 
     /// What each event left, to be looked at.

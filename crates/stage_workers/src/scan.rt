@@ -7,12 +7,33 @@ use crate::{Pass, StageError};
 use crossbeam_channel::Receiver;
 use disk_model::Disk;
 use song_db::{Scan, ScanOrder};
+use song_output::{Gate, GatedFolder};
 use state_codec::Changes;
 use std::alloc::Global;
 use std::sync::Wait;
 use std::sync::ledger::Ledger;
 use std::time::Clock;
 use wave_pcm::Folder;
+
+/// The folder that a scan's thread reads, which is told of each job.
+pub trait ScanFolder: Folder {
+    /// A job begins, by this order.
+    fn begin_job(&mut self, _alloc: Global, _order: &ScanOrder) {}
+
+    /// The job of this number is over, and its end was reported.
+    fn end_job(&mut self, _job: u32) {}
+}
+
+/// What lies behind a gate is told.
+impl<F: ScanFolder, G: Gate> ScanFolder for GatedFolder<'_, F, G> {
+    fn begin_job(&mut self, alloc: Global, order: &ScanOrder) {
+        self.folder.begin_job(alloc, order);
+    }
+
+    fn end_job(&mut self, job: u32) {
+        self.folder.end_job(job);
+    }
+}
 
 /// Carries out one scan: its batches are read without the lock, and each is reported; at last comes its end, `ScanDone`.
 ///
@@ -43,8 +64,8 @@ pub fn scan_once<D: Disk, C: Ledger, P: Ledger, S: Ledger, F: Folder, R: Wait + 
     worker.report(pass, &Report::ScanDone { job })
 }
 
-// What the scan finds next; nothing at its end, or where memory runs out.
-fn next_changes<F: Folder>(alloc: Global, scan: &mut Scan, folder: &mut F) -> Option<Changes>
+/// What the scan finds next, as a batch; nothing at its end, or where memory runs out.
+pub fn next_changes<F: Folder>(alloc: Global, scan: &mut Scan, folder: &mut F) -> Option<Changes>
     ensures honest { F.honest folder.old → F.honest folder.new × (F.files folder.new ≡ F.files folder.old) }
 {
     match scan.next(alloc, folder) {
@@ -53,22 +74,33 @@ fn next_changes<F: Folder>(alloc: Global, scan: &mut Scan, folder: &mut F) -> Op
     }
 }
 
-/// Reads what is ordered until the orders end or the stage is closed or refuses, and hands the pass back. While it waits for an order, it
-/// ends once the sender of orders is gone.
-pub fn scan_worker<D: Disk, C: Ledger, P: Ledger, S: Ledger, F: Folder, R: Wait + Clock, K: Wake>(
+/// Reads what is ordered until the orders end or the stage is closed or refuses, and hands pass and folder back. While it waits for an
+/// order, it ends once the sender of orders is gone. The folder is told of each job; of one that is cut off it isn't told the end.
+pub fn scan_worker<
+    D: Disk,
+    C: Ledger,
+    P: Ledger,
+    S: Ledger,
+    F: ScanFolder,
+    R: Wait + Clock,
+    K: Wake,
+>(
     worker: &Worker<'_, D, C, P, S, R, K>,
     pass: Pass<C, P, S>,
-    folder: &mut F,
+    folder: F,
     orders: &Receiver<ScanOrder>,
-) -> Pass<C, P, S>
-    ensures { GoesOn pass result }
+) -> (Pass<C, P, S>, F)
+    ensures { GoesOn pass result.0 }
 {
     let mut pass = pass;
+    let mut folder = folder;
     for _ in worker.rt.forever() {
         let Ok(order) = orders.recv(worker.rt) else {
             break;
         };
-        match scan_once(worker, pass, folder, order) {
+        let job = order.job();
+        folder.begin_job(worker.alloc, &order);
+        match scan_once(worker, pass, &mut folder, order) {
             Ok(back) => pass = back,
             Err((_, back)) => {
                 pass = back;
@@ -78,6 +110,7 @@ pub fn scan_worker<D: Disk, C: Ledger, P: Ledger, S: Ledger, F: Folder, R: Wait 
         if worker.stage.is_closed(worker.rt) {
             break;
         }
+        folder.end_job(job);
     }
-    pass
+    (pass, folder)
 }

@@ -1,11 +1,14 @@
 // The stage that threads share.
-ghost use Rattle.std.specs.Prelude.{◌≡◌, ◌≢◌, ◌+◌, ◌<◌, IfOk, IfErr};
+ghost use Rattle.std.specs.Prelude.{◌≡◌, ◌≢◌, ◌+◌, ◌<◌, ◌≤◌, [], length, IfOk, IfErr};
+ghost use Rattle.live_stage.specs.Group.{AreParted};
 ghost use Rattle.stage_workers.specs.PassState.{new_pass};
 ghost use Rattle.stage_workers.specs.Entry.{TellsRewound};
+ghost use Rattle.stage_workers.specs.Group.{RefusesFront, passed_by};
 ghost use Rattle.stage_workers.specs.Settling.{AllAgree, IsReceiptsReason, shares_in};
 
 use crate::{
-    Blanks, Kind, Locked, Outbox, Pass, PassesSpent, Served, SettleError, StageError, Way, laws,
+    Blanks, Kind, Locked, Outbox, Pass, PassesSpent, Served, ServedGroup, SettleError, StageError,
+    Way, laws,
 };
 use daemon_core::Event;
 use disk_model::Disk;
@@ -74,6 +77,38 @@ impl<D: Disk, C: Ledger, P: Ledger, S: Ledger> SharedStage<D, C, P, S> {
             Ok(Some(served)) => Ok((served, pass)),
             Ok(None) => unreachable!(),
             Err(error) => Err((error, pass)),
+        }
+    }
+
+    /// Handles events in order as a group, whose records reach the disk together, and hands over their answers with all that was left in
+    /// the outbox: `laws::enter_group`, in one holding of the lock.
+    ///
+    /// It refuses as `serve` does. What is refused is the first event alone, or, by a disk fault now, all that were begun; the others are
+    /// handed back, and the pass as it was.
+    pub fn serve_group(
+        &self,
+        rt: &impl Wait,
+        alloc: Global,
+        pass: Pass<C, P, S>,
+        events: Vec<Event>,
+    ) -> Result<(ServedGroup<D>, Pass<C, P, S>), (StageError, Vec<Event>, Pass<C, P, S>)>
+        ensures asked { IfOk result (λ r. AreParted events.items r.0.turns.items r.0.is_refused r.0.rest.items) }
+        ensures some { IfOk result (λ r. events.items ≢ [] → r.0.turns.items ≢ []) }
+        ensures passed { IfOk result (λ r. r.1 ≡ passed_by pass r.0.turns.items) }
+        ensures later { IfOk result (λ r. pass.seen + length r.0.turns.items ≤ r.1.seen) }
+        ensures front { IfErr result (λ e. RefusesFront events.items e.0 e.1.items) }
+        ensures refused { IfErr result (λ e. e.2 ≡ pass) }
+        ensures rewound { IfErr result (λ e. TellsRewound pass e.0) }
+    {
+        let mut pass = pass;
+        let mut guard = self.locked.lock(rt);
+        let entered = laws::enter_group(&mut *guard, alloc, &mut pass, events);
+        let is_playing = guard.live.is_playing();
+        drop(guard);
+        self.wake_player(is_playing);
+        match entered {
+            Ok(group) => Ok((group, pass)),
+            Err((error, rest)) => Err((error, rest, pass)),
         }
     }
 

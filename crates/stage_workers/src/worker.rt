@@ -19,9 +19,6 @@ const PAUSE: u64 = 1;
 /// Who is to be told that a worker has made an event, as a loop that waits for clients: the event may have left something for them.
 pub trait Wake {
     fn wake(&self);
-
-    /// A job of the database is over, and its end was reported.
-    fn job_over(&self) {}
 }
 
 /// Nobody is told.

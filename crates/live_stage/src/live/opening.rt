@@ -15,7 +15,7 @@ use crate::decoding::take_state;
 use crate::{LiveError, Refused, StartError};
 use daemon_core::Core;
 use disk_model::Disk;
-use play_journal::{Journal, LAYOUT, Stored};
+use play_journal::{Group, Journal, LAYOUT, Stored};
 use state_codec::Saved;
 use std::alloc::Global;
 
@@ -92,6 +92,7 @@ impl<D: Disk> Live<D> {
         journal: Journal<D>,
         saved: Saved,
         room: Vec<u8>,
+        group: Group,
     ) -> Result<Live<D>, Refused<D>>
         requires room { 2097152 ≤ vec_capacity room }
         requires usable { journal.is_spent ≡ false }
@@ -122,6 +123,7 @@ impl<D: Disk> Live<D> {
             core: Core::new(alloc, saved),
             journal,
             room,
+            group,
             event: 0,
             migrated,
         })

@@ -70,10 +70,7 @@ fn next_changes<F: Folder>(
         files: folder,
         visits: *visits,
     };
-    let next = scan.next(alloc, &mut files);
+    let changes = stage_workers::next_changes(alloc, scan, &mut files);
     *visits = files.visits;
-    match next {
-        Ok(Some(changes)) => Changes::new(changes),
-        Ok(None) | Err(_) => None,
-    }
+    changes
 }

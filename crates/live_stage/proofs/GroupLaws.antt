@@ -1,0 +1,288 @@
+-- A group, one event more at a time.
+use Rattle.std.proofs.Common.{◌≡◌, ◌≢◌, ◌⊎◌, inl, inr, ℕ, ◌+◌, ◌-◌, ◌^◌, ◌<◌, ◌≤◌, min, Bool, true, false, not, ◌&&◌, ◌||◌, List, [], ◌∷◌, ◌++◌}
+use Rattle.std.proofs.Common.{length, length-append, map, reverse, Option, Some, None, Result, Ok, Err, refl, sym, ap, subst, ◌∙◌}
+use Rattle.std.proofs.Common.{append_assoc, arith}
+use Rattle.std.specs.Prelude.{sum_by, nat_le, nat_lt, ◌==◌}
+use Rattle.std.specs.List.{AllByRecursion, list_any}
+use Rattle.std.proofs.lemmas.Bool.{and_parts, not-true, or_cases, or_left, or_right, or_parts, leb-true, ltb-true, le-leb, lt-ltb, eqb-false}
+use Rattle.std.proofs.lemmas.Bool.Decides.{nat_tests}
+use Rattle.std.proofs.lemmas.List.{append-nil, reverse-append}
+use Rattle.std.proofs.lemmas.List.Sums.{sum_by-append}
+use Rattle.std.proofs.lemmas.List.Folds.{list_any-append}
+use Rattle.play_journal.specs.Content.{Content, present_layout, with_record, with_records}
+use Rattle.play_journal.specs.File.{records_len}
+use Rattle.play_journal.proofs.GroupLaws.{records_len-one, records_len-append, no_records}
+use Rattle.state_codec.specs.declared.op.Op.{Op}
+use Rattle.state_codec.specs.SavedState.{SavedState}
+use Rattle.state_codec.specs.Applied.{all_applied}
+use Rattle.state_codec.specs.Ops.{IsOp}
+use Rattle.state_codec.specs.Spelling.{ops_bytes}
+use Rattle.daemon_core.specs.declared.event.Event.{Event}
+use Rattle.daemon_core.specs.State.{State}
+use Rattle.daemon_core.specs.Step.{Stepped, step}
+use Rattle.daemon_core.specs.Replay.{Entry, stepped}
+use Rattle.live_stage.specs.declared.staging.Begin.{Begin}
+use Rattle.live_stage.specs.declared.refusal.LiveError.{LiveError}
+use Rattle.live_stage.specs.Answer.{Answer, IsNumbered}
+use Rattle.live_stage.specs.Found.{state_of}
+use Rattle.live_stage.specs.Group.{AreParted, BearTheirStates, TookEach, answer_bytes, are_last, asked_by, bodies_after, body_of, file_with}
+use Rattle.live_stage.specs.Group.{history_in, may_follow, most_answer_bytes, takes_more}
+use Rattle.live_stage.specs.LiveState.{LiveState}
+use Rattle.live_stage.specs.Numbers.{Numbers, FileNumbers, greatest, is_due, longest_record, most_bytes, most_records, next_numbers}
+use Rattle.live_stage.specs.Numbers.{record_bytes}
+use Rattle.live_stage.specs.Staging.{AddsStep, AreStaged, AreTaken, IsAnswerOf, KeepsToBounds, file_begun, numbers_begun, numbers_staged}
+use Rattle.live_stage.specs.Transcript.{IsStepOf, IsTranscript, entry_of, history_of, numbers_after, replayed}
+use Rattle.live_stage.proofs.FoundLaws.{record_added}
+
+abbrev pub Reply : Type 0
+Reply = Result Answer LiveError
+
+-- ---- one answer more
+
+history_on : (earlier : List Entry) (turns : List Answer) (t : Answer)
+    → (let oks : List Reply = map Ok (turns ++ t ∷ []) in history_of earlier (asked_by (turns ++ t ∷ [])) oks)
+    ≡ (let oks : List Reply = map Ok turns in entry_of t.asked t ∷ history_of earlier (asked_by turns) oks)
+history_on earlier [] t = refl
+history_on earlier (a ∷ turns) t = history_on (entry_of a.asked a ∷ earlier) turns t
+
+pub history_more_by : (turns : List Answer) (t : Answer) → history_in (turns ++ t ∷ []) ≡ entry_of t.asked t ∷ history_in turns
+history_more_by turns t = history_on [] turns t
+
+history_len : (earlier : List Entry) (turns : List Answer)
+    → (let oks : List Reply = map Ok turns in length (history_of earlier (asked_by turns) oks)) ≡ length earlier + length turns
+history_len earlier [] = omega arith
+history_len earlier (a ∷ turns) = history_len (entry_of a.asked a ∷ earlier) turns ∙ omega arith
+
+pub length-history : (turns : List Answer) → length (history_in turns) ≡ length turns
+length-history turns = history_len [] turns ∙ omega arith
+
+transcript_on : {D : Type 0} (first : LiveState D) (earlier : List Entry) (turns : List Answer) (t : Answer)
+    → (let oks : List Reply = map Ok turns in IsTranscript first earlier (asked_by turns) oks)
+    → (let oks : List Reply = map Ok turns in let whole = history_of earlier (asked_by turns) oks in
+    IsStepOf first whole (stepped (replayed first.state whole) (entry_of t.asked t)) t)
+    → (let oks : List Reply = map Ok (turns ++ t ∷ []) in IsTranscript first earlier (asked_by (turns ++ t ∷ [])) oks)
+transcript_on first earlier [] t so_far one = (one, tt)
+transcript_on first earlier (a ∷ turns) t so_far one = (so_far.0, transcript_on first (entry_of a.asked a ∷ earlier) turns t so_far.1 one)
+
+bear_on : (s : State) (earlier : List Entry) (turns : List Answer) (t : Answer) → BearTheirStates s earlier turns
+    → (let oks : List Reply = map Ok turns in t.before ≡ replayed s (history_of earlier (asked_by turns) oks))
+    → BearTheirStates s earlier (turns ++ t ∷ [])
+bear_on s earlier [] t so_far one = (one, tt)
+bear_on s earlier (a ∷ turns) t so_far one = (so_far.0, bear_on s (entry_of a.asked a ∷ earlier) turns t so_far.1 one)
+
+all_on : {X : Type 0} (P : X → Type 0) (xs : List X) (x : X) → AllByRecursion P xs → P x → AllByRecursion P (xs ++ x ∷ [])
+all_on P [] x all one = (one, tt)
+all_on P (y ∷ xs) x all one = (all.0, all_on P xs x all.1 one)
+
+pub asked_on : (turns : List Answer) (t : Answer) → asked_by (turns ++ t ∷ []) ≡ asked_by turns ++ t.asked ∷ []
+asked_on [] t = refl
+asked_on (a ∷ turns) t = ap (λ (l : List Event). a.asked ∷ l) (asked_on turns t)
+
+pub took_on : (takes : List Answer → Bool) (before turns : List Answer) (t : Answer) → TookEach takes before turns
+    → takes (before ++ turns) ≡ true → TookEach takes before (turns ++ t ∷ [])
+took_on takes before [] t so_far one = (subst (λ (l : List Answer). takes l ≡ true) (append-nil before) one, tt)
+took_on takes before (a ∷ turns) t so_far one = (
+  so_far.0,
+  took_on takes (before ++ a ∷ []) turns t so_far.1
+      (subst (λ (l : List Answer). takes l ≡ true) (sym (append_assoc before (a ∷ []) turns)) one),
+)
+
+-- ---- numbers
+
+next_are : (before : Numbers) (ops : List Op)
+    → next_numbers before ops ≡ record { event = before.event + 1; last_record = before.last_record + length (body_of ops) }
+next_are before [] = ap (λ (n : ℕ). let now : Numbers = record { event = before.event + 1; last_record = n } in now) (omega arith)
+next_are before (op ∷ ops) = refl
+
+pub numbers_are_after : (s : State) (first : Numbers) (whole : List Entry) → numbers_after s first whole
+    ≡ record { event = first.event + length whole; last_record = first.last_record + length (bodies_after s whole) }
+numbers_are_after s first [] =
+    let numbers : ℕ → ℕ → Numbers = λ event last. record { event = event; last_record = last } in
+    let event : first.event ≡ first.event + 0 = omega arith in
+    let last : first.last_record ≡ first.last_record + 0 = omega arith in
+    ap (λ (n : ℕ). numbers n first.last_record) event ∙ ap (λ (n : ℕ). numbers (first.event + 0) n) last
+numbers_are_after s first (entry ∷ earlier) =
+    let now : Stepped = stepped (replayed s earlier) entry in
+    let numbers : ℕ → ℕ → Numbers = λ event last. record { event = event; last_record = last } in
+    let bodies = bodies_after s earlier in
+    let event : first.event + length earlier + 1 ≡ first.event + length (entry ∷ earlier) = omega arith in
+    let last : first.last_record + length bodies + length (body_of now.ops) ≡ first.last_record + length (bodies ++ body_of now.ops) =
+    omega (arith, length-append bodies (body_of now.ops)) in
+    ap (λ (n : Numbers). next_numbers n now.ops) (numbers_are_after s first earlier)
+    ∙ next_are (numbers (first.event + length earlier) (first.last_record + length bodies)) now.ops
+    ∙ ap (λ (n : ℕ). numbers n (first.last_record + length bodies + length (body_of now.ops))) event
+    ∙ ap (λ (n : ℕ). numbers (first.event + length (entry ∷ earlier)) n) last
+
+-- the numbers behind the answers of a group
+staged_are : (begin : Begin) (s : State) (turns : List Answer) (bodies : List (List ℕ)) → bodies ≡ bodies_after s (history_in turns)
+    → numbers_staged begin (length turns) bodies ≡ numbers_after s (numbers_begun begin) (history_in turns)
+staged_are begin s turns bodies is =
+    let numbers : ℕ → ℕ → Numbers = λ event last. record { event = event; last_record = last } in
+    ap (λ (n : ℕ). numbers (begin.event + n) (begin.last_record + length bodies)) (sym (length-history turns))
+    ∙ ap (λ (l : List (List ℕ)). numbers (begin.event + length (history_in turns)) (begin.last_record + length l)) is
+    ∙ sym (numbers_are_after s (numbers_begun begin) (history_in turns))
+
+-- ---- records
+
+-- how many records ops make, and how many bytes these take
+pub body_few : (ops : List Op) → length (body_of ops) ≤ 1
+body_few [] = omega arith
+body_few (op ∷ ops) = omega arith
+
+pub body_bytes : (ops : List Op) → records_len (body_of ops) ≡ record_bytes ops
+body_bytes [] = refl
+body_bytes (op ∷ ops) = records_len-one (ops_bytes (op ∷ ops))
+
+pub file_records : (file : FileNumbers) (bodies : List (List ℕ)) → (let f = file_with file bodies in f.records) ≡ file.records + length bodies
+file_records file [] = omega arith
+file_records file (body ∷ bodies) = refl
+
+pub file_snapshot : (file : FileNumbers) (bodies : List (List ℕ)) → (let f = file_with file bodies in f.snapshot_len) ≡ file.snapshot_len
+file_snapshot file [] = refl
+file_snapshot file (body ∷ bodies) = refl
+
+pub file_bytes : (file : FileNumbers) (bodies : List (List ℕ)) → file.bytes ≤ greatest
+    → (let f = file_with file bodies in f.bytes) ≡ min (file.bytes + records_len bodies) greatest
+file_bytes file [] fits = omega (arith, fits)
+file_bytes file (body ∷ bodies) fits = refl
+
+-- a checkpoint that is due stays so
+pub due_stays : (file : FileNumbers) (bodies : List (List ℕ)) → file.bytes ≤ greatest
+    → is_due file ≡ true → is_due (file_with file bodies) ≡ true
+due_stays file bodies fits due =
+    let f : FileNumbers = file_with file bodies in
+    elim (or_cases _ _ due) [
+      | inl many ↦ or_left _ _ (le-leb most_records f.records
+          (omega (arith, leb-true most_records file.records many, file_records file bodies)))
+      | inr long ↦ or_right _ _ (lt-ltb (most_bytes f.snapshot_len) f.bytes
+          (omega (
+            arith,
+            ltb-true (most_bytes file.snapshot_len) file.bytes long,
+            file_bytes file bodies fits,
+            fits,
+            ap most_bytes (file_snapshot file bodies),
+          )))
+    ]
+
+-- a content with these records stands for the state behind them
+stands_on : (content : Content) (bodies : List (List ℕ)) (ops : List Op) (s after : SavedState) → content.layout ≡ present_layout
+    → state_of (Some (with_records content bodies)) ≡ Some s → AllByRecursion IsOp ops → all_applied ops s ≡ Some after
+    → state_of (Some (with_records content (bodies ++ body_of ops))) ≡ Some after
+stands_on content bodies [] s after layout stands valid applies =
+    ap (λ (l : List (List ℕ)). state_of (Some (with_records content l))) (append-nil bodies) ∙ stands ∙ applies
+stands_on content bodies (op ∷ ops) s after layout stands valid applies =
+    ap (λ (l : List (List ℕ)). state_of (Some (record content { records = l })))
+    (sym (append_assoc content.records bodies (body_of (op ∷ ops))))
+    ∙ record_added (with_records content bodies) op ops s after stands layout valid applies
+
+-- ---- an event more is staged
+
+pub none_staged : (D : Type 0) (begin : Begin) (s : State) → AreStaged D begin s [] s []
+none_staged D begin s = record {
+  transcript = λ old at numbers. tt;
+  before = tt;
+  overdue = tt;
+  state = refl;
+  records = refl;
+  stands = λ content layout stands. ap (λ (c : Content). state_of (Some c)) (no_records content) ∙ stands;
+}
+
+module _ (D : Type 0) (begin : Begin) (s : State) (turns : List Answer) (core : State) (bodies : List (List ℕ))
+    (so_far : AreStaged D begin s turns core bodies) (event : Event) (t : Answer) (after : State) (more : List (List ℕ))
+    (answer : let now = step core event t.refused_at in
+    IsAnswerOf now (numbers_staged begin (length turns) bodies) begin.is_overdue core event t)
+    (added : let now = step core event t.refused_at in AddsStep now core after bodies more) where
+  abbrev whole : List Entry
+  whole = history_in turns
+
+  abbrev made : Stepped
+  made = step core event t.refused_at
+
+  same : made ≡ stepped (replayed s whole) (entry_of t.asked t)
+  same = ap (λ (c : State). step c event t.refused_at) so_far.state
+      ∙ ap (λ (e : Event). step (replayed s whole) e t.refused_at) (sym answer.asked)
+
+  is_step : (old : LiveState D) → old.state ≡ s → old.numbers ≡ numbers_begun begin
+      → IsStepOf old whole (stepped (replayed old.state whole) (entry_of t.asked t)) t
+  is_step old at numbers =
+      let full : made ≡ stepped (replayed old.state whole) (entry_of t.asked t) =
+      same ∙ ap (λ (c : State). stepped (replayed c whole) (entry_of t.asked t)) (sym at) in
+      let before : numbers_staged begin (length turns) bodies ≡ numbers_after old.state old.numbers whole =
+      staged_are begin s turns bodies so_far.records
+      ∙ ap (λ (c : State). numbers_after c (numbers_begun begin) whole) (sym at)
+      ∙ ap (λ (n : Numbers). numbers_after old.state n whole) (sym numbers) in
+      record {
+        outputs = answer.outputs ∙ ap (λ (st : Stepped). st.outputs) full;
+        closes = answer.closes ∙ ap (λ (st : Stepped). st.closes) full;
+        ended = answer.ended ∙ ap (λ (st : Stepped). st.ended) full;
+        refused_at = answer.refused_at ∙ ap (λ (st : Stepped). st.refused_at) full;
+        numbered = subst (λ (n : Numbers). let st = stepped (replayed old.state whole) (entry_of t.asked t) in IsNumbered n st.ops t) before
+            (subst (λ (st : Stepped). IsNumbered (numbers_staged begin (length turns) bodies) st.ops t) full answer.numbered);
+      }
+
+  pub staged_on : AreStaged D begin s (turns ++ t ∷ []) after more
+  staged_on = record {
+    transcript = λ old at numbers. transcript_on old [] turns t (so_far.transcript old at numbers) (is_step old at numbers);
+    before = bear_on s [] turns t so_far.before (answer.state ∙ so_far.state);
+    overdue = all_on (λ (a : Answer). a.is_overdue ≡ begin.is_overdue) turns t so_far.overdue answer.overdue;
+    state = added.state ∙ ap (λ (st : Stepped). st.after) same ∙ ap (replayed s) (sym (history_more_by turns t));
+    records = added.put ∙ ap (λ (l : List (List ℕ)). l ++ body_of made.ops) so_far.records
+        ∙ ap (λ (st : Stepped). bodies_after s whole ++ body_of st.ops) same
+        ∙ ap (bodies_after s) (sym (history_more_by turns t));
+    stands = λ content layout stands.
+        ap (λ (l : List (List ℕ)). state_of (Some (with_records content l))) added.put
+        ∙ stands_on content bodies made.ops core.machine.saved made.after.machine.saved layout (so_far.stands content layout stands)
+        added.valid added.applies
+        ∙ ap (λ (c : State). Some c.machine.saved) (sym added.state);
+  }
+
+-- ---- where a group ends
+
+-- bytes that are counted up to the greatest number are within the bound where they are
+counted_within : (n : ℕ) → nat_le (min n greatest) most_answer_bytes ≡ nat_le n most_answer_bytes
+counted_within n = grind (arith, nat_tests)
+
+-- what the code asks is whether another event may follow
+pub takes_as : (begin : Begin) (s : State) (turns : List Answer) (bodies : List (List ℕ)) (bytes : ℕ) (has_ended : Bool) → turns ≢ []
+    → bodies ≡ bodies_after s (history_in turns) → bytes ≡ min (sum_by answer_bytes turns) greatest
+    → has_ended ≡ list_any (λ a. a.ended) turns
+    → may_follow (file_with (file_begun begin) bodies) (numbers_staged begin (length turns) bodies) (records_len bodies) bytes has_ended
+    ≡ takes_more s (numbers_begun begin) (file_begun begin) turns
+takes_as begin s [] bodies bytes has_ended some is given ended = absurd (some refl)
+takes_as begin s (t ∷ turns) bodies bytes has_ended some is given ended =
+    let all : List Answer = t ∷ turns in
+    let file = file_begun begin in
+    let numbers = numbers_staged begin (length all) bodies in
+    let within : nat_le bytes most_answer_bytes ≡ nat_le (sum_by answer_bytes all) most_answer_bytes =
+    ap (λ (n : ℕ). nat_le n most_answer_bytes) given ∙ counted_within (sum_by answer_bytes all) in
+    let first : Bool = not (is_due (file_with file bodies)) && not (are_last numbers) && nat_le (records_len bodies) longest_record in
+    ap (λ (b : Bool). first && b && not has_ended) within
+    ∙ ap (λ (b : Bool). first && nat_le (sum_by answer_bytes all) most_answer_bytes && not b) ended
+    ∙ ap (λ (l : List (List ℕ)). may_follow (file_with file l) numbers (records_len l) (sum_by answer_bytes all) (list_any (λ a. a.ended) all)) is
+    ∙ ap (λ (n : Numbers). may_follow (file_with file (bodies_after s (history_in all))) n (records_len (bodies_after s (history_in all)))
+    (sum_by answer_bytes all) (list_any (λ a. a.ended) all)) (staged_are begin s all bodies is)
+
+-- what may follow says
+pub record MayFollow (file : FileNumbers) (numbers : Numbers) (bytes : ℕ) (has_ended : Bool) : Type 0 where
+  pub undue : is_due file ≡ false
+  pub event : numbers.event ≢ greatest
+  pub last : numbers.last_record ≢ greatest
+  pub short : bytes ≤ longest_record
+  pub on : has_ended ≡ false
+
+pub may_follow_says : (file : FileNumbers) (numbers : Numbers) (bytes given : ℕ) (has_ended : Bool)
+    → may_follow file numbers bytes given has_ended ≡ true → MayFollow file numbers bytes has_ended
+may_follow_says file numbers bytes given has_ended may =
+    let ended = and_parts (not (is_due file) && not (are_last numbers) && nat_le bytes longest_record && nat_le given most_answer_bytes)
+    (not has_ended) may in
+    let within = and_parts (not (is_due file) && not (are_last numbers) && nat_le bytes longest_record) (nat_le given most_answer_bytes) ended.0 in
+    let short = and_parts (not (is_due file) && not (are_last numbers)) (nat_le bytes longest_record) within.0 in
+    let last = and_parts (not (is_due file)) (not (are_last numbers)) short.0 in
+    let numbers_are = or_parts (numbers.event == greatest) (numbers.last_record == greatest) (not-true (are_last numbers) last.1) in
+    record {
+      undue = not-true (is_due file) last.0;
+      event = eqb-false numbers.event greatest numbers_are.0;
+      last = eqb-false numbers.last_record greatest numbers_are.1;
+      short = leb-true bytes longest_record short.1;
+      on = not-true has_ended ended.1;
+    }
