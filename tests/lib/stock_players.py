@@ -1,8 +1,11 @@
-"""Clients of the distribution over a daemon with stock clients, where they are installed: what mpc prints, what ncmpcpp and ncmpc show."""
+"""Clients of the distribution over a daemon with stock clients, where they are installed: what mpc prints, what ncmpcpp and ncmpc show,
+what calls of python-mpd2 give, what mpDris2 tells and changes."""
 
+import json
 import os
 import shutil
 import subprocess
+import sys
 import tempfile
 
 from daemons import LIMIT, check, wait_for
@@ -50,6 +53,89 @@ MPC = [
     ("load made", 0, "loading: made"),
     ("-f %file% playlist", 0, "d/c.wav|d/e.wav"),
 ]
+A = {"file": "a.wav", "format": "8000:16:1", "title": "Alpha", "artist": "One", "album": "First", "date": "2001", "genre": "Folk"}
+A |= {"comment": "a note", "time": "2", "duration": "2.000"}
+C = {"file": "d/c.wav", "format": "8000:16:1", "artist": "One", "album": "Second", "time": "2", "duration": "2.000"}
+NAKED = {"file": "a.wav", "format": "8000:16:1", "time": "2", "duration": "2.000", "pos": "0", "id": "1"}
+ALBUMS = [{"artist": "", "album": ""}, {"artist": "One", "album": ["First", "Second"]}, {"artist": "Two", "album": "First"}]
+ALWAYS_ON = "![2@0] {%s} the only output is always on"
+UNKNOWN = '![5@0] {} unknown command "%s"'
+# Calls of python-mpd2 with their words, and what they give.
+PYTHON_MPD = [
+    ("tagtypes clear", []),
+    ("currentsong", NAKED),
+    ("playlistid 1", [NAKED]),
+    ("tagtypes enable Title", []),
+    ("tagtypes", ["Title"]),
+    ("tagtypes all", []),
+    ("currentsong", {**A, "pos": "0", "id": "1"}),
+    ("playlist", [f"file: {it}" for it in ("a.wav", "b.wav", "d/c.wav", "d/e.wav", "d/é é.wav")]),
+    ("lsinfo", [{"directory": "d"}, A, {"file": "b.wav", "format": "8000:16:1", "time": "2", "duration": "2.000"}, {"playlist": "old"}]),
+    ("listplaylists", [{"playlist": "old"}]),
+    ("list album group artist", ALBUMS),
+    ("list album artist One", [{"album": "First"}, {"album": "Second"}]),
+    ("list album One", [{"album": "First"}, {"album": "Second"}]),
+    ("list album One group artist", '![2@0] {list} wrong number of arguments for "list"'),
+    ("list albumartist", [{"albumartist": "One"}, {"albumartist": "Two"}]),
+    ("list disc", []),
+    ("count artist One", {"songs": "2", "playtime": "4"}),
+    ("count artist One group genre", {"genre": ["", "Folk"], "songs": ["1", "1"], "playtime": ["2", "2"]}),
+    ("find albumartist One", [A, C]),
+    ("find filename a.wav", [A]),
+    ("find any One sort Track window 0:1", [A]),
+    ("search (Composer=='x')", []),
+    ("playlistfind albumsort Second", [{**C, "pos": "2", "id": "3"}]),
+    ("outputs", [{"outputid": "0", "outputname": "output", "plugin": "raw", "outputenabled": "1"}]),
+    ("enableoutput 0", None),
+    ("disableoutput 0", ALWAYS_ON % "disableoutput"),
+    ("toggleoutput 0", ALWAYS_ON % "toggleoutput"),
+    ("volume -10", None),
+    ("volume +5", None),
+    ("volume 500", "![2@0] {volume} bad argument 1"),
+    ("setvol 100", None),
+    ("crossfade 0", None),
+    ("crossfade 3", "![2@0] {crossfade} no crossfade here"),
+    ("mixrampdb 0", None),
+    ("mixrampdb -17", "![2@0] {mixrampdb} no mixramp here"),
+    ("mixrampdelay nan", None),
+    ("replay_gain_status", "off"),
+    ("replay_gain_mode off", None),
+    ("replay_gain_mode album", "![2@0] {replay_gain_mode} Unrecognized replay gain mode"),
+    ("decoders", [{"plugin": "wave", "suffix": "wav", "mime_type": ["audio/wav", "audio/x-wav"]}]),
+    ("urlhandlers", []),
+    ("readcomments a.wav", {}),
+    ("albumart a.wav", "![50@0] {albumart} No file exists"),
+    ("readpicture a.wav", {}),
+    ("channels", []),
+    ("sendmessage a b", "![50@0] {sendmessage} nobody is subscribed to this channel"),
+    ("listpartitions", [{"partition": "default"}]),
+    ("partition default", None),
+    ("partition x", "![50@0] {partition} partition does not exist"),
+    ("listmounts", [{"mount": ""}]),
+    ("listneighbors", "![5@0] {listneighbors} No neighbor plugin configured"),
+    ("password x", "![3@0] {password} incorrect password"),
+    *((it, UNKNOWN % it.split()[0]) for it in ("subscribe x", "unsubscribe x", "readmessages", "listfiles", "listfiles d", "config")),
+    ("searchaddpl made composer ", None),
+    ("listplaylist made", ["a.wav", "b.wav", "d/c.wav", "d/e.wav", "d/é é.wav"]),
+    ("rm made", None),
+]
+# Each prints a line of its own, of what mpDris2 tells on the bus of the session.
+MPDRIS2 = """\
+mpDris2 --host="$1" >"$2/log" 2>&1 &
+at=$!
+at_bus="--dest=org.mpris.MediaPlayer2.mpd /org/mpris/MediaPlayer2"
+ask() {
+    dbus-send --print-reply=literal $at_bus "org.freedesktop.DBus.Properties.$@" | tr -s ' \n' ' '
+}
+player=string:org.mpris.MediaPlayer2.Player
+until ask Get $player string:Metadata 2>&1 | grep -q Alpha; do sleep 0.1; done
+ask Get $player string:Metadata
+echo
+ask Set $player string:Volume variant:double:0.4
+ask Set $player string:Shuffle variant:boolean:true
+ask Set $player string:LoopStatus variant:string:Playlist
+kill $at
+"""
 # The keys of a player, and what its screen shows then.
 NCMPCPP = [
     ("1", ["Playlist (5 items", "Alpha", 'say "x"', "Zoë"]),
@@ -137,9 +223,47 @@ def ncmpc(daemon):
         terminal.walk(NCMPC)
 
 
+def python_mpd(daemon):
+    """By the first interpreter that has python-mpd2."""
+    how = {"capture_output": True, "text": True, "timeout": LIMIT, "check": False, "env": SETTINGS}
+    pythons = [it for it in (sys.executable, "/usr/bin/python3") if subprocess.run([it, "-c", "import mpd"], **how).returncode == 0]
+    if not pythons:
+        print("python_mpd: left out, without the module mpd", flush=True)
+        return
+    words = [call.split(" ") for call, _ in PYTHON_MPD]
+    script = os.path.join(os.path.dirname(os.path.abspath(__file__)), "python_mpd.py")
+    ran = subprocess.run([pythons[0], script, daemon.path], input=json.dumps(words), **how)
+    lines = [json.loads(it) for it in ran.stdout.splitlines()]
+    for (call, wanted), found in zip(PYTHON_MPD, lines):
+        check(f"python-mpd2 {call}", found, wanted)
+    check("python-mpd2", (len(lines), ran.stderr), (len(PYTHON_MPD), ""))
+
+
+def mpdris2(daemon):
+    """What it tells of the song on the bus, and what it changes."""
+    with tempfile.TemporaryDirectory(prefix="player-") as folder:
+        words = ["dbus-run-session", "--", "sh", "-c", MPDRIS2, "sh", daemon.path, folder]
+        settings = {**SETTINGS, "HOME": folder, "XDG_CONFIG_HOME": folder}
+        ran = subprocess.run(words, capture_output=True, text=True, timeout=LIMIT, check=False, env=settings)
+        for it in ("xesam:title variant Alpha", "xesam:album variant First", "array [ One ]", "xesam:url variant a.wav", "int64 2000000"):
+            if it not in ran.stdout:
+                raise Failure(f"mpDris2: no {it} in {ran.stdout}{ran.stderr}")
+        with daemon.client() as client:
+            changed = [("volume", "40"), ("random", "1"), ("repeat", "1")]
+            wait_for("mpDris2's changes", lambda: all(client.value("status", key) == value for key, value in changed))
+            client.do("setvol 100", "random 0", "repeat 0")
+
+
 def look(daemon):
     """Runs each that is installed; the others are named. Those that only look come first."""
-    for player, wants in ((ncmpcpp, ("ncmpcpp", "tmux")), (ncmpc, ("ncmpc", "tmux")), (mpc, ("mpc",))):
+    bus = ("mpDris2", "dbus-run-session", "dbus-send")
+    for player, wants in (
+        (ncmpcpp, ("ncmpcpp", "tmux")),
+        (ncmpc, ("ncmpc", "tmux")),
+        (python_mpd, ()),
+        (mpdris2, bus),
+        (mpc, ("mpc",)),
+    ):
         lacking = [it for it in wants if not shutil.which(it)]
         if lacking:
             print(f"{player.__name__}: left out, without {' and '.join(lacking)} on the path", flush=True)

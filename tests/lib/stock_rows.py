@@ -195,7 +195,7 @@ AlbumArtistSort: Two|Album: First"""),
     ("list Album Artist gone group Date", ""),
     ('list Artist Title "say \\"x\\"" group Title', 'Title: say "x"|Artist: Two'),
     ('list Artist "(Title contains \'x\')" group Title', 'Title: say "x"|Artist: Two'),
-    ("list Album One group Genre", "Genre: |Album: Second|Genre: Folk|Album: First"),
+    ("list Album One group Genre", '2 wrong number of arguments for "list"'),
     ("count group Artist", """Artist: |songs: 2|playtime: 4|Artist: One|songs: 2|playtime: 4|Artist: Two|songs: 1|playtime: 2"""),
     ("count base d group AlbumArtist", """AlbumArtist: |songs: 1|playtime: 2|AlbumArtist: One|songs: 1|playtime: 2
 AlbumArtist: Two|songs: 1|playtime: 2"""),

@@ -1,5 +1,5 @@
 """What stock MPD clients ask for beside the daemon's own commands, translated line by line: a plain translator, for one connection of a
-daemon without `stock_clients`. It follows the table 'What stock clients ask for beyond it' of docs/PROTOCOL.md.
+daemon without `stock_clients`. It follows 'What `stock_clients` adds' of docs/PROTOCOL.md.
 
 A client's bytes go into `ask`, which gives those for the daemon, and the daemon's into `answer`, which gives those for the client and
 leaves in `more` what the daemon is to be asked behind them. What `stats` tells of a clock stands in `times`.
@@ -244,8 +244,6 @@ def grouped(alone, name, tag, given, most):
         if last.lower() in tags:
             return refused(name, "2 Conflicting group")
         tags.append(last.lower())
-    if tag and tags[0] == "album" and len(front) == 1 and not front[0].startswith("("):
-        front = ["Artist", *front]
     if front and (len(front) != 1 if front[0].startswith("(") else len(front) % 2):
         return refused(name, f'2 wrong number of arguments for "{name}"')
     songs = Songs([*tags[len(tag) :], *tags[: len(tag)]], name == "count")

@@ -1,13 +1,14 @@
 -- What the words of the command line ask for.
-use Rattle.std.specs.Prelude.{ℕ, List, codes, Option, Some, None, string_bytes, if◌then◌else◌}
+use Rattle.std.specs.Prelude.{ℕ, List, codes, ◌&&◌, Option, Some, None, string_bytes, if◌then◌else◌}
 use Rattle.std.specs.Str.{bytes_eq}
 use Rattle.mpd_program.specs.declared.arguments.Task.{Task}
-use Rattle.mpd_program.specs.declared.arguments.Task.TheVariants.{ConsoleInMemory, Console, Create, Serve, Look}
+use Rattle.mpd_program.specs.declared.arguments.Task.TheVariants.{ConsoleInMemory, Console, StockConsole, Create, Serve, Look}
 
 -- a task, with the path of its configuration
 pub data Asked : Type 0 where
   in_memory : Asked
   console : List ℕ → Asked
+  stock_console : List ℕ → Asked
   create : List ℕ → Asked
   serve : List ℕ → Asked
   look : List ℕ → Asked
@@ -15,6 +16,7 @@ pub data Asked : Type 0 where
 abbrev pub task_seen : Task → Asked
 task_seen ConsoleInMemory = in_memory
 task_seen (Console path) = console (string_bytes path)
+task_seen (StockConsole path) = stock_console (string_bytes path)
 task_seen (Create path) = create (string_bytes path)
 task_seen (Serve path) = serve (string_bytes path)
 task_seen (Look path) = look (string_bytes path)
@@ -28,3 +30,8 @@ task_of first (Some path) =
     else if bytes_eq first (codes "serve") then Some (serve path)
     else if bytes_eq first (codes "look") then Some (look path)
     else None
+
+-- the task of three words
+abbrev pub task_of_three : List ℕ → List ℕ → List ℕ → Option Asked
+task_of_three first option path =
+    if bytes_eq first (codes "console") && bytes_eq option (codes "--stock-clients") then Some (stock_console path) else None

@@ -1,6 +1,6 @@
 //! What the words of the command line ask for.
 ghost use Rattle.std.specs.Prelude.{◌≡◌, option_map, string_bytes};
-ghost use Rattle.mpd_program.specs.Arguments.{task_of, task_seen};
+ghost use Rattle.mpd_program.specs.Arguments.{task_of, task_of_three, task_seen};
 
 use std::env::{self, Env};
 use std::io;
@@ -12,6 +12,8 @@ pub enum Task {
     ConsoleInMemory,
     /// `console CONFIG`: over the journal of the configuration.
     Console(String),
+    /// `console --stock-clients CONFIG`: the same for a client that speaks all of MPD.
+    StockConsole(String),
     /// `create CONFIG`: make the journal of the configuration.
     Create(String),
     /// `serve CONFIG`: be the daemon of the configuration.
@@ -35,6 +37,17 @@ impl Task {
         }
     }
 
+    /// The task of three words behind the program's name.
+    fn from_three(first: &str, option: &str, path: String) -> Option<Task>
+        ensures { option_map task_seen result ≡ task_of_three first.now option.now (string_bytes path) }
+    {
+        if first == "console" && option == "--stock-clients" {
+            Some(Task::StockConsole(path))
+        } else {
+            None
+        }
+    }
+
     /// The task of the command line; none where its words are not those of a task.
     pub fn from_args<R: Env + AllocGlobal>(rt: &R) -> io::Result<Option<Task>> {
         let mut args = env::args(rt)?;
@@ -42,10 +55,15 @@ impl Task {
         let Some(first) = args.next() else {
             return Ok(None);
         };
-        let path = args.next();
+        let Some(second) = args.next() else {
+            return Ok(Task::from_words(first.as_str(), None));
+        };
+        let Some(third) = args.next() else {
+            return Ok(Task::from_words(first.as_str(), Some(second)));
+        };
         if args.next().is_some() {
             return Ok(None);
         }
-        Ok(Task::from_words(first.as_str(), path))
+        Ok(Task::from_three(first.as_str(), second.as_str(), third))
     }
 }

@@ -7,6 +7,7 @@ use crate::config::{Config, ConfigError};
 use crate::console::{ConsoleEnd, Status, run_console};
 use crate::created::tell_created;
 use crate::daemon;
+use crate::daemon_clock::DaemonClock;
 use crate::error_lines::takes_line;
 use crate::exit::Exit;
 use crate::file_lock::FileLock;
@@ -20,6 +21,7 @@ use std::io::{self, ErrorKind, Read};
 use std::sync::Wait;
 use std::thread::Threads;
 use std::time::Clock;
+use stock_streams::StockTalk;
 use wave_pcm::{Folder, MemFolder};
 
 /// Does what the command line asks for, and says how the program ends.
@@ -33,7 +35,7 @@ pub fn run_command_line<R: Threads + Wait + Clock + Log + Sync>(
         Ok(Some(task)) => run(rt, threads, task),
         Ok(None) => {
             let _printed = eprintln!(rt;
-                "usage: mpd_daemon create CONFIG | console [CONFIG] | serve CONFIG | look CONFIG"
+                "usage: mpd_daemon create CONFIG | console [[--stock-clients] CONFIG] | serve CONFIG | look CONFIG"
             );
             Err(Exit::BadArguments)
         }
@@ -53,7 +55,8 @@ fn run<R: Threads + Wait + Clock + Log + Sync>(
 ) -> Result<(), Exit> {
     match task {
         Task::ConsoleInMemory => console_in_memory(rt),
-        Task::Console(path) => console(rt, read_config(rt, path.as_str())?),
+        Task::Console(path) => console(rt, read_config(rt, path.as_str())?, false),
+        Task::StockConsole(path) => console(rt, read_config(rt, path.as_str())?, true),
         Task::Create(path) => create(rt, &read_config(rt, path.as_str())?),
         Task::Look(path) => look(rt, &read_config(rt, path.as_str())?),
         Task::Serve(path) => daemon::serve(rt, threads, read_config(rt, path.as_str())?),
@@ -164,6 +167,21 @@ fn serve<D: Disk + Drop, F: Folder>(rt: &HostRuntime, a: D, b: D, folder: &mut F
     run_console(alloc, a, b, folder, &mut rt.reader(), &mut io::writer(rt))
 }
 
+/// The same for a client that speaks all of MPD.
+fn serve_stock<D: Disk + Drop, F: Folder>(
+    rt: &HostRuntime,
+    a: D,
+    b: D,
+    folder: &mut F,
+) -> ConsoleEnd<D> {
+    let alloc = rt.alloc();
+    let clock = DaemonClock::new(rt);
+    let talk = StockTalk::new(alloc, &clock);
+    let mut reader = talk.reader(rt.reader());
+    let mut writer = talk.writer(io::writer(rt));
+    run_console(alloc, a, b, folder, &mut reader, &mut writer)
+}
+
 /// How the program ends after a console.
 fn exit_of(status: Status) -> Result<(), Exit> {
     match status {
@@ -203,8 +221,8 @@ fn console_in_memory(rt: &HostRuntime) -> Result<(), Exit> {
     }
 }
 
-/// Serves one client over the journal and the songs of the configuration.
-fn console(rt: &HostRuntime, config: Config) -> Result<(), Exit> {
+/// Serves one client over the journal and the songs of the configuration, one that speaks all of MPD where its requests are translated.
+fn console(rt: &HostRuntime, config: Config, translates: bool) -> Result<(), Exit> {
     let Config {
         music,
         journal_a,
@@ -216,7 +234,12 @@ fn console(rt: &HostRuntime, config: Config) -> Result<(), Exit> {
         b,
         locks: _locks,
     } = open_files(rt, journal_a.as_str(), journal_b.as_str())?;
-    let end = serve(rt, a, b, &mut Music::new(rt, music.as_str(), None)?);
+    let mut music = Music::new(rt, music.as_str(), None)?;
+    let end = if translates {
+        serve_stock(rt, a, b, &mut music)
+    } else {
+        serve(rt, a, b, &mut music)
+    };
     if end.migrated {
         tell_migration(rt);
     }

@@ -3,7 +3,6 @@ use Rattle.std.proofs.Common.{◌≡◌, ℕ, ◌+◌, ◌≤◌, ◌==◌, Bool
 use Rattle.std.proofs.Common.{length-append}
 use Rattle.client_session.specs.Lines.{newline, ended}
 use Rattle.stock_requests.specs.Steps.{after_step, After}
-use Rattle.stock_requests.specs.declared.change.Natives.{Natives}
 use Rattle.stock_requests.specs.declared.steps.Steps.{Steps}
 use Rattle.stock_clients.specs.Asked.{asked_all}
 use Rattle.stock_clients.specs.Conversation.{waiting_count}
@@ -39,7 +38,7 @@ answer_counts hearing rest answer = omega (arith, left_counts answer.left rest)
 end_counts : (hearing : Hearing) (rest : List Awaited) (line : List ℕ) (after : After) → Counts (length rest + 1) (heard_end hearing rest line after)
 end_counts hearing rest line after = by_natives after.natives refl
   where
-    by_natives : (natives : Option Natives) → after.natives ≡ natives → Counts (length rest + 1) (heard_end hearing rest line after)
+    by_natives : (natives : Option (List (List ℕ))) → after.natives ≡ natives → Counts (length rest + 1) (heard_end hearing rest line after)
     by_natives None e = rw e (omega arith)
     by_natives (Some natives) e = rw e (omega arith)
 

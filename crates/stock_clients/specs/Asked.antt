@@ -107,10 +107,11 @@ asked_step first steps masks =
 abbrev pub pair_text : List ℕ → List ℕ → List ℕ
 pair_text first second = ended (begin_text true) ++ (ended first ++ (ended second ++ ended (codes "command_list_end")))
 
--- the native commands in the place of one
-abbrev pub natives_text : List ℕ → Option (List ℕ) → List ℕ
-natives_text first None = ended first
-natives_text first (Some second) = pair_text first second
+-- what is asked at once: a command alone, or a list, each command of which is answered by `list_OK`
+abbrev pub lines_text : List (List ℕ) → List ℕ
+lines_text [] = list_text true []
+lines_text (line ∷ []) = ended line
+lines_text (line ∷ other ∷ lines) = list_text true (line ∷ other ∷ lines)
 
 -- two commands stand in a list, so that nothing comes between them
 abbrev pub asked_natives : List ℕ → Option (List ℕ) → Change → Bool → Asked

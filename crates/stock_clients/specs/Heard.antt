@@ -14,7 +14,6 @@ use Rattle.stock_requests.specs.declared.change.LineChange.{LineChange}
 use Rattle.stock_requests.specs.declared.change.LineChange.TheVariants.{Kept, Masked, Dropped, OnlyVolume, Renamed, Numbered}
 use Rattle.stock_requests.specs.declared.change.Ending.{Ending}
 use Rattle.stock_requests.specs.declared.change.Ending.TheVariants.{Nothing, Text, Times, Tags, Masks}
-use Rattle.stock_requests.specs.declared.change.Natives.{Natives}
 use Rattle.stock_requests.specs.declared.steps.Steps.{Steps}
 use Rattle.stock_requests.specs.Steps.{after_step, step_change, step_line, step_part, After, Told}
 use Rattle.stock_clients.specs.Lines.{kind_of, list_ok_text}
@@ -30,7 +29,7 @@ use Rattle.stock_clients.specs.declared.hearing.Hearing.{Hearing}
 use Rattle.stock_clients.specs.declared.next.Next.{Next}
 use Rattle.stock_clients.specs.declared.next.Next.TheVariants.{Stays, Asks, Resumes}
 use Rattle.stock_clients.specs.declared.times.DaemonTimes.{DaemonTimes}
-use Rattle.stock_clients.specs.Asked.{asked_all, natives_text}
+use Rattle.stock_clients.specs.Asked.{asked_all, lines_text}
 use Rattle.command_text.specs.declared.request.Request.{Request}
 use Rattle.command_text.specs.Answer.{number_pair}
 
@@ -195,15 +194,15 @@ heard_answer hearing rest answer =
     heard_so (record hearing { awaited = waiting answer.left rest; shown = answer.shown }) answer.given Stays
 
 -- what is told where an answer in steps ends: nothing of an end behind which more is asked
-abbrev pub end_of_steps : Option Natives → List ℕ → List ℕ
+abbrev pub end_of_steps : Option (List (List ℕ)) → List ℕ → List ℕ
 end_of_steps None line = ended line
 end_of_steps (Some natives) line = []
 
-abbrev pub steps_left : Option Natives → Steps → Option Steps
+abbrev pub steps_left : Option (List (List ℕ)) → Steps → Option Steps
 steps_left None steps = None
 steps_left (Some natives) steps = Some steps
 
-abbrev pub next_of : Option Natives → Next
+abbrev pub next_of : Option (List (List ℕ)) → Next
 next_of None = Resumes
 next_of (Some natives) = Asks natives
 
@@ -283,10 +282,10 @@ resumed state =
     }
 
 -- the next step of a command is asked
-abbrev pub stepped : Natives → Hears → Hears
+abbrev pub stepped : List (List ℕ) → Hears → Hears
 stepped natives state = record state {
   hearing = record state.hearing { awaited = state.hearing.awaited ++ awaits.Step ∷ [] };
-  native = state.native ++ natives_text natives.first natives.second;
+  native = state.native ++ lines_text natives;
 }
 
 -- behind a line

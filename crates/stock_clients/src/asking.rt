@@ -3,7 +3,8 @@ ghost use Rattle.std.specs.Prelude.{◌≡◌, ◌++◌, false, true, None, Some
 ghost use Rattle.client_session.specs.Lines.{ended};
 ghost use Rattle.stock_requests.specs.Translation.{translation};
 ghost use Rattle.stock_clients.specs.Asked.{all_plain, any_mask, asked_as_it_is, asked_in_parts, asked_list, asked_natives, begin_text};
-ghost use Rattle.stock_clients.specs.Asked.{asked_all, asked_of, asked_single, changes_mask, is_mask, natives_text, pair_text, IsAskedSo};
+ghost use Rattle.stock_clients.specs.Asked.{asked_all, asked_of, asked_single, changes_mask, is_mask, lines_text, list_text, pair_text};
+ghost use Rattle.stock_clients.specs.Asked.{IsAskedSo};
 ghost use Rattle.stock_clients.specs.Asked.{is_plain, lines_of_list, native_lines, part_of, parts_of_list, several, IsAsked};
 ghost use Rattle.std.specs.List.{flat_map};
 ghost use Rattle.stock_clients.specs.declared.awaited.Awaited.TheVariants as awaits;
@@ -152,14 +153,25 @@ fn write_pair(out: &mut Vec<u8>, first: &[u8], second: &[u8]) -> Result<(), NoMe
     Ok(())
 }
 
-/// Adds the native commands in the place of one.
-pub(crate) fn write_text(out: &mut Vec<u8>, natives: &Natives) -> Result<(), NoMemory>
-    ensures { OnOk result (out.new.items ≡ out.old.items ++ natives_text natives.now.first natives.now.second) }
+// Adds a list of these lines.
+fn write_list(out: &mut Vec<u8>, separated: bool, lines: LinesRef<'_>) -> Result<(), NoMemory>
+    ensures { OnOk result (out.new.items ≡ out.old.items ++ list_text separated lines.entry) }
 {
-    match &natives.second {
-        None => write_line(out, natives.first.bytes()),
-        Some(second) => write_pair(out, natives.first.bytes(), second.bytes()),
+    write_line(out, list_begin(separated))?;
+    write_lines(out, lines)?;
+    write_line(out, LIST_END)?;
+    Ok(())
+}
+
+/// Adds what is asked at once: a command alone, or a list.
+#[tactic(auto, using(crate::proofs::Behind::one_line, crate::proofs::Behind::many_lines))]
+pub(crate) fn write_text(out: &mut Vec<u8>, lines: &Lines) -> Result<(), NoMemory>
+    ensures { OnOk result (out.new.items ≡ out.old.items ++ lines_text lines.now) }
+{
+    if lines.len() == 1 {
+        return write_lines(out, lines.as_ref());
     }
+    write_list(out, true, lines.as_ref())
 }
 
 // Two native commands in the place of one.
@@ -307,9 +319,7 @@ fn ask_as_it_is(
 ) -> Result<(), NoMemory>
     ensures { OnOk result (IsAsked (asked_as_it_is masks separated lines.now) masks awaited.old awaited.new out.old.items out.new.items) }
 {
-    write_line(out, list_begin(separated))?;
-    write_lines(out, lines.as_ref())?;
-    write_line(out, LIST_END)?;
+    write_list(out, separated, lines.as_ref())?;
     awaited.push(Awaited::Passing)?;
     Ok(())
 }

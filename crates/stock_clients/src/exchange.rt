@@ -10,10 +10,10 @@ use crate::next::Next;
 use crate::parts::Later;
 use bytes::BytesMut;
 use client_session::Requests;
+use command_text::Lines;
 use no_memory::NoMemory;
 use std::alloc::Global;
 use std::marker::Model;
-use stock_requests::Natives;
 
 /// What the daemon is to be asked, what is awaited of it, and what it is asked later.
 #[derive(Debug, Drop)]
@@ -85,11 +85,11 @@ impl Exchange {
     }
 
     // Asks for the next step of a command.
-    fn step(&mut self, alloc: Global, natives: &Natives) -> Result<(), NoMemory>
-        ensures { OnOk result (self.new ≡ stepped natives.now self.old) }
+    fn step(&mut self, alloc: Global, lines: &Lines) -> Result<(), NoMemory>
+        ensures { OnOk result (self.new ≡ stepped lines.now self.old) }
     {
         let mut native = Vec::new(alloc);
-        write_text(&mut native, natives)?;
+        write_text(&mut native, lines)?;
         self.native.extend_from_slice(native.as_slice())?;
         self.hearing.awaited.push(Awaited::Step)?;
         Ok(())
@@ -106,7 +106,7 @@ impl Exchange {
     {
         match self.hearing.hear(alloc, given, line)? {
             Next::Stays => Ok(()),
-            Next::Asks(natives) => self.step(alloc, &natives),
+            Next::Asks(lines) => self.step(alloc, &lines),
             Next::Resumes => self.resume(alloc),
         }
     }

@@ -40,11 +40,11 @@ use Rattle.stock_requests.specs.declared.tag.Standing.TheVariants as standings
 use Rattle.stock_requests.specs.Filters.{native_filter}
 use Rattle.stock_requests.specs.Fits.{Fits}
 use Rattle.stock_requests.specs.Grouped.{begun_group, is_grouped, most_ends, part_ends, Parted}
-use Rattle.stock_requests.specs.Groups.{count_line}
+use Rattle.stock_requests.specs.Groups.{count_line, counts_in}
 use Rattle.stock_requests.specs.Foreign.{by_reply, foreign_translation, louder, reply_for}
 use Rattle.stock_requests.specs.Names.{foreign_named}
 use Rattle.stock_requests.specs.Native.{adding_to_playlist, answered, as_it_is, by_handling, by_line, by_one, counting, filtered, handling_of}
-use Rattle.stock_requests.specs.Native.{by_steps, grouped_count, grouped_count_of, grouped_list, grouped_list_of, grouping, listing_filter}
+use Rattle.stock_requests.specs.Native.{by_steps, grouped_count, grouped_count_of, grouped_list, grouped_list_of, grouping}
 use Rattle.stock_requests.specs.Native.{list_info, listing, listing_by, listing_line, listing_native, listing_nothing, listing_of}
 use Rattle.stock_requests.specs.Native.{listing_renamed, listing_words, filter_or_all, has_list_count, is_root, mask_alone, mask_by, mask_change, mask_of}
 use Rattle.stock_requests.specs.Native.{mask_refused, refused, root, songs_lines, tag_types, telling, with_named}
@@ -116,14 +116,14 @@ steps_fit line steps = by_test (nat_le (length line) line_limit) refl
     by_test true e = rw e (steps_hold line steps (leb-true (length line) line_limit e))
     by_test false e = rw e same_holds
 
-grouping_fits : (counts : Bool) (words : List Word) (tags : List ForeignTag) → Holds (grouping counts words tags)
-grouping_fits counts words tags = choice (has_list_count words) _ _
-    (steps_fit (count_line (spelled_words words)) (Group (begun_group counts words tags)))
-    (refusal_fits (group_name counts) refusals.WrongCount)
+grouping_fits : (listed : Option ForeignTag) (words : List Word) (tags : List ForeignTag) → Holds (grouping listed words tags)
+grouping_fits listed words tags = choice (has_list_count words) _ _
+    (steps_fit (count_line (spelled_words words)) (Group (begun_group listed words tags)))
+    (refusal_fits (group_name (counts_in listed)) refusals.WrongCount)
 
 parted_count_fits : (parted : Result Parted ForeignRefusal) → Holds (grouped_count_of parted)
 parted_count_fits (Err refusal) = refusal_fits (group_name true) refusal
-parted_count_fits (Ok p) = grouping_fits true (native_filter false p.words) p.tags
+parted_count_fits (Ok p) = grouping_fits None (native_filter false p.words) p.tags
 
 grouped_count_fits : (is_alone : Bool) (words : List Word) → Holds (grouped_count is_alone words)
 grouped_count_fits false words = refusal_fits (group_name true) refusals.NotInList
@@ -169,7 +169,7 @@ tag_fits (Some tag) name words = standing_fits (standing_of tag) tag name words
 
 parted_list_fits : (tag : ForeignTag) (parted : Result Parted ForeignRefusal) → Holds (grouped_list_of tag parted)
 parted_list_fits tag (Err refusal) = refusal_fits (group_name false) refusal
-parted_list_fits tag (Ok p) = grouping_fits false (listing_filter (standing_of tag) p.words) (p.tags ++ tag ∷ [])
+parted_list_fits tag (Ok p) = grouping_fits (Some tag) (native_filter false p.words) (p.tags ++ tag ∷ [])
 
 grouped_list_fits : (is_alone : Bool) (tag : Option ForeignTag) (words : List Word) → Holds (grouped_list is_alone tag words)
 grouped_list_fits is_alone None words = same_holds

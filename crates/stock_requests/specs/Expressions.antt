@@ -1,6 +1,6 @@
--- An expression over the daemon's tags in the place of one over all of MPD's: the text is parted into pieces from the left. A text in quotes
--- is one, and so is an open parenthesis with the name of a tag that the daemon hasn't, and the test behind it where no song has the tag;
--- any other byte is a piece by itself, and stays.
+-- An expression over the daemon's tags in the place of one over all of MPD's: the text is parted into pieces from the left. A text in
+-- quotes is one, and so is an open parenthesis with the name of a tag that the daemon hasn't, and the test behind it where no song has the
+-- tag; any other byte is a piece by itself, and stays.
 use Rattle.std.specs.Prelude.{ℕ, zero, suc, ◌+◌, ◌-◌, ◌==◌, ◌&&◌, not, nat_eq, List, [], ◌∷◌, ◌++◌, length, take, drop, codes}
 use Rattle.std.specs.Prelude.{Bool, true, false, Option, Some, None, if◌then◌else◌}
 use Rattle.std.specs.List.{starts_with}

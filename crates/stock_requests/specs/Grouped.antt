@@ -1,6 +1,6 @@
 -- `list` and `count` with `group TAG` at the end, as a client asks for them.
 use Rattle.std.specs.Prelude.{ℕ, zero, suc, ◌-◌, List, [], ◌∷◌, ◌++◌, length, take, Bool, slice_index_or, codes}
-use Rattle.std.specs.Prelude.{Option, Some, None, Result, Ok, Err, if◌then◌else◌, nat_le, ◌&&◌}
+use Rattle.std.specs.Prelude.{true, Option, Some, None, Result, Ok, Err, if◌then◌else◌, nat_le, ◌&&◌}
 use Rattle.std.specs.Str.{bytes_eq}
 use Rattle.command_text.specs.Counts.{Word}
 use Rattle.command_text.specs.Finding.{is_expression}
@@ -68,13 +68,16 @@ abbrev pub open_filter : List Word → List ℕ
 open_filter words = if is_expression words then codes "(" ++ first_of words else spelled_words words
 
 -- the filter alone is asked for first, so that it is refused where it is none
-abbrev pub begun_group : Bool → List Word → List ForeignTag → Grouping
-begun_group counts words tags = record {
-  counts = counts;
+abbrev pub begun_group : Option ForeignTag → List Word → List ForeignTag → Grouping
+begun_group listed words tags = record {
+  listed = listed;
   is_expression = is_expression words;
   filter = open_filter words;
   above = [];
   below = tags;
   values = [];
+  asked = [];
+  has_missing = true;
+  bytes = 0;
   phase = Check;
 }

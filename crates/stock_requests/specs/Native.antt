@@ -37,7 +37,7 @@ use Rattle.stock_requests.specs.declared.steps.Steps as declared
 use Rattle.stock_requests.specs.declared.steps.Steps.TheVariants.{Group}
 use Rattle.stock_requests.specs.Filters.{native_filter}
 use Rattle.stock_requests.specs.Grouped.{begun_group, is_grouped, most_ends, part_ends, Parted}
-use Rattle.stock_requests.specs.Groups.{count_line}
+use Rattle.stock_requests.specs.Groups.{count_line, counts_in}
 use Rattle.stock_requests.specs.Masks.{empty_set, only_tag, with_tags}
 use Rattle.stock_requests.specs.Spelling.{line_limit, spelled_line, spelled_words, words_eq}
 use Rattle.stock_requests.specs.Steps.{group_name}
@@ -92,15 +92,15 @@ has_list_count [] = true
 has_list_count (word ∷ words) = has_filter_count (word ∷ words)
 
 -- a filter over the daemon's tags, within which songs are counted, or the values of the last tag listed, by the others
-abbrev pub grouping : Bool → List Word → List ForeignTag → Translation
-grouping counts words tags =
-    if has_list_count words then by_steps (count_line (spelled_words words)) (Group (begun_group counts words tags))
-    else refused (group_name counts) refusals.WrongCount
+abbrev pub grouping : Option ForeignTag → List Word → List ForeignTag → Translation
+grouping listed words tags =
+    if has_list_count words then by_steps (count_line (spelled_words words)) (Group (begun_group listed words tags))
+    else refused (group_name (counts_in listed)) refusals.WrongCount
 
 -- in a command list nothing can be asked step by step
 abbrev pub grouped_count_of : Result Parted ForeignRefusal → Translation
 grouped_count_of (Err refusal) = refused (group_name true) refusal
-grouped_count_of (Ok p) = grouping true (native_filter false p.words) p.tags
+grouped_count_of (Ok p) = grouping None (native_filter false p.words) p.tags
 
 abbrev pub grouped_count : Bool → List Word → Translation
 grouped_count false words = refused (group_name true) refusals.NotInList
@@ -156,15 +156,9 @@ abbrev pub listing_of : Option ForeignTag → Word → List Word → Translation
 listing_of None name words = Same
 listing_of (Some tag) name words = listing_by (standing_of tag) tag name words
 
--- the words of a filter behind the tag of a `list`
-abbrev pub listing_filter : Standing → List Word → List Word
-listing_filter (standings.Native other) words = listing_words other words
-listing_filter (standings.FallsBackTo other) words = native_filter false words
-listing_filter standings.Absent words = native_filter false words
-
 abbrev pub grouped_list_of : ForeignTag → Result Parted ForeignRefusal → Translation
 grouped_list_of tag (Err refusal) = refused (group_name false) refusal
-grouped_list_of tag (Ok p) = grouping false (listing_filter (standing_of tag) p.words) (p.tags ++ tag ∷ [])
+grouped_list_of tag (Ok p) = grouping (Some tag) (native_filter false p.words) (p.tags ++ tag ∷ [])
 
 abbrev pub grouped_list : Bool → Option ForeignTag → List Word → Translation
 grouped_list is_alone None words = Same

@@ -1,10 +1,9 @@
 -- A command that is asked of the daemon step by step: what is given for each line of an answer, and what is asked behind its end.
-use Rattle.std.specs.Prelude.{ℕ, List, [], Bool, true, false, Option, Some, None, if◌then◌else◌}
+use Rattle.std.specs.Prelude.{ℕ, List, [], ◌∷◌, Bool, true, false, Option, Some, None, if◌then◌else◌}
 use Rattle.command_text.specs.declared.name.CommandName.TheVariants as names
 use Rattle.stock_requests.specs.declared.change.Change.{Change}
 use Rattle.stock_requests.specs.declared.change.Ending.TheVariants as endings
 use Rattle.stock_requests.specs.declared.change.LineChange.TheVariants as lines
-use Rattle.stock_requests.specs.declared.change.Natives.{Natives}
 use Rattle.stock_requests.specs.declared.change.RefusalChange.{RefusalChange}
 use Rattle.stock_requests.specs.declared.name.ForeignCommand.TheVariants as foreign
 use Rattle.stock_requests.specs.declared.name.ForeignName.{ForeignName}
@@ -12,7 +11,7 @@ use Rattle.stock_requests.specs.declared.name.ForeignName.TheVariants.{Native, F
 use Rattle.stock_requests.specs.declared.steps.Steps.{Steps}
 use Rattle.stock_requests.specs.declared.steps.Steps.TheVariants.{Volume, Group}
 use Rattle.stock_requests.specs.declared.volume.VolumeChange.{VolumeChange}
-use Rattle.stock_requests.specs.Groups.{group_after, group_line, group_part, one_native, phase_refusal, GroupAfter, ToldGroup}
+use Rattle.stock_requests.specs.Groups.{counts_in, group_after, group_line, group_part, phase_refusal, GroupAfter, ToldGroup}
 use Rattle.stock_requests.specs.Volumes.{setting, volume_behind, volume_given, volume_refusal}
 
 pub record Told : Type 0 where
@@ -39,13 +38,13 @@ pub record After : Type 0 where
   pub steps : Steps
   pub given : List ℕ
   -- what is asked next; nothing where the command is done
-  pub natives : Option Natives
+  pub natives : Option (List (List ℕ))
 
 abbrev pub after_group : GroupAfter → After
 after_group a = record { steps = Group a.grouping; given = a.given; natives = a.natives }
 
-abbrev pub volume_natives : VolumeChange → Option Natives
-volume_natives change = if change.is_set then None else Some (one_native (setting change.step change.found))
+abbrev pub volume_natives : VolumeChange → Option (List (List ℕ))
+volume_natives change = if change.is_set then None else Some (setting change.step change.found ∷ [])
 
 -- an answer's end
 abbrev pub after_step : Steps → After
@@ -63,4 +62,4 @@ refusing name refusal = record { name = name; lines = lines.Kept; ending = endin
 
 abbrev pub step_change : Steps → Change
 step_change (Volume change) = refusing (Foreign foreign.Volume) (volume_refusal change)
-step_change (Group grouping) = refusing (group_name grouping.counts) (phase_refusal grouping.phase)
+step_change (Group grouping) = refusing (group_name (counts_in grouping.listed)) (phase_refusal grouping.phase)

@@ -1,5 +1,5 @@
--- What becomes of a command's line, by its words. One that is no text, has bad quoting, no word, or a name that nobody translates goes on as
--- it is, so that the daemon refuses it.
+-- What becomes of a command's line, by its words. One that is no text, has bad quoting, no word, or a name that nobody translates goes on
+-- as it is, so that the daemon refuses it.
 use Rattle.std.specs.Prelude.{ℕ, List, [], ◌∷◌, Bool, true, Option, Some, None, Result, Ok, Err}
 use Rattle.command_text.specs.declared.name.CommandName.{CommandName}
 use Rattle.command_text.specs.declared.refusal.Refusal.{Refusal}

@@ -7,6 +7,7 @@ ghost use Rattle.stock_requests.specs.Expressions.{opened_piece, operator_at, pi
 ghost use Rattle.stock_requests.specs.Expressions.{value_length};
 
 use crate::tag::{ForeignTag, Standing};
+use filter_expr::{ends_name, is_blank, is_quote};
 use std::alloc::{AllocError, Global};
 use wave_pcm::Tag;
 
@@ -68,25 +69,6 @@ impl Operator {
             Operator::Unequal => !empty,
         }
     }
-}
-
-fn is_blank(byte: u8) -> bool
-    ensures { result ≡ is_blank byte }
-{
-    byte == b' ' || byte == b'\t'
-}
-
-fn is_quote(byte: u8) -> bool
-    ensures { result ≡ is_quote byte }
-{
-    byte == b'\'' || byte == b'"'
-}
-
-/// Whether no name goes on with this byte.
-fn ends_name(byte: u8) -> bool
-    ensures { result ≡ ends_name byte }
-{
-    is_blank(byte) || byte == b'(' || byte == b')' || is_quote(byte) || byte == b'=' || byte == b'!'
 }
 
 /// The text from the first byte on that is no blank.

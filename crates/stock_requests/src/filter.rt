@@ -4,7 +4,8 @@ ghost use Rattle.command_text.specs.Finding.{begins_part};
 ghost use Rattle.filter_expr.specs.Parts.{begins_so};
 ghost use Rattle.std.specs.Str.{bytes_eq};
 ghost use Rattle.stock_requests.specs.Expressions.{base_value};
-ghost use Rattle.stock_requests.specs.Filters.{minus, more_pairs, native_filter, native_pair, native_pairs, native_parts, native_sort, sort_by};
+ghost use Rattle.stock_requests.specs.Filters.{minus, more_pairs, native_filter, native_pair, native_pairs, native_parts, native_sort};
+ghost use Rattle.stock_requests.specs.Filters.{sort_by};
 
 use crate::expression::{FilterName, Operator, native_text};
 use filter_expr::LineWord;

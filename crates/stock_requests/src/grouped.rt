@@ -108,20 +108,23 @@ fn open_filter(alloc: Global, words: &[LineWord<'_>]) -> Result<Vec<u8>, AllocEr
 /// A group that begins.
 pub(crate) fn begun_group(
     alloc: Global,
-    counts: bool,
+    listed: Option<ForeignTag>,
     words: &[LineWord<'_>],
     tags: Tags,
 ) -> Result<Grouping, AllocError>
-    ensures { IfOk result (λ grouping. grouping ≡ begun_group counts words.now tags) }
+    ensures { IfOk result (λ grouping. grouping ≡ begun_group listed words.now tags) }
 {
     let filter = open_filter(alloc, words)?;
     Ok(Grouping {
-        counts,
+        listed,
         is_expression: is_expression(words),
         filter: Line::from_bytes(alloc, filter.as_slice())?,
         above: Levels::new(alloc),
         below: tags,
         values: Values::new(alloc),
+        asked: Values::new(alloc),
+        has_missing: true,
+        bytes: 0,
         phase: Phase::Check,
     })
 }

@@ -13,7 +13,7 @@ ghost use Rattle.stock_requests.specs.declared.mask.TagSet.{TagSet};
 ghost use Rattle.stock_requests.specs.declared.name.ForeignCommand.{ForeignCommand};
 ghost use Rattle.stock_requests.specs.declared.tag.ForeignTag.{ForeignTag};
 ghost use Rattle.stock_requests.specs.declared.group.Grouping.{Grouping};
-ghost use Rattle.stock_requests.specs.Fits.{Fits, NativesFit};
+ghost use Rattle.stock_requests.specs.Fits.{Fits, LinesFit};
 ghost use Rattle.stock_requests.specs.Groups.{group_after};
 ghost use Rattle.stock_requests.specs.Masks.{all_in_set, empty_set, has, only_tag, with_tags, without_tags};
 ghost use Rattle.stock_requests.specs.Names.{foreign_named, foreign_text};
@@ -58,7 +58,7 @@ pub fn native_lines_fit()
     ensures { (is_alone : Bool) (line : List ℕ) → Fits (translation is_alone line) }
 {}
 
-/// Nor has one of those that are asked of a group behind an answer.
+/// Nor has one of those that are asked of a group behind an answer. Of these there are at most 240, which a list of the daemon's may have.
 pub fn group_lines_fit()
-    ensures { (grouping : Grouping) → IfSome (group_after grouping).natives NativesFit }
+    ensures { (grouping : Grouping) → IfSome (group_after grouping).natives LinesFit }
 {}

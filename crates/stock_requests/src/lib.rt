@@ -13,6 +13,7 @@ mod mask;
 mod name;
 mod native;
 mod number;
+mod round;
 mod spelling;
 mod steps;
 mod tag;
@@ -23,10 +24,11 @@ pub use change::{
     Change, Ending, FixedText, ForeignRefusal, LineChange, Natives, RefusalChange, RefusalText,
     Translation,
 };
-pub use group::{Grouping, Level, Phase};
+pub use group::{Asking, Grouping, Level, Phase};
 pub use line::translate;
 pub use mask::{MaskChange, TagSet};
 pub use name::{ForeignCommand, ForeignName};
+pub use round::Round;
 pub use steps::Steps;
 pub use tag::{ForeignTag, Standing};
 pub use values::{Levels, Tags, Values};

@@ -120,9 +120,9 @@ fn of_native(
 /// What becomes of a command's line, without its newline, that a client sent, alone or in a command list (MPD protocol reference 0.23,
 /// "Command lists").
 ///
-/// A line that the daemon refuses for its bytes, its quoting or its name, and one whose translation would have more than 8,192 bytes, goes on
-/// as it is. `NoMemory` comes only where memory was refused, and never for a line that begins with a command of the daemon's whose arguments
-/// needn't be read.
+/// A line that the daemon refuses for its bytes, its quoting or its name, and one whose translation would have more than 8,192 bytes, goes
+/// on as it is. `NoMemory` comes only where memory was refused, and never for a line that begins with a command of the daemon's whose
+/// arguments needn't be read.
 #[tactic(auto, using(crate::proofs::Lines::by_name, crate::proofs::Lines::unnamed))]
 pub fn translate(alloc: Global, line: &[u8], is_alone: bool) -> Result<Translation, NoMemory>
     ensures exact { IfOk result (λ t. t ≡ translation is_alone line.now) }

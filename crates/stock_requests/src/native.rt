@@ -4,7 +4,7 @@ ghost use Rattle.command_text.specs.Finding.{has_filter_count};
 ghost use Rattle.stock_requests.specs.Native.{adding, answered, as_it_is, by_handling, by_line, by_one, by_two, filtered};
 ghost use Rattle.stock_requests.specs.Native.{handling_of, is_artist_alone, listing_line, listing_words, refused};
 ghost use Rattle.stock_requests.specs.Native.{adding_to_playlist, counting, has_list_count, is_root, list_info, listing};
-ghost use Rattle.stock_requests.specs.Native.{by_steps, grouped_count, grouped_list, grouping, listing_filter};
+ghost use Rattle.stock_requests.specs.Native.{by_steps, grouped_count, grouped_list, grouping};
 ghost use Rattle.stock_requests.specs.Native.{filter_or_all, listing_native, listing_nothing, listing_renamed, mask_of, tag_types};
 ghost use Rattle.stock_requests.specs.Native.{mask_alone, mask_refused, masked, songs_lines, telling, with_named};
 ghost use Rattle.stock_requests.specs.Masks.{empty_set};
@@ -13,7 +13,7 @@ use crate::change::{
     Change, Ending, FixedText, ForeignRefusal, LineChange, Natives, RefusalChange, Translation,
 };
 use crate::filter::{begins_so, is_word, native_filter, with_words};
-use crate::group::count_line;
+use crate::group::{count_line, counts_in};
 use crate::grouped::{MOST_ENDS, begun_group, is_expression, is_grouped, part_ends};
 use crate::mask::{MaskChange, TagSet};
 use crate::name::ForeignName;
@@ -212,16 +212,20 @@ pub(crate) fn by_steps(alloc: Global, line: &[u8], steps: Steps) -> Result<Trans
 /// A filter over the daemon's tags, within which songs are counted, or the values of the last tag listed, by the others.
 fn grouping(
     alloc: Global,
-    counts: bool,
+    listed: Option<ForeignTag>,
     words: &[LineWord<'_>],
     tags: Tags,
 ) -> Result<Translation, AllocError>
-    ensures { IfOk result (λ t. t ≡ grouping counts words.now tags) }
+    ensures { IfOk result (λ t. t ≡ grouping listed words.now tags) }
 {
     if !has_list_count(words) {
-        return refused(alloc, group_name(counts), ForeignRefusal::WrongCount);
+        return refused(
+            alloc,
+            group_name(counts_in(listed)),
+            ForeignRefusal::WrongCount,
+        );
     }
-    let group = begun_group(alloc, counts, words, tags)?;
+    let group = begun_group(alloc, listed, words, tags)?;
     let mut spelled = Vec::new(alloc);
     put_words(&mut spelled, words)?;
     let line = count_line(alloc, spelled.as_slice())?;
@@ -244,7 +248,7 @@ fn grouped_count(
         Err(refusal) => refused(alloc, group_name(true), refusal),
         Ok(end) => {
             let filter = native_filter(alloc, false, &words[..end])?;
-            grouping(alloc, true, filter.as_slice(), tags)
+            grouping(alloc, None, filter.as_slice(), tags)
         }
     }
 }
@@ -413,20 +417,6 @@ fn listing_nothing(alloc: Global, words: &[LineWord<'_>]) -> Result<Translation,
     by_line(alloc, false, line.as_slice(), change)
 }
 
-/// The words of a filter behind the tag of a `list`.
-fn listing_filter<'w>(
-    alloc: Global,
-    standing: Standing,
-    words: &'w [LineWord<'_>],
-) -> Result<Vec<LineWord<'w>>, AllocError>
-    ensures { IfOk result (λ new. new.items ≡ listing_filter standing words.now) }
-{
-    match standing {
-        Standing::Native(other) => listing_words(alloc, other, words),
-        Standing::FallsBackTo(_) | Standing::Absent => native_filter(alloc, false, words),
-    }
-}
-
 /// A `list` of this tag with `group` at the end.
 fn grouped_list(
     alloc: Global,
@@ -444,8 +434,8 @@ fn grouped_list(
         Err(refusal) => refused(alloc, group_name(false), refusal),
         Ok(end) => {
             tags.push(tag)?;
-            let filter = listing_filter(alloc, tag.standing(), &words[..end])?;
-            grouping(alloc, false, filter.as_slice(), tags)
+            let filter = native_filter(alloc, false, &words[..end])?;
+            grouping(alloc, Some(tag), filter.as_slice(), tags)
         }
     }
 }

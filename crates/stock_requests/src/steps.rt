@@ -2,11 +2,11 @@
 ghost use Rattle.std.specs.Prelude.{◌≡◌, ◌++◌, IfOk, OnOk};
 ghost use Rattle.stock_requests.specs.Steps.{after_step, group_name, refusing, step_change, step_line, step_part, volume_natives};
 
-use crate::change::{Change, Ending, LineChange, Natives, RefusalChange};
-use crate::group::{Grouping, one_native};
+use crate::change::{Change, Ending, LineChange, RefusalChange};
+use crate::group::Grouping;
 use crate::name::{ForeignCommand, ForeignName};
 use crate::volume::VolumeChange;
-use command_text::CommandName;
+use command_text::{CommandName, Lines};
 use no_memory::NoMemory;
 use std::alloc::{AllocError, Global};
 
@@ -42,14 +42,16 @@ pub(crate) fn group_name(counts: bool) -> ForeignName
 }
 
 /// What sets the volume, where that wasn't done yet.
-fn volume_natives(alloc: Global, change: &VolumeChange) -> Result<Option<Natives>, AllocError>
+fn volume_natives(alloc: Global, change: &VolumeChange) -> Result<Option<Lines>, AllocError>
     ensures { IfOk result (λ natives. natives ≡ volume_natives change.now) }
 {
     if change.is_set {
         return Ok(None);
     }
     let line = change.setting(alloc)?;
-    Ok(Some(one_native(alloc, line.as_slice())?))
+    let mut lines = Lines::new(alloc);
+    lines.push(line.as_slice())?;
+    Ok(Some(lines))
 }
 
 impl Steps {
@@ -81,9 +83,9 @@ impl Steps {
         }
     }
 
-    /// Takes the end of an answer, adds what the client is given for it, and gives what the daemon is to be asked next; `None` where the
-    /// command is done.
-    pub fn go_on(&mut self, alloc: Global, out: &mut Vec<u8>) -> Result<Option<Natives>, NoMemory>
+    /// Takes the end of an answer, adds what the client is given for it, and gives what the daemon is to be asked next, in a list where
+    /// that is more than one line; `None` where the command is done.
+    pub fn go_on(&mut self, alloc: Global, out: &mut Vec<u8>) -> Result<Option<Lines>, NoMemory>
         ensures steps { OnOk result (let now = after_step self.old in self.new ≡ now.steps) }
         ensures given { OnOk result (let now = after_step self.old in out.new.items ≡ out.old.items ++ now.given) }
         ensures natives { IfOk result (λ natives. let now = after_step self.old in natives ≡ now.natives) }
@@ -109,7 +111,7 @@ impl Steps {
                     change.refusal(),
                 )
             }
-            Steps::Group(grouping) => refusing(group_name(grouping.counts), grouping.refusal()),
+            Steps::Group(grouping) => refusing(group_name(grouping.counts()), grouping.refusal()),
         }
     }
 }

@@ -1,5 +1,7 @@
 // Values, tags and levels in their order.
 ghost use Rattle.std.specs.Prelude.{◌≡◌, ◌∷◌, ◌++◌, [], length, drop, MatchOption, OnOk};
+ghost use Rattle.stock_requests.specs.Groups.{first_tag};
+ghost use Rattle.stock_requests.specs.declared.group.Level.{Level};
 
 use crate::group::Level;
 use crate::tag::ForeignTag;
@@ -45,6 +47,15 @@ impl Values {
     {
         self.values.pop_front()
     }
+
+    /// Puts a value before the others.
+    pub(crate) fn put_back(&mut self, value: Line) -> Result<(), AllocError>
+        ensures { OnOk result (self.new ≡ value ∷ self.old) }
+    {
+        self.values.reserve(1)?;
+        self.values.push_front_reserved(value);
+        Ok(())
+    }
 }
 
 /// Tags, the outermost first.
@@ -79,7 +90,8 @@ impl Tags {
 
     /// The first of them.
     pub(crate) fn first(&self) -> Option<ForeignTag>
-        ensures { MatchOption result (self.now ≡ []) (λ tag. self.now ≡ tag ∷ drop 1 self.now) }
+        ensures rest { MatchOption result (self.now ≡ []) (λ tag. self.now ≡ tag ∷ drop 1 self.now) }
+        ensures first { result ≡ first_tag self.now }
     {
         self.tags.front().copied()
     }
@@ -129,6 +141,16 @@ impl Levels {
     {
         Levels {
             levels: VecDeque::new(alloc),
+        }
+    }
+
+    /// The tag of the innermost.
+    pub(crate) fn first_tag(&self) -> Option<ForeignTag>
+        ensures { MatchOption result (self.now ≡ []) (λ tag. (level : Level) × (self.now ≡ level ∷ drop 1 self.now) × (tag ≡ level.tag)) }
+    {
+        match self.levels.front() {
+            None => None,
+            Some(level) => Some(level.tag),
         }
     }
 
