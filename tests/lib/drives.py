@@ -1,31 +1,40 @@
-"""A long-lived driver of scripts (loop_driver), asked line by line, with a log of all that it was given and printed; and what a crash may
-leave of its files."""
+"""A running driver of scripts, which is given lines and prints behind each what that gave, and a point; and what a crash may leave of its
+files."""
 
 import mmap
 import os
 import subprocess
 import tempfile
+import threading
 
 import consoles
 import preload
 import scripts
 
 END = b".\n"
+# A driver of a script is killed after so many seconds.
+SECONDS = 60
+# So much is taken by a pipe that nobody reads.
+PIPE = 32_768
 
 
-class Ended(Exception):
+class Ended(scripts.Failure):
     """The driver has ended by itself."""
 
 
 class Drive:
-    """A running driver, in a folder of its own. With a library (lib/refuse_later.c) it can be refused memory."""
+    """A running driver, in a folder of its own. With a library (lib/refuse_memory.c) it can be refused memory; it is killed after so many
+    seconds."""
 
-    def __init__(self, program, library=None):
+    def __init__(self, program, library=None, seconds=None):
         self.folder = tempfile.TemporaryDirectory(prefix="drive-")
         self.log, self.control = [], None
-        settings = self.controlled(library) if library else {}
+        settings = self.controlled(library) if library else None
         how = {"stdin": subprocess.PIPE, "stdout": subprocess.PIPE, "stderr": subprocess.PIPE, "cwd": self.folder.name}
-        self.process = subprocess.Popen([os.path.abspath(program)], env={**os.environ, **settings}, **how)
+        self.process = subprocess.Popen([os.path.abspath(program)], env=settings, **how)
+        self.killer = threading.Timer(seconds, self.process.kill) if seconds else None
+        if self.killer:
+            self.killer.start()
 
     def controlled(self, library):
         path = f"{self.folder.name}/.counts"
@@ -38,35 +47,76 @@ class Drive:
         """So many allocations from now on one is refused; 0 refuses none."""
         if number:
             self.log.append((f"refuse {number}", []))
-        self.control[:8] = number.to_bytes(8, "little")
+        self.control[16:] = (number and self.made() + number).to_bytes(8, "little")
+
+    def made(self):
+        """How many allocations it made so far."""
+        return int.from_bytes(self.control[:8], "little")
 
     def refused(self):
         """How many were refused so far."""
         return int.from_bytes(self.control[8:16], "little")
 
-    def do(self, *lines):
+    def ask(self, *lines):
         """What it prints behind each of these lines."""
+        text = b"".join(it + b"\n" for it in lines)
+        giver = threading.Thread(target=self.give, args=(text,)) if len(text) > PIPE else None
+        if giver:
+            giver.start()
+        else:
+            self.give(text)
         try:
-            self.process.stdin.write("".join(f"{it}\n" for it in lines).encode())
+            return [self.printed() for _ in lines]
+        finally:
+            if giver:
+                giver.join()
+
+    def do(self, *lines):
+        """The same of texts, all of which the log keeps."""
+        self.give("".join(f"{it}\n" for it in lines).encode())
+        found = []
+        for line in lines:
+            found.append([])
+            self.log.append((line, found[-1]))
+            found[-1] += [it.decode() for it in self.printed()]
+        return found
+
+    def give(self, text):
+        try:
+            self.process.stdin.write(text)
             self.process.stdin.flush()
         except BrokenPipeError:
             pass
-        return [self.take(line) for line in lines]
 
-    def take(self, line):
-        printed = []
-        self.log.append((line, printed))
-        while (text := self.process.stdout.readline()) != END:
-            if not text.endswith(b"\n"):
+    def printed(self):
+        """What it prints behind the next line."""
+        found = []
+        while (line := self.process.stdout.readline()) != END:
+            if not line.endswith(b"\n"):
                 told = self.process.stderr.read().decode(errors="replace").strip()
                 raise Ended(f"the driver ended with status {self.process.wait()}: {told[-300:]}")
-            printed.append(text[:-1].decode())
-        return printed
+            found.append(line[:-1])
+        return found
+
+    def peak(self):
+        """The most memory that it has held, in bytes."""
+        with open(f"/proc/{self.process.pid}/status", encoding="utf-8") as status:
+            return next(1024 * int(line.split()[1]) for line in status if line.startswith("VmHWM:"))
+
+    def finish(self):
+        """Its input ends; it must end then, and have printed nothing more."""
+        self.close_input()
+        rest, told = self.process.stdout.read(), self.process.stderr.read().decode(errors="replace").strip()
+        if self.process.wait() or rest or told:
+            raise scripts.Failure(f"it ended with status {self.process.returncode} and {rest[:80]!r}: {told}")
 
     def end(self):
+        if self.killer:
+            self.killer.cancel()
         self.process.kill()
-        for stream in (self.process.stdin, self.process.stdout, self.process.stderr):
-            stream.close() if stream is not self.process.stdin else self.close_input()
+        self.close_input()
+        self.process.stdout.close()
+        self.process.stderr.close()
         self.process.wait()
         self.folder.cleanup()
 
@@ -76,21 +126,15 @@ class Drive:
         except BrokenPipeError:
             pass
 
+    def __enter__(self):
+        return self
 
-def printed(program, lines):
-    """What a driver prints behind each of these lines, each given with the number of the allocation that is refused to it, or 0."""
-    found = []
-    with tempfile.TemporaryDirectory(prefix="refuse-") as room:
-        drive = Drive(program, preload.library("refuse_later", room))
+    def __exit__(self, kind, *_):
         try:
-            for line, number in lines:
-                drive.refuse(number)
-                found.append([it.encode() for it in drive.do(line.decode())[0]])
-        except Ended as ended:
-            raise scripts.Failure(str(ended)) from ended
+            if not kind:
+                self.finish()
         finally:
-            drive.end()
-    return found
+            self.end()
 
 
 def first_difference(one, other):

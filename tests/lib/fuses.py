@@ -1,4 +1,4 @@
-"""Scripts of a driver in which a disk fails at each of its calls in turn.
+"""Scripts of the driver in which a disk fails at each of its calls in turn.
 
 A script with a line `fuse` is run again and again, each time by a program of its own: where that line stands, call K of the disk of file a,
 or of b, is made to fail (`a stop K`, `a fail K`), for K from 1 on until a run meets no fault; with all calls behind it, and alone. Of
@@ -8,7 +8,7 @@ several such lines each has its turn. What is there then is looked at without a 
     state NAME         the line before it leaves this state; the first one says what is there at first
     always LINE        a line by which a life ends, which is done behind a refusal too, unless no life began
     look NAME          by the lines up to the next one of these is told that the state of this name is found
-    image FILE BYTES   where a crash may leave the file so, that is looked at too (by stage_driver)
+    image FILE BYTES   where a crash may leave the file so, that is looked at too
 
 In a run that meets no fault each line prints what it must. The first line that meets one is refused as broken by it. Of the lines behind
 it events are refused too, those by which a life ends are done, where only the first line that is printed is compared, and others are passed
@@ -17,19 +17,14 @@ one that was left since, up to that of the line that was refused: so what a thre
 runs each state must be found, each image be left, and each disk fail behind each `fuse`.
 """
 
-import contextlib
 import itertools
-import os
-import subprocess
-import tempfile
-import threading
 
+from drives import SECONDS, Drive
 from scripts import Failure, whole
 
-SECONDS = 60
 REFUSED = [b"refused 42 broken by a disk fault"]
 # Where one of these lines is refused, no life begins.
-BEGINNINGS = b"make", b"open", b"make_stage", b"open_stage"
+BEGINNINGS = b"make_stage", b"open_stage", b"make_workers", b"open_workers", b"make_loop", b"open_loop"
 FILES, KINDS, MOST = "ab", ("stop", "fail"), 1_000
 
 
@@ -68,40 +63,6 @@ class Fused:
         return True
 
 
-class Talk:
-    """A run of a program that is given each line when what was printed behind the one before it was read."""
-
-    def __init__(self, program, folder):
-        how = {"stdin": subprocess.PIPE, "stdout": subprocess.PIPE, "stderr": subprocess.PIPE}
-        self.process = subprocess.Popen([os.path.abspath(program)], cwd=folder, **how)
-        self.ender = threading.Timer(SECONDS, self.process.kill)
-        self.ender.start()
-
-    def ask(self, line):
-        """What is printed behind the line."""
-        printed = []
-        with contextlib.suppress(BrokenPipeError):
-            self.process.stdin.write(line + b"\n")
-            self.process.stdin.flush()
-        while (found := self.process.stdout.readline()) != b".\n":
-            if not found:
-                told = self.process.stderr.read().decode(errors="replace").strip()
-                raise Failure(f"it ended behind the line {line[:80].decode()}: {told}")
-            printed.append(found.removesuffix(b"\n"))
-        return printed
-
-    def __enter__(self):
-        return self
-
-    def __exit__(self, kind, *_):
-        if kind:
-            self.process.kill()
-        rest, told = self.process.communicate()
-        self.ender.cancel()
-        if not kind and (self.process.returncode or rest or told):
-            raise Failure(f"it ended with status {self.process.returncode} and {rest[:80]!r}: {told.decode(errors='replace').strip()}")
-
-
 class Sweep:
     """All runs of such a script."""
 
@@ -127,73 +88,70 @@ class Sweep:
         for number in range(1, MOST + 1):
             fuse = f"{file} {kind} {number}"
             try:
-                with tempfile.TemporaryDirectory() as folder, Talk(self.program, folder) as talk:
-                    has_failed = self.has_failed(talk, place, file, fuse.encode())
+                with Drive(self.program, seconds=SECONDS) as drive:
+                    has_failed = self.has_failed(drive, place, file, fuse.encode())
             except Failure as fault:
                 raise Failure(f"{fuse} in front of line {self.script.steps[place].number}: {fault}") from fault
             yield has_failed
 
-    def has_failed(self, talk, place, file, fuse):
+    def has_failed(self, drive, place, file, fuse):
         """A run with this fuse: whether it met it."""
-        states, has_failed = self.live(talk, place, fuse)
+        states, has_failed = self.live(drive, place, fuse)
         for name in FILES:
-            found, wanted = talk.ask(f"{name} faults".encode()), [b"faults %d" % (has_failed and name == file)]
+            found, wanted = drive.ask(f"{name} faults".encode())[0], [b"faults %d" % (has_failed and name == file)]
             if found != wanted:
                 raise Failure(f"file {name} has {found}, wanted {wanted}")
-        self.look(talk, states, None)
+        self.look(drive, states, None)
         for image in self.fused.images:
-            if talk.ask(b"%s left %s" % (image.file, image.content)) == [b"yes"]:
+            if drive.ask(b"%s left %s" % (image.file, image.content))[0] == [b"yes"]:
                 self.images.add(image.number)
-                self.look(talk, states, image)
+                self.look(drive, states, image)
         return has_failed
 
-    def live(self, talk, place, fuse):
+    def live(self, drive, place, fuse):
         """Does the lines up to a fault: the states of which one must be found then, and whether there was one."""
         states = [self.fused.first]
         for at, step in enumerate(self.script.steps):
             if at == place:
-                talk.ask(fuse)
-            printed, left = talk.ask(step.line), [step.leaves] if step.leaves else []
+                drive.ask(fuse)
+            printed, left = drive.ask(step.line)[0], [step.leaves] if step.leaves else []
             if printed == REFUSED:
                 if not begins_life(step):
-                    self.end(talk, self.script.steps[at + 1 :])
+                    self.end(drive, self.script.steps[at + 1 :])
                 return states + left, True
             step.compare(printed)
             states = (states + left)[-1 if step.wanted else 0 :]
         return states[-1:], False
 
-    def end(self, talk, steps):
+    def end(self, drive, steps):
         """Ends a life in which a line was refused; its further events are refused too."""
         for step in itertools.takewhile(lambda it: not begins_life(it), steps):
             wanted = step.wanted[:1] if step.is_always else REFUSED
-            if (step.is_always or step.is_event()) and talk.ask(step.line)[:1] != wanted:
+            if (step.is_always or step.is_event()) and drive.ask(step.line)[0][:1] != wanted:
                 raise Failure(f"line {step.number}: behind a refusal it prints something else than {wanted}")
 
-    def look(self, talk, states, image):
+    def look(self, drive, states, image):
         """Finds one of these states in the files; where an image is given, its file is as that says."""
-        front, behind = self.script.around
-        front = [*front, *([b"%s has %s" % (image.file, image.content)] if image else [])]
-        faults = []
+        front, faults = [b"aside", *([b"%s has %s" % (image.file, image.content)] if image else [])], []
         for name in states:
-            fault = self.fault_of(talk, front, self.fused.looks[name], behind)
+            fault = self.fault_of(drive, front, self.fused.looks[name])
             if not fault:
                 self.states.add(name)
                 return
             faults.append(f"not {name} ({fault})")
         raise Failure(f"{f'line {image.number}, image: ' if image else ''}what is found is {', '.join(faults)}")
 
-    def fault_of(self, talk, front, steps, behind):
-        """Does the lines of a look between these, up to one that prints what it must not, which is told, and those that end a life."""
+    def fault_of(self, drive, front, steps):
+        """Does the lines of a look over copies of the files, up to one that prints what it must not, which is told, and those that end a
+        life."""
         found, has_life = None, False
-        for line in front:
-            talk.ask(line)
+        drive.ask(*front)
         for step in steps:
             if has_life if step.is_always else not found:
-                printed = talk.ask(step.line)
+                printed = drive.ask(step.line)[0]
                 has_life = not printed if begins_life(step) else has_life
                 found = found or self.difference(step, printed)
-        for line in behind:
-            talk.ask(line)
+        drive.ask(b"back")
         return found
 
     def difference(self, step, printed):

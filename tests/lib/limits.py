@@ -7,8 +7,9 @@ import resource
 from consoles import Journal
 from daemons import Daemon, check, limited, put_song, update
 
-# The limit, in bytes, and how many command lists are kept under it, which are longer together.
-MEMORY, LISTS = 100_000_000, 60
+# The limit, in bytes, and how many command lists are kept under it, which are longer together. For a thread's first allocation the C library
+# tries 64 MiB at once, and lets go of them: beside that a list must find memory.
+MEMORY, LISTS = 110_000_000, 60
 # Of each list so many commands, each with a value of so many bytes.
 COMMANDS, LENGTH = 500, 4096
 # Room for what an event takes, and none for a checkpoint of all values.

@@ -1,10 +1,11 @@
-"""The rows of tests/refused_memory that loop_driver does: turns of the daemon's loop, its calls by themselves, what its threads report, and
+"""The rows of tests/refused_memory of a loop: turns of the daemon's loop, its calls by themselves, what its threads report, and
 a daemon's lives.
 
 What each client gets from the row's line on, over some turns more, and what one that comes then finds, is compared with that of a run with
 memory enough. Where one allocation is refused it may be the same, however the turns part it. Or one client is let go of: what it got is a
-front of that, and its request was done, or was not. Or its request is answered by `ACK [52@..] .. out of memory`, and was not done. Nobody else
-gets other bytes than in a run in which it was done, or not. Where a turn ends early nobody loses a byte: what it left is served by the next.
+front of that, and its request was done, or was not. Or its request is answered by `ACK [52@..] .. out of memory`, and was not done. Nobody
+else gets other bytes than in a run in which it was done, or not. Where a turn ends early nobody loses a byte: what it left is served by the
+next.
 """
 
 import re
@@ -22,7 +23,7 @@ TOLD = re.compile(r"(\d+)(<) (.*)|(\d+) closed")
 
 # Two clients, of which one waits for every subsystem, and a database of one song.
 BEGINNING = [
-    *("stage - -", "connect 1", "connect 2", "turn", "1> update", "turn", "put a.wav 16000", "batch 1", "scanned 1", "turn"),
+    *("make_loop", "connect 1", "connect 2", "turn", "1> update", "turn", "put a.wav 16000", "batch 1", "scanned 1", "turn"),
     *("1> addid a.wav", "2> idle", "turn", "2> idle", "turn"),
 ]
 # What is done behind a row: the turns in which what was left is served, and a look at what there is.
@@ -33,6 +34,7 @@ ASKED = [
     {"1": "ping"},
     {"1": "status"},
     {"1": "setvol 40"},
+    {"1": "noidle%nsetvol 40"},
     {"1": "play"},
     {"1": "listallinfo"},
     {"1": "update"},
@@ -106,7 +108,7 @@ def told(groups):
 
 
 class Turned:
-    """A line of loop_driver, behind which turns of the loop are made."""
+    """A line for a loop, behind which turns of the loop are made."""
 
     def __init__(self, program, front, line, asked=(), behind=(), is_report=False):
         self.program, self.asked, self.behind, self.is_report = program, dict(asked), behind, is_report
@@ -183,10 +185,10 @@ class Turned:
 
 # A daemon that many clients would end: where one of them is let go of, another does.
 LIFE = [
-    *("fresh", "daemon - - -", "connect 1", "1> ping%nsetvol 40", "nobody", "nobody"),
+    *("make_stage", "close", "daemon", "connect 1", "1> ping%nsetvol 40", "nobody", "nobody"),
     *(line for client in "234" for line in (f"connect {client}", f"{client}> kill", "nobody")),
 ]
-LOOKED = ["daemon - - -", "connect 1", "1> status%nkill", "serve"]
+LOOKED = ["daemon", "connect 1", "1> status%nkill", "serve"]
 HELLO = "OK MPD 0.23.0"
 ANSWERS = [HELLO], ["OK", "ACK [52@0] {ping} out of memory"], ["OK", "ACK [52@0] {setvol} out of memory"]
 # How it may end before a client was served.

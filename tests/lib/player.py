@@ -285,7 +285,7 @@ class Player(readings.Readable):
     def order(self):
         if self.state != PLAY:
             return ["wait"]
-        return [f"play {self.ticket} {self.frame} {self.current_uri()}"]
+        return [f"play {self.ticket} {self.frame} {self.settings['volume']} {self.current_uri()}"]
 
 
 def shown(milliseconds):

@@ -5,7 +5,8 @@ import os
 import shlex
 import subprocess
 
-COUNTS = 16
+# Two counts, and the number of the allocation that is refused.
+COUNTS = 24
 
 
 def library(name, room):
@@ -15,10 +16,10 @@ def library(name, room):
     return path
 
 
-def settings(library, path, **words):
+def settings(library, path, refused=0, **words):
     """The environment of a program into which the library is loaded, with fresh counts in this file, and these words for it."""
     with open(path, "wb") as file:
-        file.write(bytes(COUNTS))
+        file.write(bytes(COUNTS - 8) + refused.to_bytes(8, "little"))
     return {"LD_PRELOAD": library, "COUNTS": path, **{name: str(word) for name, word in words.items()}}
 
 

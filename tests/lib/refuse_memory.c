@@ -1,7 +1,7 @@
 /* Loaded into a program in front of the C library (LD_PRELOAD), it refuses one of the program's allocations.
  *
- * COUNTS is a file of two numbers of eight bytes, made by whoever runs the program: how many allocations there were, and how many were
- * refused. REFUSED is the number of the allocation that is refused, from 1 on; 0 refuses none.
+ * COUNTS is a file of three numbers of eight bytes, made by whoever runs the program: how many allocations there were, how many were
+ * refused, and the number of the one that is refused, from 1 on, or 0 for none, which may be written while the program runs.
  */
 #include <errno.h>
 #include <fcntl.h>
@@ -12,9 +12,8 @@
 void *__libc_malloc(size_t size);
 void *__libc_realloc(void *old, size_t size);
 
-static long none[2];
-static long *counts = none;
-static long refused;
+static volatile long none[3];
+static volatile long *counts = none;
 
 __attribute__((constructor)) static void begin(void)
 {
@@ -23,12 +22,11 @@ __attribute__((constructor)) static void begin(void)
     if (shared == MAP_FAILED)
         abort();
     counts = shared;
-    refused = atol(getenv("REFUSED"));
 }
 
 static int is_refused(void)
 {
-    if (__atomic_add_fetch(&counts[0], 1, __ATOMIC_RELAXED) != refused)
+    if (__atomic_add_fetch(&counts[0], 1, __ATOMIC_RELAXED) != counts[2])
         return 0;
     __atomic_add_fetch(&counts[1], 1, __ATOMIC_RELAXED);
     errno = ENOMEM;

@@ -1,5 +1,5 @@
-"""The rows of tests/refused_memory: lines of event_driver and of stage_driver, and whole runs of the program; what each does where one of
-its allocations is refused, and what it may do."""
+"""The rows of tests/refused_memory: lines of the driver for a core, journals and stages, and whole runs of the program; what each does
+where one of its allocations is refused, and what it may do."""
 
 import os
 import re
@@ -15,11 +15,11 @@ SECONDS = 60
 # What a program says that ends for want of memory itself.
 ENDED = re.compile(r"out of memory|no memory|OutOfMemory|memory allocation failed")
 
-# ---- lines of event_driver
+# ---- lines for a core
 
 SONGS = ["a.wav 16000 Title One Artist Anna", "b.wav 8000", "d/c.wav 12000 Title Three Artist Anna Album Blue", "d/e/f.wav 16000"]
 BEGINNING = [
-    *("connect 1", "1> update", *(f"put {it}" for it in SONGS), "batch 1", "scanned 1"),
+    *("make_core", "connect 1", "1> update", *(f"put {it}" for it in SONGS), "batch 1", "scanned 1"),
     *("1> addid a.wav", "1> addid b.wav", "1> addid d/c.wav", "1> save old", "1> save other", "1> sticker set song a.wav n v"),
     *("1> prio 7 1", "spell"),
 ]
@@ -34,7 +34,7 @@ QUIET = "1> setvol 40"
 # By these is seen what is there.
 LOOKS = ["saved", "connect 4", "4> status", "4> idle", "order", "scan_order"]
 
-# ---- lines of stage_driver
+# ---- lines for journals and stages
 
 # A file with a fresh state, whose key is of zeros, and records behind it that set the volume to 40.
 FRESH = f"a54d50444a524e4c 02000000 0100000000000000 0000000000000000 45000000 {'00' * 40} 01000000 01000000 64 {'00' * 20}"
@@ -55,7 +55,7 @@ CALLS = [
     ([FULL, "b has -"], "open_stage", False),
     ([FEW, "b has -", "open_stage"], "checkpoint", True),
     ([FEW, "b has -", "open_stage", "connect 1"], "line 1 setvol 41", True),
-    ([FEW, "b has -", "open_stage", "connect 1"], "list 1 setvol 41 ; repeat 1 ; status", True),
+    ([FEW, "b has -", "open_stage", "connect 1"], "list 1 setvol 41 & repeat 1 & status", True),
     ([OLD, "b has -"], "open_journal", False),
     ([OLD, "b has -"], "open_stage", False),
     ([OLD, "b has -", "open_stage"], "connect 1", True),
@@ -84,7 +84,7 @@ class Place:
         with open(f"{self.folder}/input", "w+b") as file:
             file.write(given.encode())
             file.seek(0)
-            settings = preload.settings(self.library, f"{self.folder}/counts", REFUSED=refused)
+            settings = preload.settings(self.library, f"{self.folder}/counts", refused)
             how = {"stdin": file, "capture_output": True, "env": settings, "cwd": self.folder, "check": False, "timeout": SECONDS}
             done = subprocess.run(words, **how)
         count, met = preload.counts(f"{self.folder}/counts")
@@ -92,8 +92,8 @@ class Place:
 
 
 class Run:
-    """A run of a driver: what it printed behind each line, how many allocations it made, whether one was refused, and whether it ended for
-    that itself."""
+    """A run of the driver: what it printed behind each line, how many allocations it made, whether one was refused, and whether it ended
+    for that itself."""
 
     def __init__(self, place, program, lines, refused=0):
         done, self.count, self.was_refused = place.run([program], "".join(f"{it}\n" for it in lines), refused)
@@ -110,7 +110,7 @@ class Run:
 
 
 class Line:
-    """A line of a driver: what goes before it, what it prints with memory enough, and what is there before and behind it then."""
+    """A line of the driver: what goes before it, what it prints with memory enough, and what is there before and behind it then."""
 
     wanted = states = None
 
@@ -141,7 +141,7 @@ class Line:
 
 
 class Event(Line):
-    """A line of event_driver."""
+    """A line for a core."""
 
     def __init__(self, program, front, line, command="", is_list=False):
         self.program, self.front, self.line, self.command, self.is_list = program, [*front, *WAITS], line, command, is_list
@@ -176,7 +176,7 @@ class Event(Line):
 
 
 class Call(Line):
-    """A line of stage_driver. What is there are the bytes of both files."""
+    """A line for a journal or a stage. What is there are the bytes of both files."""
 
     def __init__(self, program, front, line, stands):
         self.program, self.front, self.line, self.stands = program, front, line, stands
@@ -190,12 +190,12 @@ class Call(Line):
         self.states = {"before": self.run(place, self.closed(None, self.stands)).groups[-2:]}
         self.states["after"] = self.run(place, self.closed(self.line)).groups[-2:]
         for count in range(1, len(self.commands())):
-            self.states[count] = self.run(place, self.closed(f"list 1 {' ; '.join(self.commands()[:count])}")).groups[-2:]
+            self.states[count] = self.run(place, self.closed(f"list 1 {' & '.join(self.commands()[:count])}")).groups[-2:]
 
     def commands(self):
         """The commands of the client's request, if it is one."""
         word, _, text = self.line.partition(" 1 ")
-        return text.split(" ; ") if word in ("line", "list") else []
+        return text.split(" & ") if word in ("line", "list") else []
 
     def looked(self, place, number):
         run = self.run(place, [*self.front, self.line], number)
@@ -216,7 +216,7 @@ class Call(Line):
 
 class Due(Call):
     """An event before which a checkpoint is due. Where that finds no memory, the event is handled without it, and the next one makes it;
-    where the event finds none, the checkpoint stands. What is there are the bytes of both files behind the event, and behind the next one."""
+    where the event finds none, the checkpoint stands. What is there are the bytes of both files behind the event, and behind the next."""
 
     def __init__(self, program, front, line, following):
         super().__init__(program, front, line, True)
@@ -239,8 +239,8 @@ class Due(Call):
 
 
 class Program:
-    """A whole run of the program, which makes a journal or serves a line, over a journal of layout 1 where that is said. What is there is what
-    the next run answers."""
+    """A whole run of the program, which makes a journal or serves a line, over a journal of layout 1 where that is said. What is there is
+    what the next run answers."""
 
     def __init__(self, program, given, is_old=False):
         self.program, self.given, self.is_old = program, given, is_old
@@ -310,6 +310,56 @@ class Program:
                 yield self.wanted, "before"
 
 
+# What a stock client asks for: in one piece, in lists, in steps with several values at once; the last one changes something.
+ASKED = ["outputs", "tagtypes enable Title", "list Title group Artist", "count group Album", "command_list_ok_begin", "lsinfo", "playlist"]
+ASKED += ["command_list_end", "find albumartist Anna sort Track", "status", "volume -30"]
+
+
+class Conversation(Program):
+    """A stock client by hand. Each answer is the right one, or ends in a refusal for want of memory; behind one that is cut nothing comes.
+    The volume is the new one where that was told, and else the old one, or either where the answer is missing."""
+
+    def __init__(self, program):
+        super().__init__(program, "\n".join(ASKED))
+        self.name, self.words, self.answers = "program: a stock client", ["console", "--stock-clients"], None
+
+    def begin(self, place):
+        numbers = super().begin(place)
+        self.answers = re.findall(r"(?:.*\n)*?(?:OK|ACK .*)\n", self.wanted[1].removeprefix(HELLO))
+        return numbers
+
+    def fault(self, place, number):
+        self.put_back(place)
+        done, _, was_refused = self.run(place, self.words, f"{self.given}\n", number)
+        if not was_refused:
+            return "it made fewer allocations", False
+        found = done.returncode, done.stdout.decode(), done.stderr.decode().replace("c.toml: out of memory\njournal", "journal")
+        states = ["before"] if found == (2, "", "journal refused: 7\n") else self.states_behind(found)
+        looked = self.looked(place)
+        return None if any(looked == self.states[it] for it in states) else f"it ended with {found}, and then there is {looked}", False
+
+    def states_behind(self, found):
+        """What may be there behind what was told; none where that is wrong."""
+        status, text, told = found
+        if status or told:
+            return []
+        rest = text.removeprefix(HELLO)
+        if HELLO.startswith(text):
+            return ["before"]
+        for number, answer in enumerate(self.answers):
+            if rest.startswith(answer):
+                rest = rest[len(answer) :]
+                continue
+            same = os.path.commonprefix([rest.splitlines(True), answer.splitlines(True)])
+            refusal = re.match(r"ACK \[52@[0-9]+\] \{\w+\} out of memory\n", "".join(rest.splitlines(True)[len(same) :]))
+            if not refusal:
+                return ["before", "after"] if answer.startswith(rest) else []
+            if number == len(self.answers) - 1:
+                return [] if rest != "".join(same) + refusal[0] else ["before"]
+            rest = rest[len("".join(same)) + len(refusal[0]) :]
+        return [] if rest else ["after"]
+
+
 def read(path):
     """What a file has, or None."""
     try:
@@ -324,7 +374,7 @@ def remove(path):
         os.remove(path)
 
 
-def rows(event_driver, stage_driver, program):
+def rows(driver, program):
     """Each row, by its name."""
     found = {}
     for situation, front in SITUATIONS.items():
@@ -333,20 +383,21 @@ def rows(event_driver, stage_driver, program):
             lines = sorted((line for line, faults in command.lines() if not faults), key=len)
             for line in {lines[0], lines[-1]} if lines else ():
                 name, both = line.split(" ")[0], f"command_list_ok_begin%nsetvol 40%n{line}%ncommand_list_end"
-                for row in Event(event_driver, begun, f"1> {line}", name), Event(event_driver, begun, f"1> {both}", name, True):
+                for row in Event(driver, begun, f"1> {line}", name), Event(driver, begun, f"1> {both}", name, True):
                     found[row.name] = row
         for *before, line in [*([it] for it in EVENTS), *BATCHES]:
-            row = Event(event_driver, [*begun, *before], line)
+            row = Event(driver, [*begun, *before], line)
             found[row.name] = row
-    for row in [*(Call(stage_driver, *it) for it in CALLS), Due(stage_driver, *DUE)]:
+    for row in [*(Call(driver, *it) for it in CALLS), Due(driver, *DUE)]:
         found[row.name] = row
-    for row in [*(Program(program, it) for it in [None, *GIVEN]), *(Program(program, it, True) for it in GIVEN[:3])]:
+    programs = [*(Program(program, it) for it in [None, *GIVEN]), *(Program(program, it, True) for it in GIVEN[:3])]
+    for row in [*programs, Conversation(program)]:
         found[row.name] = row
     return found
 
 
 def sweep(folder, library, row):
-    """Refuses each allocation of a row in turn: what was wrong, how many were refused, and at how many of them a driver ended itself."""
+    """Refuses each allocation of a row in turn: what was wrong, how many were refused, and at how many of them the driver ended itself."""
     place = Place(folder, library)
     numbers = row.begin(place)
     looked = [(number, *row.fault(place, number)) for number in numbers]

@@ -238,9 +238,7 @@ def scripts_in(folder):
     return sorted(f"{at}/{name}" for at, _, files in os.walk(folder) for name in files if name.endswith(".txt"))
 
 
-def run_all(program, folder):
-    """The name of each script with what it found wrong, or None."""
-    paths = scripts_in(folder)
+def run_all(program, paths):
+    """Each of these scripts with what it found wrong, or None."""
     with concurrent.futures.ThreadPoolExecutor(4) as pool:
-        faults = pool.map(lambda path: run_script(program, path), paths)
-        return [(os.path.relpath(path, folder).removesuffix(".txt"), fault) for path, fault in zip(paths, faults)]
+        return [*zip(paths, pool.map(lambda path: run_script(program, path), paths))]

@@ -1,4 +1,4 @@
-"""An episode of tests/simulation: a stage of loop_driver with clients, workers and disks, to which steps happen that a seed draws, and
+"""An episode of tests/simulation: a loop of the driver with clients, workers and disks, to which steps happen that a seed draws, and
 beside it the plain model (lib/sessions.py, player.py), which says what each client may see and what a restart may find.
 
 A step is drawn by a number of its own for what there is then: so any of them can be left out, and the others still make sense.
@@ -21,6 +21,8 @@ MOST_CLIENTS, MOST_WAITING, MOST_RECORDS_LEFT = 6, 4_000, 12
 # Turns in which what is left behind want of memory must have been done.
 PATIENCE = 3
 NO_MEMORY = "no memory for the line itself"
+# How many requests are served together, at most.
+GROUP = 64
 BROKEN, OUT_OF_MEMORY = "refused 42 broken by a disk fault", "refused 43 out of memory"
 FIXED = {
     b"foo": b'ACK [5@0] {} unknown command "foo"\n',
@@ -45,6 +47,18 @@ def unlike(found, greeting, asked):
     return f"behind the answers stands {found[:200]!r}"
 
 
+def grouped(asked):
+    """The first of these requests that are one group: at most so many, up to a list."""
+    found = []
+    for number, request in asked[:GROUP]:
+        if request is None:
+            break
+        found.append((number, request))
+        if request.is_list:
+            break
+    return found
+
+
 class Episode:
     """A run of the driver from a fresh stage on."""
 
@@ -56,6 +70,8 @@ class Episode:
         self.event, self.left, self.gones = 0, 0, (0, 0)
         # What there may be behind a fault or a restart, and whether the life is over.
         self.possible, self.is_over, self.counts = [], False, collections.Counter()
+        # Whether a checkpoint may become due: a group ends before it.
+        self.is_near = False
         self.last_client, self.contents = 0, (b"", b"")
 
     def do(self, *lines):
@@ -77,7 +93,7 @@ class Episode:
     def begin(self):
         draw = random.Random(f"{self.seed}")
         self.clients = sessions.Clients(player.Player({}, KEY))
-        self.is_silent("folder d/e", *(self.put_song(uri, *SONGS[uri], draw) for uri in SONGS), "stage - -", "reads")
+        self.is_silent("folder d/e", *(self.put_song(uri, *SONGS[uri], draw) for uri in SONGS), "make_loop", "reads")
         self.connect(draw)
         self.turn(draw)
         self.ask_alone(sessions.line(["update"]))
@@ -282,21 +298,22 @@ class Episode:
         stream.may_lag, stream.is_new = max(0, stream.may_lag - 1), False
 
     def broken_turn(self, turn, asked):
-        """A disk has failed in it: the events before were answered, and the one that was refused is kept whole, or not at all."""
+        """A disk has failed in it: the events before were answered, and the group that was refused is kept whole, or not at all."""
         if not self.may_break:
             raise Finding("a disk failed that was not to")
         served, ends, last = len(turn.events), self.gones[1] + len(turn.closed), None
         for count in range(max(0, served - ends), min(len(asked), served) + 1):
             try:
-                self.possible += self.after_fault(turn, asked, count)
+                self.possible += self.after_fault(turn, asked, count, ends > 0)
             except Finding as fault:
                 last = fault
         if not self.possible:
             raise last or Finding(f"{served} events for {len(asked)} requests and connects, and at most {ends} ends of clients")
         self.is_over = True
 
-    def after_fault(self, turn, asked, count):
-        """The states that there may be, if so many of these requests were answered; a finding where clients got something else."""
+    def after_fault(self, turn, asked, count, may_part):
+        """The states that there may be, if so many of these requests were answered; a finding where clients got something else. The ends of
+        clients, if there are some, may part a group where the requests of one client end."""
         clients, due = self.clients.copy(), {number: it.due for number, it in self.streams.items()}
         for number, request in asked[:count]:
             for client, text in clients.connect(number) if request is None else clients.request(number, request):
@@ -305,10 +322,11 @@ class Episode:
         for number, text in turn.got.items():
             if not due[number].startswith(text):
                 raise Finding(f"client {number} got {text[:300]!r} before a fault, and is owed {due[number][:300]!r}")
-        states = [clients.state]
-        if count < len(asked) and asked[count][1] is not None:
-            clients.request(*asked[count])
-            states.append(clients.state)
+        states, group = [clients.state], grouped(asked[count:])
+        for (number, request), (following, _) in zip(group, [*group[1:], (None, None)]):
+            clients.request(number, request)
+            if following is None or self.is_near or may_part and following != number:
+                states.append(clients.state)
         return states
 
     # Steps of the workers and of the music.
@@ -332,18 +350,18 @@ class Episode:
         return True
 
     def play(self, draw):
-        return self.take_play(self.do("play")[0])
+        return self.take_play(self.do("play_once")[0])
 
     def take_play(self, printed):
         state = self.clients.state
         if state.state != player.PLAY:
-            return self.is_printed("play", printed, ["wait"])
+            return self.is_printed("play_once", printed, ["wait"])
         order = state.ticket, state.frame, int(state.settings["volume"]), state.current_uri()
         reports, sound = self.speaker.play(order, self.files)
         self.counts["plays"] += 1
-        wanted = [f"play {order[0]} {order[1]} {order[2]} {order[3]}"] + [f"sound {sound.hex()}"] * bool(sound)
+        wanted = state.order() + [f"sound {sound.hex()}"] * bool(sound)
         rest = [it for it in printed if it != BROKEN and not it.startswith("woken")]
-        self.is_printed("play", rest, wanted)
+        self.is_printed("play_once", rest, wanted)
         return self.is_reported(printed, [lambda it=it: self.clients.report(*it) for it in reports])
 
     def is_printed(self, what, printed, wanted):
@@ -352,14 +370,14 @@ class Episode:
             raise Finding(f"{what} printed {found} and not {missed}", wanted)
 
     def scan(self, draw):
-        return self.take_scan(self.do("scan")[0])
+        return self.take_scan(self.do("scan_once")[0])
 
     def take_scan(self, printed):
         state = self.clients.state
         if state.job is None:
-            return self.is_printed("scan", printed, ["no scan"])
+            return self.is_printed("scan_once", printed, ["no scan"])
         self.counts["scans"] += 1
-        self.is_printed("scan", printed[:1], [f"scan {state.job}"])
+        self.is_printed("scan_once", printed[:1], [f"scan {state.job} {len(state.songs)} /"])
         job, songs = state.job, dict(self.songs)
         # A batch has what was read, changed or not, and what is gone.
         events = [lambda: self.clients.batch(job, songs)] * bool(songs or state.songs) + [lambda: self.clients.scan_done(job)]
@@ -403,7 +421,7 @@ class Episode:
         if self.may_break:
             return self.turn(draw)
         line, take, take_scarce = draw.choice([("turn", lambda it: self.take_turn(Turn(it)), self.scarce_turn)] * 3 + [
-            ("play", self.take_play, self.scarce_play), ("scan", self.take_scan, self.scarce_scan)])
+            ("play_once", self.take_play, self.scarce_play), ("scan_once", self.take_scan, self.scarce_scan)])
         before = self.drive.refused()
         self.drive.refuse(int(2 ** draw.uniform(0, 6)))
         printed = self.do(line)[0]
@@ -558,7 +576,7 @@ class Episode:
         """The life ends, and the next one begins over what is left of the files."""
         possible = self.possible if self.is_over else [self.clients.state]
         printed = self.do("settle")[0]
-        if not self.is_over and printed != [f"settled {self.event}"]:
+        if not self.is_over and printed[:2] != ["settled", f"event {self.event}"]:
             raise Finding(f"behind event {self.event} settling printed {printed}")
         self.counts["lives"] += 1
         self.counts["faults"] += self.is_over
@@ -571,7 +589,7 @@ class Episode:
         if is_near := draw.random() < 0.5 and len(volume) == 1:
             contents = drives.filled(contents, draw.randrange(MOST_RECORDS_LEFT), int(*volume), self.drive.folder.name)
             self.is_silent(*(f"{name} has {it.hex()}" for name, it in zip("ab", contents)))
-        self.contents = contents
+        self.contents, self.is_near = contents, self.is_near or is_near
         self.open(draw, is_near)
         self.find(possible, draw)
 
@@ -588,18 +606,19 @@ class Episode:
 
     def open(self, draw, is_near):
         """Opens the stage, over disks of which one may fail; where a checkpoint is near, often in it. It writes the file not in use."""
-        fuses, way = ["-", "-"], draw.choice(["stop", "fail"])
+        fuses, way = [], draw.choice(["stop", "fail"])
         if is_near and draw.random() < 0.5:
             ages = [drives.generation([it]) for it in self.contents]
-            fuses[ages.index(min(ages))] = f"{way}:{draw.randint(1, 14)}"
+            fuses = [f"{'ab'[ages.index(min(ages))]} {way} {draw.randint(1, 14)}"]
         elif draw.random() < 0.4:
-            fuses[draw.random() < 0.4] = f"{way}:{int(2 ** draw.uniform(0, 8))}"
-        self.may_break = fuses != ["-", "-"]
-        printed = self.do(f"open {fuses[0]} {fuses[1]}")[0]
+            fuses = [f"{'ab'[draw.random() < 0.4]} {way} {int(2 ** draw.uniform(0, 8))}"]
+        self.may_break = bool(fuses)
+        self.is_silent(*fuses)
+        printed = self.do("open_loop")[0]
         if printed and self.may_break:
             self.counts["openings that failed"] += 1
             self.may_break = False
-            printed = self.do("open - -")[0]
+            printed = self.do("open_loop")[0]
         if printed:
             raise Finding(f"the journal is not opened: {printed}")
 

@@ -1,7 +1,7 @@
 """What the player's thread does for an order, and the songs of tests/simulation."""
 
 import scripts
-import workers
+import waves
 
 # A piece has at most so many frames, and a song's sound comes again behind so many, so that its file stands shortly in a script.
 PIECE, PERIOD = 4096, 7
@@ -28,7 +28,7 @@ class Speaker:
         count = min(PIECE, left)
         self.song = ticket, uri, data, frame + count
         reports = [("fed", ticket, count)] if count or count != left else []
-        return reports + [("ended", ticket)] * (count == left), workers.sound_of(data, frame, count, percent) if count else b""
+        return reports + [("ended", ticket)] * (count == left), waves.sound_of(data, frame, count, percent) if count else b""
 
 
 def sound_in(data):

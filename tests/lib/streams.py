@@ -27,7 +27,7 @@ def shown(text):
 
 
 def lines_of(client, text):
-    """What a driver prints for a client that gets these bytes."""
+    """What the driver prints for a client that gets these bytes."""
     whole = text.decode(errors="replace").split("\n")
     return [f"{client}< {it}" for it in whole[:-1]] + ([f"{client}< {whole[-1]}%"] if whole[-1] else [])
 

@@ -4,6 +4,7 @@ import collections
 import difflib
 import tempfile
 
+import drivers
 import scripts
 
 
@@ -71,10 +72,10 @@ def take_program(program, path):
     return edits
 
 
-def take_driver(program, path, kind):
-    """Takes the lines of a script of a driver."""
-    edits, script = Edits(path), kind(path)
-    printed = script.printed(program)
+def take_driver(program, path):
+    """Takes the lines of a script of the driver."""
+    edits, script = Edits(path), drivers.Script(path)
+    printed, _ = script.printed(program)
     steps = collections.defaultdict(list)
     for step, lines in zip(script.steps, printed):
         steps[step.number].append((step, lines))
@@ -88,10 +89,10 @@ def take_driver(program, path, kind):
     return edits
 
 
-def take(program, path, kind):
+def take(program, path):
     """Writes a script's expected lines anew, and says what changed."""
     try:
-        dropped, added = (take_driver(program, path, kind) if kind else take_program(program, path)).write()
+        dropped, added = (take_driver if path.endswith(".events") else take_program)(program, path).write()
     except (scripts.Failure, OSError, ValueError) as fault:
         return f"left as it is: {fault}"
     return f"{dropped} lines taken out, {added} put in" if dropped or added else "as it was"

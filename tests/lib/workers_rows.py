@@ -1,4 +1,4 @@
-"""The rows of tests/refused_memory that workers_driver does: events of clients and of the workers, looks, an order of the player and a scan.
+"""The rows of tests/refused_memory of a stage that threads share: events of clients and workers, looks, an order of the player and a scan.
 
 A row prints what it prints with memory enough, or that memory was refused, which leaves passes, outbox, output and stage as they were; or a
 request is answered so by its command, which was not done. A scan that finds no memory to read is left off, and its end is told.
@@ -8,29 +8,30 @@ import subprocess
 
 import preload
 import refused_rows
-import workers
+import waves
 
-SONG = f"file a.wav {workers.wave_file(8_000, 1, 5_000, 1).hex()}"
+SONG = f"file a.wav {waves.wave_file(8_000, 1, 5_000, 1).hex()}"
 # Client 2 waits for every subsystem, a song plays, a job runs, and a scan has left something.
 BEGINNING = [
-    *(SONG, "make", "pass clients", "pass player", "pass scan", "serve 0 connect 1", "serve 0 connect 2", "serve 0 line 1 update"),
-    *("scan_once 2", "serve 0 line 1 addid a.wav", "serve 0 line 1 play", "serve 0 line 1 update", "serve 0 line 2 idle"),
-    *("serve 0 line 2 idle", "report 1 fed 1 100"),
+    *(SONG, "make_workers", "drop a.wav", "pass clients", "pass player", "pass scan", "serve 0 connect 1", "serve 0 connect 2"),
+    *("serve 0 line 1 update", "scan_once 2", "serve 0 line 1 addid a.wav", "serve 0 line 1 play", "serve 0 line 1 update"),
+    *("serve 0 line 2 idle", "serve 0 line 2 idle", "report 1 fed 1 100"),
 ]
 LOOKS = ["passes", "order", "scan_order", "job", "player written", "collect", "serve 0 line 1 status", "serve 0 connect 4", "settle"]
 REFUSED = ["refused 43 out of memory"]
-COMMANDS = ["ping", "status", "setvol 40", "addid a.wav", "play 0", "stop", "rescan", "save new", "listallinfo", "sticker set song a.wav n v"]
+COMMANDS = ["ping", "status", "setvol 40", "addid a.wav", "play 0", "stop", "rescan", "save new", "listallinfo"]
+COMMANDS += ["sticker set song a.wav n v"]
 EVENTS = ["serve 0 connect 3", "serve 0 gone 2", "serve 0 gone 1"]
-REPORTS = ["1 fed 1 1000", "1 fed 9 1", "1 ended 1", "1 broken 1 source", "2 drop 2 a.wav", "2 done 2", "2 done 9"]
+REPORTS = ["1 fed 1 1000", "1 fed 9 1", "1 ended 1", "1 broken 1 source", "2 batch 2", "2 scanned 2", "2 scanned 9"]
 OTHERS = ["collect", "order", "scan_order", "job", "play_once 1 1 0 50 a.wav", "play_once 1 7 4096 100 a.wav", "play_once 1 1 0 50 b.wav"]
 # Orders of the player whose pieces are WAVE files of their own, and the line before them.
 WAVE, PIECES = "player form wave", OTHERS[-3:]
 # By this line is seen what a scan leaves that reads nothing.
-SCAN, NOTHING_READ = "scan_once 2", "report 2 done 2"
+SCAN, NOTHING_READ = "scan_once 2", "report 2 scanned 2"
 
 
 class Entered(refused_rows.Line):
-    """A line of workers_driver. What is there is what the passes, the looks, the output and some events behind it tell."""
+    """A line for such a stage. What is there is what the passes, the looks, the output and some events behind it tell."""
 
     def __init__(self, program, line, *last):
         self.program, self.front, self.line, self.name = program, [*BEGINNING, *last], line, " ".join(["workers:", line, *last])
@@ -39,7 +40,7 @@ class Entered(refused_rows.Line):
         """Runs it with memory enough; the numbers of its allocations. They are looked at while the driver waits for its next line."""
         self.prepare(place)
         counts = f"{place.folder}/counts"
-        how = {"stdin": subprocess.PIPE, "stdout": subprocess.PIPE, "cwd": place.folder, "env": preload.settings(place.library, counts, REFUSED=0)}
+        how = {"stdin": subprocess.PIPE, "stdout": subprocess.PIPE, "cwd": place.folder, "env": preload.settings(place.library, counts)}
         with subprocess.Popen([self.program], **how) as process:
             found = []
             for lines in self.front, [self.line]:

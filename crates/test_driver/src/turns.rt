@@ -1,0 +1,108 @@
+//! The calls of the loop, and of its workers. The prover reads their long contracts in these functions alone.
+use crate::calls::{Answer, Stage};
+use crate::sound::Sound;
+use crate::wires::TestStream;
+use driver_base::TestDisk;
+use mio_clients::{Clients, ClientsError, MemListener, MemReady, Part};
+use player_core::PlayOrder;
+use song_db::ScanOrder;
+use song_output::OpenGate;
+use stage_workers::{Pass, Worker, laws};
+use std::alloc::{AllocError, Global};
+use std::sync::Wait;
+use std::sync::ledger::Ledger;
+use std::time::Clock;
+use wave_pcm::FileFolder;
+
+/// The clients of each loop.
+pub type TestClients = Clients<TestStream, MemListener<TestStream>, MemReady>;
+
+/// What a turn of the loop answered: its parts, or the number of its refusal.
+pub type Turned = Result<Vec<Part<TestDisk>>, u8>;
+
+pub fn new_clients(alloc: Global) -> Result<TestClients, AllocError> {
+    Clients::new(alloc, MemListener::new(alloc), MemReady::new())
+}
+
+/// A client waits to connect.
+pub fn connect(clients: &mut TestClients, stream: TestStream) -> Result<(), AllocError> {
+    clients.listener_mut().connect(stream)
+}
+
+pub fn accept(clients: &mut TestClients, alloc: Global) -> Result<(), ClientsError> {
+    clients.accept_all(alloc)
+}
+
+pub fn read(clients: &mut TestClients, alloc: Global, key: usize) -> Result<(), ClientsError> {
+    let read = clients.read_ready(alloc, key);
+    clients.close_left();
+    read
+}
+
+pub fn write(clients: &mut TestClients, key: usize) -> Result<(), ClientsError> {
+    let written = clients.write_ready(key);
+    clients.close_left();
+    written
+}
+
+pub fn close_all(clients: &mut TestClients) {
+    clients.close_all();
+}
+
+pub fn turn<R: Wait, C: Ledger, P: Ledger, S: Ledger>(
+    rt: &R,
+    alloc: Global,
+    clients: &mut TestClients,
+    stage: &Stage<C, P, S>,
+    pass: Pass<C, P, S>,
+) -> (Turned, Pass<C, P, S>) {
+    match clients.turn_of_loop(rt, alloc, stage, pass) {
+        Ok((parts, pass)) => (Ok(parts), pass),
+        Err((number, pass)) => (Err(number), pass),
+    }
+}
+
+/// An order of the player.
+pub fn play<R: Wait + Clock, C: Ledger, P: Ledger, S: Ledger>(
+    rt: &R,
+    host: &HostRuntime,
+    stage: &Stage<C, P, S>,
+    sound: &mut Sound,
+    (pass, order): (Pass<C, P, S>, &PlayOrder),
+) -> Answer<(), C, P, S> {
+    let alloc = host.alloc();
+    let worker = Worker {
+        rt,
+        alloc,
+        stage,
+        wake: &sound.woken,
+    };
+    let mut folder = FileFolder::new(host, String::new(alloc));
+    let (output, song) = (&mut sound.output, &mut sound.song);
+    match laws::play_once(&worker, pass, &OpenGate, &mut folder, output, song, order) {
+        Ok(pass) => (Ok(()), pass),
+        Err((error, pass)) => (Err(error), pass),
+    }
+}
+
+/// A scan of the present folder.
+pub fn scan<R: Wait + Clock, C: Ledger, P: Ledger, S: Ledger>(
+    rt: &R,
+    host: &HostRuntime,
+    stage: &Stage<C, P, S>,
+    sound: &Sound,
+    (pass, order): (Pass<C, P, S>, ScanOrder),
+) -> Answer<(), C, P, S> {
+    let alloc = host.alloc();
+    let worker = Worker {
+        rt,
+        alloc,
+        stage,
+        wake: &sound.woken,
+    };
+    let mut folder = FileFolder::new(host, String::new(alloc));
+    match laws::scan_once(&worker, pass, &mut folder, order) {
+        Ok(pass) => (Ok(()), pass),
+        Err((error, pass)) => (Err(error), pass),
+    }
+}
