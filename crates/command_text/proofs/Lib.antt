@@ -9,8 +9,10 @@ pub mod Readings
 pub mod Around
 pub mod Repeated
 pub mod Naming
+mod Listing
 pub mod LineNames
 pub mod Adding
+pub mod LineLoops
 pub mod AckLength
 pub mod ControlLaws
 pub mod LinesLaws

@@ -1,7 +1,8 @@
 -- Laws of the names of commands. None lists the commands: where a first case stands beside one of all others, each is checked by itself.
 use Rattle.std.proofs.Common.{◌≡◌, zero, suc, not, ◌&&◌, is_lt, map, slice_index_or, ◌+◌, ◌<◌, ◌≤◌, ℕ, List, [], ◌∷◌, length, Bool, true}
-use Rattle.std.proofs.Common.{false, cond, Some, refl, sym, subst, ◌∙◌, ap, arith, find, Contains}
+use Rattle.std.proofs.Common.{false, cond, Some, refl, sym, subst, ◌∙◌, ap, arith, find, Contains, get_or}
 use Rattle.std.proofs.lemmas.List.Elements.{Contains-append_right}
+use Rattle.std.proofs.lemmas.List.{get_or-map, length-map}
 use Rattle.std.proofs.lemmas.Option.{same_Some, none-some}
 use Rattle.std.proofs.lemmas.Slice.Eq.{bytes_eq-Decides}
 use Rattle.std.specs.Str.{bytes_eq}
@@ -9,7 +10,7 @@ use Rattle.std.specs.Cmp.Lexicographic.{slice_cmp}
 use Rattle.std.specs.Ordering.{nat_cmp}
 use Rattle.command_text.specs.declared.name.CommandName.{CommandName}
 use Rattle.command_text.specs.declared.name.CommandName.TheVariants as names
-use Rattle.command_text.specs.Names.{name_text, all_names, named}
+use Rattle.command_text.specs.Names.{name_text, all_names, named, place_of}
 
 pub is_found : (name : CommandName) → named (name_text name) ≡ Some name
 unfolding named
@@ -76,3 +77,29 @@ names_rise = refl
 pub are_rising : (k : ℕ) (d : List ℕ) → k + 1 < length (map name_text all_names)
     → is_lt (slice_cmp nat_cmp (slice_index_or (map name_text all_names) (k + 1) d) (slice_index_or (map name_text all_names) k d)) ≡ false
 are_rising k d lt = rising_at (map name_text all_names) k d names_rise lt
+
+-- where a name stands in the table
+pub stands_at : (name : CommandName) → get_or all_names (place_of name) name ≡ name
+stands_at names.Add = refl
+stands_at other = refl
+
+pub stands_within : (name : CommandName) → place_of name < length all_names
+stands_within names.Add = omega arith
+stands_within other = omega arith
+
+pub itself : (names : List CommandName) → map (λ name. name) names ≡ names
+itself [] = refl
+itself (name ∷ names) = ap (λ rest. name ∷ rest) (itself names)
+
+-- a part of the row at a place, and of the row of a name
+pub part_at : {X Y : Type 0} (rows : List X) (part : X → Y) (of : CommandName → Y) (place : ℕ) (d : X) (e : CommandName)
+    → map part rows ≡ map of all_names → place < length all_names → part (get_or rows place d) ≡ of (get_or all_names place e)
+part_at rows part of place d e same below =
+    let within : place < length rows = omega (arith, below, length-map rows part, ap length same, length-map all_names of) in
+    sym (get_or-map part rows place d (part d) within) ∙ ap (λ l. get_or l place (part d)) same
+    ∙ get_or-map of all_names place e (part d) below
+
+pub part_of : {X Y : Type 0} (rows : List X) (part : X → Y) (of : CommandName → Y) (name : CommandName) (d : X)
+    → map part rows ≡ map of all_names → part (get_or rows (place_of name) d) ≡ of name
+part_of rows part of name d same =
+    part_at rows part of (place_of name) d name same (stands_within name) ∙ ap of (stands_at name)

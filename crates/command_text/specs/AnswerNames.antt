@@ -1,12 +1,12 @@
 -- Lines of one name or value each, and of counts.
-use Rattle.std.specs.Prelude.{ℕ, List, [], ◌∷◌, ◌++◌, codes}
-use Rattle.std.specs.List.{concat}
+use Rattle.std.specs.Prelude.{ℕ, List, [], ◌∷◌, ◌++◌, codes, filter}
+use Rattle.std.specs.List.{concat, flat_map}
 use Rattle.idle_masks.specs.declared.subsystem.Subsystem.{Subsystem}
 use Rattle.idle_masks.specs.Subsystem.{name_of as subsystem_name}
 use Rattle.wave_pcm.specs.declared.tags.Tag.{Tag}
 use Rattle.wave_pcm.specs.TagName.{name_of}
 use Rattle.command_text.specs.declared.name.CommandName.{CommandName}
-use Rattle.command_text.specs.Names.{name_text}
+use Rattle.command_text.specs.Names.{all_names, is_listed, name_text}
 use Rattle.command_text.specs.Answer.{pair, number_pair}
 use Rattle.command_text.specs.AnswerTimes.{whole_seconds}
 
@@ -29,6 +29,10 @@ tag_type_line tag = pair (codes "tagtype") (name_of tag)
 
 abbrev pub command_line : CommandName → List ℕ
 command_line name = pair (codes "command") (name_text name)
+
+-- a line for each command that is listed
+abbrev pub listed_commands : List ℕ
+listed_commands = flat_map command_line (filter is_listed all_names)
 
 abbrev pub changed_line : Subsystem → List ℕ
 changed_line subsystem = pair (codes "changed") (subsystem_name subsystem)

@@ -10,7 +10,7 @@ mod times;
 
 pub use ack::write_ack;
 pub use names::{
-    write_changed, write_command, write_counts, write_directory, write_playlist, write_statistics,
+    write_changed, write_commands, write_counts, write_directory, write_playlist, write_statistics,
     write_sticker, write_tag_type, write_value,
 };
 pub use no_memory::NoMemory;

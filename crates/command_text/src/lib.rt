@@ -25,7 +25,7 @@ pub mod words;
 
 pub use answer::{
     CurrentSong, NoMemory, StatusLines, WANT_OF_MEMORY_LENGTH, write_ack, write_changed,
-    write_command, write_counts, write_directory, write_entry, write_file, write_greeting,
+    write_commands, write_counts, write_directory, write_entry, write_file, write_greeting,
     write_id, write_job, write_list_ok, write_number, write_ok, write_pair, write_place,
     write_playlist, write_song, write_statistics, write_status, write_sticker, write_tag_type,
     write_value,

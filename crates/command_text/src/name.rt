@@ -1,12 +1,13 @@
 // The names of the commands, and what holds of each.
 ghost use Rattle.std.specs.Prelude.{◌≡◌};
-ghost use Rattle.command_text.specs.Names.{name_text, all_names, is_control, is_listed, stands_in_lists, named};
+ghost use Rattle.command_text.specs.Names.{name_text, is_control, is_listed, stands_in_lists, named};
 ghost use Rattle.command_text.specs.NextWord.{spelled};
 
-use crate::table::row;
+use crate::table::{count, name_at, rows, word_of};
 use crate::words::WordText;
 
-/// The name of a command of the MPD protocol reference 0.23, or of a line that begins or ends a command list or an `idle`.
+/// The name of a command of the MPD protocol reference 0.23, or of a line that begins or ends a command list or an `idle`. The names rise
+/// by the bytes of their words.
 #[derive(Clone, Copy, Debug, PartialEq, Eq)]
 pub enum CommandName {
     Add,
@@ -82,98 +83,16 @@ pub enum CommandName {
     Update,
 }
 
-/// Every name, rising by its bytes.
-const NAMES: [CommandName; 71] = [
-    CommandName::Add,
-    CommandName::AddId,
-    CommandName::Clear,
-    CommandName::ClearError,
-    CommandName::Close,
-    CommandName::CommandListBegin,
-    CommandName::CommandListEnd,
-    CommandName::CommandListOkBegin,
-    CommandName::Commands,
-    CommandName::Consume,
-    CommandName::Count,
-    CommandName::CurrentSong,
-    CommandName::Delete,
-    CommandName::DeleteId,
-    CommandName::Find,
-    CommandName::FindAdd,
-    CommandName::Idle,
-    CommandName::Kill,
-    CommandName::ListTag,
-    CommandName::ListAll,
-    CommandName::ListAllInfo,
-    CommandName::ListPlaylist,
-    CommandName::ListPlaylistInfo,
-    CommandName::ListPlaylists,
-    CommandName::Load,
-    CommandName::ListInfo,
-    CommandName::Move,
-    CommandName::MoveId,
-    CommandName::Next,
-    CommandName::NoIdle,
-    CommandName::NotCommands,
-    CommandName::Pause,
-    CommandName::Ping,
-    CommandName::Play,
-    CommandName::PlayId,
-    CommandName::PlaylistAdd,
-    CommandName::PlaylistClear,
-    CommandName::PlaylistDelete,
-    CommandName::QueueFind,
-    CommandName::QueueId,
-    CommandName::QueueInfo,
-    CommandName::PlaylistMove,
-    CommandName::QueueSearch,
-    CommandName::QueueChanges,
-    CommandName::QueueChangesPositions,
-    CommandName::Previous,
-    CommandName::Priority,
-    CommandName::PriorityId,
-    CommandName::Random,
-    CommandName::Rename,
-    CommandName::Repeat,
-    CommandName::Rescan,
-    CommandName::Remove,
-    CommandName::Save,
-    CommandName::Search,
-    CommandName::SearchAdd,
-    CommandName::SearchAddPlaylist,
-    CommandName::Seek,
-    CommandName::SeekCurrent,
-    CommandName::SeekId,
-    CommandName::SetVolume,
-    CommandName::Shuffle,
-    CommandName::Single,
-    CommandName::Stats,
-    CommandName::Status,
-    CommandName::Sticker,
-    CommandName::Stop,
-    CommandName::Swap,
-    CommandName::SwapId,
-    CommandName::TagTypes,
-    CommandName::Update,
-];
-
 impl CommandName {
-    /// Every name, rising by its bytes.
-    pub fn all() -> &'static [CommandName]
-        ensures { result.now ≡ all_names }
-    {
-        &NAMES
-    }
-
     /// The word that asks for the command.
     pub fn text(self) -> &'static str
         ensures { result.now ≡ name_text self }
     {
-        row(self).0
+        word_of(self)
     }
 
     /// Whether `commands` lists the command: every one, but for the lines of command lists and `noidle`.
-    pub fn is_listed(self) -> bool
+    pub(crate) fn is_listed(self) -> bool
         ensures { result ≡ is_listed self }
     {
         !self.is_control()
@@ -211,9 +130,9 @@ impl CommandName {
     pub fn named(word: &[u8]) -> Option<CommandName>
         ensures { result ≡ named word.now }
     {
-        let names = CommandName::all();
-        match names.binary_search_by(|name| name.text().as_bytes().cmp(word)) {
-            Ok(place) => Some(names[place]),
+        let rows = rows();
+        match rows.binary_search_by(|row| row.0.text().as_bytes().cmp(word)) {
+            Ok(place) => Some(rows[place].0),
             Err(_) => None,
         }
     }
@@ -229,13 +148,15 @@ impl CommandName {
     }
 
     /// The same name by name: backslashes may spell the word.
-    #[tactic(auto, unfolding(crate::specs::Names::named))]
     fn named_in_quotes(word: WordText<'_>) -> Option<CommandName>
         ensures { result ≡ named (spelled word.entry) }
     {
-        NAMES
-            .iter()
-            .copied()
-            .find(|name| word.is(name.text().as_bytes()))
+        for place in 0..count() {
+            let name = name_at(place);
+            if word.is(name.text().as_bytes()) {
+                return Some(name);
+            }
+        }
+        None
     }
 }

@@ -1,5 +1,5 @@
 -- A request that ends the daemon comes to `kill`.
-use Rattle.std.proofs.Common.{◌≡◌, ℕ, suc, ◌+◌, Bool, true, false, not, ◌||◌, ◌&&◌, List, [], ◌∷◌, length, Option, Some, None, cond}
+use Rattle.std.proofs.Common.{◌≡◌, ℕ, suc, Bool, true, false, not, ◌||◌, ◌&&◌, List, [], ◌∷◌, Option, Some, None, cond}
 use Rattle.std.proofs.Common.{refl, sym, ◌∙◌, ap, Result, Ok, Err}
 use Rattle.std.proofs.lemmas.Bool.{false≢true}
 use Rattle.std.proofs.Math.Bool.{or-false}
@@ -21,14 +21,13 @@ use Rattle.command_text.specs.declared.request.Request.TheVariants.{Single, List
 use Rattle.idle_masks.specs.Watched.{watched, marked, after_reports}
 use Rattle.idle_masks.specs.declared.subsystem.Subsystems.{Subsystems}
 use Rattle.idle_masks.specs.declared.watch.Watched.{Watched}
-use Rattle.machine_core.specs.Command.{meaning}
 use Rattle.machine_core.specs.Meaning.{Meaning, Meant}
-use Rattle.machine_core.specs.Size.{within}
 use Rattle.machine_core.specs.State.{MachineState}
-use Rattle.state_codec.specs.Spelling.{ops_bytes}
+use Rattle.state_codec.specs.declared.op.Op.{Op}
 use Rattle.daemon_core.specs.Kill.{kills, is_kill, reads_kill, goes_on, comes_to_kill, request_kills, asks_to_kill, ends_daemon}
 use Rattle.daemon_core.specs.Run.{Did, Goes, Refuses, Ends, settings_ending, session_ending, ending_of, did_of, unless_it_ends, performed}
 use Rattle.daemon_core.specs.Run.{read_and_performed, attempted, Ran, wants_memory, follow, is_refused_at, ran}
+use Rattle.daemon_core.specs.Run.{Spent, spent_behind, unspent, within_both}
 use Rattle.daemon_core.specs.Session.{Acted, of_ran, runs}
 use Rattle.daemon_core.specs.State.{State}
 use Rattle.daemon_core.specs.Step.{connects_client, asked, waits_no_more, is_noidle, requested_by, waiting_of, acted, step}
@@ -77,27 +76,28 @@ unless_ends : (kill : Bool) (ending : Option Ending) (name : CommandName) (meant
 unless_ends kill None name meant h = did_ends kill name meant h
 unless_ends kill (Some ending) name meant h = h
 
-reading_ends : (size : ℕ) (m : MachineState) (reading : Result NamedCommand Refusal) →
-    EndsAs (reads_kill reading) (read_and_performed size m reading)
+reading_ends : (spent : Spent) (m : MachineState) (reading : Result NamedCommand Refusal) →
+    EndsAs (reads_kill reading) (read_and_performed spent m reading)
 unfolding performed
-reading_ends size m (Err refusal) = refl
-reading_ends size m (Ok named) =
-    unless_ends (is_kill named.command) (ending_of named.command) named.name (within size (meaning named.command m))
+reading_ends spent m (Err refusal) = refl
+reading_ends spent m (Ok named) =
+    unless_ends (is_kill named.command) (ending_of named.command) named.name (within_both spent named.command m)
     (command_kill named.command)
 
-line_ends : (place : Place) (size : ℕ) (line : List ℕ) (m : MachineState) →
-    EndsAs (reads_kill (line_reading place line)) (attempted place size line m)
+line_ends : (place : Place) (spent : Spent) (line : List ℕ) (m : MachineState) →
+    EndsAs (reads_kill (line_reading place line)) (attempted place spent line m)
 unfolding attempted
-line_ends place size line m = reading_ends size m (line_reading place line)
+line_ends place spent line m = reading_ends spent m (line_reading place line)
 
 -- the commands of a request
-follow_kills : (separator : List ℕ) (index size : ℕ) (m : MachineState) (rest : ℕ → MachineState → Ran) (kill : Bool)
+follow_kills : (separator : List ℕ) (index : ℕ) (behind : List Op → Spent) (m : MachineState) (rest : Spent → MachineState → Ran)
+    (kill : Bool)
     (later : Meaning → Bool) (did : Did) → EndsAs kill did →
-    ((x : Meaning) → let r = rest (size + length (ops_bytes x.ops)) x.after in is_killed r.ending ≡ later x) →
-    let r = follow separator index size m rest did in is_killed r.ending ≡ (kill || goes_on did later)
-follow_kills separator index size m rest kill later (Goes x) h same = same x ∙ sym (ap (λ b. b || later x) h)
-follow_kills separator index size m rest kill later (Refuses refusal) h same = sym (ap (λ b. b || false) h)
-follow_kills separator index size m rest kill later (Ends ending) h same =
+    ((x : Meaning) → let r = rest (behind x.ops) x.after in is_killed r.ending ≡ later x) →
+    let r = follow separator index behind m rest did in is_killed r.ending ≡ (kill || goes_on did later)
+follow_kills separator index behind m rest kill later (Goes x) h same = same x ∙ sym (ap (λ b. b || later x) h)
+follow_kills separator index behind m rest kill later (Refuses refusal) h same = sym (ap (λ b. b || false) h)
+follow_kills separator index behind m rest kill later (Ends ending) h same =
     sym (ap (λ b. b || false) h ∙ or-false (is_killed ending))
 
 unless_refused : (m : MachineState) (index : ℕ) (line : List ℕ) (r : Ran) (kill here : Bool) → is_killed r.ending ≡ kill →
@@ -105,17 +105,18 @@ unless_refused : (m : MachineState) (index : ℕ) (line : List ℕ) (r : Ran) (k
 unless_refused m index line r kill true h = refl
 unless_refused m index line r kill false h = h
 
-ran_kills : (place : Place) (separator : List ℕ) (refused : Option ℕ) (index size : ℕ) (lines : List (List ℕ)) (m : MachineState) →
-    let r = ran place separator refused index size lines m in is_killed r.ending ≡ comes_to_kill place refused index size lines m
+ran_kills : (place : Place) (separator : List ℕ) (refused : Option ℕ) (index : ℕ) (spent : Spent) (lines : List (List ℕ))
+    (m : MachineState) →
+    let r = ran place separator refused index spent lines m in is_killed r.ending ≡ comes_to_kill place refused index spent lines m
 unfolding ran comes_to_kill
-ran_kills place separator refused index size [] m = refl
-ran_kills place separator refused index size (line ∷ lines) m =
+ran_kills place separator refused index spent [] m = refl
+ran_kills place separator refused index spent (line ∷ lines) m =
     unless_refused m index line _ _ (is_refused_at refused index)
-    (follow_kills separator index size m (λ n t. ran place separator refused (suc index) n lines t)
+    (follow_kills separator index (spent_behind place line m spent) m (λ n t. ran place separator refused (suc index) n lines t)
     (reads_kill (line_reading place line))
-    (λ x. comes_to_kill place refused (suc index) (size + length (ops_bytes x.ops)) lines x.after)
-    (attempted place size line m) (line_ends place size line m)
-    (λ x. ran_kills place separator refused (suc index) (size + length (ops_bytes x.ops)) lines x.after))
+    (λ x. comes_to_kill place refused (suc index) (spent_behind place line m spent x.ops) lines x.after)
+    (attempted place spent line m) (line_ends place spent line m)
+    (λ x. ran_kills place separator refused (suc index) (spent_behind place line m spent x.ops) lines x.after))
 
 -- and so the event
 of_ran_ends : (c : ℕ) (s : State) (r : Ran) (ending : Ending) → let a = of_ran c s r ending in a.ended ≡ is_killed ending
@@ -127,14 +128,14 @@ of_ran_ends c s r (Waits mask) = refl
 asked_ends : (c : ℕ) (refused : Option ℕ) (s : State) (request : Request) →
     let a = asked c refused s request in a.ended ≡ request_kills refused s.machine request
 asked_ends c refused s (Single line) =
-    let r : Ran = ran Alone [] refused 0 0 (line ∷ []) s.machine in
-    of_ran_ends c s r r.ending ∙ ran_kills Alone [] refused 0 0 (line ∷ []) s.machine
+    let r : Ran = ran Alone [] refused 0 unspent (line ∷ []) s.machine in
+    of_ran_ends c s r r.ending ∙ ran_kills Alone [] refused 0 unspent (line ∷ []) s.machine
 asked_ends c refused s (CommandList lines) =
-    let r : Ran = ran InList [] refused 0 0 lines s.machine in
-    of_ran_ends c s r r.ending ∙ ran_kills InList [] refused 0 0 lines s.machine
+    let r : Ran = ran InList [] refused 0 unspent lines s.machine in
+    of_ran_ends c s r r.ending ∙ ran_kills InList [] refused 0 unspent lines s.machine
 asked_ends c refused s (OkList lines) =
-    let r : Ran = ran InList list_ok refused 0 0 lines s.machine in
-    of_ran_ends c s r r.ending ∙ ran_kills InList list_ok refused 0 0 lines s.machine
+    let r : Ran = ran InList list_ok refused 0 unspent lines s.machine in
+    of_ran_ends c s r r.ending ∙ ran_kills InList list_ok refused 0 unspent lines s.machine
 asked_ends c refused s Noidle = refl
 
 waiting_ends : (noidle : Bool) (c : ℕ) (s : State) → let a = waits_no_more noidle c s in a.ended ≡ false
@@ -179,9 +180,9 @@ runs_empty : (c : ℕ) (s : State) (r : Ran) → Empties (runs c s r)
 runs_empty c s r = ran_empties c s r r.ending
 
 asked_empties : (c : ℕ) (refused : Option ℕ) (s : State) (request : Request) → Empties (asked c refused s request)
-asked_empties c refused s (Single line) = runs_empty c s (ran Alone [] refused 0 0 (line ∷ []) s.machine)
-asked_empties c refused s (CommandList lines) = runs_empty c s (ran InList [] refused 0 0 lines s.machine)
-asked_empties c refused s (OkList lines) = runs_empty c s (ran InList list_ok refused 0 0 lines s.machine)
+asked_empties c refused s (Single line) = runs_empty c s (ran Alone [] refused 0 unspent (line ∷ []) s.machine)
+asked_empties c refused s (CommandList lines) = runs_empty c s (ran InList [] refused 0 unspent lines s.machine)
+asked_empties c refused s (OkList lines) = runs_empty c s (ran InList list_ok refused 0 unspent lines s.machine)
 asked_empties c refused s Noidle = λ h. absurd (false≢true h)
 
 goes_on_empties : (a : Acted) → a.ended ≡ false → Empties a

@@ -16,6 +16,7 @@ use Rattle.idle_masks.specs.Watched.{watched}
 use Rattle.idle_masks.specs.declared.subsystem.Subsystems.{Subsystems}
 use Rattle.idle_masks.specs.declared.watch.Watched.{Watched}
 use Rattle.machine_core.specs.Command.{meaning}
+use Rattle.machine_core.specs.Looks.{looks_of, max_looks, weighed}
 use Rattle.machine_core.specs.Meaning.{Meaning, Meant}
 use Rattle.machine_core.specs.Reports.{when_broken, when_ended, when_fed}
 use Rattle.machine_core.specs.Scanning.{when_found, when_scanned}
@@ -25,9 +26,11 @@ use Rattle.player_core.specs.declared.failure.BrokenCause.{BrokenCause}
 use Rattle.song_db.specs.declared.change.RowChange.{RowChange}
 use Rattle.state_codec.specs.SavedState.{SavedState}
 use Rattle.state_codec.specs.Spelling.{ops_bytes}
+use Rattle.state_codec.specs.declared.op.Op.{Op}
 use Rattle.daemon_core.specs.Replay.{Entry, replay}
 use Rattle.daemon_core.specs.Run.{Did, Goes, Refuses, Ends, ending_of, did_of, unless_it_ends, performed, read_and_performed, attempted}
 use Rattle.daemon_core.specs.Run.{Ran, wants_memory, follow, is_refused_at, ran}
+use Rattle.daemon_core.specs.Run.{Spent, spent_behind, unspent, within_both}
 use Rattle.daemon_core.specs.Session.{Acted, of_ran, runs}
 use Rattle.daemon_core.specs.State.{State}
 use Rattle.daemon_core.specs.Step.{connects_client, asked, waits_no_more, is_noidle, requested_by, waiting_of, acted, step}
@@ -58,14 +61,18 @@ module _ (P : MachineState → Type 0) (kept : IsKept P) where
       of (Err refusal) means = tt
 
   -- a line of a request
-  fits_lasts : (m : MachineState) (x : Meaning) (fits : Bool) → (P m → P x.after) →
-      Keeps m (cond fits (Ok x) (Err RequestTooLarge))
-  fits_lasts m x true keeps = keeps
-  fits_lasts m x false keeps = tt
+  fits_lasts : (m : MachineState) (meant : Meant) (fits : Bool) → Keeps m meant → Keeps m (cond fits meant (Err RequestTooLarge))
+  fits_lasts m meant true keeps = keeps
+  fits_lasts m meant false keeps = tt
 
   within_lasts : (size : ℕ) (m : MachineState) (meant : Meant) → Keeps m meant → Keeps m (within size meant)
   within_lasts size m (Err refusal) keeps = tt
-  within_lasts size m (Ok x) keeps = fits_lasts m x (nat_le (size + length (ops_bytes x.ops)) max_request_bytes) keeps
+  within_lasts size m (Ok x) keeps = fits_lasts m (Ok x) (nat_le (size + length (ops_bytes x.ops)) max_request_bytes) keeps
+
+  both_last : (spent : Spent) (command : Command) (m : MachineState) → Keeps m (within_both spent command m)
+  both_last spent command m =
+      within_lasts spent.size m (weighed spent.looks (looks_of command m) (meaning command m))
+      (fits_lasts m (meaning command m) (nat_le (spent.looks + looks_of command m) max_looks) (command_lasts command m))
 
   abbrev DidKeeps : MachineState → Did → Type 0
   DidKeeps m (Goes x) = P m → P x.after
@@ -80,42 +87,44 @@ module _ (P : MachineState → Type 0) (kept : IsKept P) where
   ends_lasts m None did keeps = keeps
   ends_lasts m (Some ending) did keeps = tt
 
-  reading_lasts : (size : ℕ) (m : MachineState) (reading : Result NamedCommand Refusal) → DidKeeps m (read_and_performed size m reading)
+  reading_lasts : (spent : Spent) (m : MachineState) (reading : Result NamedCommand Refusal) → DidKeeps m
+      (read_and_performed spent m reading)
   unfolding performed
-  reading_lasts size m (Err refusal) = tt
-  reading_lasts size m (Ok named) =
-      ends_lasts m (ending_of named.command) (did_of named.name (within size (meaning named.command m)))
-      (did_lasts named.name m (within size (meaning named.command m))
-      (within_lasts size m (meaning named.command m) (command_lasts named.command m)))
+  reading_lasts spent m (Err refusal) = tt
+  reading_lasts spent m (Ok named) =
+      ends_lasts m (ending_of named.command) (did_of named.name (within_both spent named.command m))
+      (did_lasts named.name m (within_both spent named.command m) (both_last spent named.command m))
 
-  line_lasts : (place : Place) (size : ℕ) (line : List ℕ) (m : MachineState) → DidKeeps m (attempted place size line m)
+  line_lasts : (place : Place) (spent : Spent) (line : List ℕ) (m : MachineState) → DidKeeps m (attempted place spent line m)
   unfolding attempted
-  line_lasts place size line m = reading_lasts size m (line_reading place line)
+  line_lasts place spent line m = reading_lasts spent m (line_reading place line)
 
   -- the commands of a request
   abbrev RanKeeps : MachineState → Ran → Type 0
   RanKeeps m r = P m → P r.after
 
-  follow_lasts : (separator : List ℕ) (index size : ℕ) (m : MachineState) (rest : ℕ → MachineState → Ran) (did : Did) → DidKeeps m did →
-      ((n : ℕ) (t : MachineState) → RanKeeps t (rest n t)) → RanKeeps m (follow separator index size m rest did)
-  follow_lasts separator index size m rest (Goes x) keeps later =
-      λ h. later (size + length (ops_bytes x.ops)) x.after (keeps h)
-  follow_lasts separator index size m rest (Refuses refusal) keeps later = λ h. h
-  follow_lasts separator index size m rest (Ends ending) keeps later = λ h. h
+  follow_lasts : (separator : List ℕ) (index : ℕ) (behind : List Op → Spent) (m : MachineState) (rest : Spent → MachineState → Ran)
+      (did : Did) → DidKeeps m did →
+      ((n : Spent) (t : MachineState) → RanKeeps t (rest n t)) → RanKeeps m (follow separator index behind m rest did)
+  follow_lasts separator index behind m rest (Goes x) keeps later =
+      λ h. later (behind x.ops) x.after (keeps h)
+  follow_lasts separator index behind m rest (Refuses refusal) keeps later = λ h. h
+  follow_lasts separator index behind m rest (Ends ending) keeps later = λ h. h
 
   unless_refused_lasts : (m : MachineState) (index : ℕ) (line : List ℕ) (r : Ran) (here : Bool) → RanKeeps m r →
       RanKeeps m (cond here (wants_memory m index line) r)
   unless_refused_lasts m index line r true keeps = λ h. h
   unless_refused_lasts m index line r false keeps = keeps
 
-  ran_lasts : (place : Place) (separator : List ℕ) (refused : Option ℕ) (index size : ℕ) (lines : List (List ℕ)) (m : MachineState) →
-      RanKeeps m (ran place separator refused index size lines m)
+  ran_lasts : (place : Place) (separator : List ℕ) (refused : Option ℕ) (index : ℕ) (spent : Spent) (lines : List (List ℕ))
+      (m : MachineState) →
+      RanKeeps m (ran place separator refused index spent lines m)
   unfolding ran
-  ran_lasts place separator refused index size [] m = λ h. h
-  ran_lasts place separator refused index size (line ∷ lines) m =
+  ran_lasts place separator refused index spent [] m = λ h. h
+  ran_lasts place separator refused index spent (line ∷ lines) m =
       unless_refused_lasts m index line _ (is_refused_at refused index)
-      (follow_lasts separator index size m (λ n t. ran place separator refused (suc index) n lines t)
-      (attempted place size line m) (line_lasts place size line m)
+      (follow_lasts separator index (spent_behind place line m spent) m (λ n t. ran place separator refused (suc index) n lines t)
+      (attempted place spent line m) (line_lasts place spent line m)
       (λ n t. ran_lasts place separator refused (suc index) n lines t))
 
   -- the events
@@ -133,11 +142,11 @@ module _ (P : MachineState → Type 0) (kept : IsKept P) where
 
   asked_lasts : (c : ℕ) (refused : Option ℕ) (s : State) (request : Request) → ActKeeps s (asked c refused s request)
   asked_lasts c refused s (Single line) =
-      runs_lasts c s (ran Alone [] refused 0 0 (line ∷ []) s.machine) (ran_lasts Alone [] refused 0 0 (line ∷ []) s.machine)
+      runs_lasts c s (ran Alone [] refused 0 unspent (line ∷ []) s.machine) (ran_lasts Alone [] refused 0 unspent (line ∷ []) s.machine)
   asked_lasts c refused s (CommandList lines) =
-      runs_lasts c s (ran InList [] refused 0 0 lines s.machine) (ran_lasts InList [] refused 0 0 lines s.machine)
+      runs_lasts c s (ran InList [] refused 0 unspent lines s.machine) (ran_lasts InList [] refused 0 unspent lines s.machine)
   asked_lasts c refused s (OkList lines) =
-      runs_lasts c s (ran InList list_ok refused 0 0 lines s.machine) (ran_lasts InList list_ok refused 0 0 lines s.machine)
+      runs_lasts c s (ran InList list_ok refused 0 unspent lines s.machine) (ran_lasts InList list_ok refused 0 unspent lines s.machine)
   asked_lasts c refused s Noidle = λ h. h
 
   waiting_lasts : (noidle : Bool) (c : ℕ) (s : State) → ActKeeps s (waits_no_more noidle c s)

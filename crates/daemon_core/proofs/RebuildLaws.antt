@@ -19,6 +19,7 @@ use Rattle.idle_masks.specs.Watched.{watched}
 use Rattle.idle_masks.specs.declared.subsystem.Subsystems.{Subsystems}
 use Rattle.idle_masks.specs.declared.watch.Watched.{Watched}
 use Rattle.machine_core.specs.Command.{meaning}
+use Rattle.machine_core.specs.Looks.{looks_of, max_looks}
 use Rattle.machine_core.specs.Happening.{Happening}
 use Rattle.machine_core.specs.Meaning.{Meaning, Meant}
 use Rattle.machine_core.specs.Reports.{when_fed, when_ended, when_broken}
@@ -32,6 +33,7 @@ use Rattle.state_codec.specs.SpellingOps.{op_bytes}
 use Rattle.state_codec.specs.declared.op.Op.{Op}
 use Rattle.daemon_core.specs.Run.{Did, Goes, Refuses, Ends, ending_of, did_of, unless_it_ends, performed, read_and_performed, attempted}
 use Rattle.daemon_core.specs.Run.{Ran, wants_memory, follow, is_refused_at, ran}
+use Rattle.daemon_core.specs.Run.{Spent, spent_behind, unspent}
 use Rattle.daemon_core.specs.Reported.{IsRebuilt, IsReported}
 use Rattle.daemon_core.specs.Session.{happened, of_ran, runs}
 use Rattle.daemon_core.specs.State.{State}
@@ -73,22 +75,30 @@ unless_rebuilds : (size : ℕ) (m : MachineState) (ending : Option Ending) (did 
 unless_rebuilds size m None did h = h
 unless_rebuilds size m (Some ending) did h = tt
 
-performed_rebuilds : (law : CommandsRebuild) (size : ℕ) (named : NamedCommand) (m : MachineState) →
-    Rebuilds size m (performed size named m)
+-- one that would look at too much is refused before it does anything
+weighed_rebuilds : (size : ℕ) (m : MachineState) (name : CommandName) (meant : Meant) (fits : Bool) →
+    Rebuilds size m (did_of name (within size meant)) →
+    Rebuilds size m (did_of name (within size (cond fits meant (Err RequestTooLarge))))
+weighed_rebuilds size m name meant true same = same
+weighed_rebuilds size m name meant false same = tt
+
+performed_rebuilds : (law : CommandsRebuild) (spent : Spent) (named : NamedCommand) (m : MachineState) →
+    Rebuilds spent.size m (performed spent named m)
 unfolding performed
-performed_rebuilds law size named m =
-    unless_rebuilds size m (ending_of named.command) _
-    (did_rebuilds law size m named.name named.command (meaning named.command m) refl)
+performed_rebuilds law spent named m =
+    unless_rebuilds spent.size m (ending_of named.command) _
+    (weighed_rebuilds spent.size m named.name (meaning named.command m) (nat_le (spent.looks + looks_of named.command m) max_looks)
+    (did_rebuilds law spent.size m named.name named.command (meaning named.command m) refl))
 
-read_rebuilds : (law : CommandsRebuild) (size : ℕ) (m : MachineState) (read : Result NamedCommand Refusal) →
-    Rebuilds size m (read_and_performed size m read)
-read_rebuilds law size m (Ok named) = performed_rebuilds law size named m
-read_rebuilds law size m (Err refusal) = tt
+read_rebuilds : (law : CommandsRebuild) (spent : Spent) (m : MachineState) (read : Result NamedCommand Refusal) →
+    Rebuilds spent.size m (read_and_performed spent m read)
+read_rebuilds law spent m (Ok named) = performed_rebuilds law spent named m
+read_rebuilds law spent m (Err refusal) = tt
 
-attempted_rebuilds : (law : CommandsRebuild) (place : Place) (size : ℕ) (line : List ℕ) (m : MachineState) →
-    Rebuilds size m (attempted place size line m)
+attempted_rebuilds : (law : CommandsRebuild) (place : Place) (spent : Spent) (line : List ℕ) (m : MachineState) →
+    Rebuilds spent.size m (attempted place spent line m)
 unfolding attempted
-attempted_rebuilds law place size line m = read_rebuilds law size m (line_reading place line)
+attempted_rebuilds law place spent line m = read_rebuilds law spent m (line_reading place line)
 
 ops_bytes-append : (a b : List Op) → length (ops_bytes (a ++ b)) ≡ length (ops_bytes a) + length (ops_bytes b)
 ops_bytes-append [] b = omega arith
@@ -101,34 +111,36 @@ ops_bytes-append (op ∷ a) b =
     )
 
 -- so is what a request did
-follow_rebuilds : (separator : List ℕ) (index size : ℕ) (m : MachineState) (rest : ℕ → MachineState → Ran) (d : Did) →
-    size ≤ max_request_bytes → Rebuilds size m d →
-    ((n : ℕ) (t : MachineState) → n ≤ max_request_bytes → let r = rest n t in Rebuilt n t r.after r.ops) →
-    let r = follow separator index size m rest d in Rebuilt size m r.after r.ops
-follow_rebuilds separator index size m rest (Goes x) within same later =
-    let r : Ran = rest (size + length (ops_bytes x.ops)) x.after in
-    let l = later (size + length (ops_bytes x.ops)) x.after same.fits in
+follow_rebuilds : (separator : List ℕ) (index : ℕ) (place : Place) (line : List ℕ) (spent : Spent) (m : MachineState)
+    (rest : Spent → MachineState → Ran) (d : Did) → spent.size ≤ max_request_bytes → Rebuilds spent.size m d →
+    ((n : Spent) (t : MachineState) → n.size ≤ max_request_bytes → let r = rest n t in Rebuilt n.size t r.after r.ops) →
+    let r = follow separator index (spent_behind place line m spent) m rest d in Rebuilt spent.size m r.after r.ops
+follow_rebuilds separator index place line spent m rest (Goes x) within same later =
+    let r : Ran = rest (spent_behind place line m spent x.ops) x.after in
+    let l = later (spent_behind place line m spent x.ops) x.after same.fits in
     record {
       state = all_applied-append x.ops r.ops m.saved ∙ ap (option_and_then (all_applied r.ops)) same.state ∙ l.state;
       fits = omega (arith, l.fits, ops_bytes-append x.ops r.ops);
     }
-follow_rebuilds separator index size m rest (Refuses refusal) within same later = record { state = refl; fits = omega (arith, within) }
-follow_rebuilds separator index size m rest (Ends ending) within same later = record { state = refl; fits = omega (arith, within) }
+follow_rebuilds separator index place line spent m rest (Refuses refusal) within same later =
+    record { state = refl; fits = omega (arith, within) }
+follow_rebuilds separator index place line spent m rest (Ends ending) within same later =
+    record { state = refl; fits = omega (arith, within) }
 
 here_rebuilds : (size : ℕ) (m : MachineState) (index : ℕ) (line : List ℕ) (r : Ran) (here : Bool) → size ≤ max_request_bytes →
     Rebuilt size m r.after r.ops → let either = cond here (wants_memory m index line) r in Rebuilt size m either.after either.ops
 here_rebuilds size m index line r true within same = record { state = refl; fits = omega (arith, within) }
 here_rebuilds size m index line r false within same = same
 
-ran_rebuilds : (law : CommandsRebuild) (place : Place) (separator : List ℕ) (refused : Option ℕ) (index size : ℕ)
-    (lines : List (List ℕ)) (m : MachineState) → size ≤ max_request_bytes →
-    let r = ran place separator refused index size lines m in Rebuilt size m r.after r.ops
+ran_rebuilds : (law : CommandsRebuild) (place : Place) (separator : List ℕ) (refused : Option ℕ) (index : ℕ) (spent : Spent)
+    (lines : List (List ℕ)) (m : MachineState) → spent.size ≤ max_request_bytes →
+    let r = ran place separator refused index spent lines m in Rebuilt spent.size m r.after r.ops
 unfolding ran
-ran_rebuilds law place separator refused index size [] m within = record { state = refl; fits = omega (arith, within) }
-ran_rebuilds law place separator refused index size (line ∷ lines) m within =
-    here_rebuilds size m index line _ (is_refused_at refused index) within
-    (follow_rebuilds separator index size m (λ n t. ran place separator refused (suc index) n lines t) (attempted place size line m)
-    within (attempted_rebuilds law place size line m)
+ran_rebuilds law place separator refused index spent [] m within = record { state = refl; fits = omega (arith, within) }
+ran_rebuilds law place separator refused index spent (line ∷ lines) m within =
+    here_rebuilds spent.size m index line _ (is_refused_at refused index) within
+    (follow_rebuilds separator index place line spent m (λ n t. ran place separator refused (suc index) n lines t)
+    (attempted place spent line m) within (attempted_rebuilds law place spent line m)
     (λ n t fits. ran_rebuilds law place separator refused (suc index) n lines t fits))
 
 -- so is what any event does
@@ -149,11 +161,11 @@ runs_rebuilds c s r h = of_ran_rebuilds c s r r.ending h
 asked_rebuilds : (law : CommandsRebuild) (c : ℕ) (refused : Option ℕ) (s : State) (request : Request) →
     let a = asked c refused s request in Rebuilt 0 s.machine a.after.machine a.ops
 asked_rebuilds law c refused s (Single line) =
-    runs_rebuilds c s _ (ran_rebuilds law Alone [] refused 0 0 (line ∷ []) s.machine (omega arith))
+    runs_rebuilds c s _ (ran_rebuilds law Alone [] refused 0 unspent (line ∷ []) s.machine (omega arith))
 asked_rebuilds law c refused s (CommandList lines) =
-    runs_rebuilds c s _ (ran_rebuilds law InList [] refused 0 0 lines s.machine (omega arith))
+    runs_rebuilds c s _ (ran_rebuilds law InList [] refused 0 unspent lines s.machine (omega arith))
 asked_rebuilds law c refused s (OkList lines) =
-    runs_rebuilds c s _ (ran_rebuilds law InList list_ok refused 0 0 lines s.machine (omega arith))
+    runs_rebuilds c s _ (ran_rebuilds law InList list_ok refused 0 unspent lines s.machine (omega arith))
 asked_rebuilds law c refused s Noidle = same s
 
 waiting_rebuilds : (noidle : Bool) (c : ℕ) (s : State) → let a = waits_no_more noidle c s in Rebuilt 0 s.machine a.after.machine a.ops

@@ -1,7 +1,7 @@
 -- The commands of a request, one after the other.
 use Rattle.std.proofs.Common.{◌≡◌, ℕ, suc, ◌+◌, ◌≤◌, ◌<◌, Bool, true, false, ◌||◌, List, [], ◌∷◌, ◌++◌, length, Option, Some, None, cond}
 use Rattle.std.proofs.Common.{refl, sym, ◌∙◌, ap, subst, arith, append_assoc, eq-eqb}
-use Rattle.std.specs.Prelude.{Result, Ok, Err, IfSome}
+use Rattle.std.specs.Prelude.{Result, Ok, Err, IfSome, OnOk}
 use Rattle.std.proofs.lemmas.Bool.{le-leb, ne_eqb}
 use Rattle.std.proofs.lemmas.List.{append-nil}
 use Rattle.command_text.specs.Answer.{ok, ack}
@@ -18,6 +18,7 @@ use Rattle.idle_masks.specs.Subsystems.{contains, none, union}
 use Rattle.idle_masks.specs.declared.subsystem.Subsystems.{Subsystems}
 use Rattle.machine_core.specs.Changed.{changed}
 use Rattle.machine_core.specs.Command.{meaning}
+use Rattle.machine_core.specs.Looks.{looks_of, weighed}
 use Rattle.machine_core.specs.Meaning.{Meaning, Meant}
 use Rattle.machine_core.specs.Size.{max_request_bytes, within}
 use Rattle.machine_core.specs.State.{MachineState}
@@ -32,6 +33,7 @@ use Rattle.daemon_core.specs.Request.{RunsLines}
 use Rattle.daemon_core.specs.Session.{of_ran, runs}
 use Rattle.daemon_core.specs.Run.{Did, Goes, Refuses, Ends, ending_of, did_of, unless_it_ends, performed, read_and_performed, attempted}
 use Rattle.daemon_core.specs.Run.{Ran, ends, wants_memory, preceded, follow, is_refused_at, ran}
+use Rattle.daemon_core.specs.Run.{Spent, looks_of_line, looks_read, spent_behind, spent_of, unspent, within_both}
 use Rattle.daemon_core.specs.declared.outcome.Ending.{Ending}
 use Rattle.daemon_core.specs.declared.handled.Handled.{Handled}
 use Rattle.daemon_core.specs.declared.outcome.Ending.TheVariants.{Answered, Closed, Killed, Waits}
@@ -74,52 +76,52 @@ runs_from between did s t before mid after (Err stop) nothing h =
     record { stands = h.stands; nothing = nothing_from before mid after nothing h.nothing; why = h.why }
 
 -- a line that was read
-pub read_performed : (place : Place) (size : ℕ) (line : List ℕ) (words : List (List ℕ)) (m : MachineState) (named : NamedCommand) →
-    line_words line ≡ Ok words → command_of place words ≡ Ok named → performed size named m ≡ attempted place size line m
+pub read_performed : (place : Place) (spent : Spent) (line : List ℕ) (words : List (List ℕ)) (m : MachineState) (named : NamedCommand) →
+    line_words line ≡ Ok words → command_of place words ≡ Ok named → performed spent named m ≡ attempted place spent line m
 unfolding attempted line_reading
-read_performed place size line words m named parted read =
-    sym (ap (λ w. read_and_performed size m (command_in place w)) parted ∙ ap (read_and_performed size m) read)
+read_performed place spent line words m named parted read =
+    sym (ap (λ w. read_and_performed spent m (command_in place w)) parted ∙ ap (read_and_performed spent m) read)
 
 -- a line whose words were refused, or that no command is read from
-pub words_refused : (place : Place) (size : ℕ) (line : List ℕ) (m : MachineState) (refusal : Refusal) → line_words line ≡ Err refusal →
-    attempted place size line m ≡ Refuses refusal
+pub words_refused : (place : Place) (spent : Spent) (line : List ℕ) (m : MachineState) (refusal : Refusal) → line_words line ≡ Err refusal →
+    attempted place spent line m ≡ Refuses refusal
 unfolding attempted line_reading
-words_refused place size line m refusal parted = ap (λ w. read_and_performed size m (command_in place w)) parted
+words_refused place spent line m refusal parted = ap (λ w. read_and_performed spent m (command_in place w)) parted
 
-pub command_refused : (place : Place) (size : ℕ) (line : List ℕ) (words : List (List ℕ)) (m : MachineState) (refusal : Refusal) →
-    line_words line ≡ Ok words → command_of place words ≡ Err refusal → attempted place size line m ≡ Refuses refusal
+pub command_refused : (place : Place) (spent : Spent) (line : List ℕ) (words : List (List ℕ)) (m : MachineState) (refusal : Refusal) →
+    line_words line ≡ Ok words → command_of place words ≡ Err refusal → attempted place spent line m ≡ Refuses refusal
 unfolding attempted line_reading
-command_refused place size line words m refusal parted read =
-    ap (λ w. read_and_performed size m (command_in place w)) parted ∙ ap (read_and_performed size m) read
+command_refused place spent line words m refusal parted read =
+    ap (λ w. read_and_performed spent m (command_in place w)) parted ∙ ap (read_and_performed spent m) read
 
 -- a command that ends its request, and one that means something
-pub performed_ends : (size : ℕ) (named : NamedCommand) (m : MachineState) (ending : Ending) → ending_of named.command ≡ Some ending →
-    performed size named m ≡ Ends ending
+pub performed_ends : (spent : Spent) (named : NamedCommand) (m : MachineState) (ending : Ending) → ending_of named.command ≡ Some ending →
+    performed spent named m ≡ Ends ending
 unfolding performed
-performed_ends size named m ending is =
-    ap (λ e. unless_it_ends e (did_of named.name (within size (meaning named.command m)))) is
+performed_ends spent named m ending is =
+    ap (λ e. unless_it_ends e (did_of named.name (within_both spent named.command m))) is
 
-performed_did : (size : ℕ) (named : NamedCommand) (m : MachineState) (meant : Meant) → ending_of named.command ≡ None →
-    within size (meaning named.command m) ≡ meant → performed size named m ≡ did_of named.name meant
+performed_did : (spent : Spent) (named : NamedCommand) (m : MachineState) (meant : Meant) → ending_of named.command ≡ None →
+    within_both spent named.command m ≡ meant → performed spent named m ≡ did_of named.name meant
 unfolding performed
-performed_did size named m meant is same =
-    ap (λ e. unless_it_ends e (did_of named.name (within size (meaning named.command m)))) is ∙ ap (did_of named.name) same
+performed_did spent named m meant is same =
+    ap (λ e. unless_it_ends e (did_of named.name (within_both spent named.command m))) is ∙ ap (did_of named.name) same
 
-pub performed_refuses : (size : ℕ) (named : NamedCommand) (m : MachineState) (refusal : CommandRefusal) →
-    ending_of named.command ≡ None → within size (meaning named.command m) ≡ Err refusal →
-    performed size named m ≡ Refuses (OfCommand named.name refusal)
-performed_refuses size named m refusal is same = performed_did size named m (Err refusal) is same
+pub performed_refuses : (spent : Spent) (named : NamedCommand) (m : MachineState) (refusal : CommandRefusal) →
+    ending_of named.command ≡ None → within_both spent named.command m ≡ Err refusal →
+    performed spent named m ≡ Refuses (OfCommand named.name refusal)
+performed_refuses spent named m refusal is same = performed_did spent named m (Err refusal) is same
 
 within_limit : (size : ℕ) (x : Meaning) → size + length (ops_bytes x.ops) ≤ max_request_bytes → within size (Ok x) ≡ Ok x
 within_limit size x fits =
     ap (λ b. cond b (Ok x) (Err RequestTooLarge)) (le-leb (size + length (ops_bytes x.ops)) max_request_bytes fits)
 
-pub performed_goes : (named : NamedCommand) (s t : MachineState) (before after : Work)
-    (went : Went (meaning named.command s) t before after) →
-    ending_of named.command ≡ None → performed before.size named s ≡ Goes went.meaning
-performed_goes named s t before after went is =
+pub performed_goes : (named : NamedCommand) (s t : MachineState) (before after : Work) (looks : ℕ)
+    (went : Went (weighed looks (looks_of named.command s) (meaning named.command s)) t before after) →
+    ending_of named.command ≡ None → performed (spent_of before.size looks) named s ≡ Goes went.meaning
+performed_goes named s t before after looks went is =
     let x : Meaning = went.meaning in
-    performed_did before.size named s (Ok x) is
+    performed_did (spent_of before.size looks) named s (Ok x) is
     (ap (within before.size) went.means ∙ within_limit before.size x (let a = went.ops in omega (arith, a.size, a.fits)))
 
 -- Sets of subsystems join in any grouping.
@@ -177,7 +179,7 @@ NotBefore index refused = IfSome refused (λ place. index ≤ place)
 -- What was done so far: what is left of the request, done from here, makes it whole.
 pub record SoFar
     (place : Place) (between : List ℕ) (lines rest : List (List ℕ)) (index : ℕ) (first m : MachineState) (before now : Work)
-    (changes : Subsystems) : Type 0 where
+    (looks : ℕ) (changes : Subsystems) : Type 0 where
   pub text : List ℕ
   pub made : List Op
   pub written : now.text.items ≡ before.text.items ++ text
@@ -185,10 +187,11 @@ pub record SoFar
   pub room : HasRoom ack_room now
   pub left : index + length rest ≡ length lines
   pub whole : (refused : Option ℕ) → NotBefore index refused →
-      ran place between refused 0 before.size lines first ≡ preceded text changes made (ran place between refused index now.size rest m)
+      ran place between refused 0 (spent_of before.size 0) lines first
+      ≡ preceded text changes made (ran place between refused index (spent_of now.size looks) rest m)
 
 pub so_far_begins : (place : Place) (between : List ℕ) (lines : List (List ℕ)) (first : MachineState) (before : Work) →
-    HasRoom ack_room before → SoFar place between lines lines 0 first first before before none
+    HasRoom ack_room before → SoFar place between lines lines 0 first first before before 0 none
 so_far_begins place between lines first before room = record {
   text = [];
   made = [];
@@ -196,7 +199,7 @@ so_far_begins place between lines first before room = record {
   ops = sym (append-nil before.ops.items);
   room = room;
   left = omega arith;
-  whole = λ refused _. sym (preceded_none (ran place between refused 0 before.size lines first));
+  whole = λ refused _. sym (preceded_none (ran place between refused 0 (spent_of before.size 0) lines first));
 }
 
 later_is_not : (index : ℕ) (refused : Option ℕ) → NotBefore (suc index) refused → is_refused_at refused index ≡ false
@@ -208,24 +211,26 @@ later_before index None h = tt
 later_before index (Some place) h = omega (arith, h)
 
 -- the rest of a request behind its next command, which goes well
-next_goes : (place : Place) (between line : List ℕ) (rest : List (List ℕ)) (index size : ℕ) (refused : Option ℕ) (s : MachineState)
-    (x : Meaning) → is_refused_at refused index ≡ false → attempted place size line s ≡ Goes x →
-    ran place between refused index size (line ∷ rest) s
+next_goes : (place : Place) (between line : List ℕ) (rest : List (List ℕ)) (index : ℕ) (spent : Spent) (refused : Option ℕ)
+    (s : MachineState) (x : Meaning) → is_refused_at refused index ≡ false → attempted place spent line s ≡ Goes x →
+    ran place between refused index spent (line ∷ rest) s
     ≡ preceded (x.text ++ between) (changed s x.after) x.ops
-    (ran place between refused (suc index) (size + length (ops_bytes x.ops)) rest x.after)
+    (ran place between refused (suc index) (spent_behind place line s spent x.ops) rest x.after)
 unfolding ran
-next_goes place between line rest index size refused s x here did =
+next_goes place between line rest index spent refused s x here did =
     ap (λ b. cond b (wants_memory s index line)
-    (follow between index size s (λ n u. ran place between refused (suc index) n rest u) (attempted place size line s))) here
-    ∙ ap (follow between index size s (λ n u. ran place between refused (suc index) n rest u)) did
+    (follow between index (spent_behind place line s spent) s (λ n u. ran place between refused (suc index) n rest u)
+    (attempted place spent line s))) here
+    ∙ ap (follow between index (spent_behind place line s spent) s (λ n u. ran place between refused (suc index) n rest u)) did
 
 -- one command went well
 pub so_far_goes : (place : Place) (between : List ℕ) (lines rest : List (List ℕ)) (line : List ℕ) (index : ℕ)
-    (first s t : MachineState) (before now after : Work) (changes set : Subsystems) →
-    SoFar place between lines (line ∷ rest) index first s before now changes →
-    WentOn between (attempted place now.size line s) s t now after set →
-    SoFar place between lines rest (suc index) first t before after (union changes set)
-so_far_goes place between lines rest line index first s t before now after changes set far went =
+    (first s t : MachineState) (before now after : Work) (looks more : ℕ) (changes set : Subsystems) →
+    SoFar place between lines (line ∷ rest) index first s before now looks changes →
+    WentOn between (attempted place (spent_of now.size looks) line s) s t now after set →
+    more ≡ looks + looks_of_line place line s →
+    SoFar place between lines rest (suc index) first t before after more (union changes set)
+so_far_goes place between lines rest line index first s t before now after looks more changes set far went looked =
     let x : Meaning = went.meaning in
     let a = went.ops in
     record {
@@ -239,51 +244,53 @@ so_far_goes place between lines rest line index first s t before now after chang
       whole = λ refused later.
           far.whole refused (later_before index refused later)
           ∙ ap (preceded far.text changes far.made)
-          (next_goes place between line rest index now.size refused s x (later_is_not index refused later) went.means)
+          (next_goes place between line rest index (spent_of now.size looks) refused s x (later_is_not index refused later) went.means)
           ∙ preceded_twice far.text (x.text ++ between) changes (changed s x.after) far.made x.ops
-          (ran place between refused (suc index) (now.size + length (ops_bytes x.ops)) rest x.after)
+          (ran place between refused (suc index) (spent_behind place line s (spent_of now.size looks) x.ops) rest x.after)
           ∙ (λ i. preceded (far.text ++ (x.text ++ between)) (union changes (changed s (sym went.stands i))) (far.made ++ x.ops)
-          (ran place between refused (suc index) (sym a.size i) rest (sym went.stands i)))
+          (ran place between refused (suc index) (spent_of (sym a.size i) (sym looked i)) rest (sym went.stands i)))
           ∙ ap (λ c. preceded (far.text ++ (x.text ++ between)) (union changes c) (far.made ++ x.ops)
-          (ran place between refused (suc index) after.size rest t)) (sym went.changed);
+          (ran place between refused (suc index) (spent_of after.size more) rest t)) (sym went.changed);
     }
 
 -- what the answer to a stop makes of the rest of a request
 pub record StopsIt
-    (place : Place) (between line : List ℕ) (rest : List (List ℕ)) (index size : ℕ) (s : MachineState) (refused : Option ℕ)
+    (place : Place) (between line : List ℕ) (rest : List (List ℕ)) (index : ℕ) (spent : Spent) (s : MachineState) (refused : Option ℕ)
     (ending : Ending) (work done : Work) : Type 0 where
   pub text : List ℕ
-  pub same : ran place between refused index size (line ∷ rest) s ≡ record (ends s text ending) { refused_at = refused }
+  pub same : ran place between refused index spent (line ∷ rest) s ≡ record (ends s text ending) { refused_at = refused }
   pub adds : AddsText text work done
   pub later : NotBefore index refused
   pub within : IfSome refused (λ at. at ≡ index)
 
-pub stops_it : (place : Place) (between line : List ℕ) (rest : List (List ℕ)) (index size : ℕ) (s : MachineState) (stop : Stop)
-    (refused : Option ℕ) (ending : Ending) (work done : Work) → IsStop (attempted place size line s) stop →
-    AnswersStop stop index line refused ending work done → StopsIt place between line rest index size s refused ending work done
+pub stops_it : (place : Place) (between line : List ℕ) (rest : List (List ℕ)) (index : ℕ) (spent : Spent) (s : MachineState)
+    (stop : Stop) (refused : Option ℕ) (ending : Ending) (work done : Work) → IsStop (attempted place spent line s) stop →
+    AnswersStop stop index line refused ending work done → StopsIt place between line rest index spent s refused ending work done
 unfolding ran
-stops_it place between line rest index size s (stops.Ends it) None ending work done did answer = record {
+stops_it place between line rest index spent s (stops.Ends it) None ending work done did answer = record {
   text = [];
-  same = ap (follow between index size s (λ n u. ran place between None (suc index) n rest u)) did ∙ ap (ends s []) (sym answer.0);
+  same = ap (follow between index (spent_behind place line s spent) s (λ n u. ran place between None (suc index) n rest u)) did
+      ∙ ap (ends s []) (sym answer.0);
   adds = answer.1;
   later = tt;
   within = tt;
 }
-stops_it place between line rest index size s (stops.Refused refusal) None ending work done did answer = record {
+stops_it place between line rest index spent s (stops.Refused refusal) None ending work done did answer = record {
   text = ack index refusal;
-  same = ap (follow between index size s (λ n u. ran place between None (suc index) n rest u)) did
+  same = ap (follow between index (spent_behind place line s spent) s (λ n u. ran place between None (suc index) n rest u)) did
       ∙ ap (ends s (ack index refusal)) (sym answer.0);
   adds = answer.1;
   later = tt;
   within = tt;
 }
-stops_it place between line rest index size s stops.NoMemory None ending work done did answer = absurd answer
-stops_it place between line rest index size s stop (Some at) ending work done did answer =
+stops_it place between line rest index spent s stops.NoMemory None ending work done did answer = absurd answer
+stops_it place between line rest index spent s stop (Some at) ending work done did answer =
     let wants = answer.1 in
     record {
       text = ack index (want_of_memory (name_of_line line));
       same = ap (λ b. cond b (wants_memory s index line)
-          (follow between index size s (λ n u. ran place between (Some at) (suc index) n rest u) (attempted place size line s)))
+          (follow between index (spent_behind place line s spent) s (λ n u. ran place between (Some at) (suc index) n rest u)
+          (attempted place spent line s)))
           (eq-eqb at index answer.0)
           ∙ (λ i. record (ends s (ack index (want_of_memory (name_of_line line))) (sym wants.0 i)) { refused_at = Some (sym answer.0 i) });
       adds = wants.1;
@@ -293,13 +300,14 @@ stops_it place between line rest index size s stop (Some at) ending work done di
 
 -- the request has ended
 ran_ends : (place : Place) (between : List ℕ) (lines rest : List (List ℕ)) (index : ℕ) (first s : MachineState) (before now after : Work)
-    (changes : Subsystems) (refused : Option ℕ) (text : List ℕ) (ending : Ending) →
-    SoFar place between lines rest index first s before now changes → NotBefore index refused →
-    ran place between refused index now.size rest s ≡ record (ends s text ending) { refused_at = refused } → AddsText text now after →
+    (looks : ℕ) (changes : Subsystems) (refused : Option ℕ) (text : List ℕ) (ending : Ending) →
+    SoFar place between lines rest index first s before now looks changes → NotBefore index refused →
+    ran place between refused index (spent_of now.size looks) rest s ≡ record (ends s text ending) { refused_at = refused } → AddsText
+    text now after →
     IfSome refused (λ at. at < length lines) →
     RunsLines place between lines first s before after (record { ending = ending; changed = changes; refused_at = refused })
-ran_ends place between lines rest index first s before now after changes refused text ending far later ended adds within =
-    let whole : ran place between refused 0 before.size lines first
+ran_ends place between lines rest index first s before now after looks changes refused text ending far later ended adds within =
+    let whole : ran place between refused 0 (spent_of before.size 0) lines first
     ≡ preceded far.text changes far.made (record (ends s text ending) { refused_at = refused }) =
     far.whole refused later ∙ ap (preceded far.text changes far.made) ended in
     record {
@@ -320,20 +328,20 @@ at_within index count (Some at) below h = omega (arith, below, h)
 
 -- the next command stopped it
 pub ran_stops : (place : Place) (between : List ℕ) (lines whole rest : List (List ℕ)) (bytes : List ℕ) (index : ℕ)
-    (first s t : MachineState) (before now mid after : Work) (changes : Subsystems) (stop : Stop) (refused : Option ℕ) (ending : Ending) →
-    whole ≡ bytes ∷ rest → SoFar place between lines whole index first s before now changes →
-    Stopped (attempted place now.size bytes s) s t now mid stop → AnswersStop stop index bytes refused ending mid after →
+    (first s t : MachineState) (before now mid after : Work) (looks : ℕ) (changes : Subsystems) (stop : Stop) (refused : Option ℕ)
+    (ending : Ending) → whole ≡ bytes ∷ rest → SoFar place between lines whole index first s before now looks changes →
+    Stopped (attempted place (spent_of now.size looks) bytes s) s t now mid stop → AnswersStop stop index bytes refused ending mid after →
     RunsLines place between lines first t before after (record { ending = ending; changed = changes; refused_at = refused })
-ran_stops place between lines whole rest bytes index first s t before now mid after changes stop refused ending parts whole_far
+ran_stops place between lines whole rest bytes index first s t before now mid after looks changes stop refused ending parts whole_far
     stopped answer =
-    let far : SoFar place between lines (bytes ∷ rest) index first s before now changes =
-    subst (λ r. SoFar place between lines r index first s before now changes) parts whole_far in
-    let it = stops_it place between bytes rest index now.size s stop refused ending mid after stopped.why answer in
+    let far : SoFar place between lines (bytes ∷ rest) index first s before now looks changes =
+    subst (λ r. SoFar place between lines r index first s before now looks changes) parts whole_far in
+    let it = stops_it place between bytes rest index (spent_of now.size looks) s stop refused ending mid after stopped.why answer in
     let nothing = stopped.nothing in
     let adds = it.adds in
     subst (λ u. RunsLines place between lines first u before after (record { ending = ending; changed = changes; refused_at = refused }))
     (sym stopped.stands)
-    (ran_ends place between lines (bytes ∷ rest) index first s before now after changes refused it.text ending far it.later it.same
+    (ran_ends place between lines (bytes ∷ rest) index first s before now after looks changes refused it.text ending far it.later it.same
     (record {
       text = adds.text ∙ ap (λ x. x ++ it.text) nothing.text;
       ops = adds.ops ∙ nothing.ops;
@@ -342,39 +350,41 @@ ran_stops place between lines whole rest bytes index first s t before now mid af
     (at_within index (length lines) refused (omega (arith, far.left)) it.within))
 
 pub ran_goes : (place : Place) (between : List ℕ) (lines whole rest : List (List ℕ)) (bytes : List ℕ) (index : ℕ)
-    (first s t : MachineState) (before now after : Work) (changes set : Subsystems) → whole ≡ bytes ∷ rest →
-    SoFar place between lines whole index first s before now changes →
-    WentOn between (attempted place now.size bytes s) s t now after set →
-    SoFar place between lines rest (index + 1) first t before after (union changes set)
-ran_goes place between lines whole rest bytes index first s t before now after changes set parts far h =
-    subst (λ n. SoFar place between lines rest n first t before after (union changes set)) (omega arith)
-    (so_far_goes place between lines rest bytes index first s t before now after changes set
-    (subst (λ r. SoFar place between lines r index first s before now changes) parts far) h)
+    (first s t : MachineState) (before now after : Work) (looks more : ℕ) (changes set : Subsystems) → whole ≡ bytes ∷ rest →
+    SoFar place between lines whole index first s before now looks changes →
+    WentOn between (attempted place (spent_of now.size looks) bytes s) s t now after set →
+    more ≡ looks + looks_of_line place bytes s →
+    SoFar place between lines rest (index + 1) first t before after more (union changes set)
+ran_goes place between lines whole rest bytes index first s t before now after looks more changes set parts far h looked =
+    subst (λ n. SoFar place between lines rest n first t before after more (union changes set)) (omega arith)
+    (so_far_goes place between lines rest bytes index first s t before now after looks more changes set
+    (subst (λ r. SoFar place between lines r index first s before now looks changes) parts far) h looked)
 
-next_none : (place : Place) (between : List ℕ) (index size : ℕ) (s : MachineState) →
-    ran place between None index size [] s ≡ ends s ok Answered
+next_none : (place : Place) (between : List ℕ) (index : ℕ) (spent : Spent) (s : MachineState) →
+    ran place between None index spent [] s ≡ ends s ok Answered
 unfolding ran
-next_none place between index size s = refl
+next_none place between index spent s = refl
 
 pub ran_all : (place : Place) (between : List ℕ) (lines rest : List (List ℕ)) (index : ℕ) (first s : MachineState)
-    (before now after : Work) (changes : Subsystems) → rest ≡ [] →
-    SoFar place between lines rest index first s before now changes → AddsText ok now after →
+    (before now after : Work) (looks : ℕ) (changes : Subsystems) → rest ≡ [] →
+    SoFar place between lines rest index first s before now looks changes → AddsText ok now after →
     RunsLines place between lines first s before after (record { ending = Answered; changed = changes; refused_at = None })
-ran_all place between lines [] index first s before now after changes empty far h =
-    ran_ends place between lines [] index first s before now after changes None ok Answered far tt
-    (next_none place between index now.size s) h tt
-ran_all place between lines (r ∷ rest) index first s before now after changes empty far h = cc
+ran_all place between lines [] index first s before now after looks changes empty far h =
+    ran_ends place between lines [] index first s before now after looks changes None ok Answered far tt
+    (next_none place between index (spent_of now.size looks) s) h tt
+ran_all place between lines (r ∷ rest) index first s before now after looks changes empty far h = cc
 
 -- a command that went well, and what stands behind it
-pub went_on : (named : NamedCommand) (separator : List ℕ) (s t : MachineState) (before mid after : Work) (set : Subsystems) →
-    Went (meaning named.command s) t before mid → ending_of named.command ≡ None → AddsText separator mid after →
-    HasRoom ack_room after → set ≡ changed s t → WentOn separator (performed before.size named s) s t before after set
-went_on named separator s t before mid after set went is adds room same =
+pub went_on : (named : NamedCommand) (separator : List ℕ) (s t : MachineState) (before mid after : Work) (looks : ℕ) (set : Subsystems) →
+    Went (weighed looks (looks_of named.command s) (meaning named.command s)) t before mid → ending_of named.command ≡ None →
+    AddsText separator mid after → HasRoom ack_room after → set ≡ changed s t →
+    WentOn separator (performed (spent_of before.size looks) named s) s t before after set
+went_on named separator s t before mid after looks set went is adds room same =
     let x : Meaning = went.meaning in
     let a = went.ops in
     record {
       meaning = x;
-      means = performed_goes named s t before mid went is;
+      means = performed_goes named s t before mid looks went is;
       stands = went.stands;
       text = adds.text ∙ ap (λ y. y ++ separator) went.text ∙ append_assoc before.text.items x.text separator;
       ops = record { ops = adds.ops ∙ a.ops; size = adds.size ∙ a.size; fits = omega (arith, adds.size, a.fits) };
@@ -383,31 +393,44 @@ went_on named separator s t before mid after set went is adds room same =
     }
 
 -- a line of which no words, or no command, were read
-pub words_stop : (place : Place) (size : ℕ) (line : List ℕ) (m : MachineState) (error : ReadError) (stop : Stop) →
-    GivesWords (Err error) (line_words line) → stop ≡ stop_of_reading error → IsStop (attempted place size line m) stop
-words_stop place size line m (errors.Refused refusal) stop read is =
-    subst (IsStop (attempted place size line m)) (sym is) (words_refused place size line m refusal read)
-words_stop place size line m errors.NoMemory stop read is = subst (IsStop (attempted place size line m)) (sym is) tt
+pub words_stop : (place : Place) (spent : Spent) (line : List ℕ) (m : MachineState) (error : ReadError) (stop : Stop) →
+    GivesWords (Err error) (line_words line) → stop ≡ stop_of_reading error → IsStop (attempted place spent line m) stop
+words_stop place spent line m (errors.Refused refusal) stop read is =
+    subst (IsStop (attempted place spent line m)) (sym is) (words_refused place spent line m refusal read)
+words_stop place spent line m errors.NoMemory stop read is = subst (IsStop (attempted place spent line m)) (sym is) tt
 
-pub command_stop : (place : Place) (size : ℕ) (line : List ℕ) (words slice : List (List ℕ)) (m : MachineState) (error : ReadError)
+pub command_stop : (place : Place) (spent : Spent) (line : List ℕ) (words slice : List (List ℕ)) (m : MachineState) (error : ReadError)
     (stop : Stop) → line_words line ≡ Ok words → slice ≡ words → Gives {A = NamedCommand} (Err error) (command_of place slice) →
-    stop ≡ stop_of_reading error → IsStop (attempted place size line m) stop
-command_stop place size line words slice m (errors.Refused refusal) stop parted same read is =
-    subst (IsStop (attempted place size line m)) (sym is)
-    (command_refused place size line slice m refusal (parted ∙ ap Ok (sym same)) read)
-command_stop place size line words slice m errors.NoMemory stop parted same read is =
-    subst (IsStop (attempted place size line m)) (sym is) tt
+    stop ≡ stop_of_reading error → IsStop (attempted place spent line m) stop
+command_stop place spent line words slice m (errors.Refused refusal) stop parted same read is =
+    subst (IsStop (attempted place spent line m)) (sym is)
+    (command_refused place spent line slice m refusal (parted ∙ ap Ok (sym same)) read)
+command_stop place spent line words slice m errors.NoMemory stop parted same read is =
+    subst (IsStop (attempted place spent line m)) (sym is) tt
 
--- a command that was read runs as its line does
+-- a command that was read runs as its line does, and looks at what its line looks at
 pub line_runs : (place : Place) (between line : List ℕ) (words slice : List (List ℕ)) (named : NamedCommand) (s t : MachineState)
-    (before mid after : Work) (r : Result Subsystems Stop) → line_words line ≡ Ok words → slice ≡ words →
-    command_of place slice ≡ Ok named → AddsNothing before mid → RunsLine between (performed mid.size named s) s t mid after r →
-    RunsLine between (attempted place before.size line s) s t before after r
-line_runs place between line words slice named s t before mid after r parted same read nothing h =
-    runs_from between (attempted place before.size line s) s t before mid after r nothing
+    (before mid after : Work) (looks : ℕ) (r : Result Subsystems Stop) → line_words line ≡ Ok words → slice ≡ words →
+    command_of place slice ≡ Ok named → AddsNothing before mid →
+    RunsLine between (performed (spent_of mid.size looks) named s) s t mid after r →
+    RunsLine between (attempted place (spent_of before.size looks) line s) s t before after r
+line_runs place between line words slice named s t before mid after looks r parted same read nothing h =
+    runs_from between (attempted place (spent_of before.size looks) line s) s t before mid after r nothing
     (subst (λ did. RunsLine between did s t mid after r)
-    (ap (λ n. performed n named s) nothing.size
-    ∙ read_performed place before.size line slice s named (parted ∙ ap Ok (sym same)) read) h)
+    (ap (λ n. performed (spent_of n looks) named s) nothing.size
+    ∙ read_performed place (spent_of before.size looks) line slice s named (parted ∙ ap Ok (sym same)) read) h)
+
+pub line_looks : (place : Place) (line : List ℕ) (words slice : List (List ℕ)) (named : NamedCommand) (m : MachineState) →
+    line_words line ≡ Ok words → slice ≡ words → command_of place slice ≡ Ok named →
+    looks_of named.command m ≡ looks_of_line place line m
+unfolding looks_of_line line_reading
+line_looks place line words slice named m parted same read =
+    sym (ap (λ w. looks_read (command_in place w) m) (parted ∙ ap Ok (sym same)) ∙ ap (λ r. looks_read r m) read)
+
+pub looks_added : {n m : ℕ} (r : Result Subsystems Stop) (looks more : ℕ) → n ≡ m → OnOk r (more ≡ looks + n) →
+    OnOk r (more ≡ looks + m)
+looks_added (Ok set) looks more same h = h ∙ ap (λ k. looks + k) same
+looks_added (Err stop) looks more same h = tt
 
 -- what a request that ran makes of the clients doesn't hang on the machine before it
 of_ran_same : (c : ℕ) (clients : List Watched) (m n : MachineState) (r : Ran) (ending : Ending) →
@@ -422,24 +445,24 @@ pub lines_do : (c : ℕ) (place : Place) (between : List ℕ) (lines : List (Lis
     (end : RequestEnd) (handled : Handled) → fresh.text.items ≡ [] → fresh.ops.items ≡ [] → fresh.size ≡ 0 →
     RunsLines place between lines before.machine mid.machine fresh work end → mid.watch ≡ before.watch →
     Does (of_ran c (state_of mid) (ran_of mid.machine work end) end.ending) after handled →
-    Does (runs c (state_of before) (ran place between handled.outcome.refused_at 0 0 lines before.machine)) after handled
+    Does (runs c (state_of before) (ran place between handled.outcome.refused_at 0 unspent lines before.machine)) after handled
 lines_do c place between lines before mid after fresh work end handled text ops size ran_so watch does =
-    let r : Ran = ran place between end.refused_at 0 0 lines before.machine in
-    let here : ran place between end.refused_at 0 fresh.size lines before.machine ≡ r =
-    ap (λ n. ran place between end.refused_at 0 n lines before.machine) size in
+    let r : Ran = ran place between end.refused_at 0 unspent lines before.machine in
+    let here : ran place between end.refused_at 0 (spent_of fresh.size 0) lines before.machine ≡ r =
+    ap (λ n. ran place between end.refused_at 0 (spent_of n 0) lines before.machine) size in
     let same : ran_of mid.machine work end ≡ r = λ i. record {
       after = (ran_so.stands ∙ ap (λ x. x.after) here) i;
-      text = (ran_so.text ∙ ap (λ t. t ++ (ran place between end.refused_at 0 fresh.size lines before.machine).text) text
+      text = (ran_so.text ∙ ap (λ t. t ++ (ran place between end.refused_at 0 (spent_of fresh.size 0) lines before.machine).text) text
           ∙ ap (λ x. x.text) here) i;
       changed = (ran_so.changed ∙ ap (λ x. x.changed) here) i;
-      ops = (ran_so.ops ∙ ap (λ t. t ++ (ran place between end.refused_at 0 fresh.size lines before.machine).ops) ops
+      ops = (ran_so.ops ∙ ap (λ t. t ++ (ran place between end.refused_at 0 (spent_of fresh.size 0) lines before.machine).ops) ops
           ∙ ap (λ x. x.ops) here) i;
       ending = (ran_so.ending ∙ ap (λ x. x.ending) here) i;
       refused_at = (ran_so.refused_at ∙ ap (λ x. x.refused_at) here) i;
     } in
     let at : handled.outcome.refused_at ≡ end.refused_at =
     does.refused_at ∙ of_ran_place c (state_of mid) (ran_of mid.machine work end) end.ending in
-    subst (λ place_at. Does (runs c (state_of before) (ran place between place_at 0 0 lines before.machine)) after handled) (sym at)
+    subst (λ place_at. Does (runs c (state_of before) (ran place between place_at 0 unspent lines before.machine)) after handled) (sym at)
     (subst (λ a. Does a after handled)
     ((λ i. of_ran c (record { machine = mid.machine; clients = watch i }) (same i) (same i).ending)
     ∙ of_ran_same c before.watch mid.machine before.machine r r.ending) does)

@@ -18,6 +18,7 @@ use Rattle.idle_masks.specs.Watched.{watched}
 use Rattle.idle_masks.specs.declared.subsystem.Subsystems.{Subsystems}
 use Rattle.idle_masks.specs.declared.watch.Watched.{Watched}
 use Rattle.machine_core.specs.Command.{meaning}
+use Rattle.machine_core.specs.Looks.{looks_of, max_looks}
 use Rattle.machine_core.specs.Happening.{Happening, nothing_happens}
 use Rattle.machine_core.specs.Meaning.{Meaning, Meant}
 use Rattle.machine_core.specs.Reports.{when_ended}
@@ -30,6 +31,7 @@ use Rattle.state_codec.specs.Spelling.{ops_bytes}
 use Rattle.state_codec.specs.declared.op.Op.{Op}
 use Rattle.daemon_core.specs.Run.{Did, Goes, Refuses, Ends, ending_of, did_of, unless_it_ends, performed, read_and_performed, attempted}
 use Rattle.daemon_core.specs.Run.{Ran, wants_memory, follow, is_refused_at, ran}
+use Rattle.daemon_core.specs.Run.{Spent, spent_behind, unspent}
 use Rattle.daemon_core.specs.Session.{of_ran, runs}
 use Rattle.daemon_core.specs.State.{State}
 use Rattle.daemon_core.specs.Step.{connects_client, asked, waits_no_more, is_noidle, requested_by, waiting_of, acted, step}
@@ -67,56 +69,64 @@ DidTells m (Ends ending) = Unit {0}
 silent : (m : MachineState) → Tells (Unit {0}) m []
 silent m = record { none = λ saved leaves. refl; same = λ empty. tt }
 
-within_tells : (size : ℕ) (m : MachineState) (name : CommandName) (x : Meaning) (fits : Bool) → CommandTells m x →
+within_tells : (m : MachineState) (name : CommandName) (x : Meaning) (fits : Bool) → CommandTells m x →
     DidTells m (did_of name (cond fits (Ok x) (Err RequestTooLarge)))
-within_tells size m name x true tells = tells
-within_tells size m name x false tells = tt
+within_tells m name x true tells = tells
+within_tells m name x false tells = tt
 
 did_tells : (known : MachineTells) (size : ℕ) (m : MachineState) (name : CommandName) (command : Command) (meant : Meant) →
     meaning command m ≡ meant → DidTells m (did_of name (within size meant))
 did_tells known size m name command (Err refusal) is = tt
 did_tells known size m name command (Ok x) is =
-    within_tells size m name x (nat_le (size + length (ops_bytes x.ops)) max_request_bytes)
+    within_tells m name x (nat_le (size + length (ops_bytes x.ops)) max_request_bytes)
     (record { none = λ saved leaves. known.none command m x saved is leaves; same = λ empty. known.same command m x is empty })
+
+-- one that would look at too much is refused before it does anything
+weighed_tells : (size : ℕ) (m : MachineState) (name : CommandName) (meant : Meant) (fits : Bool) →
+    DidTells m (did_of name (within size meant)) → DidTells m (did_of name (within size (cond fits meant (Err RequestTooLarge))))
+weighed_tells size m name meant true tells = tells
+weighed_tells size m name meant false tells = tt
 
 unless_tells : (m : MachineState) (ending : Option Ending) (did : Did) → DidTells m did → DidTells m (unless_it_ends ending did)
 unless_tells m None did tells = tells
 unless_tells m (Some ending) did tells = tt
 
-performed_tells : (known : MachineTells) (size : ℕ) (named : NamedCommand) (m : MachineState) → DidTells m (performed size named m)
+performed_tells : (known : MachineTells) (spent : Spent) (named : NamedCommand) (m : MachineState) → DidTells m (performed spent named m)
 unfolding performed
-performed_tells known size named m =
-    unless_tells m (ending_of named.command) _ (did_tells known size m named.name named.command (meaning named.command m) refl)
+performed_tells known spent named m =
+    unless_tells m (ending_of named.command) _
+    (weighed_tells spent.size m named.name (meaning named.command m) (nat_le (spent.looks + looks_of named.command m) max_looks)
+    (did_tells known spent.size m named.name named.command (meaning named.command m) refl))
 
-read_tells : (known : MachineTells) (size : ℕ) (m : MachineState) (read : Result NamedCommand Refusal) →
-    DidTells m (read_and_performed size m read)
-read_tells known size m (Ok named) = performed_tells known size named m
-read_tells known size m (Err refusal) = tt
+read_tells : (known : MachineTells) (spent : Spent) (m : MachineState) (read : Result NamedCommand Refusal) →
+    DidTells m (read_and_performed spent m read)
+read_tells known spent m (Ok named) = performed_tells known spent named m
+read_tells known spent m (Err refusal) = tt
 
-attempted_tells : (known : MachineTells) (place : Place) (size : ℕ) (line : List ℕ) (m : MachineState) →
-    DidTells m (attempted place size line m)
+attempted_tells : (known : MachineTells) (place : Place) (spent : Spent) (line : List ℕ) (m : MachineState) →
+    DidTells m (attempted place spent line m)
 unfolding attempted
-attempted_tells known place size line m = read_tells known size m (line_reading place line)
+attempted_tells known place spent line m = read_tells known spent m (line_reading place line)
 
 -- so does what a request ran
 nothing_in : (a b : List Op) → a ++ b ≡ [] → (a ≡ []) × (b ≡ [])
 nothing_in [] b empty = (refl, empty)
 nothing_in (op ∷ a) b empty = absurd (cc)
 
-follow_tells : (separator : List ℕ) (index size : ℕ) (m : MachineState) (rest : ℕ → MachineState → Ran)
-    (Rest : ℕ → MachineState → Type 0) (d : Did) → DidTells m d →
-    ((n : ℕ) (t : MachineState) → let r = rest n t in Tells (Rest n t) t r.ops) →
-    let r = follow separator index size m rest d in Tells (CommandLeaves size m Rest d) m r.ops
-follow_tells separator index size m rest Rest (Goes x) tells later =
-    let r : Ran = rest (size + length (ops_bytes x.ops)) x.after in
-    let l = later (size + length (ops_bytes x.ops)) x.after in
+follow_tells : (separator : List ℕ) (index : ℕ) (behind : List Op → Spent) (m : MachineState) (rest : Spent → MachineState → Ran)
+    (Rest : Spent → MachineState → Type 0) (d : Did) → DidTells m d →
+    ((n : Spent) (t : MachineState) → let r = rest n t in Tells (Rest n t) t r.ops) →
+    let r = follow separator index behind m rest d in Tells (CommandLeaves behind m Rest d) m r.ops
+follow_tells separator index behind m rest Rest (Goes x) tells later =
+    let r : Ran = rest (behind x.ops) x.after in
+    let l = later (behind x.ops) x.after in
     record {
       none = λ saved leaves.
           ap (λ (ops : List Op). ops ++ r.ops) (tells.none saved leaves.0) ∙ l.none (subst IsSavedState (sym leaves.0) saved) leaves.1;
       same = λ empty. let parts = nothing_in x.ops r.ops empty in (tells.same parts.0, l.same parts.1);
     }
-follow_tells separator index size m rest Rest (Refuses refusal) tells later = silent m
-follow_tells separator index size m rest Rest (Ends ending) tells later = silent m
+follow_tells separator index behind m rest Rest (Refuses refusal) tells later = silent m
+follow_tells separator index behind m rest Rest (Ends ending) tells later = silent m
 
 here_tells : (m : MachineState) (index : ℕ) (line : List ℕ) (r : Ran) (Leaves : Type 0) (here : Bool) → Tells Leaves m r.ops →
     let either = cond here (wants_memory m index line) r in Tells (here ≡ false → Leaves) m either.ops
@@ -125,16 +135,16 @@ here_tells m index line r Leaves true tells =
 here_tells m index line r Leaves false tells =
     record { none = λ saved leaves. tells.none saved (leaves refl); same = λ empty not. tells.same empty }
 
-ran_tells : (known : MachineTells) (place : Place) (separator : List ℕ) (refused : Option ℕ) (index size : ℕ)
+ran_tells : (known : MachineTells) (place : Place) (separator : List ℕ) (refused : Option ℕ) (index : ℕ) (spent : Spent)
     (lines : List (List ℕ)) (m : MachineState) →
-    let r = ran place separator refused index size lines m in Tells (CommandsLeave place refused index size lines m) m r.ops
+    let r = ran place separator refused index spent lines m in Tells (CommandsLeave place refused index spent lines m) m r.ops
 unfolding ran CommandsLeave
-ran_tells known place separator refused index size [] m = silent m
-ran_tells known place separator refused index size (line ∷ lines) m =
+ran_tells known place separator refused index spent [] m = silent m
+ran_tells known place separator refused index spent (line ∷ lines) m =
     here_tells m index line _ _ (is_refused_at refused index)
-    (follow_tells separator index size m (λ n t. ran place separator refused (suc index) n lines t)
-    (λ n t. CommandsLeave place refused (suc index) n lines t) (attempted place size line m)
-    (attempted_tells known place size line m)
+    (follow_tells separator index (spent_behind place line m spent) m (λ n t. ran place separator refused (suc index) n lines t)
+    (λ n t. CommandsLeave place refused (suc index) n lines t) (attempted place spent line m)
+    (attempted_tells known place spent line m)
     (λ n t. ran_tells known place separator refused (suc index) n lines t))
 
 -- so does any event
@@ -152,11 +162,11 @@ runs_tells c s r Leaves tells = of_ran_tells c s r r.ending Leaves tells
 asked_tells : (known : MachineTells) (c : ℕ) (refused : Option ℕ) (s : State) (request : Request) →
     let a = asked c refused s request in Tells (RequestLeaves refused s.machine request) s.machine a.ops
 asked_tells known c refused s (Single line) =
-    runs_tells c s _ _ (ran_tells known Alone [] refused 0 0 (line ∷ []) s.machine)
+    runs_tells c s _ _ (ran_tells known Alone [] refused 0 unspent (line ∷ []) s.machine)
 asked_tells known c refused s (CommandList lines) =
-    runs_tells c s _ _ (ran_tells known InList [] refused 0 0 lines s.machine)
+    runs_tells c s _ _ (ran_tells known InList [] refused 0 unspent lines s.machine)
 asked_tells known c refused s (OkList lines) =
-    runs_tells c s _ _ (ran_tells known InList list_ok refused 0 0 lines s.machine)
+    runs_tells c s _ _ (ran_tells known InList list_ok refused 0 unspent lines s.machine)
 asked_tells known c refused s Noidle = silent s.machine
 
 waiting_tells : (noidle : Bool) (c : ℕ) (s : State) → let a = waits_no_more noidle c s in Tells (Unit {0}) s.machine a.ops

@@ -1,5 +1,5 @@
 -- The requests that end the daemon.
-use Rattle.std.specs.Prelude.{ℕ, suc, ◌+◌, Bool, true, false, not, ◌&&◌, ◌||◌, List, [], ◌∷◌, length, Option, Some, None, Result, Ok, Err}
+use Rattle.std.specs.Prelude.{ℕ, suc, Bool, true, false, not, ◌&&◌, ◌||◌, List, [], ◌∷◌, Option, Some, None, Result, Ok, Err}
 use Rattle.command_text.specs.Reading.{line_reading}
 use Rattle.command_text.specs.declared.command.Command.{Command}
 use Rattle.command_text.specs.declared.command.Command.TheVariants as commands
@@ -15,8 +15,7 @@ use Rattle.idle_masks.specs.Watched.{watched}
 use Rattle.idle_masks.specs.declared.subsystem.Subsystems.{Subsystems}
 use Rattle.machine_core.specs.Meaning.{Meaning}
 use Rattle.machine_core.specs.State.{MachineState}
-use Rattle.state_codec.specs.Spelling.{ops_bytes}
-use Rattle.daemon_core.specs.Run.{Did, Goes, Refuses, Ends, attempted, is_refused_at}
+use Rattle.daemon_core.specs.Run.{Did, Goes, Refuses, Ends, attempted, is_refused_at, Spent, spent_behind, unspent}
 use Rattle.daemon_core.specs.State.{State}
 use Rattle.daemon_core.specs.Step.{waiting_of}
 use Rattle.daemon_core.specs.declared.event.Event.{Event}
@@ -42,17 +41,17 @@ goes_on (Refuses refusal) rest = false
 goes_on (Ends ending) rest = false
 
 -- The commands from this index on come to `kill`: those before it go well, and none of them nor `kill` is refused memory.
-unfoldable pub comes_to_kill : Place → Option ℕ → ℕ → ℕ → List (List ℕ) → MachineState → Bool
-comes_to_kill place refused index size [] m = false
-comes_to_kill place refused index size (line ∷ lines) m =
+unfoldable pub comes_to_kill : Place → Option ℕ → ℕ → Spent → List (List ℕ) → MachineState → Bool
+comes_to_kill place refused index spent [] m = false
+comes_to_kill place refused index spent (line ∷ lines) m =
     not (is_refused_at refused index) && (reads_kill (line_reading place line)
-    || goes_on (attempted place size line m) (λ x.
-    comes_to_kill place refused (suc index) (size + length (ops_bytes x.ops)) lines x.after))
+    || goes_on (attempted place spent line m) (λ x.
+    comes_to_kill place refused (suc index) (spent_behind place line m spent x.ops) lines x.after))
 
 abbrev pub request_kills : Option ℕ → MachineState → Request → Bool
-request_kills refused m (Single line) = comes_to_kill Alone refused 0 0 (line ∷ []) m
-request_kills refused m (CommandList lines) = comes_to_kill InList refused 0 0 lines m
-request_kills refused m (OkList lines) = comes_to_kill InList refused 0 0 lines m
+request_kills refused m (Single line) = comes_to_kill Alone refused 0 unspent (line ∷ []) m
+request_kills refused m (CommandList lines) = comes_to_kill InList refused 0 unspent lines m
+request_kills refused m (OkList lines) = comes_to_kill InList refused 0 unspent lines m
 request_kills refused m Noidle = false
 
 -- a client that is connected and doesn't wait asks so

@@ -11,7 +11,7 @@ use Rattle.machine_core.specs.Meaning.{Meaning}
 use Rattle.machine_core.specs.State.{MachineState}
 use Rattle.machine_core.specs.Work.{AddsNothing, AddsOps, AddsText, HasRoom, ack_room}
 use Rattle.machine_core.specs.declared.work.Work.{Work}
-use Rattle.daemon_core.specs.Run.{Did, Goes, Refuses, Ends, Ran, ran}
+use Rattle.daemon_core.specs.Run.{Did, Goes, Refuses, Ends, Ran, ran, spent_of}
 use Rattle.daemon_core.specs.declared.outcome.Ending.{Ending}
 use Rattle.daemon_core.specs.declared.outcome.Ending.TheVariants.{Answered}
 use Rattle.daemon_core.specs.declared.request.RequestEnd.{RequestEnd}
@@ -77,10 +77,10 @@ AnswersStop stop index line (Some place) ending work done = (place ≡ index) ×
 pub record RunsLines
     (place : Place) (between : List ℕ) (lines : List (List ℕ)) (before after : MachineState) (work done : Work) (end : RequestEnd)
     : Type 0 where
-  pub stands : after ≡ (ran place between end.refused_at 0 work.size lines before).after
-  pub text : done.text.items ≡ work.text.items ++ (ran place between end.refused_at 0 work.size lines before).text
-  pub ops : done.ops.items ≡ work.ops.items ++ (ran place between end.refused_at 0 work.size lines before).ops
-  pub changed : end.changed ≡ (ran place between end.refused_at 0 work.size lines before).changed
-  pub ending : end.ending ≡ (ran place between end.refused_at 0 work.size lines before).ending
-  pub refused_at : end.refused_at ≡ (ran place between end.refused_at 0 work.size lines before).refused_at
+  pub stands : after ≡ (ran place between end.refused_at 0 (spent_of work.size 0) lines before).after
+  pub text : done.text.items ≡ work.text.items ++ (ran place between end.refused_at 0 (spent_of work.size 0) lines before).text
+  pub ops : done.ops.items ≡ work.ops.items ++ (ran place between end.refused_at 0 (spent_of work.size 0) lines before).ops
+  pub changed : end.changed ≡ (ran place between end.refused_at 0 (spent_of work.size 0) lines before).changed
+  pub ending : end.ending ≡ (ran place between end.refused_at 0 (spent_of work.size 0) lines before).ending
+  pub refused_at : end.refused_at ≡ (ran place between end.refused_at 0 (spent_of work.size 0) lines before).refused_at
   pub within : IfSome end.refused_at (λ place. place < length lines)

@@ -18,6 +18,7 @@ use Rattle.idle_masks.specs.Subsystems.{none, union}
 use Rattle.idle_masks.specs.declared.subsystem.Subsystems.{Subsystems}
 use Rattle.machine_core.specs.Changed.{changed}
 use Rattle.machine_core.specs.Command.{meaning}
+use Rattle.machine_core.specs.Looks.{looks_of, weighed}
 use Rattle.machine_core.specs.Meaning.{Meaning, Meant}
 use Rattle.machine_core.specs.Size.{within}
 use Rattle.machine_core.specs.State.{MachineState}
@@ -55,17 +56,44 @@ abbrev pub unless_it_ends : Option Ending → Did → Did
 unless_it_ends None did = did
 unless_it_ends (Some ending) did = Ends ending
 
--- what a command does, where the request's ops have this size before it
-unfoldable pub performed : ℕ → NamedCommand → MachineState → Did
-performed size named m = unless_it_ends (ending_of named.command) (did_of named.name (within size (meaning named.command m)))
+-- what the commands of a request have spent so far of what it may: the bytes of their ops, and how much they have looked at
+pub record Spent : Type 0 where
+  pub size : ℕ
+  pub looks : ℕ
 
-abbrev pub read_and_performed : ℕ → MachineState → Result NamedCommand Refusal → Did
-read_and_performed size m (Err refusal) = Refuses refusal
-read_and_performed size m (Ok named) = performed size named m
+abbrev pub spent_of : ℕ → ℕ → Spent
+spent_of size looks = record { size = size; looks = looks }
+
+abbrev pub unspent : Spent
+unspent = spent_of 0 0
+
+-- what a command means, within what is left of both
+abbrev pub within_both : Spent → Command → MachineState → Meant
+within_both spent command m = within spent.size (weighed spent.looks (looks_of command m) (meaning command m))
+
+-- what a command does, where those before it have spent so much
+unfoldable pub performed : Spent → NamedCommand → MachineState → Did
+performed spent named m = unless_it_ends (ending_of named.command) (did_of named.name (within_both spent named.command m))
+
+abbrev pub read_and_performed : Spent → MachineState → Result NamedCommand Refusal → Did
+read_and_performed spent m (Err refusal) = Refuses refusal
+read_and_performed spent m (Ok named) = performed spent named m
 
 -- what the line of one command does
-unfoldable pub attempted : Place → ℕ → List ℕ → MachineState → Did
-attempted place size line m = read_and_performed size m (line_reading place line)
+unfoldable pub attempted : Place → Spent → List ℕ → MachineState → Did
+attempted place spent line m = read_and_performed spent m (line_reading place line)
+
+abbrev pub looks_read : Result NamedCommand Refusal → MachineState → ℕ
+looks_read (Err refusal) m = 0
+looks_read (Ok named) m = looks_of named.command m
+
+-- how much the command of a line looks at
+unfoldable pub looks_of_line : Place → List ℕ → MachineState → ℕ
+looks_of_line place line m = looks_read (line_reading place line) m
+
+-- what is spent behind the command of a line, which makes these ops
+abbrev pub spent_behind : Place → List ℕ → MachineState → Spent → List Op → Spent
+spent_behind place line m spent ops = spent_of (spent.size + length (ops_bytes ops)) (spent.looks + looks_of_line place line m)
 
 -- What a request did: the machine after it, its answer, the subsystems that one of its commands changed, its ops in order, how
 -- it ended, and the place of the command that it reached and that was refused memory, if there was one.
@@ -107,17 +135,18 @@ separator false = []
 separator true = list_ok
 
 -- what follows a command that did this: the rest of the request if it went well
-abbrev pub follow : List ℕ → ℕ → ℕ → MachineState → (ℕ → MachineState → Ran) → Did → Ran
-follow separator index size m rest (Goes x) =
-    preceded (x.text ++ separator) (changed m x.after) x.ops (rest (size + length (ops_bytes x.ops)) x.after)
-follow separator index size m rest (Refuses refusal) = ends m (ack index refusal) Answered
-follow separator index size m rest (Ends ending) = ends m [] ending
+abbrev pub follow : List ℕ → ℕ → (List Op → Spent) → MachineState → (Spent → MachineState → Ran) → Did → Ran
+follow separator index behind m rest (Goes x) =
+    preceded (x.text ++ separator) (changed m x.after) x.ops (rest (behind x.ops) x.after)
+follow separator index behind m rest (Refuses refusal) = ends m (ack index refusal) Answered
+follow separator index behind m rest (Ends ending) = ends m [] ending
 
--- The commands from this index on, where the ops so far have this size, and memory is refused at one command or at none.
+-- The commands from this index on, where those before have spent so much, and memory is refused at one command or at none.
 -- Each command that goes well adds its lines and the separator; the first that doesn't ends the request, and what ran before it stays.
-unfoldable pub ran : Place → List ℕ → Option ℕ → ℕ → ℕ → List (List ℕ) → MachineState → Ran
-ran place separator refused index size [] m = ends m ok Answered
-ran place separator refused index size (line ∷ lines) m =
+unfoldable pub ran : Place → List ℕ → Option ℕ → ℕ → Spent → List (List ℕ) → MachineState → Ran
+ran place separator refused index spent [] m = ends m ok Answered
+ran place separator refused index spent (line ∷ lines) m =
     if is_refused_at refused index then wants_memory m index line
-    else follow separator index size m (λ size after. ran place separator refused (suc index) size lines after)
-    (attempted place size line m)
+    else follow separator index (spent_behind place line m spent) m
+    (λ spent after. ran place separator refused (suc index) spent lines after)
+    (attempted place spent line m)

@@ -16,7 +16,7 @@ use Rattle.machine_core.specs.Reports.{when_fed, when_ended, when_broken}
 use Rattle.machine_core.specs.Scanning.{when_found, when_scanned}
 use Rattle.state_codec.specs.declared.op.Op.{Op}
 use Rattle.daemon_core.specs.Pending.{Moment}
-use Rattle.daemon_core.specs.Run.{ran}
+use Rattle.daemon_core.specs.Run.{ran, unspent}
 use Rattle.daemon_core.specs.Session.{Acted, nothing, happened, output, without, waiting, runs}
 use Rattle.daemon_core.specs.State.{State, with_clients}
 use Rattle.daemon_core.specs.declared.event.Event.{Event}
@@ -31,9 +31,9 @@ connects_client c s None =
 
 -- A client that does not wait: `noidle` is nothing to it, a line is a request of one command, a list one of several.
 abbrev pub asked : ℕ → Option ℕ → State → Request → Acted
-asked c refused s (Single line) = runs c s (ran Alone [] refused 0 0 (line ∷ []) s.machine)
-asked c refused s (CommandList lines) = runs c s (ran InList [] refused 0 0 lines s.machine)
-asked c refused s (OkList lines) = runs c s (ran InList list_ok refused 0 0 lines s.machine)
+asked c refused s (Single line) = runs c s (ran Alone [] refused 0 unspent (line ∷ []) s.machine)
+asked c refused s (CommandList lines) = runs c s (ran InList [] refused 0 unspent lines s.machine)
+asked c refused s (OkList lines) = runs c s (ran InList list_ok refused 0 unspent lines s.machine)
 asked c refused s Noidle = nothing s
 
 -- A client that waits: `noidle` ends its waiting, and anything else closes it without a byte.

@@ -1,5 +1,5 @@
 -- The events that change nothing of what is saved, each part of them at its turn.
-use Rattle.std.specs.Prelude.{◌≡◌, ℕ, suc, ◌+◌, List, [], ◌∷◌, length, true, false, Option, Some, None}
+use Rattle.std.specs.Prelude.{◌≡◌, ℕ, suc, List, [], ◌∷◌, true, false, Option, Some, None}
 use Rattle.command_text.specs.declared.place.Place.{Place}
 use Rattle.command_text.specs.declared.place.Place.TheVariants.{Alone, InList}
 use Rattle.command_text.specs.declared.request.Request.{Request}
@@ -9,31 +9,32 @@ use Rattle.idle_masks.specs.declared.subsystem.Subsystems.{Subsystems}
 use Rattle.machine_core.specs.Reports.{when_ended}
 use Rattle.machine_core.specs.Scanning.{is_running, telling}
 use Rattle.machine_core.specs.State.{MachineState}
-use Rattle.state_codec.specs.Spelling.{ops_bytes}
-use Rattle.daemon_core.specs.Run.{Did, Goes, Refuses, Ends, attempted, is_refused_at}
+use Rattle.state_codec.specs.declared.op.Op.{Op}
+use Rattle.daemon_core.specs.Run.{Did, Goes, Refuses, Ends, attempted, is_refused_at, Spent, spent_behind, unspent}
 use Rattle.daemon_core.specs.State.{State}
 use Rattle.daemon_core.specs.Step.{waiting_of}
 use Rattle.daemon_core.specs.declared.event.Event.{Event}
 use Rattle.daemon_core.specs.declared.event.Event.TheVariants as events
 
 -- a command that goes well leaves the saved half as it finds it, and so does what follows it
-abbrev pub CommandLeaves : ℕ → MachineState → (ℕ → MachineState → Type 0) → Did → Type 0
-CommandLeaves size m Rest (Goes x) = (x.after.saved ≡ m.saved) × Rest (size + length (ops_bytes x.ops)) x.after
-CommandLeaves size m Rest (Refuses refusal) = Unit {0}
-CommandLeaves size m Rest (Ends ending) = Unit {0}
+abbrev pub CommandLeaves : (List Op → Spent) → MachineState → (Spent → MachineState → Type 0) → Did → Type 0
+CommandLeaves behind m Rest (Goes x) = (x.after.saved ≡ m.saved) × Rest (behind x.ops) x.after
+CommandLeaves behind m Rest (Refuses refusal) = Unit {0}
+CommandLeaves behind m Rest (Ends ending) = Unit {0}
 
 -- The commands from this index on, up to the first that is refused, is refused memory or ends the request: each leaves the saved half as
 -- it finds it.
-unfoldable pub CommandsLeave : Place → Option ℕ → ℕ → ℕ → List (List ℕ) → MachineState → Type 0
-CommandsLeave place refused index size [] m = Unit {0}
-CommandsLeave place refused index size (line ∷ lines) m =
+unfoldable pub CommandsLeave : Place → Option ℕ → ℕ → Spent → List (List ℕ) → MachineState → Type 0
+CommandsLeave place refused index spent [] m = Unit {0}
+CommandsLeave place refused index spent (line ∷ lines) m =
     is_refused_at refused index ≡ false
-    → CommandLeaves size m (λ size after. CommandsLeave place refused (suc index) size lines after) (attempted place size line m)
+    → CommandLeaves (spent_behind place line m spent) m (λ spent after. CommandsLeave place refused (suc index) spent lines after)
+    (attempted place spent line m)
 
 abbrev pub RequestLeaves : Option ℕ → MachineState → Request → Type 0
-RequestLeaves refused m (Single line) = CommandsLeave Alone refused 0 0 (line ∷ []) m
-RequestLeaves refused m (CommandList lines) = CommandsLeave InList refused 0 0 lines m
-RequestLeaves refused m (OkList lines) = CommandsLeave InList refused 0 0 lines m
+RequestLeaves refused m (Single line) = CommandsLeave Alone refused 0 unspent (line ∷ []) m
+RequestLeaves refused m (CommandList lines) = CommandsLeave InList refused 0 unspent lines m
+RequestLeaves refused m (OkList lines) = CommandsLeave InList refused 0 unspent lines m
 RequestLeaves refused m Noidle = Unit {0}
 
 -- no command is run of a client that isn't connected, or waits

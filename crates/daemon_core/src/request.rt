@@ -1,8 +1,9 @@
 // The commands of a request, one after the other, and how it ends.
-ghost use Rattle.std.specs.Prelude.{◌≡◌, ◌<◌, ◌^◌, true, length};
+ghost use Rattle.std.specs.Prelude.{◌≡◌, ◌+◌, ◌<◌, ◌^◌, true, length, OnOk};
 ghost use Rattle.daemon_core.specs.Request.{stop_of_reading, RunsLine, RunsLines, AnswersStop};
-ghost use Rattle.daemon_core.specs.Run.{attempted, ending_of, performed, separator};
+ghost use Rattle.daemon_core.specs.Run.{attempted, ending_of, looks_of_line, performed, separator, spent_of};
 ghost use Rattle.daemon_core.specs.Step.{is_noidle};
+ghost use Rattle.machine_core.specs.Looks.{looks_of};
 ghost use Rattle.machine_core.specs.Memory.{takes_memory};
 ghost use Rattle.machine_core.specs.Work.{AddsText, HasRoom, ack_room, command_room};
 
@@ -14,7 +15,7 @@ use command_text::{
     SettingsCommand, read_words,
 };
 use idle_masks::{ClientId, Subsystems};
-use machine_core::{Failure, Machine, Work};
+use machine_core::{Failure, Looks, Machine, Work};
 use no_memory::NoMemory;
 use std::alloc::Global;
 
@@ -112,7 +113,7 @@ impl CoreParts {
     ghost use Rattle.daemon_core.specs.Step.{requested_by, waiting_of};
     ghost use Rattle.daemon_core.specs.Parts.{state_of};
     ghost use Rattle.daemon_core.specs.Room.{CanCloseAll, IsReadyToTell};
-    ghost use Rattle.daemon_core.specs.Run.{ran};
+    ghost use Rattle.daemon_core.specs.Run.{ran, unspent};
 
     // A client's request.
     pub(crate) fn handle_request(
@@ -164,7 +165,7 @@ impl CoreParts {
         requires closes { CanCloseAll self.old }
         requires known { IsSome (watched self.old.watch client) }
         ensures ok { IfOk result (λ handled. Does (runs client (state_of self.old)
-            (ran place (separator separated) handled.outcome.refused_at 0 0 lines.entry self.old.machine)) self.new handled) }
+            (ran place (separator separated) handled.outcome.refused_at 0 unspent lines.entry self.old.machine)) self.new handled) }
         ensures place { IfOk result (λ handled. IfSome handled.outcome.refused_at (λ k. k < length lines.entry)) }
         ensures err { OnErr result (state_of self.new ≡ state_of self.old) }
     {
@@ -266,10 +267,11 @@ fn run_lines(
     ensures { RunsLines place (separator separated) lines.entry machine.old machine.new work.old work.new result }
 {
     let mut changed = Subsystems::none();
+    let mut looks = Looks::new();
     let mut index = 0;
     let mut rest = lines;
     while let Some((line, after)) = rest.split_first() {
-        match run_line(machine, alloc, place, separated, line, work) {
+        match run_line(machine, alloc, place, separated, line, work, &mut looks) {
             Ok(set) => changed = changed.union(set),
             Err(stop) => {
                 let (ending, refused_at) = answer_stop(index, line, stop, work);
@@ -299,10 +301,12 @@ fn run_line(
     separated: bool,
     line: &[u8],
     work: &mut Work,
+    looks: &mut Looks,
 ) -> Result<Subsystems, Stop>
     requires { HasRoom ack_room work.old }
-    ensures { RunsLine (separator separated) (attempted place work.old.size line.now machine.old)
+    ensures runs { RunsLine (separator separated) (attempted place (spent_of work.old.size looks.old) line.now machine.old)
         machine.old machine.new work.old work.new result }
+    ensures looks { OnOk result (looks.new ≡ looks.old + looks_of_line place line.now machine.old) }
 {
     if work.make_room().is_err() {
         return Err(Stop::NoMemory);
@@ -312,7 +316,7 @@ fn run_line(
         Err(error) => return Err(stop_of_reading(error)),
     };
     match Command::read(alloc, place, words.as_slice()) {
-        Ok(command) => run_command(machine, alloc, separated, command, work),
+        Ok(command) => run_command(machine, alloc, separated, command, work, looks),
         Err(error) => Err(stop_of_reading(error)),
     }
 }
@@ -324,10 +328,12 @@ fn run_command(
     separated: bool,
     command: NamedCommand<'_>,
     work: &mut Work,
+    looks: &mut Looks,
 ) -> Result<Subsystems, Stop>
     requires { HasRoom command_room work.old }
-    ensures ran { RunsLine (separator separated) (performed work.old.size command.entry machine.old)
+    ensures ran { RunsLine (separator separated) (performed (spent_of work.old.size looks.old) command.entry machine.old)
         machine.old machine.new work.old work.new result }
+    ensures looks { OnOk result (looks.new ≡ looks.old + looks_of command.entry.command machine.old) }
     ensures memory { result ≡ Err Stop.NoMemory → takes_memory command.entry.command machine.old ≡ true }
 {
     let NamedCommand { name, command } = command;
@@ -338,7 +344,7 @@ fn run_command(
         }
         None => {}
     }
-    match machine.perform(alloc, command, work) {
+    match machine.perform(alloc, command, work, looks) {
         Ok(changed) => {
             separate(separated, work);
             Ok(changed)

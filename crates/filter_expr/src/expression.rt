@@ -1,9 +1,10 @@
 // A filter's expression as a tree, and whether a song matches it.
-ghost use Rattle.std.specs.Prelude.{◌≡◌, true, IfOk, IfSome, IsOk};
+ghost use Rattle.std.specs.Prelude.{◌≡◌, true, IfOk, IfSome, IsOk, option_map};
 ghost use Rattle.filter_expr.specs.AsciiSong.{IsAsciiSong};
 ghost use Rattle.filter_expr.specs.Meaning.{denotes, is_match, is_at};
 ghost use Rattle.song_db.specs.Row.{Row};
 ghost use Rattle.song_db.specs.Valued.{has_value};
+ghost use Rattle.filter_expr.specs.Looks.{needed_value, tests_of};
 ghost use Rattle.filter_expr.specs.Tree.{tree_of};
 ghost use Rattle.filter_expr.specs.declared.case.Case.TheVariants.{Exact, Folded};
 
@@ -48,7 +49,8 @@ impl Expression {
 
     /// A tag and a value that each song denoted where the case counts has: the expression, or a part of its outermost `AND`, says so.
     pub(crate) fn needed_value(&self) -> Option<(Tag, &TestValue)>
-        ensures { IfSome result (λ needed. (row : Row) → is_match Exact (tree_of self.now) row ≡ true
+        ensures value { option_map (λ needed. (needed.0, needed.1.now)) result ≡ needed_value (tree_of self.now) }
+        ensures all { IfSome result (λ needed. (row : Row) → is_match Exact (tree_of self.now) row ≡ true
             → has_value needed.0 needed.1.now row ≡ true) }
     {
         let mut left = self;
@@ -93,6 +95,17 @@ impl Expression {
             Expression::Base(base) => Ok(is_at(base.as_str(), row.path())),
             Expression::Not(inner) => Ok(!inner.matches_folded(alloc, row)?),
             Expression::And(_, _) => unreachable!(),
+        }
+    }
+
+    /// How many tests it has, counted up to 4294967295.
+    pub(crate) fn tests(&self) -> u32
+        ensures { result ≡ tests_of (tree_of self.now) }
+    {
+        match self {
+            Expression::Test(_, _, _) | Expression::Base(_) => 1,
+            Expression::Not(inner) => inner.tests(),
+            Expression::And(others, last) => others.tests().saturating_add(last.tests()),
         }
     }
 }

@@ -1,8 +1,9 @@
 // A filter: read from the words of a command, and asked of songs.
-ghost use Rattle.std.specs.Prelude.{◌≡◌, IfOk, IsOk};
-ghost use Rattle.song_db.specs.Valued.{numbers_of};
+ghost use Rattle.std.specs.Prelude.{◌≡◌, ◌*◌, ◌≤◌, count_by, IfOk, IsOk};
+ghost use Rattle.song_db.specs.Valued.{has_value, numbers_of};
 ghost use Rattle.filter_expr.specs.Words.{Gives, filter_of};
 ghost use Rattle.filter_expr.specs.AsciiSong.{IsAsciiSong};
+ghost use Rattle.filter_expr.specs.Looks.{song_looks, tests_of};
 ghost use Rattle.filter_expr.specs.Meaning.{song_of, is_match};
 ghost use Rattle.filter_expr.specs.declared.case.Case.TheVariants.{Exact, Folded};
 
@@ -10,13 +11,15 @@ use crate::case::Case;
 use crate::expression::Expression;
 use crate::folded_row::FoldedRow;
 use crate::refusal::FilterError;
-use crate::select::{select_of_all, select_with};
+use crate::select::{count_with, select_of_all, select_with};
+use crate::value::TestValue;
 use crate::word::LineWord;
 use crate::words;
 use no_memory::NoMemory;
 use song_db::{SongDb, SongRow};
 use std::alloc::Global;
 use std::marker::Model;
+use wave_pcm::Tag;
 
 /// Which songs are looked for. Contracts see what it says as a tree.
 #[derive(Debug, Drop)]
@@ -76,4 +79,47 @@ impl Filter {
         }
         select_of_all(alloc, songs.rows(), self, case)
     }
+
+    /// How many tests it has, counted up to 4294967295.
+    pub fn tests(&self) -> u32
+        ensures { result ≡ tests_of self.now }
+    {
+        self.root.tests()
+    }
+
+    /// How often songs are looked at where they are asked this filter: each once for each test, and so much more. Where the case counts,
+    /// and the filter or a part of its outermost `AND` says that a tag has a value, those with that value alone are asked, and not that
+    /// test. It takes no memory.
+    pub fn looks(&self, songs: &SongDb, case: Case, more: u8) -> u64
+        ensures looks { result ≡ song_looks case self.now more songs.now }
+        ensures few { result ≤ 4294967550 * 65536 }
+    {
+        let tests = u64::from(self.root.tests());
+        let count = songs.len() as u64;
+        if case == Case::Folded {
+            return (tests + u64::from(more)) * count;
+        }
+        match self.root.needed_value() {
+            None => (tests + u64::from(more)) * count,
+            Some((tag, value)) => looks_with(
+                songs,
+                tests.saturating_sub(1) + u64::from(more),
+                tag,
+                value,
+            ),
+        }
+    }
+}
+
+// So many looks at each song with a value of a tag. Of none nothing is counted.
+fn looks_with(songs: &SongDb, each: u64, tag: Tag, value: &TestValue) -> u64
+    requires { each ≤ 4294967550 }
+    ensures looks { result ≡ each * count_by (has_value tag value.now) songs.now }
+    ensures few { result ≤ 4294967550 * 65536 }
+{
+    if each == 0 {
+        return 0;
+    }
+    let _limit = songs.len();
+    each * count_with(songs.rows(), tag, value)
 }

@@ -18,7 +18,6 @@ pub mod Growing
 pub mod Replacing
 pub mod EditCommands
 pub mod Answering
-pub mod Lines
 pub mod QueueLines
 pub mod QueueMeanings
 pub mod QueueAnswered

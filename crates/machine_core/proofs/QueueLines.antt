@@ -7,7 +7,7 @@ use Rattle.std.specs.Global.{Vec}
 use Rattle.std.specs.List.{flat_map, range_with_len}
 use Rattle.command_text.specs.Answer.{Adds}
 use Rattle.no_memory.specs.declared.NoMemory.{NoMemory}
-use Rattle.machine_core.proofs.Lines.{Leaves, leaves_fewer, leaves_none, leaves_off}
+use Rattle.command_text.proofs.LineLoops.{Leaves, leaves_fewer, leaves_none, leaves_off}
 
 first_left : (xs : List ℕ) (i : ℕ) → i < length xs → drop i xs ≡ get_or xs i 0 ∷ drop (i + 1) xs
 first_left xs i h = rw (add-one, drop-cons xs i 0) refl

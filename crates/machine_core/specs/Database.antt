@@ -1,10 +1,9 @@
 -- The commands of the database and its scans.
-use Rattle.std.specs.Prelude.{ℕ, suc, List, [], ◌++◌, true, false, not, nat_lt, length, filter, Option, Some, None, Result, Ok, Err}
+use Rattle.std.specs.Prelude.{ℕ, suc, List, [], ◌++◌, true, false, not, nat_lt, length, Option, Some, None, Result, Ok, Err}
 use Rattle.std.specs.Prelude.{flat_map, unwrap_or, if◌then◌else◌}
-use Rattle.command_text.specs.AnswerNames.{command_line, tag_type_line, directory_line, database_lines}
+use Rattle.command_text.specs.AnswerNames.{listed_commands, tag_type_line, directory_line, database_lines}
 use Rattle.command_text.specs.AnswerSongs.{file_line, song_lines, shown_tags}
 use Rattle.command_text.specs.AnswerStatus.{job_line}
-use Rattle.command_text.specs.Names.{all_names, is_listed}
 use Rattle.command_text.specs.declared.command.database.DatabaseCommand.{DatabaseCommand}
 use Rattle.command_text.specs.declared.command.database.DatabaseCommand.TheVariants as commands
 use Rattle.command_text.specs.declared.refusal.CommandRefusal.{CommandRefusal}
@@ -74,7 +73,7 @@ abbrev pub begun : ℕ → Option (List ℕ) → Job
 begun number place = record { number = number; place = place; runs = true; has_changed_a_row = false }
 
 unfoldable pub database_meaning : DatabaseCommand → MachineState → Meant
-database_meaning commands.Commands m = says (flat_map command_line (filter is_listed all_names)) m
+database_meaning commands.Commands m = says listed_commands m
 database_meaning (commands.ListAll path) m = listing Paths path m
 database_meaning (commands.ListAllInfo path) m = listing Songs path m
 database_meaning (commands.ListInfo path) m =

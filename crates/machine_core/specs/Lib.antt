@@ -22,6 +22,7 @@ pub mod Changed
 pub mod Reports
 pub mod Before
 pub mod Size
+pub mod Looks
 pub mod Work
 pub mod Held
 pub mod Scanning

@@ -1,15 +1,12 @@
 // The lines of the commands of the database, one after the other.
-ghost use Rattle.std.specs.Prelude.{[], flat_map, filter, if◌then◌else◌};
+ghost use Rattle.std.specs.Prelude.{flat_map};
 ghost use Rattle.command_text.specs.Answer.{Adds};
-ghost use Rattle.command_text.specs.AnswerNames.{command_line, tag_type_line};
+ghost use Rattle.command_text.specs.AnswerNames.{tag_type_line};
 ghost use Rattle.command_text.specs.AnswerSongs.{shown_tags};
-ghost use Rattle.command_text.specs.Names.{all_names, is_listed};
 ghost use Rattle.song_db.specs.Walk.{item_of};
 ghost use Rattle.machine_core.specs.Database.{detail_lines, item_lines};
 
-use command_text::{
-    CommandName, NoMemory, write_command, write_directory, write_file, write_song, write_tag_type,
-};
+use command_text::{NoMemory, write_directory, write_file, write_song, write_tag_type};
 use song_db::{Listed, SongRow, Walk};
 use wave_pcm::Tag;
 
@@ -20,25 +17,6 @@ pub enum Detail {
     Paths,
     /// All that is known of it.
     Songs,
-}
-
-// Adds the name of each command that is listed.
-pub(crate) fn write_commands(out: &mut Vec<u8>) -> Result<(), NoMemory>
-    ensures { Adds (flat_map command_line (filter is_listed all_names)) result out.old out.new }
-{
-    for name in CommandName::all() {
-        write_listed(out, *name)?;
-    }
-    Ok(())
-}
-
-fn write_listed(out: &mut Vec<u8>, name: CommandName) -> Result<(), NoMemory>
-    ensures { Adds (if is_listed name then command_line name else []) result out.old out.new }
-{
-    if !name.is_listed() {
-        return Ok(());
-    }
-    write_command(out, name)
 }
 
 // Adds the names of the six tags.

@@ -1,10 +1,12 @@
 // One method a command: it performs what the command means. Those of a topic stand in a file of its name.
-ghost use Rattle.std.specs.Prelude.{◌≡◌, true, IfOk};
+ghost use Rattle.std.specs.Prelude.{◌≡◌, ◌+◌, true, IfOk};
 ghost use Rattle.machine_core.specs.Changed.{changed};
 ghost use Rattle.machine_core.specs.Command.{meaning};
+ghost use Rattle.machine_core.specs.Looks.{looks_of, weighed};
 ghost use Rattle.machine_core.specs.Memory.{takes_memory};
 ghost use Rattle.machine_core.specs.Work.{HasRoom, Performs, command_room};
 
+use crate::looks::Looks;
 use crate::machine::Machine;
 use crate::work::{Failure, Work};
 use command_text::Command;
@@ -22,20 +24,26 @@ mod status;
 mod sticker;
 
 impl Machine {
-    /// Performs a command, for whose end the answer has room, and says which subsystems it changed. Refused, or without memory, it
-    /// leaves machine and answer as they were. Memory is taken for the lines of a command, with the room behind them, for what it looks up
-    /// and for what it changes; `NoMemory` comes of no command that does nothing of these.
+    /// Performs a command, for whose end the answer has room, and says which subsystems it changed. One by which the request would look at
+    /// more than it may is refused before it looks at anything. Refused, or without memory, it leaves machine and answer as they were.
+    ///
+    /// Memory is taken for the lines of a command, with the room behind them, for what it looks up and for what it changes; `NoMemory`
+    /// comes of no command that does nothing of these.
     pub fn perform(
         &mut self,
         alloc: Global,
         command: Command<'_>,
         work: &mut Work,
+        looks: &mut Looks,
     ) -> Result<Subsystems, Failure>
         requires room { HasRoom command_room work.old }
-        ensures performs { Performs (meaning command.entry self.old) self.old self.new work.old work.new result }
+        ensures performs { Performs (weighed looks.old (looks_of command.entry self.old) (meaning command.entry self.old))
+            self.old self.new work.old work.new result }
+        ensures looks { IfOk result (λ _. looks.new ≡ looks.old + looks_of command.entry self.old) }
         ensures changed { IfOk result (λ set. set ≡ changed self.old self.new) }
         ensures memory { result ≡ Err Failure.NoMemory → takes_memory command.entry self.old ≡ true }
     {
+        looks.take(self.looks_of(&command))?;
         let before = self.before();
         let made = work.ops.len();
         self.dispatch(alloc, command, work)?;

@@ -14,6 +14,7 @@ mod edit;
 mod happened;
 pub mod job;
 pub mod laws;
+pub mod looks;
 pub mod machine;
 mod named;
 mod reports;
@@ -26,5 +27,6 @@ pub mod work;
 
 pub use happened::Happened;
 pub use job::Job;
+pub use looks::{Looks, MAX_LOOKS};
 pub use machine::Machine;
 pub use work::{Failure, MAX_REQUEST_BYTES, Work};

@@ -1,11 +1,14 @@
 //! Lines of one name or value each, and of counts.
+ghost use Rattle.std.specs.Prelude.{[], if◌then◌else◌};
 ghost use Rattle.command_text.specs.Answer.{Adds};
 ghost use Rattle.command_text.specs.AnswerNames.{directory_line, playlist_line, sticker_line, value_line, tag_type_line, command_line};
-ghost use Rattle.command_text.specs.AnswerNames.{changed_line, count_lines, database_lines};
+ghost use Rattle.command_text.specs.AnswerNames.{changed_line, count_lines, database_lines, listed_commands};
+ghost use Rattle.command_text.specs.Names.{is_listed};
 
 use crate::answer::pairs::{append, write_number, write_pair};
 use crate::answer::times::write_whole_seconds;
 use crate::name::CommandName;
+use crate::table::{count, name_at};
 use idle_masks::Subsystem;
 use no_memory::NoMemory;
 use wave_pcm::Tag;
@@ -48,10 +51,22 @@ pub fn write_tag_type(out: &mut Vec<u8>, tag: Tag) -> Result<(), NoMemory>
     write_pair(out, "tagtype", tag.name().as_bytes())
 }
 
-/// Adds the line `command: NAME`.
-pub fn write_command(out: &mut Vec<u8>, name: CommandName) -> Result<(), NoMemory>
-    ensures { Adds (command_line name) result out.old out.new }
+/// Adds the line `command: NAME` for each command that is listed.
+pub fn write_commands(out: &mut Vec<u8>) -> Result<(), NoMemory>
+    ensures { Adds listed_commands result out.old out.new }
 {
+    for place in 0..count() {
+        write_listed(out, name_at(place))?;
+    }
+    Ok(())
+}
+
+fn write_listed(out: &mut Vec<u8>, name: CommandName) -> Result<(), NoMemory>
+    ensures { Adds (if is_listed name then command_line name else []) result out.old out.new }
+{
+    if !name.is_listed() {
+        return Ok(());
+    }
     write_pair(out, "command", name.text().as_bytes())
 }
 

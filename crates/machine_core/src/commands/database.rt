@@ -1,9 +1,8 @@
 // The commands of the database and its scans.
-ghost use Rattle.std.specs.Prelude.{◌≡◌, [], true, false, not, flat_map, filter, unwrap_or};
-ghost use Rattle.command_text.specs.AnswerNames.{command_line, tag_type_line};
+ghost use Rattle.std.specs.Prelude.{◌≡◌, [], true, false, not, flat_map, unwrap_or};
+ghost use Rattle.command_text.specs.AnswerNames.{listed_commands, tag_type_line};
 ghost use Rattle.command_text.specs.AnswerSongs.{shown_tags};
 ghost use Rattle.command_text.specs.AnswerStatus.{job_line};
-ghost use Rattle.command_text.specs.Names.{all_names, is_listed};
 ghost use Rattle.command_text.specs.declared.command.database.DatabaseCommand.TheVariants.{Update};
 ghost use Rattle.song_db.specs.Change.{has_uri};
 ghost use Rattle.song_db.specs.Query.{is_folder};
@@ -14,12 +13,13 @@ ghost use Rattle.machine_core.specs.Memory.{database_takes_memory};
 ghost use Rattle.machine_core.specs.Work.{HasRoom, Performs, command_room};
 
 use crate::answer::write_content;
-use crate::answer_database::{Detail, write_commands, write_detail, write_tag_types, write_walk};
+use crate::answer_database::{Detail, write_detail, write_tag_types, write_walk};
 use crate::job::Job;
 use crate::machine::Machine;
 use crate::work::{Failure, Work};
 use command_text::{
-    CommandRefusal, DatabaseCommand, NoMemory, Text, write_job, write_song, write_statistics,
+    CommandRefusal, DatabaseCommand, NoMemory, Text, write_commands, write_job, write_song,
+    write_statistics,
 };
 use song_db::{Place, Uri};
 use std::alloc::Global;
@@ -79,7 +79,7 @@ impl Machine {
 
     // `commands`
     fn list_commands(&self, work: &mut Work) -> Result<(), Failure>
-        ensures { Performs (says (flat_map command_line (filter is_listed all_names)) self.now) self.now self.now work.old work.new result }
+        ensures { Performs (says listed_commands self.now) self.now self.now work.old work.new result }
     {
         let mark = work.text.len();
         let written = write_commands(&mut work.text);

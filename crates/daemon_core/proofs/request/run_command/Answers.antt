@@ -1,12 +1,13 @@
 use Rattle.std.proofs.Common.{refl, sym, arith}
-use Rattle.daemon_core.specs.Run.{separator}
+use Rattle.daemon_core.specs.Run.{separator, spent_of}
 use Rattle.daemon_core.proofs.RequestLaws.{went_on, performed_ends, performed_refuses}
 use Rattle.daemon_core.proofs.request.run_command.Goals as goal
 
 pub returns-in-Ok-clause-ran : goal.returns-in-Ok-clause-ran
 returns-in-Ok-clause-ran c =
     went_on c.args.command (separator c.args.separated) c.args.machine.now c.perform.new.self c.args.work.now c.perform.new.work
-    c.separate.new.work c.in-Ok.changed c.in-Ok.ensures.performs (sym c.in-None.ensures) c.separate.ensures.text c.separate.ensures.room
+    c.separate.new.work c.args.looks.now c.in-Ok.changed c.in-Ok.ensures.performs (sym c.in-None.ensures) c.separate.ensures.text
+    c.separate.ensures.room
     c.in-Ok.ensures.changed
 
 pub returns-in-Err-Refused-clause-ran : goal.returns-in-Err-Refused-clause-ran
@@ -15,12 +16,14 @@ returns-in-Err-Refused-clause-ran c =
     record {
       stands = failed.state;
       nothing = failed.nothing;
-      why = performed_refuses c.args.work.now.size c.args.command c.args.machine.now _ (sym c.in-None.ensures) failed.refusal;
+      why = performed_refuses (spent_of c.args.work.now.size c.args.looks.now) c.args.command c.args.machine.now _ (sym c.in-None.ensures)
+          failed.refusal;
     }
 
 pub returns-in-Some-clause-ran : goal.returns-in-Some-clause-ran
 returns-in-Some-clause-ran c = record {
   stands = refl;
   nothing = record { text = refl; room = omega arith; ops = refl; size = refl };
-  why = performed_ends c.args.work.now.size c.args.command c.args.machine.now c.in-Some.ending (sym c.in-Some.ensures);
+  why = performed_ends (spent_of c.args.work.now.size c.args.looks.now) c.args.command c.args.machine.now c.in-Some.ending
+      (sym c.in-Some.ensures);
 }

@@ -1,28 +1,36 @@
 use Rattle.std.proofs.Common.{refl}
-use Rattle.daemon_core.specs.Run.{separator}
-use Rattle.daemon_core.proofs.RequestLaws.{words_stop, command_stop, line_runs}
+use Rattle.daemon_core.specs.Run.{separator, spent_of}
+use Rattle.daemon_core.proofs.RequestLaws.{words_stop, command_stop, line_runs, line_looks, looks_added}
 use Rattle.daemon_core.proofs.request.run_line.Goals as goal
 
-pub returns-in-Err : goal.returns-in-Err
-returns-in-Err c = record {
+pub returns-in-Err-clause-runs : goal.returns-in-Err-clause-runs
+returns-in-Err-clause-runs c = record {
   stands = refl;
   nothing = c.make_room.ensures.nothing;
-  why = words_stop c.args.place c.args.work.now.size c.args.line.now c.args.machine.now c.in-Err.error c.stop_of_reading.result
+  why = words_stop c.args.place (spent_of c.args.work.now.size c.args.looks.now) c.args.line.now c.args.machine.now c.in-Err.error
+      c.stop_of_reading.result
       c.in-Err.ensures.exact c.stop_of_reading.ensures;
 }
 
-pub returns : goal.returns
-returns c = record {
+pub returns-clause-runs : goal.returns-clause-runs
+returns-clause-runs c = record {
   stands = refl;
   nothing = c.make_room.ensures.nothing;
-  why = command_stop c.args.place c.args.work.now.size c.args.line.now c.in-Ok.words.items c.as_slice.result.now
+  why = command_stop c.args.place (spent_of c.args.work.now.size c.args.looks.now) c.args.line.now c.in-Ok.words.items c.as_slice.result.now
       c.args.machine.now c.in-Err-read.error c.stop_of_reading-in-Err-read.result c.in-Ok.ensures.exact c.as_slice.ensures.value
       c.in-Err-read.ensures.exact c.stop_of_reading-in-Err-read.ensures;
 }
 
-pub returns-in-Ok-read : goal.returns-in-Ok-read
-returns-in-Ok-read c =
+pub returns-in-Ok-read-clause-runs : goal.returns-in-Ok-read-clause-runs
+returns-in-Ok-read-clause-runs c =
     line_runs c.args.place (separator c.args.separated) c.args.line.now c.in-Ok.words.items c.as_slice.result.now c.in-Ok-read.command
     c.args.machine.now c.run_command.new.machine c.args.work.now c.make_room.new.self c.run_command.new.work
-    c.run_command.result c.in-Ok.ensures.exact c.as_slice.ensures.value c.in-Ok-read.ensures.exact c.make_room.ensures.nothing
+    c.args.looks.now c.run_command.result c.in-Ok.ensures.exact c.as_slice.ensures.value c.in-Ok-read.ensures.exact
+    c.make_room.ensures.nothing
     c.run_command.ensures.ran
+
+pub returns-in-Ok-read-clause-looks : goal.returns-in-Ok-read-clause-looks
+returns-in-Ok-read-clause-looks c =
+    looks_added c.run_command.result c.args.looks.now c.run_command.new.looks
+    (line_looks c.args.place c.args.line.now c.in-Ok.words.items c.as_slice.result.now c.in-Ok-read.command c.args.machine.now
+    c.in-Ok.ensures.exact c.as_slice.ensures.value c.in-Ok-read.ensures.exact) c.run_command.ensures.looks

@@ -5,29 +5,33 @@ use Rattle.daemon_core.proofs.request.run_lines.Goals as goal
 
 pub loop-line-init : goal.loop-line-init
 loop-line-init c =
-    subst (SoFar c.args.place (separator c.args.separated) c.args.lines c.args.lines 0 c.args.machine.now c.args.machine.now
-    c.args.work.now c.args.work.now) (sym c.none-changed.ensures)
-    (so_far_begins c.args.place (separator c.args.separated) c.args.lines c.args.machine.now c.args.work.now c.requires.room)
+    subst (λ looks. SoFar c.args.place (separator c.args.separated) c.args.lines c.args.lines 0 c.args.machine.now
+    c.args.machine.now c.args.work.now c.args.work.now looks c.none-changed.result) (sym c.new-looks.ensures)
+    (subst (SoFar c.args.place (separator c.args.separated) c.args.lines c.args.lines 0 c.args.machine.now c.args.machine.now
+    c.args.work.now c.args.work.now 0) (sym c.none-changed.ensures)
+    (so_far_begins c.args.place (separator c.args.separated) c.args.lines c.args.machine.now c.args.work.now c.requires.room))
 
 pub loop-line-preserved : goal.loop-line-preserved
 loop-line-preserved c =
     subst (SoFar c.args.place (separator c.args.separated) c.args.lines c.in-Some.after _ c.args.machine.now
-    c.run_line.new.machine c.args.work.now c.run_line.new.work) (sym c.union-changed.ensures)
+    c.run_line.new.machine c.args.work.now c.run_line.new.work c.run_line.new.looks) (sym c.union-changed.ensures)
     (ran_goes c.args.place (separator c.args.separated) c.args.lines c.loop-line.rest c.in-Some.after
     c.in-Some.line.now c.loop-line.index c.args.machine.now c.loop-line.machine
-    c.run_line.new.machine c.args.work.now c.loop-line.work c.run_line.new.work c.loop-line.changed c.in-Ok.set
-    c.in-Some.ensures.first c.loop-line.invariant c.in-Ok.ensures)
+    c.run_line.new.machine c.args.work.now c.loop-line.work c.run_line.new.work c.loop-line.looks c.run_line.new.looks
+    c.loop-line.changed c.in-Ok.set c.in-Some.ensures.first c.loop-line.invariant c.in-Ok.ensures.runs c.in-Ok.ensures.looks)
 
 pub returns-in-Err : goal.returns-in-Err
 returns-in-Err c =
     ran_stops c.args.place (separator c.args.separated) c.args.lines c.loop-line.rest c.in-Some.after
     c.in-Some.line.now c.loop-line.index c.args.machine.now c.loop-line.machine
-    c.run_line.new.machine c.args.work.now c.loop-line.work c.run_line.new.work c.answer_stop-ending.new.work c.loop-line.changed
-    c.in-Err.stop c.answer_stop-ending.result.1 c.answer_stop-ending.result.0 c.in-Some.ensures.first c.loop-line.invariant
-    c.in-Err.ensures c.answer_stop-ending.ensures
+    c.run_line.new.machine c.args.work.now c.loop-line.work c.run_line.new.work c.answer_stop-ending.new.work c.loop-line.looks
+    c.loop-line.changed c.in-Err.stop c.answer_stop-ending.result.1 c.answer_stop-ending.result.0 c.in-Some.ensures.first
+    c.loop-line.invariant
+    c.in-Err.ensures.runs c.answer_stop-ending.ensures
 
 pub returns : goal.returns
 returns c =
     ran_all c.args.place (separator c.args.separated) c.args.lines c.loop-line.rest c.loop-line.index c.args.machine.now
-    c.loop-line.machine c.args.work.now c.loop-line.work c.end.new.self c.loop-line.changed (c.in_default.ensures.none refl)
+    c.loop-line.machine c.args.work.now c.loop-line.work c.end.new.self c.loop-line.looks c.loop-line.changed
+    (c.in_default.ensures.none refl)
     c.loop-line.invariant c.end.ensures

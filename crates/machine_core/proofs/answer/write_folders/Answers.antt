@@ -1,6 +1,6 @@
 use Rattle.std.proofs.Common.{map}
 use Rattle.command_text.specs.AnswerNames.{directory_line}
-use Rattle.machine_core.proofs.Lines.{leaves_fewer, leaves_none, leaves_off}
+use Rattle.command_text.proofs.LineLoops.{leaves_fewer, leaves_none, leaves_off}
 use Rattle.machine_core.proofs.answer.write_folders.Goals as goal
 
 pub loop-folder-preserved : goal.loop-folder-preserved

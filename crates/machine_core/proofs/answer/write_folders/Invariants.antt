@@ -1,6 +1,6 @@
 use Rattle.std.proofs.Common.{map}
 use Rattle.command_text.specs.AnswerNames.{directory_line}
-use Rattle.machine_core.proofs.Lines.{Leaves}
+use Rattle.command_text.proofs.LineLoops.{Leaves}
 use Rattle.machine_core.proofs.answer.write_folders.Given as goal
 
 abbrev pub invariant-loop-folder : goal.invariant-loop-folder

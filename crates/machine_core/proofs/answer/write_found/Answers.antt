@@ -2,7 +2,7 @@ use Rattle.std.proofs.Common.{map}
 use Rattle.std.specs.Slice.Iter.{iter_rest}
 use Rattle.machine_core.specs.Stickers.{found_lines}
 use Rattle.stickers.specs.Find.{pair_of}
-use Rattle.machine_core.proofs.Lines.{leaves_all, leaves_fewer, leaves_none, leaves_off, no_items}
+use Rattle.command_text.proofs.LineLoops.{leaves_all, leaves_fewer, leaves_none, leaves_off, no_items}
 use Rattle.machine_core.proofs.answer.write_found.Goals as goal
 
 pub loop-song-init : goal.loop-song-init

@@ -1,6 +1,6 @@
 use Rattle.std.proofs.Common.{}
 use Rattle.command_text.specs.AnswerNames.{sticker_line}
-use Rattle.machine_core.proofs.Lines.{leaves_fewer, leaves_none, leaves_off}
+use Rattle.command_text.proofs.LineLoops.{leaves_fewer, leaves_none, leaves_off}
 use Rattle.machine_core.proofs.answer.write_named.Goals as goal
 
 pub loop-name-preserved : goal.loop-name-preserved

@@ -1,5 +1,5 @@
 use Rattle.command_text.specs.AnswerNames.{sticker_line}
-use Rattle.machine_core.proofs.Lines.{Leaves}
+use Rattle.command_text.proofs.LineLoops.{Leaves}
 use Rattle.machine_core.proofs.answer.write_named.Given as goal
 
 abbrev pub invariant-loop-name : goal.invariant-loop-name

@@ -1,6 +1,6 @@
 use Rattle.std.proofs.Common.{map, drop, ◌+◌, arith}
 use Rattle.command_text.specs.AnswerSongs.{song_lines}
-use Rattle.machine_core.proofs.Lines.{leaves_fewer, leaves_none, leaves_off, next_left, none_left}
+use Rattle.command_text.proofs.LineLoops.{leaves_fewer, leaves_none, leaves_off, next_left, none_left}
 use Rattle.machine_core.proofs.answer.write_songs.Goals as goal
 
 pub loop-song-preserved : goal.loop-song-preserved

@@ -1,6 +1,6 @@
 use Rattle.std.proofs.Common.{map, drop}
 use Rattle.command_text.specs.AnswerSongs.{song_lines}
-use Rattle.machine_core.proofs.Lines.{Leaves}
+use Rattle.command_text.proofs.LineLoops.{Leaves}
 use Rattle.machine_core.proofs.answer.write_songs.Given as goal
 
 abbrev pub invariant-loop-song : goal.invariant-loop-song

@@ -1,6 +1,6 @@
 use Rattle.song_db.specs.Walk.{item_of}
 use Rattle.machine_core.specs.Database.{item_lines}
-use Rattle.machine_core.proofs.Lines.{leaves_fewer, leaves_none, leaves_off}
+use Rattle.command_text.proofs.LineLoops.{leaves_fewer, leaves_none, leaves_off}
 use Rattle.machine_core.proofs.answer_database.write_walk.Goals as goal
 
 pub loop-item-preserved : goal.loop-item-preserved

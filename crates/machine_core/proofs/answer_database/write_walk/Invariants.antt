@@ -1,5 +1,5 @@
 use Rattle.machine_core.specs.Database.{item_lines}
-use Rattle.machine_core.proofs.Lines.{Leaves}
+use Rattle.command_text.proofs.LineLoops.{Leaves}
 use Rattle.machine_core.proofs.answer_database.write_walk.Given as goal
 
 abbrev pub invariant-loop-item : goal.invariant-loop-item

@@ -1,6 +1,6 @@
 use Rattle.std.proofs.Common.{drop}
 use Rattle.machine_core.specs.Entries.{place_info}
-use Rattle.machine_core.proofs.Lines.{Leaves}
+use Rattle.command_text.proofs.LineLoops.{Leaves}
 use Rattle.machine_core.proofs.answer_entries.write_places.Given as goal
 
 abbrev pub invariant-loop-position : goal.invariant-loop-position

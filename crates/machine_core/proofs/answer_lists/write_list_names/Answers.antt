@@ -1,6 +1,6 @@
 use Rattle.command_text.specs.AnswerNames.{playlist_line}
 use Rattle.stored_lists.specs.Lists.{names_of}
-use Rattle.machine_core.proofs.Lines.{leaves_fewer, leaves_none, leaves_off}
+use Rattle.command_text.proofs.LineLoops.{leaves_fewer, leaves_none, leaves_off}
 use Rattle.machine_core.proofs.answer_lists.write_list_names.Goals as goal
 
 pub loop-name-preserved : goal.loop-name-preserved

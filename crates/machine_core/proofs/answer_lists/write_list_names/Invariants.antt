@@ -1,6 +1,6 @@
 use Rattle.command_text.specs.AnswerNames.{playlist_line}
 use Rattle.stored_lists.specs.Lists.{names_of}
-use Rattle.machine_core.proofs.Lines.{Leaves}
+use Rattle.command_text.proofs.LineLoops.{Leaves}
 use Rattle.machine_core.proofs.answer_lists.write_list_names.Given as goal
 
 abbrev pub invariant-loop-name : goal.invariant-loop-name

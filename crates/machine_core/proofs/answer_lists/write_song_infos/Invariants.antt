@@ -1,6 +1,6 @@
 use Rattle.std.proofs.Common.{drop}
 use Rattle.machine_core.specs.Lists.{song_info}
-use Rattle.machine_core.proofs.Lines.{Leaves}
+use Rattle.command_text.proofs.LineLoops.{Leaves}
 use Rattle.machine_core.proofs.answer_lists.write_song_infos.Given as goal
 
 abbrev pub invariant-loop-uri : goal.invariant-loop-uri

@@ -1,6 +1,6 @@
 use Rattle.std.proofs.Common.{drop}
 use Rattle.command_text.specs.AnswerSongs.{file_line}
-use Rattle.machine_core.proofs.Lines.{Leaves}
+use Rattle.command_text.proofs.LineLoops.{Leaves}
 use Rattle.machine_core.proofs.answer_lists.write_uris.Given as goal
 
 abbrev pub invariant-loop-uri : goal.invariant-loop-uri

@@ -11,6 +11,7 @@ ghost use Rattle.wave_pcm.specs.Tag.{text_of};
 ghost use Rattle.machine_core.specs.Finding.{found, matching, numbers_in, part_of};
 
 use super::part::Part;
+use super::windowed;
 use crate::named::push_number;
 use command_text::{NoMemory, Search};
 use filter_expr::{Case, Filter, SortOrder, sort_rows};
@@ -194,12 +195,35 @@ pub(super) fn numbers_by_uri(
 {
     match search.window {
         None => all_numbers(alloc, songs, search.case, &search.filter),
-        Some(_) => {
+        Some(_) => numbers_in_window(alloc, songs, search),
+    }
+}
+
+// The same of a part of what is found.
+fn numbers_in_window(alloc: Global, songs: &SongDb, search: &Search) -> Result<Vec<u32>, NoMemory>
+    requires { search.now.sort ≡ None }
+    ensures numbers { IfOk result (λ numbers. numbers.items ≡ numbers_in songs.now (found search.now songs.now)) }
+    ensures few { IfOk result (λ numbers. length numbers.items ≤ MAX_ROWS) }
+{
+    match search.case {
+        Case::Exact => numbers_selected(alloc, songs, search),
+        Case::Folded => {
             let rows = songs.rows();
             let part = Part::of_window(search.window, rows.len());
             matching_numbers(alloc, rows, search.case, &search.filter, part)
         }
     }
+}
+
+// The same where the case counts: the rows are gathered first, as few may have to be looked at.
+fn numbers_selected(alloc: Global, songs: &SongDb, search: &Search) -> Result<Vec<u32>, NoMemory>
+    requires { search.now.sort ≡ None }
+    ensures numbers { IfOk result (λ numbers. numbers.items ≡ numbers_in songs.now (found search.now songs.now)) }
+    ensures few { IfOk result (λ numbers. length numbers.items ≤ MAX_ROWS) }
+{
+    let _limit = songs.len();
+    let found = matching_rows(alloc, songs, search.case, &search.filter)?;
+    numbers_of(alloc, songs, windowed(&found, search.window))
 }
 
 // The numbers of rows among the songs.

@@ -1,6 +1,6 @@
 use Rattle.std.proofs.Common.{map}
 use Rattle.command_text.specs.AnswerNames.{value_line}
-use Rattle.machine_core.proofs.Lines.{leaves_fewer, leaves_none, leaves_off}
+use Rattle.command_text.proofs.LineLoops.{leaves_fewer, leaves_none, leaves_off}
 use Rattle.machine_core.proofs.commands.finding.writing.write_values.Goals as goal
 
 pub loop-value-preserved : goal.loop-value-preserved

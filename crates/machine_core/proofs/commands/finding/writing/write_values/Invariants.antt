@@ -1,6 +1,6 @@
 use Rattle.std.proofs.Common.{map}
 use Rattle.command_text.specs.AnswerNames.{value_line}
-use Rattle.machine_core.proofs.Lines.{Leaves}
+use Rattle.command_text.proofs.LineLoops.{Leaves}
 use Rattle.machine_core.proofs.commands.finding.writing.write_values.Given as goal
 
 abbrev pub invariant-loop-value : goal.invariant-loop-value

@@ -1,7 +1,7 @@
 -- Writers called for each item of a list.
 use Rattle.std.proofs.Math.ListN.{drop_of_length-le}
 use Rattle.std.proofs.Math.Seq.{drop-cons}
-use Rattle.std.proofs.Common.{map, suc, ◌≤◌, add-one, ◌≡◌, ℕ, ◌+◌, ◌<◌, List, [], ◌∷◌}
+use Rattle.std.proofs.Common.{map, suc, ◌≤◌, add-one, ◌≡◌, ℕ, ◌+◌, ◌<◌, Bool, true, false, List, [], ◌∷◌, ◌++◌, filter, if◌then◌else◌}
 use Rattle.std.proofs.Common.{length, drop, get_or, Result, Ok, Err, IsErr, ap, sym, refl, arith}
 use Rattle.std.specs.List.{flat_map}
 use Rattle.std.specs.Global.{Vec}
@@ -46,3 +46,14 @@ none_left view xs i h = ap (map view) (drop_of_length-le xs h)
 pub no_items : {X : Type 0} (xs : List X) → length xs ≡ 0 → xs ≡ []
 no_items [] h = refl
 no_items (x ∷ xs) h = absurd (omega arith)
+
+-- the lines of the items that pass a test
+pub kept_lines : {X : Type 0} (test : X → Bool) (lines : X → List ℕ) (xs : List X)
+    → flat_map (λ x. if test x then lines x else []) xs ≡ flat_map lines (filter test xs)
+kept_lines test lines [] = refl
+kept_lines test lines (x ∷ xs) = by_cases (test x) refl (kept_lines test lines xs) where
+  by_cases : (b : Bool) → test x ≡ b
+      → flat_map (λ x. if test x then lines x else []) xs ≡ flat_map lines (filter test xs)
+      → flat_map (λ x. if test x then lines x else []) (x ∷ xs) ≡ flat_map lines (filter test (x ∷ xs))
+  by_cases true is rest = rw is (ap (λ t. lines x ++ t) rest)
+  by_cases false is rest = rw is rest

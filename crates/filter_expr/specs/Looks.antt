@@ -1,0 +1,40 @@
+-- How often songs are looked at by a filter.
+use Rattle.std.specs.Prelude.{ℕ, ◌+◌, ◌-◌, ◌*◌, min, List, [], ◌∷◌, length, count_by, Option, Some, None}
+use Rattle.std.specs.Option.{option_or}
+use Rattle.song_db.specs.Row.{Row}
+use Rattle.song_db.specs.Valued.{has_value}
+use Rattle.wave_pcm.specs.declared.tags.Tag.{Tag}
+use Rattle.filter_expr.specs.declared.case.Case.{Case}
+use Rattle.filter_expr.specs.declared.case.Case.TheVariants.{Exact, Folded}
+use Rattle.filter_expr.specs.declared.subject.Comparison.TheVariants.{Contains}
+use Rattle.filter_expr.specs.declared.subject.Subject.TheVariants.{OfTag}
+use Rattle.filter_expr.specs.Tree.{Tree}
+use Rattle.filter_expr.specs.Tree.Tree.{Test, Base, Not, And}
+
+-- how many tests a filter has, counted up to 4294967295
+abbrev pub tests_of : Tree → ℕ
+tests_of (Test subject comparison value) = 1
+tests_of (Base base) = 1
+tests_of (Not inner) = tests_of inner
+tests_of (And left right) = min (tests_of left + tests_of right) 4294967295
+
+-- A tag's value that each song has that is denoted where the case counts: one of the parts that must all hold says so, of several the last.
+abbrev pub needed_value : Tree → Option (Tag × List ℕ)
+needed_value (Test (OfTag tag) Contains value) = None
+needed_value (Test (OfTag tag) comparison []) = None
+needed_value (Test (OfTag tag) comparison (v ∷ value)) = Some (tag, v ∷ value)
+needed_value (And left right) = option_or (needed_value right) (needed_value left)
+needed_value tree = None
+
+abbrev pub looked_up : Case → Tree → Option (Tag × List ℕ)
+looked_up Exact tree = needed_value tree
+looked_up Folded tree = None
+
+-- each song is asked all tests; or each with the value, by which it was looked up, the others
+abbrev pub looks_by : Option (Tag × List ℕ) → ℕ → ℕ → List Row → ℕ
+looks_by None tests more songs = (tests + more) * length songs
+looks_by (Some needed) tests more songs = (tests - 1 + more) * count_by (has_value needed.0 needed.1) songs
+
+-- How often songs are looked at: once for each test that is asked, and so much more for each that is asked any.
+abbrev pub song_looks : Case → Tree → ℕ → List Row → ℕ
+song_looks case tree more songs = looks_by (looked_up case tree) (tests_of tree) more songs

@@ -1,0 +1,134 @@
+-- The limit on what one request may look at. Each song or entry counts 1 where a command passes over it, 10 for each time that it is
+-- asked something, or a word is drawn for it, and 40 where it is sorted.
+use Rattle.std.specs.Prelude.{ℕ, ◌+◌, ◌-◌, ◌*◌, ◌&&◌, min, length, nat_le, nat_lt, Option, Some, None, Result, Ok, Err}
+use Rattle.std.specs.Prelude.{if◌then◌else◌}
+use Rattle.command_text.specs.declared.command.Command.{Command}
+use Rattle.command_text.specs.declared.command.Command.TheVariants as commands
+use Rattle.command_text.specs.declared.command.database.DatabaseCommand.{DatabaseCommand}
+use Rattle.command_text.specs.declared.command.database.DatabaseCommand.TheVariants as database
+use Rattle.command_text.specs.declared.command.finding.FindingCommand.{FindingCommand}
+use Rattle.command_text.specs.declared.command.finding.FindingCommand.TheVariants as finding
+use Rattle.command_text.specs.declared.command.finding.Search.{Search}
+use Rattle.command_text.specs.declared.command.lists.ListsCommand.{ListsCommand}
+use Rattle.command_text.specs.declared.command.lists.ListsCommand.TheVariants as lists
+use Rattle.command_text.specs.declared.command.queue.QueueCommand.{QueueCommand}
+use Rattle.command_text.specs.declared.command.queue.QueueCommand.TheVariants as queue
+use Rattle.command_text.specs.declared.command.settings.SettingsCommand.{SettingsCommand}
+use Rattle.command_text.specs.declared.command.settings.SettingsCommand.TheVariants as settings
+use Rattle.command_text.specs.declared.command.sticker.StickersCommand.{StickersCommand}
+use Rattle.command_text.specs.declared.command.sticker.StickersCommand.TheVariants as stickers
+use Rattle.command_text.specs.declared.range.Window.{Window}
+use Rattle.command_text.specs.declared.refusal.CommandRefusal.{CommandRefusal}
+use Rattle.command_text.specs.declared.refusal.CommandRefusal.TheVariants.{RequestTooLarge}
+use Rattle.filter_expr.specs.Looks.{song_looks, tests_of}
+use Rattle.filter_expr.specs.Tree.{Tree}
+use Rattle.filter_expr.specs.declared.case.Case.TheVariants.{Exact, Folded}
+use Rattle.filter_expr.specs.declared.order.SortOrder.{SortOrder}
+use Rattle.stored_lists.specs.Songs.{Uris}
+use Rattle.machine_core.specs.Lists.{songs_named}
+use Rattle.machine_core.specs.Meaning.{Meant}
+use Rattle.machine_core.specs.Queue.{is_held, place_of_id, queue_length}
+use Rattle.machine_core.specs.Spans.{count_of, span_in, span_or_all, whole}
+use Rattle.machine_core.specs.State.{MachineState, shown_of}
+use Rattle.machine_core.specs.declared.span.Span.{Span}
+
+-- The commands of one request look at so much at most.
+abbrev pub max_looks : ℕ
+max_looks = 10000000
+
+-- what a command does that looks at so much, where those before it have looked at so much
+abbrev pub weighed : ℕ → ℕ → Meant → Meant
+weighed before looks meant = if nat_le (before + looks) max_looks then meant else Err RequestTooLarge
+
+-- a song is chosen, or looked for: in random order a word is drawn for each entry
+abbrev pub choice_looks : MachineState → ℕ
+choice_looks m = if m.saved.options.random then 10 * queue_length m else queue_length m
+
+-- Where the current song goes in random order, one is chosen before it goes and one behind that.
+abbrev pub leaving_looks : Span → MachineState → ℕ
+leaving_looks span m = if m.saved.options.random && is_held span (shown_of m).current then 20 * queue_length m else 0
+
+-- of what is refused nothing is looked at
+abbrev pub span_looks : Result Span CommandRefusal → (Span → ℕ) → ℕ
+span_looks (Err refusal) looks = 0
+span_looks (Ok span) looks = looks span
+
+abbrev pub alone_looks : Result ℕ CommandRefusal → MachineState → ℕ
+alone_looks (Err refusal) m = 0
+alone_looks (Ok at) m = leaving_looks (record { start = at; end = at + 1 }) m
+
+-- Entries that are added, or that only change their places or priorities, don't count.
+abbrev pub queue_looks : QueueCommand → MachineState → ℕ
+queue_looks (queue.Changes version range) m = queue_length m
+queue_looks (queue.ChangesPositions version range) m = queue_length m
+queue_looks queue.Clear m = leaving_looks (whole (queue_length m)) m
+queue_looks (queue.Delete range) m = span_looks (span_in range (queue_length m)) (λ span. leaving_looks span m)
+queue_looks (queue.DeleteId id) m = alone_looks (place_of_id id m) m
+queue_looks (queue.Shuffle range) m = span_looks (span_or_all range (queue_length m)) (λ span. 10 * count_of span)
+queue_looks other m = 0
+
+-- of what is found a part is taken, or it is sorted
+abbrev pub arranged : Option SortOrder → Option Window → ℕ
+arranged None None = 0
+arranged None (Some window) = 1
+arranged (Some order) window = 4
+
+-- What is found is bounded by the answer or by the changes.
+abbrev pub search_looks : Search → MachineState → ℕ
+search_looks search m = 10 * song_looks search.case search.filter (arranged search.sort search.window) m.saved.songs
+
+-- the values of a tag: of all songs they are there, those of songs that are found are sorted
+abbrev pub values_looks : Option Tree → MachineState → ℕ
+values_looks None m = 10 * length m.saved.songs
+values_looks (Some tree) m = 10 * song_looks Exact tree 4 m.saved.songs
+
+abbrev pub finding_looks : FindingCommand → MachineState → ℕ
+finding_looks (finding.Add search to) m = search_looks search m
+finding_looks (finding.AddToPlaylist name tree) m = 10 * song_looks Folded tree 0 m.saved.songs
+finding_looks (finding.Count tree) m = 10 * song_looks Exact tree 1 m.saved.songs
+finding_looks (finding.Find search) m = search_looks search m
+finding_looks (finding.InQueue case tree) m = 10 * ((tests_of tree + 1) * queue_length m)
+finding_looks (finding.ListTag tag tree) m = values_looks tree m
+
+-- the songs of a playlist, if there is one of this name
+abbrev pub list_looks : Result Uris CommandRefusal → ℕ
+list_looks (Err refusal) = 0
+list_looks (Ok songs) = 50 * length songs
+
+-- the songs between two places of a playlist
+abbrev pub moved_looks : Result Uris CommandRefusal → ℕ → ℕ → ℕ
+moved_looks (Err refusal) from to = 0
+moved_looks (Ok songs) from to = min (length songs) (if nat_lt from to then to - from else from - to)
+
+abbrev pub lists_looks : ListsCommand → MachineState → ℕ
+lists_looks (lists.Load name range to) m = list_looks (songs_named m.saved.lists name)
+lists_looks (lists.Move name from to) m = moved_looks (songs_named m.saved.lists name) from to
+lists_looks (lists.Save name mode) m = 10 * queue_length m
+lists_looks (lists.SongsInfo name) m = list_looks (songs_named m.saved.lists name)
+lists_looks other m = 0
+
+abbrev pub stickers_looks : StickersCommand → MachineState → ℕ
+stickers_looks (stickers.Find uri name bound) m = 10 * length m.saved.stickers
+stickers_looks other m = 0
+
+abbrev pub database_looks : DatabaseCommand → MachineState → ℕ
+database_looks (database.ListInfo path) m = length m.saved.songs
+database_looks database.Stats m = length m.saved.songs
+database_looks other m = 0
+
+abbrev pub settings_looks : SettingsCommand → MachineState → ℕ
+settings_looks (settings.Random on) m = queue_length m
+settings_looks settings.Status m = choice_looks m
+settings_looks other m = 0
+
+-- What a command looks at. What it answers doesn't count, since a longer answer than any that is sent ends its request; nor what its ops
+-- hold, which is bounded by their bytes.
+abbrev pub looks_of : Command → MachineState → ℕ
+looks_of (commands.Settings command) m = settings_looks command m
+looks_of (commands.Database command) m = database_looks command m
+looks_of (commands.Queue command) m = queue_looks command m
+looks_of (commands.Finding command) m = finding_looks command m
+looks_of (commands.Lists command) m = lists_looks command m
+looks_of (commands.Stickers command) m = stickers_looks command m
+looks_of (commands.Playing command) m = choice_looks m
+looks_of (commands.Session command) m = 0

@@ -1,0 +1,273 @@
+// What a request may look at: what a command looks at is told before it is performed.
+ghost use Rattle.std.specs.Prelude.{◌≡◌, ◌+◌, ◌<◌, ◌≤◌, OnErr, OnOk, IfErr, length};
+ghost use Rattle.std.specs.Option.{option_copied};
+ghost use Rattle.command_text.specs.declared.refusal.CommandRefusal.TheVariants.{RequestTooLarge};
+ghost use Rattle.machine_core.specs.Looks.{alone_looks, arranged, choice_looks, database_looks, finding_looks, leaving_looks};
+ghost use Rattle.machine_core.specs.Looks.{list_looks, lists_looks, looks_of, max_looks, moved_looks, queue_looks, search_looks, settings_looks};
+ghost use Rattle.machine_core.specs.Looks.{stickers_looks, values_looks};
+ghost use Rattle.machine_core.specs.Lists.{songs_named};
+ghost use Rattle.machine_core.specs.Queue.{place_of_id};
+
+use crate::machine::Machine;
+use crate::span::{Span, span_in, span_or_all};
+use command_text::{
+    Command, CommandRefusal, DatabaseCommand, FindingCommand, ListsCommand, QueueCommand, Search,
+    SettingsCommand, StickersCommand, Window,
+};
+use filter_expr::{Case, Filter, SortOrder};
+use std::marker::Model;
+
+/// The commands of one request look at so much at most; docs/PROTOCOL.md says what counts how much.
+pub const MAX_LOOKS: u64 = 10_000_000;
+
+/// How much the commands of a request have looked at so far.
+#[derive(Debug, Drop)]
+pub struct Looks {
+    taken: u64,
+}
+
+impl Model for Looks {
+    ghost use Rattle.std.specs.Prelude.{ℕ, ◌≤◌};
+    ghost use Rattle.machine_core.specs.Looks.{max_looks};
+
+    ghost Value = { ℕ };
+
+    ghost view = { λ l. l.taken };
+
+    ghost invariant = { λ l. l.taken ≤ max_looks };
+}
+
+impl Looks {
+    /// At nothing yet.
+    pub fn new() -> Looks
+        ensures { result ≡ 0 }
+    {
+        Looks { taken: 0 }
+    }
+
+    // Takes so much more, where the request may look at it.
+    pub(crate) fn take(&mut self, more: u64) -> Result<(), CommandRefusal>
+        ensures within { OnOk result (self.old + more ≤ max_looks) }
+        ensures ok { OnOk result (self.new ≡ self.old + more) }
+        ensures err { OnErr result (self.new ≡ self.old) }
+        ensures refused { IfErr result (λ refusal. (refusal ≡ RequestTooLarge) × (max_looks < self.old + more)) }
+    {
+        if more > MAX_LOOKS - self.taken {
+            return Err(CommandRefusal::RequestTooLarge);
+        }
+        self.taken += more;
+        Ok(())
+    }
+}
+
+// Where a part of what is found is taken, or it is sorted.
+fn arranged(order: Option<SortOrder>, window: Option<Window>) -> u8
+    ensures { result ≡ arranged order window }
+{
+    match order {
+        Some(_) => 4,
+        None => match window {
+            Some(_) => 1,
+            None => 0,
+        },
+    }
+}
+
+impl Machine {
+    // What a command looks at.
+    pub(crate) fn looks_of(&self, command: &Command<'_>) -> u64
+        ensures { result ≡ looks_of command.now self.now }
+    {
+        match command {
+            Command::Settings(command) => self.settings_looks(command),
+            Command::Database(command) => self.database_looks(command),
+            Command::Queue(command) => self.queue_looks(command),
+            Command::Finding(command) => self.finding_looks(command),
+            Command::Lists(command) => self.lists_looks(command),
+            Command::Stickers(command) => self.stickers_looks(command),
+            Command::Playing(_) => self.choice_looks(),
+            Command::Session(_) => 0,
+        }
+    }
+
+    // How many entries the queue has.
+    fn entry_count(&self) -> u64
+        ensures count { result ≡ length self.now.saved.queue.entries }
+        ensures few { result ≤ 65536 }
+    {
+        self.saved.queue().entries().len() as u64
+    }
+
+    // How many songs there are.
+    fn row_count(&self) -> u64
+        ensures count { result ≡ length self.now.saved.songs }
+        ensures few { result ≤ 65536 }
+    {
+        self.saved.songs().len() as u64
+    }
+
+    fn choice_looks(&self) -> u64
+        ensures { result ≡ choice_looks self.now }
+    {
+        if self.saved.options().random {
+            10 * self.entry_count()
+        } else {
+            self.entry_count()
+        }
+    }
+
+    fn leaving_looks(&self, span: Span) -> u64
+        ensures { result ≡ leaving_looks span self.now }
+    {
+        if !self.saved.options().random {
+            return 0;
+        }
+        match self.current_position() {
+            Some(at) => {
+                if span.holds(at) {
+                    20 * self.entry_count()
+                } else {
+                    0
+                }
+            }
+            None => 0,
+        }
+    }
+
+    fn queue_looks(&self, command: &QueueCommand<'_>) -> u64
+        ensures { result ≡ queue_looks command.now self.now }
+    {
+        match command {
+            QueueCommand::Changes(_, _) => self.entry_count(),
+            QueueCommand::ChangesPositions(_, _) => self.entry_count(),
+            QueueCommand::Clear => self.leaving_looks(Span {
+                start: 0,
+                end: self.queue_length(),
+            }),
+            QueueCommand::Delete(range) => match span_in(*range, self.queue_length()) {
+                Ok(span) => self.leaving_looks(span),
+                Err(_) => 0,
+            },
+            QueueCommand::DeleteId(id) => self.alone_looks(*id),
+            QueueCommand::Shuffle(range) => match span_or_all(*range, self.queue_length()) {
+                Ok(span) => 10 * u64::from(span.count()),
+                Err(_) => 0,
+            },
+            _ => 0,
+        }
+    }
+
+    // Of the entry with an id, which goes.
+    fn alone_looks(&self, id: u32) -> u64
+        ensures { result ≡ alone_looks (place_of_id id self.now) self.now }
+    {
+        match self.saved.queue().pos_of(id) {
+            Some(at) => self.leaving_looks(Span {
+                start: at as u32,
+                end: at as u32 + 1,
+            }),
+            None => 0,
+        }
+    }
+
+    fn search_looks(&self, search: &Search) -> u64
+        ensures { result ≡ search_looks search.now self.now }
+    {
+        let more = arranged(search.sort, search.window);
+        10 * search.filter.looks(self.saved.songs(), search.case, more)
+    }
+
+    fn values_looks(&self, filter: Option<&Filter>) -> u64
+        ensures { result ≡ values_looks (option_copied filter.entry) self.now }
+    {
+        match filter {
+            None => 10 * self.row_count(),
+            Some(filter) => 10 * filter.looks(self.saved.songs(), Case::Exact, 4),
+        }
+    }
+
+    fn finding_looks(&self, command: &FindingCommand<'_>) -> u64
+        ensures { result ≡ finding_looks command.now self.now }
+    {
+        match command {
+            FindingCommand::Add(search, _) => self.search_looks(search),
+            FindingCommand::AddToPlaylist(_, filter) => {
+                10 * filter.looks(self.saved.songs(), Case::Folded, 0)
+            }
+            FindingCommand::Count(filter) => {
+                10 * filter.looks(self.saved.songs(), Case::Exact, 1)
+            }
+            FindingCommand::Find(search) => self.search_looks(search),
+            FindingCommand::InQueue(_, filter) => {
+                10 * ((u64::from(filter.tests()) + 1) * self.entry_count())
+            }
+            FindingCommand::ListTag(_, filter) => self.values_looks(filter.as_ref()),
+        }
+    }
+
+    // Of the songs of a playlist, if there is one of this name.
+    fn list_looks(&self, name: &str) -> u64
+        ensures { result ≡ list_looks (songs_named self.now.saved.lists name.now) }
+    {
+        let lists = self.saved.lists();
+        let _limits = lists.len();
+        match lists.get(name) {
+            Ok(songs) => 50 * songs.len() as u64,
+            Err(_) => 0,
+        }
+    }
+
+    // Of the songs between two places of a playlist, if there is one of this name.
+    fn moved_looks(&self, name: &str, from: u32, to: u32) -> u64
+        ensures { result ≡ moved_looks (songs_named self.now.saved.lists name.now) from to }
+    {
+        match self.saved.lists().get(name) {
+            Ok(songs) => {
+                let between = if from < to { to - from } else { from - to };
+                (songs.len() as u64).min(u64::from(between))
+            }
+            Err(_) => 0,
+        }
+    }
+
+    fn lists_looks(&self, command: &ListsCommand<'_>) -> u64
+        ensures { result ≡ lists_looks command.now self.now }
+    {
+        match command {
+            ListsCommand::Load(name, _, _) => self.list_looks(name.as_str()),
+            ListsCommand::Move(name, from, to) => self.moved_looks(name.as_str(), *from, *to),
+            ListsCommand::Save(_, _) => 10 * self.entry_count(),
+            ListsCommand::SongsInfo(name) => self.list_looks(name.as_str()),
+            _ => 0,
+        }
+    }
+
+    fn stickers_looks(&self, command: &StickersCommand<'_>) -> u64
+        ensures { result ≡ stickers_looks command.now self.now }
+    {
+        match command {
+            StickersCommand::Find(_, _, _) => 10 * self.saved.stickers().len() as u64,
+            _ => 0,
+        }
+    }
+
+    fn database_looks(&self, command: &DatabaseCommand<'_>) -> u64
+        ensures { result ≡ database_looks command.now self.now }
+    {
+        match command {
+            DatabaseCommand::ListInfo(_) => self.row_count(),
+            DatabaseCommand::Stats => self.row_count(),
+            _ => 0,
+        }
+    }
+
+    fn settings_looks(&self, command: &SettingsCommand) -> u64
+        ensures { result ≡ settings_looks command.now self.now }
+    {
+        match command {
+            SettingsCommand::Random(_) => self.entry_count(),
+            SettingsCommand::Status => self.choice_looks(),
+            _ => 0,
+        }
+    }
+}
