@@ -6,7 +6,7 @@ use Rattle.std.specs.Cmp.Lexicographic.{pointwise}
 use Rattle.std.proofs.lemmas.Bool.{ne_eqb, lt-leb, and_parts}
 use Rattle.std.proofs.lemmas.List.{take-append-drop, drop_more, take-append-le, append_assoc, length-append}
 use Rattle.client_session.specs.Lines.{newline, line_limit, HasNoNewline}
-use Rattle.http_guard.specs.FirstLine.{first_line, has_line, begins_with_method, is_http_line, is_http}
+use Rattle.http_guard.specs.FirstLine.{first_line, has_line, begins_with_control, begins_with_method, is_http_line, is_http, is_shut_out}
 
 -- ---- the first line
 
@@ -127,3 +127,26 @@ no_line (b ∷ xs) none = let other : nat_eq b newline ≡ false = ne_eqb b newl
 -- it is none so far
 pub start_so_far : (start : List ℕ) → HasNoNewline start → begins_with_method start ≡ false → is_http start ≡ false
 start_so_far start none is = rw (no_line start none, is)
+
+-- ---- a stream
+
+or_second : (a b : Bool) → b ≡ true → a || b ≡ true
+or_second true b h = refl
+or_second false b h = h
+
+-- it begins with a control character
+pub control_decides : (seen rest : List ℕ) → begins_with_control seen ≡ true → is_shut_out (seen ++ rest) ≡ true
+control_decides [] rest is = absurd (cc)
+control_decides (b ∷ seen) rest is = or_true _ _ is
+
+pub http_is_shut_out : (stream : List ℕ) → is_http stream ≡ true → is_shut_out stream ≡ true
+http_is_shut_out stream is = or_second (begins_with_control stream) (is_http stream) is
+
+-- it begins with another byte
+pub text_decides : (seen rest : List ℕ) → 0 < length seen → begins_with_control seen ≡ false
+    → is_shut_out (seen ++ rest) ≡ is_http (seen ++ rest)
+text_decides [] rest some is = absurd (omega arith)
+text_decides (b ∷ seen) rest some is = ap (λ (v : Bool). v || is_http (b ∷ seen ++ rest)) is
+
+pub text_so_far : (start : List ℕ) → begins_with_control start ≡ false → is_http start ≡ false → is_shut_out start ≡ false
+text_so_far start text is = rw (text, is)

@@ -1,11 +1,20 @@
--- What tells a request of HTTP from one of MPD: its first line.
-use Rattle.std.specs.Prelude.{◌≡◌, ℕ, ◌-◌, ◌≤◌, ◌==◌, nat_eq, nat_le, Bool, true, false, ◌&&◌, ◌||◌, codes, if◌then◌else◌}
+-- What tells a stream that no client of MPD sends: its first byte, or its first line.
+use Rattle.std.specs.Prelude.{◌≡◌, ℕ, ◌-◌, ◌≤◌, ◌==◌, nat_eq, nat_le, Bool, true, false, ◌&&◌, ◌||◌, not, codes, if◌then◌else◌}
 use Rattle.std.specs.Prelude.{List, [], ◌∷◌, ◌++◌, length, take, drop, slice_index}
-use Rattle.std.specs.Char.{is_ascii_digit}
+use Rattle.std.specs.Char.{is_ascii_control, is_ascii_digit}
 use Rattle.std.specs.List.{starts_with, ends_with}
 use Rattle.client_session.specs.Lines.{newline, line_limit}
 use Rattle.http_guard.specs.declared.first_line.Verdict.{Verdict}
-use Rattle.http_guard.specs.declared.first_line.Verdict.TheVariants.{Unknown, Http, Other}
+use Rattle.http_guard.specs.declared.first_line.Verdict.TheVariants.{Unknown, ShutOut, LetIn}
+
+-- a control character but tab, newline and carriage return: no text has it
+abbrev pub is_not_text : ℕ → Bool
+is_not_text b = is_ascii_control b && not ((b == 9) || (b == newline) || (b == 13))
+
+-- its first byte is one, as that of a record of TLS (RFC 8446, section 5.1) and of a message of STUN (RFC 8489, section 5)
+abbrev pub begins_with_control : List ℕ → Bool
+begins_with_control [] = false
+begins_with_control (b ∷ bytes) = is_not_text b
 
 -- the bytes before the first newline; all where there is none
 abbrev pub first_line : List ℕ → List ℕ
@@ -46,8 +55,12 @@ is_http_line line = begins_with_method line || (nat_le (length line) line_limit 
 abbrev pub is_http : List ℕ → Bool
 is_http stream = if has_line stream then is_http_line (first_line stream) else begins_with_method stream
 
--- What the bytes so far tell of the stream, whatever follows. Nothing yet: it is none so far, and its line may still be within the limit.
+-- a stream that is shut out: one that begins with a control character, or is one of HTTP
+abbrev pub is_shut_out : List ℕ → Bool
+is_shut_out stream = begins_with_control stream || is_http stream
+
+-- What the bytes so far tell of the stream, whatever follows. Nothing yet: it is let in so far, and its line may still be within the limit.
 abbrev pub IsVerdict : List ℕ → Verdict → Type 0
-IsVerdict seen Http = (rest : List ℕ) → is_http (seen ++ rest) ≡ true
-IsVerdict seen Other = (rest : List ℕ) → is_http (seen ++ rest) ≡ false
-IsVerdict seen Unknown = (is_http seen ≡ false) × (length seen ≤ line_limit)
+IsVerdict seen ShutOut = (rest : List ℕ) → is_shut_out (seen ++ rest) ≡ true
+IsVerdict seen LetIn = (rest : List ℕ) → is_shut_out (seen ++ rest) ≡ false
+IsVerdict seen Unknown = (is_shut_out seen ≡ false) × (length seen ≤ line_limit)

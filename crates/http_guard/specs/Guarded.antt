@@ -1,12 +1,12 @@
 -- What reads of a guarded stream give.
 use Rattle.std.specs.Prelude.{◌≡◌, ℕ, List, [], ◌++◌, Option, None, Some, true, option_map, if◌then◌else◌}
-use Rattle.http_guard.specs.FirstLine.{is_http}
+use Rattle.http_guard.specs.FirstLine.{is_shut_out}
 use Rattle.http_guard.specs.declared.guarded.Gate.{Gate}
 use Rattle.http_guard.specs.declared.guarded.Gate.TheVariants.{Looking, Open, Shut}
 
--- a stream from its beginning on: nothing of it where it is one of HTTP
+-- a stream from its beginning on: nothing of it where it is shut out
 abbrev pub let_in : List ℕ → List ℕ
-let_in stream = if is_http stream then [] else stream
+let_in stream = if is_shut_out stream then [] else stream
 
 -- what reads give that are behind the gate, of the bytes that are held and those that are still to be read
 abbrev pub behind_gate : Gate → List ℕ → List ℕ → List ℕ
@@ -18,13 +18,13 @@ behind_gate Shut held rest = []
 abbrev pub known_behind_gate : Gate → List ℕ → Option (List ℕ) → Option (List ℕ)
 known_behind_gate gate held rest = option_map (behind_gate gate held) rest
 
--- the bytes that are held and those behind them are known to be a stream of HTTP
-abbrev pub IsOfHttp : List ℕ → Option (List ℕ) → Type 0
-IsOfHttp held None = ⊥
-IsOfHttp held (Some rest) = is_http (held ++ rest) ≡ true
+-- the bytes that are held and those behind them are known to be a stream that is shut out
+abbrev pub IsKnownShutOut : List ℕ → Option (List ℕ) → Type 0
+IsKnownShutOut held None = ⊥
+IsKnownShutOut held (Some rest) = is_shut_out (held ++ rest) ≡ true
 
 -- nothing is given of this stream: that is known already, or it begins so
 abbrev pub IsShutOut : Gate → List ℕ → Option (List ℕ) → Type 0
-IsShutOut Looking held rest = IsOfHttp held rest
+IsShutOut Looking held rest = IsKnownShutOut held rest
 IsShutOut Open held rest = ⊥
 IsShutOut Shut held rest = Unit {0}

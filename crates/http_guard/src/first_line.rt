@@ -1,7 +1,8 @@
-// What the first line of a stream tells.
-ghost use Rattle.std.specs.Prelude.{◌≡◌};
+// What the first byte and the first line of a stream tell.
+ghost use Rattle.std.specs.Prelude.{◌≡◌, false};
 ghost use Rattle.client_session.specs.Lines.{HasNoNewline};
-ghost use Rattle.http_guard.specs.FirstLine.{begins_with_method, ends_with_version, is_http_line, is_version, without_return, IsVerdict};
+ghost use Rattle.http_guard.specs.FirstLine.{begins_with_control, begins_with_method, ends_with_version, is_http_line, is_not_text};
+ghost use Rattle.http_guard.specs.FirstLine.{is_version, without_return, IsVerdict};
 
 use client_session::LINE_LIMIT;
 use memchr::memchr;
@@ -13,10 +14,27 @@ const NEWLINE: u8 = b'\n';
 pub(crate) enum Verdict {
     /// Nothing yet.
     Unknown,
-    /// It is one of HTTP.
-    Http,
-    /// It is none.
-    Other,
+    /// It is shut out.
+    ShutOut,
+    /// It is let in.
+    LetIn,
+}
+
+// Whether this is a control character that no text has.
+fn is_not_text(byte: u8) -> bool
+    ensures { result ≡ is_not_text byte }
+{
+    byte.is_ascii_control() && byte != b'\t' && byte != NEWLINE && byte != b'\r'
+}
+
+// Whether a stream begins with one.
+fn begins_with_control(stream: &[u8]) -> bool
+    ensures { result ≡ begins_with_control stream.now }
+{
+    match stream.split_first() {
+        Some((first, _)) => is_not_text(*first),
+        None => false,
+    }
 }
 
 // Whether a line begins with a method of HTTP.
@@ -73,13 +91,14 @@ fn is_http_line(line: &[u8]) -> bool
 
 // What a line tells that has not ended yet.
 fn judge_start(start: &[u8]) -> Verdict
-    requires { HasNoNewline start.now }
+    requires one { HasNoNewline start.now }
+    requires text { begins_with_control start.now ≡ false }
     ensures { IsVerdict start.now result }
 {
     if begins_with_method(start) {
-        Verdict::Http
+        Verdict::ShutOut
     } else if start.len() > LINE_LIMIT {
-        Verdict::Other
+        Verdict::LetIn
     } else {
         Verdict::Unknown
     }
@@ -89,12 +108,15 @@ fn judge_start(start: &[u8]) -> Verdict
 pub(crate) fn judge(seen: &[u8]) -> Verdict
     ensures { IsVerdict seen.now result }
 {
+    if begins_with_control(seen) {
+        return Verdict::ShutOut;
+    }
     let Some(end) = memchr(NEWLINE, seen) else {
         return judge_start(seen);
     };
     if is_http_line(&seen[..end]) {
-        Verdict::Http
+        Verdict::ShutOut
     } else {
-        Verdict::Other
+        Verdict::LetIn
     }
 }

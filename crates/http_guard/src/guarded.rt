@@ -1,9 +1,9 @@
-// A client's stream, of which nothing is read where it is one of HTTP.
+// A client's stream, of which nothing is read where it is none of a client of MPD.
 ghost use Rattle.std.specs.Prelude.{◌≡◌, ◌≢◌, ◌<◌, ◌||◌, [], length, true, IfErr, IsErr};
 ghost use Rattle.std.specs.Io.{ReadsAtMost};
 ghost use Rattle.std.specs.Io.KnownBytes.{Keeps, ReadConsumes, prepend_known};
 ghost use Rattle.std.specs.IoError.{error_kind};
-ghost use Rattle.http_guard.specs.Guarded.{known_behind_gate, IsOfHttp, IsShutOut};
+ghost use Rattle.http_guard.specs.Guarded.{known_behind_gate, IsKnownShutOut, IsShutOut};
 
 use crate::first_line::{Verdict, judge};
 use bytes::BytesMut;
@@ -17,13 +17,14 @@ use std::io::{self, ErrorKind, Read};
 pub(crate) enum Gate {
     /// That isn't known yet: its first line has not ended.
     Looking,
-    /// It is none of HTTP.
+    /// It is let in.
     Open,
-    /// It is one of HTTP.
+    /// It is shut out.
     Shut,
 }
 
-/// A stream whose reads give what the stream below gives, unless it begins as a request of HTTP does: then they give nothing, and fail.
+/// A stream whose reads give what the stream below gives, unless it begins as a request of HTTP does, or with a control character: then
+/// they give nothing, and fail.
 ///
 /// The bytes of the first line are held back until it is known: until it ends, begins with a method, or is too long for a line.
 #[derive(Drop)]
@@ -104,7 +105,7 @@ impl<S: Stream> Guarded<S> {
         ensures bound { ReadsAtMost result buf.new }
         ensures bytes { ReadConsumes (known_behind_gate self.old.gate self.old.held.items (S.remaining self.old.stream))
             (known_behind_gate self.new.gate self.new.held.items (S.remaining self.new.stream)) result buf.new }
-        ensures shut { IsOfHttp self.old.held.items (S.remaining self.old.stream) → IsErr result }
+        ensures shut { IsKnownShutOut self.old.held.items (S.remaining self.old.stream) → IsErr result }
         ensures unwritten { Keeps (S.contents self.old.stream) (S.contents self.new.stream) }
         ensures fault { IfErr result (λ e. error_kind e ≢ ErrorKind.WouldBlock → error_kind e ≢ ErrorKind.Interrupted →
             self.new.has_failed || S.failed self.new.stream ≡ true) }
@@ -118,11 +119,11 @@ impl<S: Stream> Guarded<S> {
             Err(_) => unreachable!(),
         }
         match judge(self.held.as_slice()) {
-            Verdict::Http => {
+            Verdict::ShutOut => {
                 self.gate = Gate::Shut;
                 Err(self.failed(ErrorKind::InvalidData))
             }
-            Verdict::Other => self.open(buf),
+            Verdict::LetIn => self.open(buf),
             // The stream is at its end, and what it holds ends no line.
             Verdict::Unknown if count == 0 => self.open(buf),
             Verdict::Unknown => Err(io::Error::from(ErrorKind::Interrupted)),
@@ -139,6 +140,12 @@ impl<S: Stream> Stream for Guarded<S> {
     ghost contents = { λ g. S.contents g.stream };
 
     ghost failed = { λ g. g.has_failed || S.failed g.stream };
+
+    ghost remote = { λ g. S.remote g.stream };
+
+    fn is_remote(&self) -> bool {
+        self.stream.is_remote()
+    }
 
     /// A read of a stream of HTTP into a buffer with room gives no byte and no end: it fails, or is to be made again.
     fn read(&mut self, buf: &mut [u8]) -> io::Result<usize>

@@ -23,6 +23,14 @@ impl<S: Stream, L: Listener<S>> Listener<Guarded<S>> for GuardedListener<L> {
         let stream = self.listener.accept()?;
         Ok(Guarded::new(self.alloc, stream))
     }
+
+    fn now(&mut self) -> u64 {
+        self.listener.now()
+    }
+
+    fn gave_way(&mut self, client: u64, silence: u64) {
+        self.listener.gave_way(client, silence);
+    }
 }
 
 /// What tells of guarded clients, by what tells of their streams.

@@ -1,5 +1,5 @@
 -- Clients that connect, in several steps.
-use Rattle.std.proofs.Common.{◌≡◌, ◌⊎◌, ℕ, ◌+◌, zero, suc, Result, Ok, Err, IfErr, inl, inr, ◌∷◌, ◌++◌, sym, subst, ◌∙◌, ap, append_assoc, arith}
+use Rattle.std.proofs.Common.{◌≡◌, ◌⊎◌, ℕ, ◌+◌, zero, suc, List, [], Bool, Result, Ok, Err, IfErr, inl, inr, ◌∷◌, ◌++◌, sym, subst, ◌∙◌, ap, append_assoc, arith}
 use Rattle.std.proofs.lemmas.List.{append-nil}
 use Rattle.mio_clients.specs.declared.event.ClientEvent.TheVariants as events
 use Rattle.mio_clients.specs.Events.{connects}
@@ -7,6 +7,7 @@ use Rattle.mio_clients.specs.Connections.{ConnectionsState, IsFull}
 use Rattle.mio_clients.specs.declared.refusal.ClientsError.{ClientsError}
 use Rattle.mio_clients.specs.declared.refusal.ClientsError.TheVariants.{NoMemory, TooManyClients}
 use Rattle.mio_clients.specs.Later.{Accepts}
+use Rattle.mio_clients.specs.Yielding.{Replaces, AcceptsAll}
 
 -- the refusals of which one at most was met
 pub refused_is : (result : Result (Unit {0}) ClientsError) (P : Type 0) → (result ≡ Ok tt) ⊎ ((result ≡ Err TooManyClients) × P)
@@ -53,3 +54,40 @@ module _ {S : Type 0} where
 
   pub full_room : (a b : ConnectionsState S) → b ≡ record a { room = b.room; places = b.places } → IsFull a → IsFull b
   full_room a b same full = subst (λ (s : ConnectionsState S). IsFull s) (sym same) full
+
+  accepts_still : (a : ConnectionsState S) → Accepts a a
+  accepts_still a = record {
+    count = 0;
+    last_id = omega arith;
+    gathered = sym (append-nil a.events);
+    stay = λ key client there. there;
+  }
+
+module _ {S : Type 0} (remote : S → Bool) where
+  all_then : (ways : List (S × ConnectionsState S × ConnectionsState S)) (a b c : ConnectionsState S) → AcceptsAll remote ways a b → Accepts b c
+      → AcceptsAll remote ways a c
+  all_then [] a b c p q = accepts_twice a b c p q
+  all_then (way ∷ ways) a b c p q = (p.0, p.1, all_then ways way.2 b c p.2 q)
+
+  all_way : (ways : List (S × ConnectionsState S × ConnectionsState S)) (stream : S) (a b c : ConnectionsState S) → AcceptsAll remote ways a b
+      → Replaces remote stream b c → AcceptsAll remote (ways ++ (stream, b, c) ∷ []) a c
+  all_way [] stream a b c p q = (p, q, accepts_still c)
+  all_way (way ∷ ways) stream a b c p q = (p.0, p.1, all_way ways stream way.2 b c p.2 q)
+
+  -- room was made, and then one more was accepted, or given way to
+  pub accepts_next : (ways : List (S × ConnectionsState S × ConnectionsState S)) (stream : S) (a b m c : ConnectionsState S)
+      → AcceptsAll remote ways a b → m ≡ record b { room = m.room; places = m.places } → Accepts m c ⊎ Replaces remote stream m c
+      → (more : List (S × ConnectionsState S × ConnectionsState S)) × AcceptsAll remote more a c
+  accepts_next ways stream a b m c p room next =
+      let roomy = all_then ways a b m p (accepts_room b m room) in
+      elim next [
+        | inl taken ↦ (ways, all_then ways a m c roomy taken)
+        | inr instead ↦ (ways ++ (stream, m, c) ∷ [], all_way ways stream a m c roomy instead)
+      ]
+
+  pub accepts_made : (ways : List (S × ConnectionsState S × ConnectionsState S)) (a b m : ConnectionsState S) → AcceptsAll remote ways a b
+      → m ≡ record b { room = m.room; places = m.places } → (more : List (S × ConnectionsState S × ConnectionsState S)) × AcceptsAll remote more a m
+  accepts_made ways a b m p room = (ways, all_then ways a b m p (accepts_room b m room))
+
+  pub accepts_begun : (a : ConnectionsState S) → (ways : List (S × ConnectionsState S × ConnectionsState S)) × AcceptsAll remote ways a a
+  accepts_begun a = ([], accepts_still a)

@@ -1,5 +1,5 @@
 -- Clients that go on or are let go of, in several steps.
-use Rattle.std.proofs.Common.{◌≡◌, ◌≢◌, ℕ, ◌+◌, ◌≤◌, ◌<◌, List, [], ◌∷◌, ◌++◌, Option, Some, None, MatchOption, IsSomeAnd, IsSome}
+use Rattle.std.proofs.Common.{◌≡◌, ◌≢◌, ℕ, ◌+◌, ◌≤◌, ◌<◌, List, [], ◌∷◌, ◌++◌, Option, Some, None, Bool, MatchOption, IsSomeAnd, IsSome}
 use Rattle.std.proofs.Common.{refl, sym, ◌∙◌, ap, append_assoc, arith}
 use Rattle.std.specs.Option.{option_to_list}
 use Rattle.std.proofs.lemmas.List.{append-nil}
@@ -203,35 +203,42 @@ module _ {S : Type 0} (remaining contents : S → Option (List ℕ)) where
         (told_quiet remaining contents (get a.clients key) a.events b.events told);
   }
 
-  refused_at : (a b : ConnectionsState S) (mid : Slab (Client S)) (key n : ℕ) (bytes : List ℕ) (slot after : Option (Client S))
+  refused_at : (a b : ConnectionsState S) (mid : Slab (Client S)) (key n : ℕ) (bytes : List ℕ) (waits : Client S → Bool)
+      (active : Client S → ℕ) (slot after : Option (Client S))
       → get a.clients key ≡ slot → get mid key ≡ after → IsSomeAnd slot (λ x. x.id ≡ n)
-      → MatchOption slot (after ≡ None) (λ x. IsSomeAnd after (λ y. y ≡ record x { session = y.session }))
+      → MatchOption slot (after ≡ None) (λ x. IsSomeAnd after (λ y. y ≡ record x {
+        session = y.session;
+        is_waiting = waits x;
+        last_active = active x;
+      }))
       → get b.clients key ≡ None
       → ((c d : ℕ) (u v : Client S) → get a.clients c ≡ Some u → get a.clients d ≡ Some v → u.id ≡ v.id → c ≡ d)
       → ((other : ℕ) → other ≢ key → get b.clients other ≡ get a.clients other)
       → ((k : ℕ) (client : Client S) → get a.clients k ≡ Some client → client.id ≤ b.last_id)
       → ((i : ℕ) → asked_in i b.events ≡ asked_in i a.events)
       → AllLeave remaining contents (bytes_for n bytes) no_requests a b (option_to_list after)
-  refused_at a b mid key n bytes None after was is number moved gone distinct others known quiet = absurd number
-  refused_at a b mid key n bytes (Some x) None was is number moved gone distinct others known quiet = absurd moved
-  refused_at a b mid key n bytes (Some x) (Some y) was is number moved gone distinct others known quiet =
+  refused_at a b mid key n bytes waits active None after was is number moved gone distinct others known quiet = absurd number
+  refused_at a b mid key n bytes waits active (Some x) None was is number moved gone distinct others known quiet = absurd moved
+  refused_at a b mid key n bytes waits active (Some x) (Some y) was is number moved gone distinct others known quiet =
       leave_refused remaining contents a b (bytes_for n bytes) key x y was (ap (λ (t : Client S). t.id) moved)
       (ap (λ (t : Client S). t.stream) moved) gone others distinct known quiet
 
   -- the client of a number was let go of, since bytes could not be given to it
-  pub all_refused : (a b : ConnectionsState S) (mid : Slab (Client S)) (key n : ℕ) (bytes : List ℕ)
+  pub all_refused : (a b : ConnectionsState S) (mid : Slab (Client S)) (key n : ℕ) (bytes : List ℕ) (waits : Client S → Bool)
+      (active : Client S → ℕ)
       → IsSomeAnd (get a.clients key) (λ x. x.id ≡ n)
-      → IsMovedAt (λ x y. y ≡ record x { session = y.session }) key a.clients mid → get b.clients key ≡ None
+      → IsMovedAt (λ x y. y ≡ record x { session = y.session; is_waiting = waits x; last_active = active x }) key a.clients mid
+      → get b.clients key ≡ None
       → ((c d : ℕ) (u v : Client S) → get a.clients c ≡ Some u → get a.clients d ≡ Some v → u.id ≡ v.id → c ≡ d)
       → ((other : ℕ) → other ≢ key → get b.clients other ≡ get a.clients other) → b.last_id ≡ a.last_id
       → ((k : ℕ) (client : Client S) → get a.clients k ≡ Some client → client.id ≤ b.last_id)
       → ((i : ℕ) → asked_in i b.events ≡ asked_in i a.events) → b.left ≡ a.left ++ option_to_list (get mid key)
       → AllFollow remaining contents (bytes_for n bytes) no_requests a b
-  all_refused a b mid key n bytes number moved gone distinct others last known quiet left = record {
+  all_refused a b mid key n bytes waits active number moved gone distinct others last known quiet left = record {
     later = go_refused remaining contents a b key n bytes number gone distinct others last (λ i ne. quiet i);
     gone = option_to_list (get mid key);
     left = left;
-    leave = refused_at a b mid key n bytes (get a.clients key) (get mid key) refl refl number moved gone distinct others known quiet;
+    leave = refused_at a b mid key n bytes waits active (get a.clients key) (get mid key) refl refl number moved gone distinct others known quiet;
   }
 
   -- the client at a key was let go of for want of memory, behind requests of it that were gathered before

@@ -163,11 +163,11 @@ module _ {S : Type 0} (remaining contents : S → Option (List ℕ)) where
       (reads_taken m m b [] then last reading refl refl id unwritten (consumes_nothing (remaining m.stream) (remaining b.stream) unread) t)
 
   -- only the stream, the session and whether it is to be closed have changed
-  pub same_but_read : (a m b : Client S) → m ≡ record a { stream = m.stream; session = m.session; is_closing = m.is_closing }
-      → b ≡ record m { stream = b.stream; session = b.session; is_closing = b.is_closing }
-      → b ≡ record a { stream = b.stream; session = b.session; is_closing = b.is_closing }
+  pub same_but_read : (a m b : Client S) → m ≡ record a { stream = m.stream; session = m.session; is_closing = m.is_closing; last_active = m.last_active }
+      → b ≡ record m { stream = b.stream; session = b.session; is_closing = b.is_closing; last_active = b.last_active }
+      → b ≡ record a { stream = b.stream; session = b.session; is_closing = b.is_closing; last_active = b.last_active }
   same_but_read a m b first then =
-      then ∙ ap (λ (x : Client S). record x { stream = b.stream; session = b.session; is_closing = b.is_closing }) first
+      then ∙ ap (λ (x : Client S). record x { stream = b.stream; session = b.session; is_closing = b.is_closing; last_active = b.last_active }) first
 
   pub reads_flag : (a b : Client S) (more : Bool) (first then : List ClientEvent) → Reads remaining contents a b first then
       → Reads remaining contents a (record b { has_more = more }) first then
@@ -185,9 +185,10 @@ module _ {S : Type 0} (remaining contents : S → Option (List ℕ)) where
   }
 
   -- bytes were queued
-  pub moves_queued : (a b : Client S) (bytes : List ℕ) → b ≡ record a { session = record a.session { queued = a.session.queued ++ bytes } }
+  pub moves_queued : (a b : Client S) (bytes : List ℕ) (waits : Bool) (active : ℕ)
+      → b ≡ record a { session = record a.session { queued = a.session.queued ++ bytes }; is_waiting = waits; last_active = active }
       → Moves remaining contents bytes [] a b
-  moves_queued a b bytes is = subst (Moves remaining contents bytes [] a) (sym is) (record {
+  moves_queued a b bytes waits active is = subst (Moves remaining contents bytes [] a) (sym is) (record {
     same = refl;
     grows = queued_behind (contents a.stream) a.session.queued bytes;
     taken = consumes_nothing (remaining a.stream) (remaining a.stream) (keeps_itself (remaining a.stream));
@@ -203,6 +204,16 @@ module _ {S : Type 0} (remaining contents : S → Option (List ℕ)) where
     taken = consumes_nothing (remaining a.stream) (remaining a.stream) (keeps_itself (remaining a.stream));
     left = inl refl;
     closing = λ h. (refl, refl);
+    unrefused = refl;
+  })
+
+  pub moves_waiting : (a b : Client S) → b ≡ record a { is_waiting = true } → Moves remaining contents [] [] a b
+  moves_waiting a b is = subst (Moves remaining contents [] [] a) (sym is) (record {
+    same = refl;
+    grows = grows_by_none (given contents a) (given contents a) (keeps_itself (given contents a));
+    taken = consumes_nothing (remaining a.stream) (remaining a.stream) (keeps_itself (remaining a.stream));
+    left = inr refl;
+    closing = λ h. (refl, h);
     unrefused = refl;
   })
 

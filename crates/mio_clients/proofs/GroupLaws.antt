@@ -14,21 +14,20 @@ use Rattle.daemon_core.specs.declared.outcome.Output.{Output}
 use Rattle.live_stage.specs.Answer.{Answer}
 use Rattle.live_stage.specs.Group.{AreParted, asked_by}
 use Rattle.stage_workers.specs.declared.served.Served.{Served as ServedEvent}
-use Rattle.stage_workers.specs.declared.refusal.StageError.{StageError}
-use Rattle.stage_workers.specs.Group.{RefusesFront, passed_by}
+use Rattle.stage_workers.specs.Group.{passed_by}
 use Rattle.stage_workers.specs.PassState.{PassState}
 use Rattle.mio_clients.specs.declared.client.Client.{Client}
 use Rattle.mio_clients.specs.declared.event.ClientEvent.{ClientEvent}
 use Rattle.mio_clients.specs.declared.event.ClientEvent.TheVariants as events
 use Rattle.mio_clients.specs.declared.part.Part.{Part}
-use Rattle.mio_clients.specs.declared.part.Part.TheVariants.{Served, Refused}
+use Rattle.mio_clients.specs.declared.part.Part.TheVariants.{Served}
 use Rattle.mio_clients.specs.Events.{asked_by_event, asked_in}
 use Rattle.mio_clients.specs.Connections.{ConnectionsState, IsVacant}
 use Rattle.mio_clients.specs.declared.queue.Place.{Place}
 use Rattle.mio_clients.specs.Grouping.{AreClientsOf, AreGone, PutsBack, PutsBackOne, TakesGroup, asked_of_all, TakesMany, group_len, len_by, parts_of, place_of}
-use Rattle.mio_clients.specs.Later.{AllGoOn, no_bytes, no_requests}
-use Rattle.mio_clients.specs.Leaving.{AllFollow, AllLeave, IsAmong, IsLeft}
-use Rattle.mio_clients.specs.Parts.{IsRefusal, RefusesLast, Serves, asked_of, bytes_in, refuses, request_of, requests_in, sent_by_served, served_count}
+use Rattle.mio_clients.specs.Later.{no_bytes, no_requests}
+use Rattle.mio_clients.specs.Leaving.{AllFollow, IsAmong, IsLeft}
+use Rattle.mio_clients.specs.Parts.{RefusesLast, Serves, asked_of, bytes_in, refuses, requests_in, sent_by_served, served_count}
 use Rattle.mio_clients.specs.Waiting.{QuietBehind, StaysQuiet, TakesFirst}
 use Rattle.mio_clients.proofs.FollowLaws.{all_itself, all_same, all_then_none, all_twice}
 use Rattle.mio_clients.proofs.LeavingLaws.{all_of, leaves_from, leaves_lost}

@@ -1,5 +1,5 @@
 -- Clients that are let go of, in several steps.
-use Rattle.std.proofs.Common.{◌≡◌, ◌≢◌, ◌⊎◌, inl, inr, ℕ, ◌+◌, ◌≤◌, ◌==◌, List, [], ◌∷◌, ◌++◌, Option, Some, None, Bool, true, false, MatchOption, IsSomeAnd}
+use Rattle.std.proofs.Common.{◌≡◌, ◌≢◌, ◌⊎◌, inl, inr, ℕ, ◌≤◌, ◌==◌, List, [], ◌∷◌, ◌++◌, Option, Some, None, Bool, true, false, MatchOption, IsSomeAnd}
 use Rattle.std.proofs.Common.{refl, sym, subst, ◌∙◌, ap, append_assoc, arith}
 use Rattle.std.specs.Option.{option_to_list}
 use Rattle.std.specs.List.{concat, AllByRecursion}
@@ -13,7 +13,6 @@ use Rattle.client_session.specs.Requests.{requests_in_pieces}
 use Rattle.client_session.proofs.ByteLaws.{keeps_itself, consumes_nothing, consumes_twice}
 use Rattle.mio_clients.specs.declared.client.Client.{Client}
 use Rattle.mio_clients.specs.declared.event.ClientEvent.{ClientEvent}
-use Rattle.mio_clients.specs.declared.event.ClientEvent.TheVariants as events
 use Rattle.mio_clients.specs.Events.{asked_in}
 use Rattle.mio_clients.specs.Given.{given}
 use Rattle.mio_clients.specs.Connections.{ConnectionsState, IsVacant, IsMovedAt, ReadsInPart, IsAdmitted}

@@ -6,6 +6,8 @@ pub mod ForgetLaws
 pub mod LeavingLaws
 pub mod FollowLaws
 pub mod AcceptLaws
+pub mod YieldLaws
+pub mod NumberLaws
 pub mod WaitingLaws
 pub mod TurnLaws
 pub mod GroupLaws

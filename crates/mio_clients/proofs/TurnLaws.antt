@@ -22,9 +22,7 @@ use Rattle.mio_clients.specs.Later.{AllGoOn, IsLater, Loses, no_bytes, no_reques
 use Rattle.mio_clients.specs.Leaving.{AllLeave, IsLeft, AllFollow, IsFollowed}
 use Rattle.mio_clients.specs.Waiting.{QuietBehind}
 use Rattle.stage_workers.specs.declared.refusal.StageError.{StageError}
-use Rattle.stage_workers.specs.declared.refusal.StageError.TheVariants as stage
-use Rattle.stage_workers.specs.Refusals.{number_of}
-use Rattle.mio_clients.specs.Parts.{bytes_in, bytes_of, requests_in, request_of, asked_of, served_count, refuses, RefusesLast, IsRefusal, Serves, IsKeptOf, IsKeptAs, bytes_to, bytes_to_all, sent_by, sent_by_all, sent_by_served}
+use Rattle.mio_clients.specs.Parts.{bytes_in, bytes_of, requests_in, request_of, asked_of, served_count, refuses, RefusesLast, Serves, IsKeptOf, IsKeptAs, bytes_to, bytes_to_all, sent_by, sent_by_all, sent_by_served}
 use Rattle.mio_clients.proofs.LeavingLaws.{all_of, leaves_from, leaves_lost}
 use Rattle.mio_clients.proofs.FollowLaws.{all_itself, all_twice, all_then_none, all_same, all_still, later_then}
 
@@ -56,12 +54,6 @@ module _ {D : Type 0} where
   refuses_last-append (Served s ∷ xs) ys none last = refuses_last-append xs ys none last
   refuses_last-append (Collected o ∷ xs) ys none last = refuses_last-append xs ys none last
   refuses_last-append (Refused n ∷ xs) ys none last = absurd (cc none)
-
-pub stage_refusal : (e : StageError) → IsRefusal (number_of e)
-stage_refusal stage.Broken = inl refl
-stage_refusal stage.NoMemory = inr (inl refl)
-stage_refusal (stage.Rewound seen found) = inr (inr (inl refl))
-stage_refusal stage.NumbersSpent = inr (inr (inr refl))
 
 module _ {S : Type 0} (remaining contents : S → Option (List ℕ)) where
   pub go_from : (a p b : ConnectionsState S) (sent : ℕ → List ℕ) (served front : ℕ → List Request) → p.clients ≡ a.clients
@@ -248,17 +240,17 @@ module _ {S : Type 0} (remaining contents : S → Option (List ℕ)) where
     }
 
     -- nothing was served, and a refusal is told
-    pub serves_refusal : (a b : ConnectionsState S) (number : ℕ) (ps qs : List (Part D)) (x y : PassState) → IsRefusal number
-        → AllFollow remaining contents no_bytes no_requests a b → qs ≡ ps ++ Refused number ∷ [] → y ≡ x
+    pub serves_refusal : (a b : ConnectionsState S) (error : StageError) (ps qs : List (Part D)) (x y : PassState)
+        → AllFollow remaining contents no_bytes no_requests a b → qs ≡ ps ++ Refused error ∷ [] → y ≡ x
         → Serves remaining contents false a b ps qs x y
-    serves_refusal a b number ps qs x y is later added same = record {
-      added = Refused number ∷ [];
+    serves_refusal a b error ps qs x y later added same = record {
+      added = Refused error ∷ [];
       parts = added;
       later = later;
       kind = ap (λ (t : PassState). t.kind) same;
       share = (let n = ap (λ (t : PassState). t.share) same in omega (arith, n));
       seen = (let n = ap (λ (t : PassState). t.seen) same in omega (arith, n));
-      refused = (is, refl);
+      refused = refl;
       unrefused = λ no. absurd (cc no);
       told = λ _. refl;
     }
@@ -354,10 +346,10 @@ module _ {S : Type 0} (remaining contents : S → Option (List ℕ)) where
       later_then remaining contents a b d no_bytes sent no_requests served p (all_then_none remaining contents b c d sent served q r)
 
   -- which clients were let go of before, and which places there are, matters to no other
-  begun_later : (a d : ConnectionsState S) (left gone : List (Client S)) (places : ℕ) (sent : ℕ → List ℕ) (served : ℕ → List Request)
-      → IsLater remaining contents sent served (record a { left = left; places = places; gone = gone }) d
+  begun_later : (a d : ConnectionsState S) (left gone : List (Client S)) (places now : ℕ) (sent : ℕ → List ℕ) (served : ℕ → List Request)
+      → IsLater remaining contents sent served (record a { left = left; places = places; gone = gone; time = now }) d
       → IsLater remaining contents sent served a d
-  begun_later a d left gone places sent served p = record {
+  begun_later a d left gone places now sent served p = record {
     last_id = p.last_id;
     each = λ key client there. elim (p.each key client there) [
       | inl k ↦ inl (record { before = k.before; there = k.there; goes_on = k.goes_on })
@@ -376,10 +368,10 @@ module _ {S : Type 0} (remaining contents : S → Option (List ℕ)) where
     ];
   }
 
-  begun_left : (a d : ConnectionsState S) (left gone : List (Client S)) (places : ℕ) (bytes : List ℕ) (served : List Request) (x : Client S)
-      → IsLeft remaining contents bytes served (record a { left = left; places = places; gone = gone }) d x
+  begun_left : (a d : ConnectionsState S) (left gone : List (Client S)) (places now : ℕ) (bytes : List ℕ) (served : List Request) (x : Client S)
+      → IsLeft remaining contents bytes served (record a { left = left; places = places; gone = gone; time = now }) d x
       → IsLeft remaining contents bytes served a d x
-  begun_left a d left gone places bytes served x l = record {
+  begun_left a d left gone places now bytes served x l = record {
     vacant = l.vacant;
     known = l.known;
     leaves = elim l.leaves [
@@ -400,13 +392,13 @@ module _ {S : Type 0} (remaining contents : S → Option (List ℕ)) where
     ];
   }
 
-  begun_leave : (a d : ConnectionsState S) (left gone : List (Client S)) (places : ℕ) (sent : ℕ → List ℕ) (served : ℕ → List Request)
-      (xs : List (Client S)) → AllLeave remaining contents sent served (record a { left = left; places = places; gone = gone }) d xs
+  begun_leave : (a d : ConnectionsState S) (left gone : List (Client S)) (places now : ℕ) (sent : ℕ → List ℕ) (served : ℕ → List Request)
+      (xs : List (Client S)) → AllLeave remaining contents sent served (record a { left = left; places = places; gone = gone; time = now }) d xs
       → AllLeave remaining contents sent served a d xs
-  begun_leave a d left gone places sent served xs l = record {
-    each = all_of (λ x. IsLeft remaining contents (sent x.id) (served x.id) (record a { left = left; places = places; gone = gone }) d x)
+  begun_leave a d left gone places now sent served xs l = record {
+    each = all_of (λ x. IsLeft remaining contents (sent x.id) (served x.id) (record a { left = left; places = places; gone = gone; time = now }) d x)
         (λ x. IsLeft remaining contents (sent x.id) (served x.id) a d x) xs
-        (λ x h. begun_left a d left gone places (sent x.id) (served x.id) x h) l.each;
+        (λ x h. begun_left a d left gone places now (sent x.id) (served x.id) x h) l.each;
     stay = l.stay;
     absent = l.absent;
   }
@@ -424,7 +416,7 @@ module _ {S : Type 0} (remaining contents : S → Option (List ℕ)) where
 
   -- a whole turn: those that were let go of before it are closed at its begin, and its own at its end
   pub turn_whole : (z a b c d e : ConnectionsState S) (sent : ℕ → List ℕ) (served : ℕ → List Request)
-      → a ≡ record z { left = []; places = a.places; gone = z.left }
+      → a ≡ record z { left = []; places = a.places; gone = z.left; time = a.time }
       → IsFollowed remaining contents no_bytes no_requests a b → AllFollow remaining contents sent served b c
       → AllFollow remaining contents no_bytes no_requests c d → e ≡ record d { left = []; places = e.places; gone = d.left }
       → IsLater remaining contents sent served z e × AllLeave remaining contents sent served z e e.gone
@@ -432,10 +424,10 @@ module _ {S : Type 0} (remaining contents : S → Option (List ℕ)) where
       let whole : IsFollowed remaining contents sent served a d = turn_later a b c d sent served p q r in
       let those : d.left ≡ whole.gone = whole.left ∙ ap (λ (t : ConnectionsState S). t.left ++ whole.gone) begins in
       let later : IsLater remaining contents sent served z d =
-      begun_later z d [] z.left a.places sent served
+      begun_later z d [] z.left a.places a.time sent served
       (subst (λ (t : ConnectionsState S). IsLater remaining contents sent served t d) begins whole.later) in
       let leave : AllLeave remaining contents sent served z d d.left =
-      begun_leave z d [] z.left a.places sent served d.left
+      begun_leave z d [] z.left a.places a.time sent served d.left
       (subst (λ (t : ConnectionsState S). AllLeave remaining contents sent served t d d.left) begins
       (subst (λ (t : List (Client S)). AllLeave remaining contents sent served a d t) (sym those) whole.leave)) in
       let both : IsLater remaining contents sent served z (record d { left = []; places = e.places; gone = d.left })

@@ -1,10 +1,12 @@
 -- Events that ask for nothing stay behind the others.
 use Rattle.std.proofs.Common.{◌≡◌, ℕ, zero, suc, List, [], ◌∷◌, ◌++◌, Option, Some, None, Bool, true, false, cond}
-use Rattle.std.proofs.Common.{refl, sym, subst, ◌∙◌, ap, length, ◌+◌, arith}
+use Rattle.std.proofs.Common.{refl, sym, subst, ◌∙◌, ap, length, drop, ◌+◌, ◌<◌, ◌≤◌, ◌||◌, arith}
+use Rattle.std.specs.Prelude.{get_or}
+use Rattle.std.proofs.lemmas.List.{at_drop_all, drop_more}
 use Rattle.mio_clients.specs.declared.client.Client.{Client}
 use Rattle.mio_clients.specs.declared.event.ClientEvent.{ClientEvent}
 use Rattle.mio_clients.specs.declared.event.ClientEvent.TheVariants as events
-use Rattle.mio_clients.specs.Events.{asked_in, AsksNothing}
+use Rattle.mio_clients.specs.Events.{asked_in, has_request_of, is_request_of, AsksNothing}
 use Rattle.mio_clients.specs.Waiting.{QuietBehind, StaysQuiet, TakesFirst}
 use Rattle.mio_clients.specs.Connections.{IsToldGone}
 use Rattle.mio_clients.proofs.LaterLaws.{asks_nothing}
@@ -54,3 +56,13 @@ takes_one zero m es fs e q h = absurd (omega (arith, e))
 takes_one (suc n) m es fs e q h =
     let same : n ≡ m = omega (arith, e) in
     q m (subst (λ (t : ℕ). QuietBehind (suc t) es) same h)
+
+-- the requests of a client among events, from a place on
+pub has_at : (c k : ℕ) (es : List ClientEvent) (e : ClientEvent) → k < length es → e ≡ get_or es k e
+    → has_request_of c (drop k es) ≡ (is_request_of c e || has_request_of c (drop (k + 1) es))
+has_at c k es e there is =
+    ap (λ (l : List ClientEvent). has_request_of c l)
+    (drop_more es k e there ∙ ap (λ (x : ClientEvent). x ∷ drop (k + 1) es) (sym is))
+
+pub has_end : (c k : ℕ) (es : List ClientEvent) → length es ≤ k → has_request_of c (drop k es) ≡ false
+has_end c k es behind = at_drop_all (λ (l : List ClientEvent). has_request_of c l) es k behind

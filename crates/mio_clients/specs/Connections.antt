@@ -24,7 +24,7 @@ pub record QueueState : Type 0 where
 
 -- The clients, each under the key by which it is told to be ready; what they did and was not served yet; the number of the client that
 -- connected last; for how many further events there is room; the clients that were let go of since the last turn, as they were then; for
--- how many further ones there is a place; and those that were let go of in that turn.
+-- how many further ones there is a place; those that were let go of in that turn; and the time of the turn, in milliseconds.
 pub record ConnectionsState (S : Type 0) : Type 0 where
   pub clients : Slab (Client S)
   pub events : List ClientEvent
@@ -33,6 +33,7 @@ pub record ConnectionsState (S : Type 0) : Type 0 where
   pub left : List (Client S)
   pub places : ℕ
   pub gone : List (Client S)
+  pub time : ℕ
 
 -- what holds of all connections: there is room for the last event of each client, and a place for it where it is let go of
 pub record AreConnections {S : Type 0} (clients : Slab (Client S)) (queue : QueueState) (last_id free : ℕ) : Type 0 where
@@ -109,6 +110,7 @@ pub record IsAdmitted {S : Type 0} (stream : S) (old new : ConnectionsState S) :
   pub last_id : new.last_id ≡ old.last_id + 1
   pub accepted : client.stream ≡ stream
   pub session : client.session ≡ fresh
+  pub active : client.last_active ≡ old.time
   pub gathered : new.events ≡ old.events ++ events.Connect (old.last_id + 1) ∷ []
 
 -- nothing has changed but what stands at this key

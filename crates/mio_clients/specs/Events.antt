@@ -1,5 +1,5 @@
 -- What clients did, gathered until it is served.
-use Rattle.std.specs.Prelude.{ℕ, zero, suc, ◌+◌, ◌==◌, List, [], ◌∷◌, ◌++◌, map, Bool, false, if◌then◌else◌}
+use Rattle.std.specs.Prelude.{ℕ, zero, suc, ◌+◌, ◌==◌, List, [], ◌∷◌, ◌++◌, map, Bool, false, ◌||◌, if◌then◌else◌}
 use Rattle.command_text.specs.declared.request.Request.{Request}
 use Rattle.mio_clients.specs.declared.event.ClientEvent.{ClientEvent}
 use Rattle.mio_clients.specs.declared.event.ClientEvent.TheVariants as events
@@ -20,6 +20,11 @@ abbrev pub is_request_of : ℕ → ClientEvent → Bool
 is_request_of c (events.Connect client) = false
 is_request_of c (events.Request client request) = client == c
 is_request_of c (events.Gone client) = false
+
+-- whether a request of this client is among events
+abbrev pub has_request_of : ℕ → List ClientEvent → Bool
+has_request_of c [] = false
+has_request_of c (event ∷ rest) = is_request_of c event || has_request_of c rest
 
 -- events without the requests of this client
 abbrev pub without : ℕ → List ClientEvent → List ClientEvent

@@ -14,7 +14,7 @@ use Rattle.mio_clients.specs.declared.queue.Place.{Place}
 use Rattle.mio_clients.specs.declared.queue.Place.TheVariants.{Outside, Inside, Last}
 use Rattle.mio_clients.specs.Connections.{ConnectionsState, IsVacant}
 use Rattle.mio_clients.specs.Events.{asked_in}
-use Rattle.mio_clients.specs.Parts.{asked_of, stage_event_of}
+use Rattle.mio_clients.specs.Parts.{asked_of}
 use Rattle.mio_clients.specs.Waiting.{QuietBehind}
 
 -- the most events that are served together

@@ -4,6 +4,7 @@ pub mod Given
 pub mod Connections
 pub mod Later
 pub mod Leaving
+pub mod Yielding
 pub mod Refusal
 pub mod Parts
 pub mod Waiting

@@ -1,5 +1,5 @@
 -- What the parts of a turn of the loop carry.
-use Rattle.std.specs.Prelude.{◌≡◌, ◌≢◌, ◌⊎◌, ℕ, ◌+◌, ◌≤◌, ◌==◌, List, [], ◌∷◌, ◌++◌, Bool, true, false, Option, if◌then◌else◌}
+use Rattle.std.specs.Prelude.{◌≡◌, ◌≢◌, ℕ, ◌+◌, ◌≤◌, ◌==◌, List, [], ◌∷◌, ◌++◌, Bool, true, false, Option, None, Some, if◌then◌else◌}
 use Rattle.command_text.specs.declared.request.Request.{Request}
 use Rattle.daemon_core.specs.declared.event.Event.{Event}
 use Rattle.daemon_core.specs.declared.event.Event.TheVariants as stage_events
@@ -44,7 +44,7 @@ sent_by_served served c = bytes_to_all c served.before ++ bytes_to c served.turn
 abbrev pub bytes_of : {D : Type 0} → ℕ → Part D → List ℕ
 bytes_of c (Served served) = sent_by_served served c
 bytes_of c (Collected outbox) = bytes_to_all c outbox
-bytes_of c (Refused number) = []
+bytes_of c (Refused error) = []
 
 -- what each client is given in parts, in order
 abbrev pub bytes_in : {D : Type 0} → List (Part D) → ℕ → List ℕ
@@ -66,7 +66,7 @@ asked_of c (stage_events.ScanDone job) = []
 abbrev pub request_of : {D : Type 0} → ℕ → Part D → List Request
 request_of c (Served served) = asked_of c served.turn.asked
 request_of c (Collected outbox) = []
-request_of c (Refused number) = []
+request_of c (Refused error) = []
 
 -- the requests of each client that parts carry, in order
 abbrev pub requests_in : {D : Type 0} → List (Part D) → ℕ → List Request
@@ -77,24 +77,20 @@ abbrev pub served_count : {D : Type 0} → List (Part D) → ℕ
 served_count [] = 0
 served_count (Served served ∷ parts) = 1 + served_count parts
 served_count (Collected outbox ∷ parts) = served_count parts
-served_count (Refused number ∷ parts) = served_count parts
-
--- the number of a refusal that a part may tell
-abbrev pub IsRefusal : ℕ → Type 0
-IsRefusal number = (number ≡ 42) ⊎ (number ≡ 43) ⊎ (number ≡ 44) ⊎ (number ≡ 49)
+served_count (Refused error ∷ parts) = served_count parts
 
 -- a part that refuses is the last
 abbrev pub RefusesLast : {D : Type 0} → List (Part D) → Type 0
 RefusesLast [] = Unit {0}
 RefusesLast (Served served ∷ parts) = RefusesLast parts
 RefusesLast (Collected outbox ∷ parts) = RefusesLast parts
-RefusesLast (Refused number ∷ parts) = IsRefusal number × (parts ≡ [])
+RefusesLast (Refused error ∷ parts) = parts ≡ []
 
 abbrev pub refuses : {D : Type 0} → List (Part D) → Bool
 refuses [] = false
 refuses (Served served ∷ parts) = refuses parts
 refuses (Collected outbox ∷ parts) = refuses parts
-refuses (Refused number ∷ parts) = true
+refuses (Refused error ∷ parts) = true
 
 -- where no part refuses, no request is left among these events
 abbrev pub IsServedAll : {D : Type 0} → List (Part D) → List ClientEvent → Type 0
@@ -120,25 +116,27 @@ stage_event_of (events.Connect client) = stage_events.Connect client
 stage_event_of (events.Request client request) = stage_events.Request client request
 stage_event_of (events.Gone client) = stage_events.Gone client
 
--- whether a turn goes on behind an event that was refused: where a request found no memory, or no number
-abbrev pub goes_on_behind : StageError → Kept → Bool
-goes_on_behind error (kept.Event event) = false
-goes_on_behind errors.NoMemory (kept.Client client) = true
-goes_on_behind errors.NumbersSpent (kept.Client client) = true
-goes_on_behind errors.Broken (kept.Client client) = false
-goes_on_behind (errors.Rewound seen found) (kept.Client client) = false
+-- whether a turn goes on behind requests that were refused: where they found no memory, or no number
+abbrev pub goes_on_behind : StageError → Bool
+goes_on_behind errors.NoMemory = true
+goes_on_behind errors.NumbersSpent = true
+goes_on_behind errors.Broken = false
+goes_on_behind (errors.Rewound seen found) = false
 
--- whether it goes on behind requests that were refused
-abbrev pub goes_on_behind_front : StageError → Bool
-goes_on_behind_front errors.NoMemory = true
-goes_on_behind_front errors.NumbersSpent = true
-goes_on_behind_front errors.Broken = false
-goes_on_behind_front (errors.Rewound seen found) = false
+-- whether it goes on behind an event that was refused, of which this is kept
+abbrev pub goes_on_with : StageError → Kept → Bool
+goes_on_with error (kept.Event event) = false
+goes_on_with error (kept.Client client) = goes_on_behind error
 
 -- what is kept of an event: itself, unless it is a request, of which its client's number is
 abbrev pub IsKeptOf : ClientEvent → Kept → Type 0
 IsKeptOf event (kept.Event same) = (same ≡ event) × AsksNothing same
 IsKeptOf event (kept.Client client) = (c : ℕ) → client ≢ c → asked_by_event c event ≡ []
+
+-- the client that asked for an event, of which this is kept
+abbrev pub asker_of : Kept → Option ℕ
+asker_of (kept.Event event) = None
+asker_of (kept.Client client) = Some client
 
 -- where an event is kept, it asks for nothing
 abbrev pub KeepsNoRequest : Kept → Type 0

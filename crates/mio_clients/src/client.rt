@@ -4,12 +4,13 @@ ghost use Rattle.client_session.specs.Requests.{brought, left_by};
 ghost use Rattle.client_session.specs.Session.{fresh};
 ghost use Rattle.mio_clients.specs.Events.{asked_by};
 ghost use Rattle.mio_clients.specs.Given.{Moves};
+ghost use Rattle.mio_clients.specs.Yielding.{active_at, still_waits, IsHeard, IsSilent};
 ghost use Rattle.mio_clients.specs.Connections.{Reads, ReadsInPart, IsTaken, IsReading};
 
-use crate::CALL_LIMIT;
 use crate::queue::EventQueue;
 use crate::ready::Interest;
 use crate::stream::Stream;
+use crate::{CALL_LIMIT, YIELD_AFTER};
 use client_session::{Session, SessionError};
 use std::alloc::Global;
 use std::io::ErrorKind;
@@ -29,6 +30,10 @@ pub struct Client<S> {
     pub is_released: bool,
     /// There may be more to read of it without a new readiness.
     pub has_more: bool,
+    /// When something last came of it or was given to it, or else it connected, in milliseconds by the listener's clock.
+    pub last_active: u64,
+    /// A request of it was served, and it was given nothing since: it waits in `idle`.
+    pub is_waiting: bool,
 }
 
 /// What a round of writing came to.
@@ -97,10 +102,11 @@ fn reading_of(kind: ErrorKind) -> Reading
 
 impl<S: Stream> Client<S> {
     /// A client of whose stream nothing was read.
-    pub(crate) fn new(alloc: Global, id: u64, stream: S) -> Self
+    pub(crate) fn new(alloc: Global, id: u64, stream: S, now: u64) -> Self
         ensures id { result.id ≡ id }
         ensures stream { result.stream ≡ stream }
         ensures session { result.session ≡ fresh }
+        ensures last_active { result.last_active ≡ now }
     {
         Client {
             id,
@@ -110,7 +116,37 @@ impl<S: Stream> Client<S> {
             is_closing: false,
             is_released: false,
             has_more: false,
+            last_active: now,
+            is_waiting: false,
         }
+    }
+
+    /// Whether it came over a network, waits in no `idle`, was sent all that it was given, and for an hour nothing came of it and it was
+    /// given nothing.
+    pub(crate) fn is_silent(&self, now: u64) -> bool
+        ensures { IsTrue result ↔ IsSilent S.remote now self.now }
+    {
+        self.stream.is_remote()
+            && !self.is_waiting
+            && self.session.queued_len() == 0
+            && now >= YIELD_AFTER
+            && self.last_active <= now - YIELD_AFTER
+    }
+
+    /// Queues bytes for it. Where that is refused, it is not to be used any more.
+    pub(crate) fn give(&mut self, bytes: &[u8], now: u64) -> bool
+        ensures same { self.new ≡ record self.old {
+          session = self.new.session;
+          is_waiting = still_waits bytes.now self.old;
+          last_active = active_at now bytes.now self.old;
+        } }
+        ensures queued { IsTrue result → self.new.session ≡ record self.old.session { queued = self.old.session.queued ++ bytes.now } }
+    {
+        if !bytes.is_empty() {
+            self.is_waiting = false;
+            self.last_active = now;
+        }
+        self.session.queue(bytes).is_ok()
     }
 
     /// Of what its stream is to be told.
@@ -190,14 +226,22 @@ impl<S: Stream> Client<S> {
 
     // Reads once.
     #[tactic(auto, using(crate::proofs::GivenLaws::reads_none, crate::proofs::GivenLaws::moves_none))]
-    fn read_once(&mut self, alloc: Global, buffer: &mut [u8], queue: &mut EventQueue) -> Reading
+    fn read_once(
+        &mut self,
+        alloc: Global,
+        buffer: &mut [u8],
+        queue: &mut EventQueue,
+        now: u64,
+    ) -> Reading
         requires reading { IsReading self.old }
         ensures reads { result ≢ Reading.Refused → Reads S.remaining S.contents self.old self.new queue.old.events queue.new.events }
         ensures same { self.new ≡ record self.old {
           stream = self.new.stream;
           session = self.new.session;
           is_closing = self.new.is_closing;
+          last_active = self.new.last_active;
         } }
+        ensures heard { IsHeard S.remaining now self.old self.new }
         ensures goes_on { (result ≡ Reading.More) ⊎ (result ≡ Reading.Drained) → IsReading self.new }
         ensures refused { result ≡ Reading.Refused
             → ReadsInPart S.remaining S.contents self.old self.new queue.old.events queue.new.events }
@@ -209,21 +253,32 @@ impl<S: Stream> Client<S> {
                 self.is_closing = true;
                 Reading::Ended
             }
-            Ok(count) => self.take_or_close(alloc, &buffer[..count], queue),
+            Ok(count) => {
+                self.last_active = now;
+                self.take_or_close(alloc, &buffer[..count], queue)
+            }
             Err(error) => reading_of(error.kind()),
         }
     }
 
     // Reads until there is nothing to be read, or for `CALL_LIMIT` calls.
-    #[tactic(auto, using(crate::proofs::GivenLaws::reads_none, crate::proofs::GivenLaws::moves_itself))]
-    fn read_often(&mut self, alloc: Global, buffer: &mut [u8], queue: &mut EventQueue) -> Reading
+    #[tactic(auto, using(crate::proofs::GivenLaws::reads_none, crate::proofs::GivenLaws::moves_itself, crate::proofs::YieldLaws::heard_itself))]
+    fn read_often(
+        &mut self,
+        alloc: Global,
+        buffer: &mut [u8],
+        queue: &mut EventQueue,
+        now: u64,
+    ) -> Reading
         requires reading { IsReading self.old }
         ensures reads { result ≢ Reading.Refused → Reads S.remaining S.contents self.old self.new queue.old.events queue.new.events }
         ensures same { self.new ≡ record self.old {
           stream = self.new.stream;
           session = self.new.session;
           is_closing = self.new.is_closing;
+          last_active = self.new.last_active;
         } }
+        ensures heard { IsHeard S.remaining now self.old self.new }
         ensures goes_on { (result ≡ Reading.More) ⊎ (result ≡ Reading.Drained) → IsReading self.new }
         ensures refused { result ≡ Reading.Refused
             → ReadsInPart S.remaining S.contents self.old self.new queue.old.events queue.new.events }
@@ -231,7 +286,7 @@ impl<S: Stream> Client<S> {
         ensures spare { queue.new.spare ≡ queue.old.spare }
     {
         for _call in 0..CALL_LIMIT {
-            let reading = self.read_once(alloc, buffer, queue);
+            let reading = self.read_once(alloc, buffer, queue, now);
             if !reading.is_more() {
                 return reading;
             }
@@ -246,6 +301,7 @@ impl<S: Stream> Client<S> {
         alloc: Global,
         buffer: &mut [u8],
         queue: &mut EventQueue,
+        now: u64,
     ) -> Reading
         requires reading { IsReading self.old }
         ensures reads { result ≢ Reading.Refused → Reads S.remaining S.contents self.old self.new queue.old.events queue.new.events }
@@ -253,13 +309,15 @@ impl<S: Stream> Client<S> {
           stream = self.new.stream;
           session = self.new.session;
           is_closing = self.new.is_closing;
+          last_active = self.new.last_active;
         } }
+        ensures heard { IsHeard S.remaining now self.old self.new }
         ensures refused { result ≡ Reading.Refused
             → ReadsInPart S.remaining S.contents self.old self.new queue.old.events queue.new.events }
         ensures failed { result ≡ Reading.Failed → S.failed self.new.stream ≡ true }
         ensures spare { queue.new.spare ≡ queue.old.spare }
     {
-        let reading = self.read_often(alloc, buffer, queue);
+        let reading = self.read_often(alloc, buffer, queue, now);
         if !reading.goes_on() {
             return reading;
         }

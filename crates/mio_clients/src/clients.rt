@@ -1,12 +1,14 @@
 // The clients of the daemon: who is accepted, read and written, and what of it is told.
-ghost use Rattle.std.specs.Prelude.{◌≡◌, ◌⊎◌, ◌+◌, ◌<◌, ◌≤◌, ℕ, ◌∷◌, [], false, length, OnSome, IfOk, IfErr, IsErrOf, IfSome, MatchOption};
+ghost use Rattle.std.specs.Prelude.{◌≡◌, ◌⊎◌, ◌+◌, ◌<◌, ◌≤◌, ℕ, ◌∷◌, [], List, false, length, OnSome, IfOk};
+ghost use Rattle.std.specs.Prelude.{IfErr, IsErrOf, IfSome, MatchOption};
 ghost use Rattle.slab.specs.Slab.{get, slab_len};
 ghost use Rattle.mio_clients.specs.Events.{asked_by_event, asked_in};
 ghost use Rattle.mio_clients.specs.Grouping.{group_len, group_limit};
 ghost use Rattle.mio_clients.specs.Waiting.{StaysQuiet};
-ghost use Rattle.mio_clients.specs.Connections.{IsFull, IsVacant};
+ghost use Rattle.mio_clients.specs.Connections.{ConnectionsState, IsFull, IsVacant};
 ghost use Rattle.mio_clients.specs.Later.{no_bytes, no_requests, bytes_for, Accepts, IsFault, Loses};
 ghost use Rattle.mio_clients.specs.Leaving.{AllFollow, IsFollowed};
+ghost use Rattle.mio_clients.specs.Yielding.{AcceptsAll, NoneGivesWay, NowWaits, Replaces};
 
 use crate::client::{Reading, Writing};
 use crate::connections::Connections;
@@ -28,7 +30,7 @@ const PATIENCE: u64 = 100;
 #[derive(Clone, Copy, Debug, PartialEq, Eq)]
 pub(crate) enum Sending {
     AtOnce,
-    /// With what it is given later, by a call of `send_all`.
+    /// With what it is given later, by a call of `send_given`.
     Together,
 }
 
@@ -98,13 +100,29 @@ impl<S: Stream, L: Listener<S>, P: Ready<S>> Clients<S, L, P> {
         self.connections.close_left();
     }
 
+    // Closes what an earlier call left, waits until something is ready, and looks at the clock.
+    pub(crate) fn begin_turn(&mut self)
+        ensures { self.new ≡ record self.old { left = []; places = self.new.places; gone = self.old.left; time = self.new.time } }
+    {
+        self.connections.close_left();
+        let limit = if self.connections.event_count() > 0 {
+            0
+        } else {
+            PATIENCE
+        };
+        let _waited = self.ready.wait(Duration::from_millis(limit));
+        self.connections.set_time(self.listener.now());
+    }
+
     /// Accepts clients until none waits, or for 65,536 calls, and gathers their connects, by rising numbers. A failed `accept` is tried
     /// again in the next turn of the loop.
     ///
-    /// `TooManyClients` says that a client was closed without a byte. `NoMemory` leaves the others waiting.
+    /// Where no place is left, the client over a network that was silent for longest, for an hour at least, gives way to one that comes
+    /// over a network: it is let go of, and the listener is told. `TooManyClients` says that a client was closed without a byte, to which
+    /// none gave way. `NoMemory` leaves the others waiting.
     pub fn accept_all(&mut self, alloc: Global) -> Result<(), ClientsError>
         ensures later { IsFollowed S.remaining S.contents no_bytes no_requests self.old self.new }
-        ensures accepted { Accepts self.old self.new }
+        ensures accepted { (ways : List (S × ConnectionsState S × ConnectionsState S)) × AcceptsAll S.remote ways self.old self.new }
         ensures too_many { IsErrOf result ClientsError.TooManyClients → IsFull self.new }
         ensures neither { IfErr result (λ e. (e ≡ ClientsError.NoMemory) ⊎ (e ≡ ClientsError.TooManyClients)) }
     {
@@ -132,21 +150,51 @@ impl<S: Stream, L: Listener<S>, P: Ready<S>> Clients<S, L, P> {
         result
     }
 
-    // Takes a client in, unless there are too many. One of whose stream nobody would be told is closed.
+    // Takes a client in, in the place of another where there are too many. One of whose stream nobody would be told is closed.
     fn admit(&mut self, alloc: Global, stream: S) -> bool
         requires room { slab_len self.old.clients + 2 ≤ self.old.room }
         requires places { slab_len self.old.clients + 1 ≤ self.old.places }
         ensures later { IsFollowed S.remaining S.contents no_bytes no_requests self.old self.new }
-        ensures accepted { Accepts self.old self.new }
+        ensures accepted { Accepts self.old self.new ⊎ Replaces S.remote stream self.old self.new }
         ensures full { (result ≡ false) ⊎ IsFull self.old → IsFull self.new }
+        ensures refused { result ≡ false → NoneGivesWay S.remote stream self.old × (self.new ≡ self.old) }
     {
         if self.connections.is_full() {
-            return false;
+            return self.admit_instead(alloc, stream);
         }
         let mut stream = stream;
         let key = self.connections.vacant_key();
         if self.ready.register(&mut stream, key).is_ok() {
             self.connections.admit(alloc, stream);
+        }
+        true
+    }
+
+    // Takes a client in that comes over a network, in the place of the one that was silent for longest, if one may give way.
+    fn admit_instead(&mut self, alloc: Global, stream: S) -> bool
+        requires room { slab_len self.old.clients + 2 ≤ self.old.room }
+        requires places { slab_len self.old.clients + 1 ≤ self.old.places }
+        requires full { IsFull self.old }
+        ensures later { IsFollowed S.remaining S.contents no_bytes no_requests self.old self.new }
+        ensures accepted { Accepts self.old self.new ⊎ Replaces S.remote stream self.old self.new }
+        ensures full { IsFull self.new }
+        ensures refused { result ≡ false → NoneGivesWay S.remote stream self.old × (self.new ≡ self.old) }
+    {
+        if !stream.is_remote() {
+            return false;
+        }
+        if self.connections.is_spent() {
+            return false;
+        }
+        let Some(key) = self.connections.longest_silent() else {
+            return false;
+        };
+        let mut stream = stream;
+        if self.ready.register(&mut stream, key).is_ok() {
+            let client = self.connections.id_at(key);
+            let silence = self.connections.silence_at(key);
+            self.listener.gave_way(client, silence);
+            self.connections.replace(alloc, key, stream);
         }
         true
     }
@@ -196,16 +244,10 @@ impl<S: Stream, L: Listener<S>, P: Ready<S>> Clients<S, L, P> {
         ClientsError::NetFault(id)
     }
 
-    // Waits until something is ready, and gathers what clients did.
+    // Gathers what clients did of which the wait has told.
     pub(crate) fn gather(&mut self, alloc: Global)
         ensures later { IsFollowed S.remaining S.contents no_bytes no_requests self.old self.new }
     {
-        let limit = if self.connections.event_count() > 0 {
-            0
-        } else {
-            PATIENCE
-        };
-        let _waited = self.ready.wait(Duration::from_millis(limit));
         for _token in 0..CALL_LIMIT {
             let Some(token) = self.ready.next() else {
                 break;
@@ -243,6 +285,16 @@ impl<S: Stream, L: Listener<S>, P: Ready<S>> Clients<S, L, P> {
     {
         for key in 0..self.connections.capacity() {
             self.send(key);
+        }
+    }
+
+    // Sends what is queued for each client, and no more: to look for each whether it is over takes all events that wait.
+    pub(crate) fn send_given(&mut self)
+        ensures later { AllFollow S.remaining S.contents no_bytes no_requests self.old self.new }
+        ensures quiet { StaysQuiet self.old.events self.new.events }
+    {
+        for key in 0..self.connections.capacity() {
+            self.send_queued(key);
         }
     }
 
@@ -305,12 +357,16 @@ impl<S: Stream, L: Listener<S>, P: Ready<S>> Clients<S, L, P> {
         self.connections.put_back(event);
     }
 
-    // Queues bytes for the client of this number.
+    // Queues bytes for the client of this number. Where it is let go of for that, so are its requests that wait: their answers would reach
+    // nobody.
     pub(crate) fn give(&mut self, client: u64, bytes: &[u8])
         ensures later { AllFollow S.remaining S.contents (bytes_for client bytes.now) no_requests self.old self.new }
         ensures quiet { StaysQuiet self.old.events self.new.events }
+        ensures forgotten { IsVacant self.new client → IsVacant self.old client ⊎ (asked_in client self.new.events ≡ []) }
     {
-        self.connections.give(client, bytes);
+        if !self.connections.give(client, bytes) {
+            self.connections.forget(client);
+        }
     }
 
     // The same, and sends them, so that no client waits for the events of others behind its own. Where its next request is served next, that
@@ -333,6 +389,15 @@ impl<S: Stream, L: Listener<S>, P: Ready<S>> Clients<S, L, P> {
         if let Some(key) = self.connections.find(client) {
             self.send(key);
         }
+    }
+
+    // A request of the client of this number is served.
+    pub(crate) fn await_answer(&mut self, client: u64)
+        ensures waits { NowWaits client self.old self.new }
+        ensures later { AllFollow S.remaining S.contents no_bytes no_requests self.old self.new }
+        ensures events { self.new.events ≡ self.old.events }
+    {
+        self.connections.await_answer(client);
     }
 
     // Has the client of this number closed, once what is queued for it is sent: the daemon knows of it no more.

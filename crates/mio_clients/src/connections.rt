@@ -1,20 +1,23 @@
 // Who is connected, under which key and number, and what they did and was not served yet.
-ghost use Rattle.std.specs.Prelude.{◌≡◌, ◌↔◌, ◌+◌, ◌<◌, ◌≤◌, ℕ, ◌∷◌, [], length, Some, IsTrue, MatchOption};
-ghost use Rattle.std.specs.Prelude.{IfOk, IfSome, OnOk, OnSome};
+ghost use Rattle.std.specs.Prelude.{◌≡◌, ◌≢◌, ◌↔◌, ◌+◌, ◌-◌, ◌^◌, ◌<◌, ◌≤◌, ℕ, ◌∷◌, [], length, Some, IsSome, IsTrue, MatchOption};
+ghost use Rattle.std.specs.Prelude.{false, true, IfOk, IfSome, OnOk, OnSome};
 ghost use Rattle.slab.specs.Slab.{get, slab_len};
-ghost use Rattle.mio_clients.specs.Connections.{IsVacant, IsAt, IsAlone, IsAdmitted, IsFull, IsFailedAt};
+ghost use Rattle.mio_clients.specs.Connections.{ConnectionsState, IsVacant, IsAt, IsAlone, IsAdmitted, IsFull, IsFailedAt, client_limit};
 ghost use Rattle.mio_clients.specs.Events.{asked_by_event, without};
 ghost use Rattle.mio_clients.specs.Grouping.{group_len, group_limit};
 ghost use Rattle.mio_clients.specs.Waiting.{StaysQuiet};
 ghost use Rattle.mio_clients.specs.Later.{no_bytes, no_requests, bytes_for, Loses};
 ghost use Rattle.mio_clients.specs.Leaving.{AllFollow, IsFollowed};
+ghost use Rattle.mio_clients.specs.Yielding.{IsFound, IsFoundBelow, IsHeardAt, MayYield, NowWaits, WasGiven};
 
 use crate::CLIENT_LIMIT;
 use crate::client::{Client, Reading, Writing};
 use crate::event::ClientEvent;
 use crate::queue::EventQueue;
 use crate::ready::Ready;
-use crate::slots::{drop_slot, queue_slot, read_slot, release_slot, watch_slot, write_slot};
+use crate::slots::{
+    drop_slot, queue_slot, read_slot, release_slot, wait_slot, watch_slot, write_slot,
+};
 use crate::stream::Stream;
 use slab::Slab;
 use std::alloc::{AllocError, Global};
@@ -30,6 +33,8 @@ pub(crate) struct Connections<S> {
     // The clients that were let go of since the last turn. They are closed at its end.
     left: Vec<Client<S>>,
     gone: Snapshot<Vec<Client<S>>>,
+    // The time of the turn, in milliseconds by the listener's clock.
+    time: u64,
 }
 
 impl<S> Model for Connections<S> {
@@ -46,6 +51,7 @@ impl<S> Model for Connections<S> {
       left = c.left.items;
       places = vec_capacity c.left - vec_len c.left;
       gone = c.gone.value.items;
+      time = c.time;
     } };
 
     ghost invariant = { λ c. AreConnections c.clients c.queue c.last_id (vec_capacity c.left - vec_len c.left) };
@@ -73,6 +79,7 @@ impl<S: Stream> Connections<S> {
             last_id: 0,
             left,
             gone,
+            time: 0,
         })
     }
 
@@ -83,11 +90,79 @@ impl<S: Stream> Connections<S> {
         self.clients.len() >= CLIENT_LIMIT || self.last_id == u64::MAX
     }
 
+    /// Whether the numbers of clients are spent.
+    pub(crate) fn is_spent(&self) -> bool
+        ensures { IsTrue result ↔ (self.now.last_id ≡ 2 ^ 64 - 1) }
+    {
+        self.last_id == u64::MAX
+    }
+
     /// One more than the greatest key.
     pub(crate) fn capacity(&self) -> usize
         ensures { result ≡ self.now.clients.capacity }
     {
         self.clients.capacity()
+    }
+
+    /// Sets the time of the turn.
+    pub(crate) fn set_time(&mut self, now: u64)
+        ensures { self.new ≡ record self.old { time = now } }
+    {
+        self.time = now;
+    }
+
+    // When the client at a key was active last.
+    fn last_active_at(&self, key: usize) -> u64
+        ensures { IfSome (get self.now.clients key) (λ client. result ≡ client.last_active) }
+    {
+        match self.clients.get(key) {
+            Some(client) => client.last_active,
+            None => 0,
+        }
+    }
+
+    /// For how many milliseconds nothing came of the client at a key, and it was given nothing.
+    pub(crate) fn silence_at(&self, key: usize) -> u64 {
+        self.time.saturating_sub(self.last_active_at(key))
+    }
+
+    // Whether a client may give way to another.
+    fn may_yield(&self, client: &Client<S>) -> bool
+        ensures { IsTrue result ↔ MayYield S.remote self.now client.now }
+    {
+        client.is_silent(self.time) && !self.queue.has_request_of(client.id)
+    }
+
+    /// The client that was silent for longest, of those that may give way to another.
+    pub(crate) fn longest_silent(&self) -> Option<usize>
+        ensures { IsFound S.remote self.now result }
+    {
+        let mut found = None;
+        for key in 0..self.clients.capacity() {
+            found = self.longest_of(found, key);
+        }
+        found
+    }
+
+    // The longer silent one of what was found at the keys before and the client at this key.
+    fn longest_of(&self, found: Option<usize>, key: usize) -> Option<usize>
+        requires { IsFoundBelow S.remote self.now key found }
+        ensures { IsFoundBelow S.remote self.now (key + 1) result }
+    {
+        let Some(client) = self.clients.get(key) else {
+            return found;
+        };
+        if !self.may_yield(client) {
+            return found;
+        }
+        let Some(other) = found else {
+            return Some(key);
+        };
+        if self.last_active_at(other) <= client.last_active {
+            found
+        } else {
+            Some(key)
+        }
     }
 
     /// How many events wait.
@@ -184,12 +259,27 @@ impl<S: Stream> Connections<S> {
         requires places { slab_len self.old.clients + 1 ≤ self.old.places }
         requires not_full { ¬ IsFull self.old }
         ensures admitted { IsAdmitted stream self.old self.new }
+        ensures len { slab_len self.new.clients ≡ slab_len self.old.clients + 1 }
         ensures later { IsFollowed S.remaining S.contents no_bytes no_requests self.old self.new }
     {
         self.last_id += 1;
         self.queue.connect(self.last_id);
-        let client = Client::new(alloc, self.last_id, stream);
+        let client = Client::new(alloc, self.last_id, stream, self.time);
         let _key = self.clients.insert_reserved(client);
+    }
+
+    /// Lets go of the client at a key, and takes another one in.
+    pub(crate) fn replace(&mut self, alloc: Global, key: usize, stream: S)
+        requires room { slab_len self.old.clients + 2 ≤ self.old.room }
+        requires places { slab_len self.old.clients + 1 ≤ self.old.places }
+        requires there { IsSome (get self.old.clients key) }
+        requires unspent { self.old.last_id ≢ 2 ^ 64 - 1 }
+        ensures replaced { (between : ConnectionsState S) × Loses key self.old between × IsAdmitted stream between self.new }
+        ensures len { slab_len self.new.clients ≡ slab_len self.old.clients }
+        ensures later { IsFollowed S.remaining S.contents no_bytes no_requests self.old self.new }
+    {
+        self.remove(key);
+        self.admit(alloc, stream);
     }
 
     /// Where the client of this number is.
@@ -210,6 +300,10 @@ impl<S: Stream> Connections<S> {
     /// Lets go of the client at a key. Its last event is gathered, unless the daemon has closed it itself.
     pub(crate) fn remove(&mut self, key: usize)
         ensures loses { Loses key self.old self.new }
+        ensures len { IsSome (get self.old.clients key) → slab_len self.new.clients + 1 ≡ slab_len self.old.clients }
+        ensures few { IsSome (get self.old.clients key) → slab_len self.new.clients + 1 ≤ client_limit }
+        ensures room { slab_len self.old.clients + 2 ≤ self.old.room → slab_len self.new.clients + 2 ≤ self.new.room }
+        ensures places { slab_len self.old.clients + 1 ≤ self.old.places → slab_len self.new.clients + 1 ≤ self.new.places }
         ensures quiet { StaysQuiet self.old.events self.new.events }
         ensures later { AllFollow S.remaining S.contents no_bytes no_requests self.old self.new }
     {
@@ -234,26 +328,39 @@ impl<S: Stream> Connections<S> {
         buffer: &mut [u8],
     ) -> Option<Reading>
         ensures later { AllFollow S.remaining S.contents no_bytes no_requests self.old self.new }
+        ensures heard { IsHeardAt S.remaining key self.old self.new }
         ensures failed { result ≡ Some Reading.Failed → IsFailedAt S.remaining S.contents S.failed key self.old self.new }
     {
-        let reading = read_slot(alloc, &mut self.clients, key, buffer, &mut self.queue);
+        let reading = read_slot(
+            alloc,
+            &mut self.clients,
+            key,
+            buffer,
+            &mut self.queue,
+            self.time,
+        );
         if is_refused(reading) {
             drop_slot(&mut self.clients, &mut self.queue, &mut self.left, key);
         }
         reading
     }
 
-    /// Queues bytes for the client of this number. It is let go of where they are too many, or where memory was refused.
-    pub(crate) fn give(&mut self, id: u64, bytes: &[u8])
+    /// Queues bytes for the client of this number. It is let go of where they are too many, or where memory was refused: then `false`.
+    pub(crate) fn give(&mut self, id: u64, bytes: &[u8]) -> bool
+        ensures active { WasGiven id bytes.now self.old self.new }
         ensures later { AllFollow S.remaining S.contents (bytes_for id bytes.now) no_requests self.old self.new }
         ensures quiet { StaysQuiet self.old.events self.new.events }
+        ensures vacant { result ≡ false → IsVacant self.new id }
+        ensures stays { result ≡ true → IsVacant self.new id → IsVacant self.old id }
     {
         let Some(key) = self.find(id) else {
-            return;
+            return true;
         };
-        if !queue_slot(&mut self.clients, key, bytes) {
+        let is_queued = queue_slot(&mut self.clients, key, bytes, self.time);
+        if !is_queued {
             drop_slot(&mut self.clients, &mut self.queue, &mut self.left, key);
         }
+        is_queued
     }
 
     /// Has the client of this number closed, once what is queued for it is sent: the daemon knows of it no more.
@@ -272,6 +379,17 @@ impl<S: Stream> Connections<S> {
         ensures same { self.new ≡ record self.old { events = without id self.old.events; room = self.new.room } }
     {
         self.queue.forget(id);
+    }
+
+    /// A request of the client of this number is served: it waits until it is given something.
+    pub(crate) fn await_answer(&mut self, id: u64)
+        ensures waits { NowWaits id self.old self.new }
+        ensures later { AllFollow S.remaining S.contents no_bytes no_requests self.old self.new }
+        ensures events { self.new.events ≡ self.old.events }
+    {
+        if let Some(key) = self.find(id) {
+            wait_slot(&mut self.clients, key);
+        }
     }
 
     /// Whether the first event that waits is a request of this client.

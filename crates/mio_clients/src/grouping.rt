@@ -8,7 +8,7 @@ ghost use Rattle.mio_clients.specs.Events.{asked_by_event};
 ghost use Rattle.mio_clients.specs.Waiting.{StaysQuiet};
 ghost use Rattle.mio_clients.specs.Later.{no_bytes, no_requests};
 ghost use Rattle.mio_clients.specs.Leaving.{AllFollow};
-ghost use Rattle.mio_clients.specs.Parts.{asked_of, bytes_in, goes_on_behind_front, stage_event_of, Serves};
+ghost use Rattle.mio_clients.specs.Parts.{asked_of, bytes_in, goes_on_behind, stage_event_of, Serves};
 
 use crate::clients::{Clients, Sending};
 use crate::event::ClientEvent;
@@ -37,7 +37,8 @@ impl GroupRoom {
         requires few { count ≤ group_limit }
         requires room { vec_len parts.old < vec_capacity parts.old }
         ensures parts { parts.new.items ≡ parts.old.items }
-        ensures left { MatchOption result (vec_len parts.new < vec_capacity parts.new) (λ _. vec_len parts.new + count < vec_capacity parts.new) }
+        ensures left { MatchOption result (vec_len parts.new < vec_capacity parts.new)
+            (λ _. vec_len parts.new + count < vec_capacity parts.new) }
         ensures empty { IfSome result (λ room. (room.events.items ≡ []) × (room.clients.items ≡ [])) }
         ensures events { IfSome result (λ room. count ≤ vec_capacity room.events) }
         ensures clients { IfSome result (λ room. count ≤ vec_capacity room.clients) }
@@ -81,9 +82,9 @@ fn handed_back(event: Event) -> Option<ClientEvent>
     }
 }
 
-// Whether the turn goes on behind a group that was refused.
-fn goes_on_behind(error: StageError) -> bool
-    ensures { result ≡ goes_on_behind_front error }
+// Whether the turn goes on behind requests that were refused.
+pub(crate) fn goes_on_behind(error: StageError) -> bool
+    ensures { result ≡ goes_on_behind error }
 {
     matches!(error, StageError::NoMemory | StageError::NumbersSpent)
 }
@@ -126,9 +127,10 @@ impl<S: Stream, L: Listener<S>, P: Ready<S>> Clients<S, L, P> {
                 let answered = turns.len();
                 let begun = count - rest.len();
                 self.put_back_all(rest);
-                self.queue_group(alloc, before, turns, parts);
-                self.send_all();
-                let (begun_by, _) = clients.as_slice().split_at(begun);
+                let asked = clients.as_slice();
+                self.queue_group(alloc, before, turns, asked, parts);
+                self.send_given();
+                let (begun_by, _) = asked.split_at(begun);
                 let (_, refused) = begun_by.split_at(answered);
                 self.drop_each(refused);
                 (Some(begun), pass)
@@ -141,7 +143,7 @@ impl<S: Stream, L: Listener<S>, P: Ready<S>> Clients<S, L, P> {
                 if goes_on_behind(error) {
                     return (Some(begun), pass);
                 }
-                parts.push_reserved(Part::Refused(error.number()));
+                parts.push_reserved(Part::Refused(error));
                 (None, pass)
             }
         }
@@ -190,12 +192,13 @@ impl<S: Stream, L: Listener<S>, P: Ready<S>> Clients<S, L, P> {
         }
     }
 
-    // Queues the answers of a group for their clients, and adds their parts.
+    // Queues the answers of a group for their clients, who asked for them in this order, and adds their parts.
     fn queue_group<D: Disk>(
         &mut self,
         alloc: Global,
         before: Outbox,
         turns: Vec<Turn<D>>,
+        clients: &[u64],
         parts: &mut Vec<Part<D>>,
     )
         requires room { vec_len parts.old + length turns.items < vec_capacity parts.old }
@@ -205,9 +208,10 @@ impl<S: Stream, L: Listener<S>, P: Ready<S>> Clients<S, L, P> {
         ensures room { vec_len parts.new < vec_capacity parts.new }
     {
         let mut before = before;
+        let mut clients = clients.iter();
         for turn in turns {
             let served = Served { before, turn };
-            self.give_served(&served, Sending::Together);
+            self.give_served(&served, clients.next().copied(), Sending::Together);
             parts.push_reserved(Part::Served(served));
             before = Outbox::empty(alloc);
         }

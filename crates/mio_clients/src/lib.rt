@@ -37,5 +37,8 @@ const CALL_LIMIT: u32 = 65_536;
 /// How many events are served together, at most.
 const GROUP_LIMIT: usize = 64;
 
+/// For how many milliseconds a client that gives way to another was silent at least: an hour.
+pub const YIELD_AFTER: u64 = 3_600_000;
+
 /// How many bytes are read at once, at most.
 const READ_SIZE: usize = 1_024;

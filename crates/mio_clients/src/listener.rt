@@ -5,4 +5,10 @@ use std::io;
 pub trait Listener<S>: Drop {
     /// The next connection; `WouldBlock` where none waits.
     fn accept(&mut self) -> io::Result<S>;
+
+    /// The time, in milliseconds since some moment: it is asked once in a turn of the loop, behind the wait, and never goes back.
+    fn now(&mut self) -> u64;
+
+    /// Is told that the client of this number gave way to another, after it was silent for so many milliseconds.
+    fn gave_way(&mut self, client: u64, silence: u64);
 }

@@ -17,6 +17,8 @@ pub struct MemStream<R, W> {
     pub output: W,
     /// A call has failed.
     pub failed: bool,
+    /// It is as one that came over a network.
+    pub remote: bool,
 }
 
 impl<R, W> MemStream<R, W> {
@@ -25,6 +27,7 @@ impl<R, W> MemStream<R, W> {
             input,
             output,
             failed: false,
+            remote: false,
         }
     }
 }
@@ -42,6 +45,12 @@ impl<R: Read + Drop, W: Write + Drop> Stream for MemStream<R, W> {
     ghost contents = { λ s. W.contents s.output };
 
     ghost failed = { λ s. s.failed };
+
+    ghost remote = { λ s. s.remote };
+
+    fn is_remote(&self) -> bool {
+        self.remote
+    }
 
     fn read(&mut self, buf: &mut [u8]) -> io::Result<usize> {
         match self.input.read(buf) {
@@ -64,21 +73,35 @@ impl<R: Read + Drop, W: Write + Drop> Stream for MemStream<R, W> {
     }
 }
 
-/// Clients that wait to connect.
+/// Clients that wait to connect, and a clock that is set by hand.
 #[derive(Drop)]
 pub struct MemListener<S> {
     waiting: VecDeque<S>,
+    now: u64,
+    yielded: Option<(u64, u64)>,
 }
 
 impl<S> MemListener<S> {
     pub fn new(alloc: Global) -> Self {
         MemListener {
             waiting: VecDeque::new(alloc),
+            now: 0,
+            yielded: None,
         }
     }
 }
 
 impl<S: Drop> MemListener<S> {
+    /// Has so many milliseconds pass.
+    pub fn pass_time(&mut self, milliseconds: u64) {
+        self.now = self.now.saturating_add(milliseconds);
+    }
+
+    /// The client that gave way last since this was asked, and for how many milliseconds it had sent nothing.
+    pub fn take_yielded(&mut self) -> Option<(u64, u64)> {
+        self.yielded.take()
+    }
+
     /// Has a client wait.
     pub fn connect(&mut self, stream: S) -> Result<(), AllocError> {
         self.waiting.push_back(stream)?;
@@ -92,6 +115,14 @@ impl<S: Drop> Listener<S> for MemListener<S> {
             Some(stream) => Ok(stream),
             None => Err(io::Error::from(ErrorKind::WouldBlock)),
         }
+    }
+
+    fn now(&mut self) -> u64 {
+        self.now
+    }
+
+    fn gave_way(&mut self, client: u64, silence: u64) {
+        self.yielded = Some((client, silence));
     }
 }
 

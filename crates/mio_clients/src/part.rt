@@ -1,5 +1,5 @@
 // What a turn of the loop answers, part by part.
-use stage_workers::{Outbox, Served};
+use stage_workers::{Outbox, Served, StageError};
 
 /// What a turn of the loop came to, part by part.
 #[derive(Drop)]
@@ -8,7 +8,7 @@ pub enum Part<D> {
     Served(Served<D>),
     /// What events of the player and of scans left for the clients, behind the events that were served.
     Collected(Outbox),
-    /// The last part: an event was refused with this number, 42 or 44, or one that is no request with 43 or 49; or there was no
-    /// memory for a further part, 43. What was not served stays gathered, but a request that was refused: its client is let go of.
-    Refused(u8),
+    /// The last part: an event was refused by 42 or 44, or one that is no request by 43 or 49; or there was no memory for a further
+    /// part, 43. What was not served stays gathered, but a request that was refused: its client is let go of.
+    Refused(StageError),
 }

@@ -1,6 +1,6 @@
 // Events that wait to be served.
 ghost use Rattle.std.specs.Prelude.{◌≡◌, ◌+◌, ◌-◌, ◌<◌, ◌≤◌, ◌∷◌, ◌++◌, [], length, IfSome, MatchOption, OnOk, OnErr};
-ghost use Rattle.mio_clients.specs.Events.{asked_by, is_request_of, without};
+ghost use Rattle.mio_clients.specs.Events.{asked_by, has_request_of, is_request_of, without};
 ghost use Rattle.mio_clients.specs.Grouping.{group_len, group_limit, place_of};
 
 use crate::GROUP_LIMIT;
@@ -116,6 +116,7 @@ impl EventQueue {
         requires { 0 < self.old.spare }
         ensures events { self.new.events ≡ self.old.events ++ ClientEvent.Gone client ∷ [] }
         ensures spare { self.new.spare + 1 ≡ self.old.spare }
+        ensures room { self.new.room + 1 ≡ self.old.room }
     {
         self.spare -= 1;
         self.events.push_back_reserved(ClientEvent::Gone(client));
@@ -126,6 +127,7 @@ impl EventQueue {
         requires { 0 < self.old.spare }
         ensures events { self.new.events ≡ self.old.events }
         ensures spare { self.new.spare + 1 ≡ self.old.spare }
+        ensures room { self.new.room ≡ self.old.room }
     {
         self.spare -= 1;
     }
@@ -171,11 +173,15 @@ impl EventQueue {
     }
 
     /// Whether a request of this client waits. All events are looked at where none does.
-    pub(crate) fn has_request_of(&self, client: u64) -> bool {
-        for event in self.events.iter() {
+    pub(crate) fn has_request_of(&self, client: u64) -> bool
+        ensures { result ≡ has_request_of client self.now.events }
+    {
+        let mut place = 0;
+        while let Some(event) = self.events.get(place) {
             if is_request_of(event, client) {
                 return true;
             }
+            place += 1;
         }
         false
     }

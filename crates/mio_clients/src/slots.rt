@@ -1,8 +1,10 @@
 // One client where it stands.
-ghost use Rattle.std.specs.Prelude.{◌≡◌, ◌≢◌, ◌≤◌, ◌-◌, ◌++◌, ℕ, [], None, Some, true, vec_len, vec_capacity, IsTrue, IsSome, IfSome, IfNone, IsSomeAnd};
+ghost use Rattle.std.specs.Prelude.{◌≡◌, ◌≢◌, ◌+◌, ◌≤◌, ◌-◌, ◌++◌, ℕ, [], None, Some, true, vec_len, vec_capacity};
+ghost use Rattle.std.specs.Prelude.{IsTrue, IsSome, IfSome, IfNone, IsSomeAnd};
 ghost use Rattle.std.specs.Option.{option_to_list};
 ghost use Rattle.slab.specs.Slab.{get, slab_len};
 ghost use Rattle.mio_clients.specs.Given.{Moves};
+ghost use Rattle.mio_clients.specs.Yielding.{active_at, still_waits, IsHeard};
 ghost use Rattle.mio_clients.specs.Connections.{ReadsInPart, IsSameElsewhere, IsMovedAt, IsReadAt, IsToldGone};
 
 use crate::client::{Client, Reading, Writing};
@@ -31,13 +33,14 @@ pub(crate) fn write_slot<S: Stream>(clients: &mut Slab<Client<S>>, key: usize) -
 
 // Reads of the client at this key what is there, unless something is queued for it or it is to be closed. After `Refused` it is not to be
 // used any more.
-#[tactic(auto, using(crate::proofs::ConnectionLaws::len_with_value, crate::proofs::GivenLaws::reads_flag, crate::proofs::GivenLaws::part_flag, crate::proofs::GivenLaws::reads_none, crate::proofs::GivenLaws::moves_itself))]
+#[tactic(auto, using(crate::proofs::ConnectionLaws::len_with_value, crate::proofs::GivenLaws::reads_flag, crate::proofs::GivenLaws::part_flag, crate::proofs::GivenLaws::reads_none, crate::proofs::GivenLaws::moves_itself, crate::proofs::YieldLaws::heard_itself))]
 pub(crate) fn read_slot<S: Stream>(
     alloc: Global,
     clients: &mut Slab<Client<S>>,
     key: usize,
     buffer: &mut [u8],
     queue: &mut EventQueue,
+    now: u64,
 ) -> Option<Reading>
     requires unrefused { IfSome (get clients.old key) (λ client. client.session.closed ≡ None) }
     ensures elsewhere { IsSameElsewhere key clients.old clients.new }
@@ -45,6 +48,7 @@ pub(crate) fn read_slot<S: Stream>(
     ensures read { IfSome result (λ r. r ≢ Reading.Refused
         → IsReadAt S.remaining S.contents key clients.old clients.new queue.old.events queue.new.events) }
     ensures there { IfSome result (λ _. IsSome (get clients.old key)) }
+    ensures heard { IsMovedAt (IsHeard S.remaining now) key clients.old clients.new }
     ensures failed { result ≡ Some Reading.Failed → IsSomeAnd (get clients.new key) (λ client. S.failed client.stream ≡ true) }
     ensures refused { result ≡ Some Reading.Refused
         → IsMovedAt (λ x y. ReadsInPart S.remaining S.contents x y queue.old.events queue.new.events) key clients.old clients.new }
@@ -56,7 +60,7 @@ pub(crate) fn read_slot<S: Stream>(
             if client.is_closing || client.session.queued_len() > 0 {
                 return None;
             }
-            let reading = client.read_ready(alloc, buffer, queue);
+            let reading = client.read_ready(alloc, buffer, queue, now);
             client.has_more = reading.is_more();
             Some(reading)
         }
@@ -65,15 +69,38 @@ pub(crate) fn read_slot<S: Stream>(
 
 // Queues bytes for the client at this key. Where that is refused, it is not to be used any more.
 #[tactic(auto, using(crate::proofs::ConnectionLaws::len_with_value))]
-pub(crate) fn queue_slot<S: Stream>(clients: &mut Slab<Client<S>>, key: usize, bytes: &[u8]) -> bool
+pub(crate) fn queue_slot<S: Stream>(
+    clients: &mut Slab<Client<S>>,
+    key: usize,
+    bytes: &[u8],
+    now: u64,
+) -> bool
     ensures elsewhere { IsSameElsewhere key clients.old clients.new }
-    ensures session { IsMovedAt (λ x y. y ≡ record x { session = y.session }) key clients.old clients.new }
-    ensures queued { IsTrue result → IsMovedAt (λ x y. y ≡ record x { session = record x.session { queued = x.session.queued ++ bytes.now } })
-        key clients.old clients.new }
+    ensures session { IsMovedAt (λ x y. y ≡ record x {
+      session = y.session;
+      is_waiting = still_waits bytes.now x;
+      last_active = active_at now bytes.now x;
+    }) key clients.old clients.new }
+    ensures queued { IsTrue result → IsMovedAt (λ x y. y ≡ record x {
+      session = record x.session { queued = x.session.queued ++ bytes.now };
+      is_waiting = still_waits bytes.now x;
+      last_active = active_at now bytes.now x;
+    }) key clients.old clients.new }
 {
     match clients.get_mut(key) {
         None => false,
-        Some(client) => client.session.queue(bytes).is_ok(),
+        Some(client) => client.give(bytes, now),
+    }
+}
+
+// A request of the client at this key is served.
+#[tactic(auto, using(crate::proofs::ConnectionLaws::len_with_value))]
+pub(crate) fn wait_slot<S: Stream>(clients: &mut Slab<Client<S>>, key: usize)
+    ensures elsewhere { IsSameElsewhere key clients.old clients.new }
+    ensures moved { IsMovedAt (λ x y. y ≡ record x { is_waiting = true }) key clients.old clients.new }
+{
+    if let Some(client) = clients.get_mut(key) {
+        client.is_waiting = true;
     }
 }
 
@@ -125,6 +152,10 @@ pub(crate) fn drop_slot<S: Stream>(
     ensures places { slab_len clients.new ≤ vec_capacity left.new - vec_len left.new }
     ensures spare { queue.new.spare ≡ slab_len clients.new }
     ensures fewer { slab_len clients.new ≤ slab_len clients.old }
+    ensures len { IsSome (get clients.old key) → slab_len clients.new + 1 ≡ slab_len clients.old }
+    ensures room { slab_len clients.old + 2 ≤ queue.old.room → slab_len clients.new + 2 ≤ queue.new.room }
+    ensures free { slab_len clients.old + 1 ≤ vec_capacity left.old - vec_len left.old
+        → slab_len clients.new + 1 ≤ vec_capacity left.new - vec_len left.new }
     ensures capacity { clients.new.capacity ≡ clients.old.capacity }
 {
     let Some(client) = clients.try_remove(key) else {

@@ -1,8 +1,8 @@
 //! Streams, a listener and readiness over the TCP and Unix sockets of `mio`.
+ghost use Rattle.std.specs.Prelude.{◌≡◌, IfOk, false, true};
 ghost use Rattle.std.specs.Io.{ReadsAtMost};
 
 use crate::CLIENT_LIMIT;
-use crate::listener::Listener;
 use crate::memory::is_fault;
 use crate::ready::{Interest, Ready, Token};
 use crate::stream::Stream;
@@ -76,10 +76,14 @@ pub struct Socket {
     // It is registered for writing too.
     writes: bool,
     failed: bool,
+    // It is one of TCP.
+    is_remote: bool,
 }
 
 impl Socket {
-    fn new(link: Link) -> Self {
+    fn new(link: Link, is_remote: bool) -> Self
+        ensures remote { result.is_remote ≡ is_remote }
+    {
         Socket {
             link,
             taken: 0,
@@ -89,12 +93,19 @@ impl Socket {
             has_ended: false,
             writes: false,
             failed: false,
+            is_remote,
         }
     }
 }
 
 impl Stream for Socket {
     ghost failed = { λ s. s.failed };
+
+    ghost remote = { λ s. s.is_remote };
+
+    fn is_remote(&self) -> bool {
+        self.is_remote
+    }
 
     fn read(&mut self, buf: &mut [u8]) -> io::Result<usize> {
         self.rests = self.taken >= READ_BUDGET;
@@ -143,28 +154,31 @@ impl SocketListener {
     }
 
     // The next connection of the TCP socket.
-    fn accept_tcp(&self) -> io::Result<Socket> {
+    fn accept_tcp(&self) -> io::Result<Socket>
+        ensures remote { IfOk result (λ socket. socket.is_remote ≡ true) }
+    {
         let Some(listener) = &self.tcp else {
             return Err(io::Error::from(ErrorKind::WouldBlock));
         };
         let (stream, _address) = listener.accept()?;
         // Answers are short, and each is written at once. A connection for which this can't be had serves as well, but slower.
         let _set = stream.set_nodelay(true);
-        Ok(Socket::new(Link::Tcp(stream)))
+        Ok(Socket::new(Link::Tcp(stream), true))
     }
 
     // The next connection of the Unix socket.
-    fn accept_unix(&self) -> io::Result<Socket> {
+    fn accept_unix(&self) -> io::Result<Socket>
+        ensures remote { IfOk result (λ socket. socket.is_remote ≡ false) }
+    {
         let Some(listener) = &self.unix else {
             return Err(io::Error::from(ErrorKind::WouldBlock));
         };
         let (stream, _address) = listener.accept()?;
-        Ok(Socket::new(Link::Unix(stream)))
+        Ok(Socket::new(Link::Unix(stream), false))
     }
-}
 
-impl Listener<Socket> for SocketListener {
-    fn accept(&mut self) -> io::Result<Socket> {
+    /// The next connection; `WouldBlock` where none waits.
+    pub fn accept(&mut self) -> io::Result<Socket> {
         match self.accept_tcp() {
             Err(error) if error.kind() == ErrorKind::WouldBlock => self.accept_unix(),
             accepted => accepted,

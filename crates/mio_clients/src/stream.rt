@@ -1,5 +1,5 @@
 // What a client's connection can do.
-ghost use Rattle.std.specs.Prelude.{◌≡◌, ◌≢◌, ℕ, ◌≤◌, List, [], length, drop, Option, None, Bool, true, Ok, IfOk, IfErr, OnErr};
+ghost use Rattle.std.specs.Prelude.{◌≡◌, ◌≢◌, ℕ, ◌≤◌, List, [], length, drop, Option, None, Bool, true, false, Ok, IfOk, IfErr, OnErr};
 ghost use Rattle.std.specs.Io.{ReadsAtMost};
 ghost use Rattle.std.specs.Io.KnownBytes.{Keeps, ReadConsumes, append_known};
 ghost use Rattle.std.specs.IoError.{error_kind};
@@ -17,6 +17,12 @@ pub trait Stream: Drop {
     ghost contents: { Self → Option (List ℕ) } = { λ _. None };
     // Whether a call has failed.
     ghost failed: { Self → Bool };
+    // Whether it came over a network.
+    ghost remote: { Self → Bool } = { λ _. false };
+
+    /// Whether it came over a network: its client may be gone without a word.
+    fn is_remote(&self) -> bool
+        ensures { result ≡ remote self.now };
 
     /// Reads into the buffer, as `std::io::Read::read` does: 0 where the client sends nothing more. It writes nothing.
     fn read(&mut self, buf: &mut [u8]) -> io::Result<usize>

@@ -8,15 +8,15 @@ ghost use Rattle.mio_clients.specs.Later.{no_bytes, no_requests, IsLater};
 ghost use Rattle.mio_clients.specs.Leaving.{AllFollow, AllLeave};
 ghost use Rattle.mio_clients.specs.Parts.{bytes_in, requests_in, served_count, refuses, RefusesLast, IsServedAll};
 ghost use Rattle.mio_clients.specs.Parts.{sent_by, sent_by_all, sent_by_served, asked_of, IsKeptOf, IsKeptAs, KeepsNoRequest, Serves};
-ghost use Rattle.mio_clients.specs.Parts.{stage_event_of, goes_on_behind};
+ghost use Rattle.mio_clients.specs.Parts.{asker_of, stage_event_of, goes_on_with};
+ghost use Rattle.mio_clients.specs.Yielding.{NowWaits};
 
 use crate::clients::{Clients, Sending};
 use crate::event::ClientEvent;
-use crate::grouping::GroupRoom;
+use crate::grouping::{GroupRoom, goes_on_behind};
 use crate::listener::Listener;
 use crate::part::Part;
 use crate::ready::Ready;
-use crate::refusal::ClientsError;
 use crate::stream::Stream;
 use daemon_core::{Event, Output};
 use disk_model::Disk;
@@ -32,6 +32,18 @@ enum Kept {
     Event(ClientEvent),
     // A request is lost, and its client with it.
     Client(u64),
+}
+
+impl Kept {
+    // The client that has asked for the event.
+    fn asker(&self) -> Option<u64>
+        ensures { result ≡ asker_of self.now }
+    {
+        match self {
+            Kept::Event(_) => None,
+            Kept::Client(client) => Some(*client),
+        }
+    }
 }
 
 impl ClientEvent {
@@ -67,7 +79,7 @@ impl<S: Stream, L: Listener<S>, P: Ready<S>> Clients<S, L, P> {
         alloc: Global,
         stage: &SharedStage<D, C, Q, T>,
         pass: Pass<C, Q, T>,
-    ) -> Result<(Vec<Part<D>>, Pass<C, Q, T>), (u8, Pass<C, Q, T>)>
+    ) -> Result<(Vec<Part<D>>, Pass<C, Q, T>), (StageError, Pass<C, Q, T>)>
         // Of each client that is connected in the end: the bytes that it was given in the parts, and its requests that they carry.
         ensures later { IfOk result (λ r. IsLater S.remaining S.contents (bytes_in r.0.items) (requests_in r.0.items) self.old self.new) }
         // Of each client that was let go of, and of those that were not there: the bytes that it took, and its requests that were served.
@@ -78,13 +90,13 @@ impl<S: Stream, L: Listener<S>, P: Ready<S>> Clients<S, L, P> {
         ensures refused { IfOk result (λ r. RefusesLast r.0.items) }
         // Where nothing is refused, no request stays gathered.
         ensures all { IfOk result (λ r. IsServedAll r.0.items self.new.events) }
-        ensures err { IfErr result (λ e. (e.0 ≡ 43) × (e.1 ≡ pass) × (self.new ≡ self.old)) }
+        ensures err { IfErr result (λ e. (e.0 ≡ StageError.NoMemory) × (e.1 ≡ pass) × (self.new ≡ self.old)) }
     {
         let mut parts = Vec::new(alloc);
         if parts.reserve(1).is_err() {
-            return Err((ClientsError::NoMemory.number(), pass));
+            return Err((StageError::NoMemory, pass));
         }
-        self.close_left();
+        self.begin_turn();
         self.gather(alloc);
         let pass = self.serve_all(rt, alloc, stage, pass, &mut parts);
         self.send_all();
@@ -190,7 +202,7 @@ impl<S: Stream, L: Listener<S>, P: Ready<S>> Clients<S, L, P> {
         ensures room { result.0 ≡ true → vec_len parts.new < vec_capacity parts.new }
     {
         if parts.reserve(2).is_err() {
-            parts.push_reserved(Part::Refused(ClientsError::NoMemory.number()));
+            parts.push_reserved(Part::Refused(StageError::NoMemory));
             return (false, pass);
         }
         let Some(event) = self.pop() else {
@@ -199,7 +211,7 @@ impl<S: Stream, L: Listener<S>, P: Ready<S>> Clients<S, L, P> {
         let (event, kept) = event.handed_over();
         match stage.serve(rt, alloc, pass, event) {
             Ok((served, pass)) => {
-                self.give_served(&served, Sending::AtOnce);
+                self.give_served(&served, kept.asker(), Sending::AtOnce);
                 parts.push_reserved(Part::Served(served));
                 (true, pass)
             }
@@ -207,7 +219,7 @@ impl<S: Stream, L: Listener<S>, P: Ready<S>> Clients<S, L, P> {
                 if self.keep(error, kept) {
                     return (true, pass);
                 }
-                parts.push_reserved(Part::Refused(error.number()));
+                parts.push_reserved(Part::Refused(error));
                 (false, pass)
             }
         }
@@ -219,7 +231,7 @@ impl<S: Stream, L: Listener<S>, P: Ready<S>> Clients<S, L, P> {
         requires room { slab_len self.old.clients + 1 ≤ self.old.room }
         requires no_request { KeepsNoRequest kept }
         ensures kept { IsKeptAs S.remaining S.contents kept self.old self.new }
-        ensures goes_on { result ≡ goes_on_behind error kept }
+        ensures goes_on { result ≡ goes_on_with error kept }
         ensures quiet { result ≡ true → StaysQuiet self.old.events self.new.events }
     {
         match kept {
@@ -229,7 +241,7 @@ impl<S: Stream, L: Listener<S>, P: Ready<S>> Clients<S, L, P> {
             }
             Kept::Client(client) => {
                 self.drop_client(client);
-                matches!(error, StageError::NoMemory | StageError::NumbersSpent)
+                goes_on_behind(error)
             }
         }
     }
@@ -264,12 +276,29 @@ impl<S: Stream, L: Listener<S>, P: Ready<S>> Clients<S, L, P> {
         }
     }
 
-    // Gives what an event came to, and closes the clients that it closed.
-    pub(crate) fn give_served<D: Disk>(&mut self, served: &Served<D>, sending: Sending)
+    // Where a client has asked for something that is served, it waits until it is given something.
+    fn await_asker(&mut self, asker: Option<u64>)
+        ensures waits { IfSome asker (λ client. NowWaits client self.old self.new) }
+        ensures later { AllFollow S.remaining S.contents no_bytes no_requests self.old self.new }
+        ensures events { self.new.events ≡ self.old.events }
+    {
+        if let Some(client) = asker {
+            self.await_answer(client);
+        }
+    }
+
+    // Gives what an event came to, for which this client has asked, if one has, and closes the clients that it closed.
+    pub(crate) fn give_served<D: Disk>(
+        &mut self,
+        served: &Served<D>,
+        asker: Option<u64>,
+        sending: Sending,
+    )
         ensures later { AllFollow S.remaining S.contents (sent_by_served served.now) no_requests self.old self.new }
         ensures quiet { StaysQuiet self.old.events self.new.events }
     {
         self.give_outbox(&served.before, sending);
+        self.await_asker(asker);
         self.give_outputs(served.turn.outputs(), sending);
         self.release_each(served.turn.closes());
     }

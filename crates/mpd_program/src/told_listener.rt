@@ -1,24 +1,38 @@
 // Where clients connect, with a line on standard error where they can't.
-use crate::error_lines::LoopLog;
+use crate::error_lines::{LoopLog, TakenLog, WatchedLines};
 use log::{Log, warn};
 use mio_clients::{Listener, Socket, SocketListener};
 use std::io::{self, ErrorKind};
+use std::time::{Duration, Instant};
 
 /// Listening sockets that say why a client can't be accepted: once, until no client waits any more. Whoever wants to connect waits
-/// meanwhile.
+/// meanwhile. They say too which client gave way to another.
 #[derive(Drop)]
 pub struct ToldListener<'a> {
     log: LoopLog<'a>,
+    lines: WatchedLines,
     sockets: SocketListener,
     is_told: bool,
+    // When they were made, and how many milliseconds had passed since when that was last asked.
+    began: Option<Instant>,
+    now: u64,
+}
+
+// A duration in milliseconds.
+fn milliseconds(passed: Duration) -> u64 {
+    let seconds = passed.as_secs().saturating_mul(1_000);
+    seconds.saturating_add(u64::from(passed.subsec_millis()))
 }
 
 impl<'a> ToldListener<'a> {
     pub fn new(rt: &'a HostRuntime, sockets: SocketListener) -> Self {
         ToldListener {
             log: LoopLog { rt },
+            lines: WatchedLines::new(rt),
             sockets,
             is_told: false,
+            began: Instant::now(rt).ok(),
+            now: 0,
         }
     }
 }
@@ -33,10 +47,27 @@ impl Listener<Socket> for ToldListener<'_> {
                 _ if self.is_told => {}
                 _ => {
                     self.is_told = true;
-                    warn!(self.log; "clients wait, none can be accepted: {error}");
+                    if self.lines.takes_line() {
+                        warn!(TakenLog { rt: self.log.rt }; "clients wait, none can be accepted: {error}");
+                    }
                 }
             }
         }
         accepted
+    }
+
+    fn now(&mut self) -> u64 {
+        // Where the clock can't be read, the last time stands.
+        if let Some(began) = &self.began {
+            if let Ok(passed) = began.elapsed(self.log.rt) {
+                self.now = milliseconds(passed);
+            }
+        }
+        self.now
+    }
+
+    fn gave_way(&mut self, client: u64, silence: u64) {
+        let minutes = silence / 60_000;
+        warn!(self.log; "client {client} gave its place to another: nothing came of it for {minutes} minutes");
     }
 }

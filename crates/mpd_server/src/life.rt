@@ -116,7 +116,7 @@ fn play<D: Disk, C: Ledger, P: Ledger, S: Ledger, F: Folder, W: Write, K: Wake, 
         wake,
     };
     let pass = player_worker(&worker, pass, &OpenGate, &mut sources, &mut output);
-    ends.player_ended();
+    ends.player_ended(rt);
     (pass, sources, output)
 }
 
@@ -138,7 +138,7 @@ fn read<D: Disk, C: Ledger, P: Ledger, S: Ledger, F: Folder, K: Wake, R: Wait + 
     };
     let folder = TalliedFolder::new(rt, folder);
     let (pass, folder) = scan_worker(&worker, pass, folder, &orders);
-    ends.scan_ended();
+    ends.scan_ended(rt);
     (pass, folder.into_files())
 }
 
@@ -260,7 +260,7 @@ where
             } else {
                 // A scan's thread ends where nobody is left who could send it an order.
                 drop(jobs);
-                ends.none_begun(player.is_none(), scan.is_none());
+                ends.none_begun(rt, player.is_none(), scan.is_none());
                 (Turns::none(), mine)
             };
             stage.close(rt);

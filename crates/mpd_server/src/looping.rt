@@ -6,15 +6,10 @@ use disk_model::Disk;
 use live_stage::Receipt;
 use log::{Log, warn};
 use mio_clients::{Clients, Listener, Part, Ready, Stream};
-use stage_workers::{Pass, SharedStage};
+use stage_workers::{Pass, SharedStage, StageError};
 use std::alloc::Global;
 use std::sync::Wait;
 use std::sync::ledger::Ledger;
-
-// Numbers of refusals.
-const BROKEN: u8 = 42;
-
-const NO_MEMORY: u8 = 43;
 
 /// What the turns of a loop came to so far.
 #[derive(Clone, Copy, Debug)]
@@ -50,22 +45,21 @@ impl Turns {
                     self.is_ended |= served.turn.ended();
                 }
                 Part::Collected(_) => {}
-                Part::Refused(number) => self.refused(rt, *number),
+                Part::Refused(error) => self.refused(rt, *error),
             }
         }
     }
 
-    // An event was refused: for want of memory (43) it is served by a later turn, else the loop ends. A disk fault (42) is told later.
-    fn refused<R: Log>(&mut self, rt: &R, number: u8) {
-        if number == NO_MEMORY {
-            return;
+    // An event was refused: for want of memory it is served by a later turn, else the loop ends. A disk fault is told later.
+    fn refused<R: Log>(&mut self, rt: &R, error: StageError) {
+        match error {
+            StageError::NoMemory => {}
+            StageError::Broken => self.is_faulted = true,
+            StageError::Rewound { .. } | StageError::NumbersSpent => {
+                warn!(rt; "event refused: {}", error.number());
+                self.is_ended = true;
+            }
         }
-        if number == BROKEN {
-            self.is_faulted = true;
-            return;
-        }
-        warn!(rt; "event refused: {number}");
-        self.is_ended = true;
     }
 }
 

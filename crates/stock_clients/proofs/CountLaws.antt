@@ -1,5 +1,5 @@
 -- How many requests wait behind the daemon's lines: never more than before.
-use Rattle.std.proofs.Common.{◌≡◌, ℕ, ◌+◌, ◌≤◌, ◌==◌, Bool, true, false, cond, List, [], ◌∷◌, ◌++◌, length, Option, Some, None, refl, subst, sym, arith}
+use Rattle.std.proofs.Common.{◌≡◌, ℕ, ◌+◌, ◌≤◌, ◌==◌, Bool, true, false, cond, List, [], ◌∷◌, ◌++◌, length, Option, Some, None, refl, arith}
 use Rattle.std.proofs.Common.{length-append}
 use Rattle.client_session.specs.Lines.{newline, ended}
 use Rattle.stock_requests.specs.Steps.{after_step, After}

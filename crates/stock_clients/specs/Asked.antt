@@ -11,7 +11,6 @@ use Rattle.stock_requests.specs.declared.change.Translation.TheVariants.{Same, S
 use Rattle.stock_requests.specs.declared.change.Change.{Change}
 use Rattle.stock_requests.specs.declared.change.Ending.{Ending}
 use Rattle.stock_requests.specs.declared.change.Ending.TheVariants.{Nothing, Text, Times, Tags, Masks}
-use Rattle.stock_requests.specs.declared.change.Natives.{Natives}
 use Rattle.stock_requests.specs.declared.steps.Steps.{Steps}
 use Rattle.stock_clients.specs.declared.asking.Noticed.{Noticed}
 use Rattle.stock_clients.specs.declared.awaited.Awaited.{Awaited}

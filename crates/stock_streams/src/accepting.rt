@@ -36,6 +36,14 @@ impl<S: Stream, L: Listener<S>, C: TellsTimes + Copy> Listener<StockStream<S, C>
         }
         Ok(StockStream::plain(stream))
     }
+
+    fn now(&mut self) -> u64 {
+        self.listener.now()
+    }
+
+    fn gave_way(&mut self, client: u64, silence: u64) {
+        self.listener.gave_way(client, silence);
+    }
 }
 
 /// What tells of such clients, by what tells of their streams.

@@ -55,6 +55,12 @@ fn is_fault(kind: ErrorKind) -> bool
 impl<S: Stream, C: TellsTimes> Stream for StockStream<S, C> {
     ghost failed = { λ s. s.has_failed };
 
+    ghost remote = { λ s. S.remote s.stream };
+
+    fn is_remote(&self) -> bool {
+        self.stream.is_remote()
+    }
+
     fn read(&mut self, buf: &mut [u8]) -> io::Result<usize> {
         let read = match &mut self.translated {
             None => self.stream.read(buf),

@@ -8,7 +8,7 @@ pub returns-in-Ok-clause-reads : goal.returns-in-Ok-clause-reads
 returns-in-Ok-clause-reads g c =
     let a = c.args.self.now in
     let b = c.take_or_close.new.self in
-    let m : Client g.row.S.Denot = record a { stream = c.read.new.self } in
+    let m : Client g.row.S.Denot = record a { stream = c.read.new.self; last_active = c.args.now } in
     let piece = take c.in-Ok.count c.read.new.buf in
     let remaining = g.S.Stream.remaining in
     let contents = g.S.Stream.contents in
@@ -25,7 +25,7 @@ pub returns-in-Ok-clause-refused : goal.returns-in-Ok-clause-refused
 returns-in-Ok-clause-refused g c =
     let a = c.args.self.now in
     let b = c.take_or_close.new.self in
-    let m : Client g.row.S.Denot = record a { stream = c.read.new.self } in
+    let m : Client g.row.S.Denot = record a { stream = c.read.new.self; last_active = c.args.now } in
     let piece = take c.in-Ok.count c.read.new.buf in
     let remaining = g.S.Stream.remaining in
     let contents = g.S.Stream.contents in

@@ -1,6 +1,17 @@
 use Rattle.std.proofs.Common.{inl, inr}
 use Rattle.mio_clients.proofs.GivenLaws.{read_and_looked, part_looked}
+use Rattle.mio_clients.proofs.YieldLaws.{heard_looked}
 use Rattle.mio_clients.proofs.client.Client.read_ready.Goals as goal
+
+pub returns-then-is_more-clause-heard : goal.returns-then-is_more-clause-heard
+returns-then-is_more-clause-heard g c =
+    heard_looked g.S.Stream.remaining c.args.now c.args.self.now c.read_often-reading.new.self c.take_or_close-taken.new.self
+    c.read_often-reading.ensures.heard c.take_or_close-taken.ensures.same
+
+pub returns-else-is_more-clause-heard : goal.returns-else-is_more-clause-heard
+returns-else-is_more-clause-heard g c =
+    heard_looked g.S.Stream.remaining c.args.now c.args.self.now c.read_often-reading.new.self c.take_or_close-taken.new.self
+    c.read_often-reading.ensures.heard c.take_or_close-taken.ensures.same
 
 pub returns-then-is_more-clause-reads : goal.returns-then-is_more-clause-reads
 returns-then-is_more-clause-reads g c =

@@ -1,17 +1,17 @@
-use Rattle.std.proofs.Common.{◌≡◌, subst, sym, inl, inr, refl, ◌∙◌}
+use Rattle.std.proofs.Common.{◌≡◌, List, subst, sym, inl, inr, refl, ◌∙◌}
 use Rattle.mio_clients.specs.Connections.{ConnectionsState, IsFull}
-use Rattle.mio_clients.specs.Later.{Accepts, no_bytes, no_requests}
+use Rattle.mio_clients.specs.Later.{no_bytes, no_requests}
 use Rattle.mio_clients.specs.Leaving.{IsFollowed}
-use Rattle.mio_clients.proofs.LaterLaws.{accepts_none}
 use Rattle.mio_clients.proofs.FollowLaws.{later_itself, later_room, later_more, later_roomy}
-use Rattle.mio_clients.proofs.AcceptLaws.{accepts_twice, accepts_room, accepts_roomy, full_room, refused_is}
+use Rattle.mio_clients.specs.Yielding.{AcceptsAll}
+use Rattle.mio_clients.proofs.AcceptLaws.{accepts_begun, accepts_made, accepts_next, full_room, refused_is}
 use Rattle.mio_clients.proofs.clients.Clients.accept_all.Goals as goal
 use Rattle.mio_clients.proofs.clients.Clients.accept_all.Goals.{in-Ok+then-not-admit, in-Ok+else-not-admit, in-Err+in-Interrupted}
 
 pub loop-call-init : goal.loop-call-init
 loop-call-init g c = record {
   later = later_itself g.S.Stream.remaining g.S.Stream.contents c.self.inside.connections;
-  accepted = accepts_none g.S.Stream.remaining g.S.Stream.contents c.self.inside.connections;
+  accepted = accepts_begun g.S.Stream.remote c.self.inside.connections;
   full = inl refl;
 }
 
@@ -29,9 +29,9 @@ pub returns-then-is_err-clause-accepted : goal.returns-then-is_err-clause-accept
 returns-then-is_err-clause-accepted g c =
     let made : c.reserve.new.self ≡ record c.loop-call.self { room = c.reserve.new.self.room; places = c.reserve.new.self.places } =
     subst (λ (s : ConnectionsState g.row.S.Denot). c.reserve.new.self ≡ record s { room = c.reserve.new.self.room; places = c.reserve.new.self.places }) c.self-in-loop-call.view_is c.reserve.ensures.same in
-    accepts_twice c.args.self.now c.loop-call.self c.reserve.new.self
-    (subst (λ (s : ConnectionsState g.row.S.Denot). Accepts s c.loop-call.self) c.self.view_is c.loop-call.invariant.accepted)
-    (accepts_room c.loop-call.self c.reserve.new.self made)
+    subst (λ (s : ConnectionsState g.row.S.Denot). (ways : List (g.row.S.Denot × ConnectionsState g.row.S.Denot × ConnectionsState g.row.S.Denot)) × AcceptsAll g.S.Stream.remote ways s c.reserve.new.self) c.self.view_is
+    (accepts_made g.S.Stream.remote c.loop-call.invariant.accepted.0 c.self.inside.connections c.loop-call.self c.reserve.new.self
+    c.loop-call.invariant.accepted.1 made)
 
 pub returns-in_default : goal.returns-in_default
 returns-in_default g c =
@@ -43,9 +43,9 @@ returns-in_default g c =
       later = later_more rem con c.args.self.now c.loop-call.self c.reserve.new.self
           (subst (λ (s : ConnectionsState g.row.S.Denot). IsFollowed rem con no_bytes no_requests s c.loop-call.self) c.self.view_is c.loop-call.invariant.later)
           (later_room rem con c.loop-call.self c.reserve.new.self made);
-      accepted = accepts_twice c.args.self.now c.loop-call.self c.reserve.new.self
-          (subst (λ (s : ConnectionsState g.row.S.Denot). Accepts s c.loop-call.self) c.self.view_is c.loop-call.invariant.accepted)
-          (accepts_room c.loop-call.self c.reserve.new.self made);
+      accepted = subst (λ (s : ConnectionsState g.row.S.Denot). (ways : List (g.row.S.Denot × ConnectionsState g.row.S.Denot × ConnectionsState g.row.S.Denot)) × AcceptsAll g.S.Stream.remote ways s c.reserve.new.self) c.self.view_is
+          (accepts_made g.S.Stream.remote c.loop-call.invariant.accepted.0 c.self.inside.connections c.loop-call.self c.reserve.new.self
+          c.loop-call.invariant.accepted.1 made);
       too_many = λ e. elim c.loop-call.invariant.full [
         | inl ok ↦ absurd (cc (e, ok))
         | inr full ↦ full_room c.loop-call.self c.reserve.new.self made full.1
@@ -67,15 +67,15 @@ loop-call-preserved g c =
       | in-Ok+then-not-admit w ↦ record {
         later = subst (λ (s : ConnectionsState g.row.S.Denot). IsFollowed rem con no_bytes no_requests a s) (sym w.self-is)
             (later_roomy rem con a b m w.admit.new.self made i.later w.admit.ensures.later);
-        accepted = subst (λ (s : ConnectionsState g.row.S.Denot). Accepts a s) (sym w.self-is)
-            (accepts_roomy a b m w.admit.new.self made i.accepted w.admit.ensures.accepted);
+        accepted = subst (λ (s : ConnectionsState g.row.S.Denot). (ways : List (g.row.S.Denot × ConnectionsState g.row.S.Denot × ConnectionsState g.row.S.Denot)) × AcceptsAll g.S.Stream.remote ways a s) (sym w.self-is)
+            (accepts_next g.S.Stream.remote i.accepted.0 _ a b m w.admit.new.self i.accepted.1 made w.admit.ensures.accepted);
         full = inr (w.result-is, subst (λ (s : ConnectionsState g.row.S.Denot). IsFull s) (sym w.self-is) (w.admit.ensures.full (inl w.if-not-admit.true)));
       }
       | in-Ok+else-not-admit w ↦ record {
         later = subst (λ (s : ConnectionsState g.row.S.Denot). IsFollowed rem con no_bytes no_requests a s) (sym w.self-is)
             (later_roomy rem con a b m w.admit.new.self made i.later w.admit.ensures.later);
-        accepted = subst (λ (s : ConnectionsState g.row.S.Denot). Accepts a s) (sym w.self-is)
-            (accepts_roomy a b m w.admit.new.self made i.accepted w.admit.ensures.accepted);
+        accepted = subst (λ (s : ConnectionsState g.row.S.Denot). (ways : List (g.row.S.Denot × ConnectionsState g.row.S.Denot × ConnectionsState g.row.S.Denot)) × AcceptsAll g.S.Stream.remote ways a s) (sym w.self-is)
+            (accepts_next g.S.Stream.remote i.accepted.0 _ a b m w.admit.new.self i.accepted.1 made w.admit.ensures.accepted);
         full = elim i.full [
           | inl ok ↦ inl (w.result-is ∙ ok)
           | inr full ↦ inr (
@@ -88,8 +88,8 @@ loop-call-preserved g c =
       | in-Err+in-Interrupted w ↦ record {
         later = subst (λ (s : ConnectionsState g.row.S.Denot). IsFollowed rem con no_bytes no_requests a s) (sym w.self-is)
             (later_more rem con a b m i.later (later_room rem con b m made));
-        accepted = subst (λ (s : ConnectionsState g.row.S.Denot). Accepts a s) (sym w.self-is)
-            (accepts_twice a b m i.accepted (accepts_room b m made));
+        accepted = subst (λ (s : ConnectionsState g.row.S.Denot). (ways : List (g.row.S.Denot × ConnectionsState g.row.S.Denot × ConnectionsState g.row.S.Denot)) × AcceptsAll g.S.Stream.remote ways a s) (sym w.self-is)
+            (accepts_made g.S.Stream.remote i.accepted.0 a b m i.accepted.1 made);
         full = elim i.full [
           | inl ok ↦ inl (w.result-is ∙ ok)
           | inr full ↦ inr (w.result-is ∙ full.0, subst (λ (s : ConnectionsState g.row.S.Denot). IsFull s) (sym w.self-is) (full_room b m made full.1))

@@ -14,20 +14,20 @@ loop-token-preserved g c =
     let rem = g.S.Stream.remaining in
     let con = g.S.Stream.contents in
     all_then_none rem con _ c.loop-token.self c.take_token.new.self no_bytes no_requests c.loop-token.invariant
-    (subst (λ (s : ConnectionsState g.row.S.Denot). AllFollow rem con no_bytes no_requests s c.take_token.new.self) c.self-in-loop-token.view_is c.take_token.ensures.later)
+    (subst (λ (s : ConnectionsState g.row.S.Denot). AllFollow rem con no_bytes no_requests s c.take_token.new.self) c.self.view_is c.take_token.ensures.later)
 
 pub returns-then-self : goal.returns-then-self
 returns-then-self g c =
     let rem = g.S.Stream.remaining in
     let con = g.S.Stream.contents in
-    let a : ConnectionsState g.row.S.Denot = c.self.inside.connections in
+    let a : ConnectionsState g.row.S.Denot = c.args.self.now in
     let b : ConnectionsState g.row.S.Denot = c.loop-token-test.self in
     let gathered : AllFollow rem con no_bytes no_requests a b =
     elim c.loop-token-test.branch [
       | else-loop-token-test w ↦ subst (λ (s : ConnectionsState g.row.S.Denot). AllFollow rem con no_bytes no_requests a s) (sym w.self-is) c.loop-token.invariant
       | then-loop-token-test+in_default w ↦ subst (λ (s : ConnectionsState g.row.S.Denot). AllFollow rem con no_bytes no_requests a s) (sym w.self-is)
-          (subst (λ (s : ConnectionsState g.row.S.Denot). AllFollow rem con no_bytes no_requests a s) (sym w.self-in-loop-token.view_is) c.loop-token.invariant)
+          (subst (λ (s : ConnectionsState g.row.S.Denot). AllFollow rem con no_bytes no_requests a s) (sym w.self.view_is) c.loop-token.invariant)
     ] in
     let later : IsFollowed rem con no_bytes no_requests a c.accept_all-refused.new.self =
     later_more rem con a b c.accept_all-refused.new.self (all_is_later rem con a b no_bytes no_requests gathered) c.accept_all-refused.ensures.later in
-    record { later = subst (λ (s : ConnectionsState g.row.S.Denot). IsFollowed rem con no_bytes no_requests s c.accept_all-refused.new.self) c.self.view_is later }
+    record { later = later }

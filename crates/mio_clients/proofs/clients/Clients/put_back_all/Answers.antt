@@ -1,4 +1,4 @@
-use Rattle.std.proofs.Common.{◌≡◌, ◌+◌, ◌∷◌, [], length, length-append, ap, arith, rules}
+use Rattle.std.proofs.Common.{◌≡◌, ◌∷◌, [], length, length-append, ap, arith, rules}
 use Rattle.mio_clients.proofs.GroupLaws.{asked_none_one, putting_begins, putting_ends, putting_more}
 use Rattle.mio_clients.proofs.clients.Clients.put_back_all.Goals as goal
 

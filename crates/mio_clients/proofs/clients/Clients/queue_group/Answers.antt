@@ -1,4 +1,4 @@
-use Rattle.std.proofs.Common.{◌≡◌, ◌∷◌, ◌++◌, [], List, ℕ, ◌∙◌, ap, subst, length, rules, arith}
+use Rattle.std.proofs.Common.{◌≡◌, ◌∷◌, ◌++◌, [], List, ◌∙◌, ap, subst, length, rules, arith}
 use Rattle.std.specs.Vec.Iter.{into_iter_items}
 use Rattle.daemon_core.specs.declared.outcome.Output.{Output}
 use Rattle.live_stage.specs.Answer.{Answer}

@@ -1,13 +1,10 @@
-use Rattle.std.proofs.Common.{◌≡◌, ◌+◌, ◌-◌, ◌≤◌, ◌++◌, ℕ, [], List, length, take, drop, sym, subst, ap, refl, inl, inr, ◌∙◌, append_assoc, rules, arith}
+use Rattle.std.proofs.Common.{◌≡◌, ◌-◌, ◌++◌, ℕ, [], List, length, take, drop, sym, ap, refl, ◌∙◌, append_assoc, rules, arith}
 use Rattle.daemon_core.specs.declared.event.Event.{Event}
 use Rattle.live_stage.specs.Group.{asked_by}
-use Rattle.mio_clients.specs.declared.part.Part.{Part}
-use Rattle.mio_clients.specs.declared.part.Part.TheVariants.{Refused}
 use Rattle.mio_clients.specs.Grouping.{group_limit}
-use Rattle.mio_clients.specs.Parts.{IsRefusal}
 use Rattle.mio_clients.proofs.GroupLaws.{answered_group, asked_by_len, asked_none_behind, group_quiet, parted_len, parted_lost, quiet_as, refused_group}
 use Rattle.mio_clients.proofs.GroupLaws.{some_len, some_of}
-use Rattle.mio_clients.proofs.TurnLaws.{serves_nothing, serves_refusal, stage_refusal}
+use Rattle.mio_clients.proofs.TurnLaws.{serves_nothing, serves_refusal}
 use Rattle.mio_clients.proofs.clients.Clients.serve_group.Goals as goal
 
 pub put_back_all-requires-clause-known : goal.put_back_all-requires-clause-known
@@ -54,13 +51,13 @@ returns-in-Ok-clause-serves g c =
     let first : c.len-answered.result ≡ length turns = search rules in
     let left : c.len.result ≡ length rest = search rules in
     answered_group g.S.Stream.remaining g.S.Stream.contents c.args.self.now c.take_group.new.self c.put_back_all.new.self
-    c.queue_group.new.self c.send_all.new.self c.drop_each.new.self all rest parts.0 c.take_group.new.clients.items
+    c.queue_group.new.self c.send_given.new.self c.drop_each.new.self all rest parts.0 c.take_group.new.clients.items
     c.split_at-in-Ok.result.1.now c.len-answered.result (c.args.count - c.len.result) c.in-Ok.group.before turns c.args.parts.now.items
     c.queue_group.new.parts.items c.args.pass c.in-Ok.pass c.take_group.ensures.takes c.put_back_all.ensures parts.1 first
     (omega (arith, left, c.take_group.ensures.count.0))
     (c.split_at-in-Ok.ensures.back ∙ ap (λ (l : List ℕ). drop c.len-answered.result l)
-    (c.split_at.ensures.front ∙ ap (λ (l : List ℕ). take (c.args.count - c.len.result) l) c.as_slice.ensures.value))
-    c.drop_each.ensures.gone c.queue_group.ensures.later c.send_all.ensures.later c.drop_each.ensures.later c.queue_group.ensures.parts
+    (c.split_at.ensures.front ∙ ap (λ (l : List ℕ). take (c.args.count - c.len.result) l) c.as_slice-asked.ensures.value))
+    c.drop_each.ensures.gone c.queue_group.ensures.later c.send_given.ensures.later c.drop_each.ensures.later c.queue_group.ensures.parts
     c.in-Ok.ensures.passed c.in-Ok.ensures.later
 
 pub returns-in-Ok-clause-some : goal.returns-in-Ok-clause-some
@@ -85,7 +82,7 @@ returns-in-Ok-clause-quiet g c =
     let many = c.take_group.ensures.count.0 in
     λ n some h.
     let k : ℕ = n - (c.args.count - c.len.result) in
-    c.drop_each.ensures.quiet k (c.send_all.ensures.quiet k (c.queue_group.ensures.quiet k
+    c.drop_each.ensures.quiet k (c.send_given.ensures.quiet k (c.queue_group.ensures.quiet k
     (quiet_as (n - (length all - length rest)) k c.put_back_all.new.self.events (omega (arith, many, left))
     (group_quiet group_limit c.args.self.now c.take_group.new.self c.put_back_all.new.self all rest c.take_group.new.clients.items
     c.take_group.ensures.takes c.put_back_all.ensures (many ∙ c.requires.count.0) (omega (arith, long)) n h))))
@@ -112,7 +109,7 @@ returns-then-goes_on_behind-clause-serves g c =
     (c.args.count - c.len-in-Err.result) c.take_group.ensures.takes c.put_back_all-in-Err.ensures c.in-Err.ensures.front.parted
     (omega (arith, left, c.take_group.ensures.count.0))
     (c.split_at-in-Err.ensures.front
-    ∙ ap (λ (l : List ℕ). take (c.args.count - c.len-in-Err.result) l) c.as_slice-in-Err.ensures.value)
+    ∙ ap (λ (l : List ℕ). take (c.args.count - c.len-in-Err.result) l) c.as_slice.ensures.value)
     c.drop_each-in-Err.ensures.gone c.drop_each-in-Err.ensures.later) refl c.in-Err.ensures.refused
 
 pub returns-then-goes_on_behind-clause-some : goal.returns-then-goes_on_behind-clause-some
@@ -144,12 +141,12 @@ returns-clause-serves g c =
     let all = c.take_group.new.events.items in
     let rest = c.in-Err.rest.items in
     let left : c.len-in-Err.result ≡ length rest = search rules in
-    serves_refusal g.S.Stream.remaining g.S.Stream.contents c.args.self.now c.drop_each-in-Err.new.self c.number.result c.args.parts.now.items
-    c.push_reserved.new.self.items c.args.pass c.in-Err.pass (subst IsRefusal (sym c.number.ensures) (stage_refusal c.in-Err.error))
+    serves_refusal g.S.Stream.remaining g.S.Stream.contents c.args.self.now c.drop_each-in-Err.new.self c.in-Err.error c.args.parts.now.items
+    c.push_reserved.new.self.items c.args.pass c.in-Err.pass
     (refused_group g.S.Stream.remaining g.S.Stream.contents c.args.self.now c.take_group.new.self c.put_back_all-in-Err.new.self
     c.drop_each-in-Err.new.self all rest c.in-Err.ensures.front.front c.take_group.new.clients.items c.split_at-in-Err.result.0.now
     (c.args.count - c.len-in-Err.result) c.take_group.ensures.takes c.put_back_all-in-Err.ensures c.in-Err.ensures.front.parted
     (omega (arith, left, c.take_group.ensures.count.0))
     (c.split_at-in-Err.ensures.front
-    ∙ ap (λ (l : List ℕ). take (c.args.count - c.len-in-Err.result) l) c.as_slice-in-Err.ensures.value)
+    ∙ ap (λ (l : List ℕ). take (c.args.count - c.len-in-Err.result) l) c.as_slice.ensures.value)
     c.drop_each-in-Err.ensures.gone c.drop_each-in-Err.ensures.later) c.push_reserved.ensures.items c.in-Err.ensures.refused

@@ -1,17 +1,17 @@
-use Rattle.std.proofs.Common.{refl, sym, subst, inl, inr, ◌∙◌, ap, List, ◌∷◌, [], ◌++◌}
+use Rattle.std.proofs.Common.{refl, sym, ◌∙◌, ap, List, ◌∷◌, [], ◌++◌}
 use Rattle.mio_clients.specs.declared.part.Part.{Part}
 use Rattle.mio_clients.specs.declared.part.Part.TheVariants.{Served, Refused}
-use Rattle.mio_clients.specs.Parts.{IsRefusal}
+use Rattle.stage_workers.specs.declared.refusal.StageError.TheVariants as errors
 use Rattle.mio_clients.proofs.FollowLaws.{all_itself}
-use Rattle.mio_clients.proofs.TurnLaws.{serves_refusal, serves_nothing, serves_one, all_as, all_kept, stage_refusal}
+use Rattle.mio_clients.proofs.TurnLaws.{serves_refusal, serves_nothing, serves_one, all_as, all_kept}
 use Rattle.mio_clients.proofs.clients.Clients.serve_next.Goals as goal
 
 pub returns-then-is_err-clause-serves : goal.returns-then-is_err-clause-serves
 returns-then-is_err-clause-serves g c =
-    serves_refusal g.S.Stream.remaining g.S.Stream.contents c.args.self.now c.args.self.now c.number.result c.args.parts.now.items
-    c.push_reserved.new.self.items c.args.pass c.args.pass (inr (inl c.number.ensures))
+    serves_refusal g.S.Stream.remaining g.S.Stream.contents c.args.self.now c.args.self.now errors.NoMemory c.args.parts.now.items
+    c.push_reserved.new.self.items c.args.pass c.args.pass
     (all_itself g.S.Stream.remaining g.S.Stream.contents c.args.self.now)
-    (c.push_reserved.ensures.items ∙ ap (λ (t : List (Part g.row.D.Denot)). t ++ Refused c.number.result ∷ []) c.reserve.ensures.items) refl
+    (c.push_reserved.ensures.items ∙ ap (λ (t : List (Part g.row.D.Denot)). t ++ Refused errors.NoMemory ∷ []) c.reserve.ensures.items) refl
 
 pub returns-in_default-clause-serves : goal.returns-in_default-clause-serves
 returns-in_default-clause-serves g c =
@@ -38,11 +38,10 @@ returns-then-keep-clause-serves g c =
 
 pub returns-else-keep-clause-serves : goal.returns-else-keep-clause-serves
 returns-else-keep-clause-serves g c =
-    serves_refusal g.S.Stream.remaining g.S.Stream.contents c.args.self.now c.keep.new.self c.number-in-Err.result c.args.parts.now.items
+    serves_refusal g.S.Stream.remaining g.S.Stream.contents c.args.self.now c.keep.new.self c.in-Err.error c.args.parts.now.items
     c.push_reserved-in-Err.new.self.items c.args.pass c.in-Err.pass
-    (subst IsRefusal (sym c.number-in-Err.ensures) (stage_refusal c.in-Err.error))
     (all_kept g.S.Stream.remaining g.S.Stream.contents c.args.self.now c.pop.new.self c.keep.new.self c.in-Some.event
     c.handed_over-event.result.1 c.in-Some.ensures.same c.in-Some.ensures.event c.handed_over-event.ensures.kept c.keep.ensures.kept)
     (c.push_reserved-in-Err.ensures.items
-    ∙ ap (λ (t : List (Part g.row.D.Denot)). t ++ Refused c.number-in-Err.result ∷ []) c.reserve.ensures.items)
+    ∙ ap (λ (t : List (Part g.row.D.Denot)). t ++ Refused c.in-Err.error ∷ []) c.reserve.ensures.items)
     c.in-Err.ensures.refused

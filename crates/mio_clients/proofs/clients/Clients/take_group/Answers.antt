@@ -1,4 +1,4 @@
-use Rattle.std.proofs.Common.{◌≡◌, ◌∙◌, ap, length, length-append, rules, arith, vec_len}
+use Rattle.std.proofs.Common.{◌≡◌, ◌∙◌, ap, length, rules, arith, vec_len}
 use Rattle.slab.specs.Slab.{slab_len}
 use Rattle.mio_clients.specs.Connections.{ConnectionsState}
 use Rattle.mio_clients.specs.Grouping.{asked_of_all, group_limit}

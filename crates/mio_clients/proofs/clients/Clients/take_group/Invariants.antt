@@ -1,4 +1,4 @@
-use Rattle.std.proofs.Common.{◌≡◌, ◌+◌, ◌-◌, ◌<◌, ◌≤◌, ◌++◌, ℕ, [], length, vec_len, vec_capacity}
+use Rattle.std.proofs.Common.{◌≡◌, ◌+◌, ◌-◌, ◌<◌, ◌≤◌, ℕ, [], length, vec_len, vec_capacity}
 use Rattle.slab.specs.Slab.{slab_len}
 use Rattle.mio_clients.specs.Grouping.{TakesGroup, asked_of_all}
 use Rattle.mio_clients.proofs.clients.Clients.take_group.Given as goal

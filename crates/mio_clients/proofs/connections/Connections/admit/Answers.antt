@@ -25,7 +25,7 @@ invariant_of-self g c =
 pub returns-clause-admitted : goal.returns-clause-admitted
 returns-clause-admitted g c =
     let e = c.insert_reserved-key.ensures in
-    let b : ConnectionsState g.row.S.Denot = record { clients = c.insert_reserved-key.new.self; events = c.connect.new.self.events; last_id = c.self.inside.last_id + 1; room = c.connect.new.self.room; left = c.self.inside.left.items; places = vec_capacity c.self.inside.left - vec_len c.self.inside.left; gone = c.self.inside.gone.value.items } in
+    let b : ConnectionsState g.row.S.Denot = record { clients = c.insert_reserved-key.new.self; events = c.connect.new.self.events; last_id = c.self.inside.last_id + 1; room = c.connect.new.self.room; left = c.self.inside.left.items; places = vec_capacity c.self.inside.left - vec_len c.self.inside.left; gone = c.self.inside.gone.value.items; time = c.self.inside.time } in
     subst (λ (s : ConnectionsState g.row.S.Denot). IsAdmitted c.args.stream s b) c.self.view_is (record {
       key = c.insert_reserved-key.result;
       client = c.new-client.result;
@@ -35,6 +35,7 @@ returns-clause-admitted g c =
       last_id = refl;
       accepted = c.new-client.ensures.stream;
       session = c.new-client.ensures.session;
+      active = c.new-client.ensures.last_active;
       gathered = c.connect.ensures.events;
     })
 
@@ -43,8 +44,8 @@ returns-clause-later g c =
     let rem = g.S.Stream.remaining in
     let con = g.S.Stream.contents in
     let e = c.insert_reserved-key.ensures in
-    let a : ConnectionsState g.row.S.Denot = record { clients = c.self.inside.clients; events = c.self.inside.queue.events; last_id = c.self.inside.last_id; room = c.self.inside.queue.room; left = c.self.inside.left.items; places = vec_capacity c.self.inside.left - vec_len c.self.inside.left; gone = c.self.inside.gone.value.items } in
-    let b : ConnectionsState g.row.S.Denot = record { clients = c.insert_reserved-key.new.self; events = c.connect.new.self.events; last_id = c.self.inside.last_id + 1; room = c.connect.new.self.room; left = c.self.inside.left.items; places = vec_capacity c.self.inside.left - vec_len c.self.inside.left; gone = c.self.inside.gone.value.items } in
+    let a : ConnectionsState g.row.S.Denot = record { clients = c.self.inside.clients; events = c.self.inside.queue.events; last_id = c.self.inside.last_id; room = c.self.inside.queue.room; left = c.self.inside.left.items; places = vec_capacity c.self.inside.left - vec_len c.self.inside.left; gone = c.self.inside.gone.value.items; time = c.self.inside.time } in
+    let b : ConnectionsState g.row.S.Denot = record { clients = c.insert_reserved-key.new.self; events = c.connect.new.self.events; last_id = c.self.inside.last_id + 1; room = c.connect.new.self.room; left = c.self.inside.left.items; places = vec_capacity c.self.inside.left - vec_len c.self.inside.left; gone = c.self.inside.gone.value.items; time = c.self.inside.time } in
     let admitted : IsAdmitted c.args.stream a b = (record {
       key = c.insert_reserved-key.result;
       client = c.new-client.result;
@@ -54,6 +55,7 @@ returns-clause-later g c =
       last_id = refl;
       accepted = c.new-client.ensures.stream;
       session = c.new-client.ensures.session;
+      active = c.new-client.ensures.last_active;
       gathered = c.connect.ensures.events;
     }) in
     subst (λ (s : ConnectionsState g.row.S.Denot). IsFollowed rem con no_bytes no_requests s b) c.self.view_is (later_admitted rem con c.args.stream a b admitted c.self.invariant.none_later refl)

@@ -8,14 +8,16 @@ use Rattle.mio_clients.specs.Later.{no_bytes, no_requests}
 use Rattle.mio_clients.specs.Leaving.{AllFollow}
 use Rattle.mio_clients.proofs.LaterLaws.{are_after, none_moved, none_added, told_quiet, some_is, read_some, read_quiet, failed_at}
 use Rattle.mio_clients.proofs.FollowLaws.{all_moved, all_lost, moved_there}
+use Rattle.mio_clients.specs.Yielding.{IsHeardAt}
+use Rattle.mio_clients.proofs.YieldLaws.{heard_moved}
 use Rattle.mio_clients.proofs.connections.Connections.read_at.Goals as goal
 
 pub invariant_of-self : goal.invariant_of-self
 invariant_of-self g c =
     let rem = g.S.Stream.remaining in
     let con = g.S.Stream.contents in
-    let a : ConnectionsState g.row.S.Denot = record { clients = c.self.inside.clients; events = c.self.inside.queue.events; last_id = c.self.inside.last_id; room = c.self.inside.queue.room; left = c.self.inside.left.items; places = vec_capacity c.self.inside.left - vec_len c.self.inside.left; gone = c.self.inside.gone.value.items } in
-    let b : ConnectionsState g.row.S.Denot = record { clients = c.drop_slot.new.clients; events = c.drop_slot.new.queue.events; last_id = c.self.inside.last_id; room = c.drop_slot.new.queue.room; left = c.drop_slot.new.left.items; places = vec_capacity c.drop_slot.new.left - vec_len c.drop_slot.new.left; gone = c.self.inside.gone.value.items } in
+    let a : ConnectionsState g.row.S.Denot = record { clients = c.self.inside.clients; events = c.self.inside.queue.events; last_id = c.self.inside.last_id; room = c.self.inside.queue.room; left = c.self.inside.left.items; places = vec_capacity c.self.inside.left - vec_len c.self.inside.left; gone = c.self.inside.gone.value.items; time = c.self.inside.time } in
+    let b : ConnectionsState g.row.S.Denot = record { clients = c.drop_slot.new.clients; events = c.drop_slot.new.queue.events; last_id = c.self.inside.last_id; room = c.drop_slot.new.queue.room; left = c.drop_slot.new.left.items; places = vec_capacity c.drop_slot.new.left - vec_len c.drop_slot.new.left; gone = c.self.inside.gone.value.items; time = c.self.inside.time } in
     let inv = c.self.invariant in
     let r = c.read_slot-reading.ensures in
     let e = c.drop_slot.ensures in
@@ -34,8 +36,8 @@ pub invariant_of-self-else-is_refused : goal.invariant_of-self-else-is_refused
 invariant_of-self-else-is_refused g c =
     let rem = g.S.Stream.remaining in
     let con = g.S.Stream.contents in
-    let a : ConnectionsState g.row.S.Denot = record { clients = c.self.inside.clients; events = c.self.inside.queue.events; last_id = c.self.inside.last_id; room = c.self.inside.queue.room; left = c.self.inside.left.items; places = vec_capacity c.self.inside.left - vec_len c.self.inside.left; gone = c.self.inside.gone.value.items } in
-    let b : ConnectionsState g.row.S.Denot = record { clients = c.read_slot-reading.new.clients; events = c.read_slot-reading.new.queue.events; last_id = c.self.inside.last_id; room = c.read_slot-reading.new.queue.room; left = c.self.inside.left.items; places = vec_capacity c.self.inside.left - vec_len c.self.inside.left; gone = c.self.inside.gone.value.items } in
+    let a : ConnectionsState g.row.S.Denot = record { clients = c.self.inside.clients; events = c.self.inside.queue.events; last_id = c.self.inside.last_id; room = c.self.inside.queue.room; left = c.self.inside.left.items; places = vec_capacity c.self.inside.left - vec_len c.self.inside.left; gone = c.self.inside.gone.value.items; time = c.self.inside.time } in
+    let b : ConnectionsState g.row.S.Denot = record { clients = c.read_slot-reading.new.clients; events = c.read_slot-reading.new.queue.events; last_id = c.self.inside.last_id; room = c.read_slot-reading.new.queue.room; left = c.self.inside.left.items; places = vec_capacity c.self.inside.left - vec_len c.self.inside.left; gone = c.self.inside.gone.value.items; time = c.self.inside.time } in
     let inv = c.self.invariant in
     let r = c.read_slot-reading.ensures in
     let moved = read_some rem con c.read_slot-reading.result c.args.key a.clients b.clients a.events b.events r.idle r.read (λ h. absurd (cc (c.is_refused.ensures.1 h, c.if-is_refused.false))) in
@@ -49,8 +51,8 @@ pub returns-then-is_refused : goal.returns-then-is_refused
 returns-then-is_refused g c =
     let rem = g.S.Stream.remaining in
     let con = g.S.Stream.contents in
-    let a : ConnectionsState g.row.S.Denot = record { clients = c.self.inside.clients; events = c.self.inside.queue.events; last_id = c.self.inside.last_id; room = c.self.inside.queue.room; left = c.self.inside.left.items; places = vec_capacity c.self.inside.left - vec_len c.self.inside.left; gone = c.self.inside.gone.value.items } in
-    let b : ConnectionsState g.row.S.Denot = record { clients = c.drop_slot.new.clients; events = c.drop_slot.new.queue.events; last_id = c.self.inside.last_id; room = c.drop_slot.new.queue.room; left = c.drop_slot.new.left.items; places = vec_capacity c.drop_slot.new.left - vec_len c.drop_slot.new.left; gone = c.self.inside.gone.value.items } in
+    let a : ConnectionsState g.row.S.Denot = record { clients = c.self.inside.clients; events = c.self.inside.queue.events; last_id = c.self.inside.last_id; room = c.self.inside.queue.room; left = c.self.inside.left.items; places = vec_capacity c.self.inside.left - vec_len c.self.inside.left; gone = c.self.inside.gone.value.items; time = c.self.inside.time } in
+    let b : ConnectionsState g.row.S.Denot = record { clients = c.drop_slot.new.clients; events = c.drop_slot.new.queue.events; last_id = c.self.inside.last_id; room = c.drop_slot.new.queue.room; left = c.drop_slot.new.left.items; places = vec_capacity c.drop_slot.new.left - vec_len c.drop_slot.new.left; gone = c.self.inside.gone.value.items; time = c.self.inside.time } in
     let inv = c.self.invariant in
     let r = c.read_slot-reading.ensures in
     let e = c.drop_slot.ensures in
@@ -63,6 +65,8 @@ returns-then-is_refused g c =
     refl inv.known quiet (e.left ∙ ap (λ (o : Option (Client g.row.S.Denot)). a.left ++ option_to_list o) at.3) in
     record {
       later = subst (λ (s : ConnectionsState g.row.S.Denot). AllFollow rem con no_bytes no_requests s b) c.self.view_is on;
+      heard = subst (λ (s : ConnectionsState g.row.S.Denot). IsHeardAt rem c.args.key s b) c.self.view_is
+          (λ x y was is. absurd (cc (e.gone, is)));
       failed = λ is. absurd (cc (is, refused));
     }
 
@@ -70,8 +74,8 @@ pub returns-else-is_refused : goal.returns-else-is_refused
 returns-else-is_refused g c =
     let rem = g.S.Stream.remaining in
     let con = g.S.Stream.contents in
-    let a : ConnectionsState g.row.S.Denot = record { clients = c.self.inside.clients; events = c.self.inside.queue.events; last_id = c.self.inside.last_id; room = c.self.inside.queue.room; left = c.self.inside.left.items; places = vec_capacity c.self.inside.left - vec_len c.self.inside.left; gone = c.self.inside.gone.value.items } in
-    let b : ConnectionsState g.row.S.Denot = record { clients = c.read_slot-reading.new.clients; events = c.read_slot-reading.new.queue.events; last_id = c.self.inside.last_id; room = c.read_slot-reading.new.queue.room; left = c.self.inside.left.items; places = vec_capacity c.self.inside.left - vec_len c.self.inside.left; gone = c.self.inside.gone.value.items } in
+    let a : ConnectionsState g.row.S.Denot = record { clients = c.self.inside.clients; events = c.self.inside.queue.events; last_id = c.self.inside.last_id; room = c.self.inside.queue.room; left = c.self.inside.left.items; places = vec_capacity c.self.inside.left - vec_len c.self.inside.left; gone = c.self.inside.gone.value.items; time = c.self.inside.time } in
+    let b : ConnectionsState g.row.S.Denot = record { clients = c.read_slot-reading.new.clients; events = c.read_slot-reading.new.queue.events; last_id = c.self.inside.last_id; room = c.read_slot-reading.new.queue.room; left = c.self.inside.left.items; places = vec_capacity c.self.inside.left - vec_len c.self.inside.left; gone = c.self.inside.gone.value.items; time = c.self.inside.time } in
     let inv = c.self.invariant in
     let r = c.read_slot-reading.ensures in
     let moved = read_some rem con c.read_slot-reading.result c.args.key a.clients b.clients a.events b.events r.idle r.read (λ h. absurd (cc (c.is_refused.ensures.1 h, c.if-is_refused.false))) in
@@ -79,6 +83,8 @@ returns-else-is_refused g c =
     let on = all_moved rem con _ a b c.args.key moved (λ x y reads. reads) inv.distinct r.elsewhere.others refl still refl in
     record {
       later = subst (λ (s : ConnectionsState g.row.S.Denot). AllFollow rem con no_bytes no_requests s b) c.self.view_is on;
+      heard = subst (λ (s : ConnectionsState g.row.S.Denot). IsHeardAt rem c.args.key s b) c.self.view_is
+          (λ x y was is. heard_moved rem c.self.inside.time (get a.clients c.args.key) (get b.clients c.args.key) x y r.heard was is);
       failed = λ is. subst (λ (s : ConnectionsState g.row.S.Denot). IsFailedAt rem con g.S.Stream.failed c.args.key s b) c.self.view_is
           (failed_at rem con g.S.Stream.failed _ c.args.key a b moved (λ x y reads. reads) (r.failed is) r.elsewhere.others);
     }

@@ -1,7 +1,7 @@
 use Rattle.std.proofs.Common.{◌≡◌, ◌<◌, ◌≤◌, ◌∙◌, rules, sym, subst, drop, length, arith}
 use Rattle.std.specs.Prelude.{get_or}
 use Rattle.mio_clients.specs.Connections.{QueueState}
-use Rattle.mio_clients.specs.Grouping.{group_len, group_limit, len_by}
+use Rattle.mio_clients.specs.Grouping.{group_limit}
 use Rattle.mio_clients.specs.declared.queue.Place.TheVariants.{Inside, Last, Outside}
 use Rattle.mio_clients.proofs.GroupLaws.{group_at, group_end, group_full}
 use Rattle.mio_clients.proofs.queue.EventQueue.group_len.Goals as goal

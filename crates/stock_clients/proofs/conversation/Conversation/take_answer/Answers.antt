@@ -1,5 +1,5 @@
-use Rattle.std.proofs.Common.{◌≡◌, ◌≤◌, ap, sym, subst, arith}
-use Rattle.stock_clients.specs.Conversation.{waiting_count, IsBounded}
+use Rattle.std.proofs.Common.{◌≤◌, ap, sym, subst, arith}
+use Rattle.stock_clients.specs.Conversation.{waiting_count}
 use Rattle.stock_clients.specs.Heard.{with_bytes, Hears}
 use Rattle.stock_clients.proofs.CountLaws.{bytes_count}
 use Rattle.stock_clients.proofs.conversation.Conversation.take_answer.Goals as goal

@@ -1,0 +1,42 @@
+use Rattle.std.proofs.Common.{inl, inr, refl, sym, subst, ◌∙◌}
+use Rattle.mio_clients.specs.Connections.{ConnectionsState, IsFull}
+use Rattle.mio_clients.specs.Later.{no_bytes, no_requests}
+use Rattle.mio_clients.specs.Leaving.{IsFollowed}
+use Rattle.mio_clients.specs.Yielding.{Replaces}
+use Rattle.mio_clients.proofs.LaterLaws.{accepts_none}
+use Rattle.mio_clients.proofs.FollowLaws.{later_itself}
+use Rattle.mio_clients.proofs.clients.Clients.admit_instead.Goals as goal
+
+pub returns-then-not-is_remote : goal.returns-then-not-is_remote
+returns-then-not-is_remote g c = record {
+  later = later_itself g.S.Stream.remaining g.S.Stream.contents c.args.self.now;
+  accepted = inl (accepts_none g.S.Stream.remaining g.S.Stream.contents c.args.self.now);
+  full = c.requires.full;
+  refused = λ no. (inl (sym c.is_remote.ensures ∙ c.if-not-is_remote.true), refl);
+}
+
+pub returns-then-is_spent-clause-later : goal.returns-then-is_spent-clause-later
+returns-then-is_spent-clause-later g c = later_itself g.S.Stream.remaining g.S.Stream.contents c.args.self.now
+
+pub returns-in_default-clause-later : goal.returns-in_default-clause-later
+returns-in_default-clause-later g c = later_itself g.S.Stream.remaining g.S.Stream.contents c.args.self.now
+
+pub returns-then-is_ok-clause-accepted : goal.returns-then-is_ok-clause-accepted
+returns-then-is_ok-clause-accepted g c =
+    inr (subst (λ (s : ConnectionsState g.row.S.Denot). Replaces g.S.Stream.remote c.args.stream s c.replace.new.self) c.self.view_is (record {
+      full = subst (λ (s : ConnectionsState g.row.S.Denot). IsFull s) (sym c.self.view_is) c.requires.full;
+      over_network = sym c.is_remote.ensures ∙ c.if-not-is_remote.false;
+      key = c.in-Some.key;
+      silent = c.in-Some.ensures;
+      between = c.replace.ensures.replaced.0;
+      loses = c.replace.ensures.replaced.1;
+      registered = c.register.new.stream;
+      admitted = c.replace.ensures.replaced.2;
+    }))
+
+pub returns-else-is_ok-clause-later : goal.returns-else-is_ok-clause-later
+returns-else-is_ok-clause-later g c =
+    let rem = g.S.Stream.remaining in
+    let con = g.S.Stream.contents in
+    subst (λ (s : ConnectionsState g.row.S.Denot). IsFollowed rem con no_bytes no_requests s c.self.inside.connections) c.self.view_is
+    (later_itself rem con c.self.inside.connections)

@@ -1,0 +1,10 @@
+use Rattle.mio_clients.specs.Waiting.{StaysQuiet}
+use Rattle.mio_clients.specs.Later.{no_bytes, no_requests}
+use Rattle.mio_clients.specs.Leaving.{AllFollow}
+use Rattle.mio_clients.proofs.clients.Clients.send_given.Given as goal
+
+abbrev pub invariant-loop-key : goal.invariant-loop-key
+invariant-loop-key g l = record {
+  later : AllFollow g.S.Stream.remaining g.S.Stream.contents no_bytes no_requests l.initial.self l.self;
+  quiet : StaysQuiet l.initial.self.events l.self.events;
+}

@@ -1,0 +1,62 @@
+use Rattle.std.proofs.Common.{◌≡◌, Some, None, sym, subst, arith}
+use Rattle.std.specs.Prelude.{IfSome, Option}
+use Rattle.slab.specs.Slab.{get}
+use Rattle.mio_clients.specs.declared.client.Client.{Client}
+use Rattle.mio_clients.specs.Connections.{ConnectionsState}
+use Rattle.mio_clients.specs.Yielding.{IsFoundBelow, IsLongestBelow, MayYield, NoneBelow}
+use Rattle.mio_clients.proofs.YieldLaws.{found_before, found_here, found_still}
+use Rattle.mio_clients.proofs.connections.Connections.longest_of.Goals as goal
+
+pub returns-in_default : goal.returns-in_default
+returns-in_default g c =
+    let s : ConnectionsState g.row.S.Denot = c.args.self.now in
+    let none : get s.clients c.args.key ≡ None =
+    subst (λ (t : ConnectionsState g.row.S.Denot). get t.clients c.args.key ≡ None) c.self.view_is (sym c.in_default.ensures) in
+    found_still g.S.Stream.remote s c.args.key c.args.found (λ x stands may. absurd (cc (none, stands))) c.requires
+
+pub returns-then-not-may_yield : goal.returns-then-not-may_yield
+returns-then-not-may_yield g c =
+    let s : ConnectionsState g.row.S.Denot = c.args.self.now in
+    let client : Client g.row.S.Denot = c.in-Some.client.now in
+    let there : get s.clients c.args.key ≡ Some client =
+    subst (λ (t : ConnectionsState g.row.S.Denot). get t.clients c.args.key ≡ Some client) c.self.view_is (sym c.in-Some.ensures) in
+    found_still g.S.Stream.remote s c.args.key c.args.found (λ x stands may.
+    let same : client ≡ x = cc (there, stands) in
+    let yields = c.may_yield.ensures.1 (subst (λ (t : Client g.row.S.Denot). MayYield g.S.Stream.remote s t) (sym same) may) in
+    absurd (cc (yields, c.if-not-may_yield.true))) c.requires
+
+pub returns-in_default-found : goal.returns-in_default-found
+returns-in_default-found g c =
+    let s : ConnectionsState g.row.S.Denot = c.args.self.now in
+    let client : Client g.row.S.Denot = c.in-Some.client.now in
+    let there : get s.clients c.args.key ≡ Some client =
+    subst (λ (t : ConnectionsState g.row.S.Denot). get t.clients c.args.key ≡ Some client) c.self.view_is (sym c.in-Some.ensures) in
+    let none : NoneBelow g.S.Stream.remote s c.args.key =
+    subst (λ o. IsFoundBelow g.S.Stream.remote s c.args.key o) c.in_default-found.is c.requires in
+    found_here g.S.Stream.remote s c.args.key client there (c.may_yield.ensures.0 c.if-not-may_yield.false)
+    (λ k other within stands yields. absurd (none k other within stands yields))
+
+pub returns-then-last_active_at-client : goal.returns-then-last_active_at-client
+returns-then-last_active_at-client g c =
+    let s : ConnectionsState g.row.S.Denot = c.args.self.now in
+    let client : Client g.row.S.Denot = c.in-Some.client.now in
+    let there : get s.clients c.args.key ≡ Some client =
+    subst (λ (t : ConnectionsState g.row.S.Denot). get t.clients c.args.key ≡ Some client) c.self.view_is (sym c.in-Some.ensures) in
+    let p : IsLongestBelow g.S.Stream.remote s c.args.key c.in-Some-found.other =
+    subst (λ o. IsFoundBelow g.S.Stream.remote s c.args.key o) c.in-Some-found.is c.requires in
+    let at : c.last_active_at.result ≡ p.client.last_active =
+    subst (λ (o : Option (Client g.row.S.Denot)). IfSome o (λ x. c.last_active_at.result ≡ x.last_active)) p.there c.last_active_at.ensures in
+    found_before g.S.Stream.remote s c.args.key c.in-Some-found.other client there p (omega (arith, at, c.if-last_active_at-client.true))
+
+pub returns-else-last_active_at-client : goal.returns-else-last_active_at-client
+returns-else-last_active_at-client g c =
+    let s : ConnectionsState g.row.S.Denot = c.args.self.now in
+    let client : Client g.row.S.Denot = c.in-Some.client.now in
+    let there : get s.clients c.args.key ≡ Some client =
+    subst (λ (t : ConnectionsState g.row.S.Denot). get t.clients c.args.key ≡ Some client) c.self.view_is (sym c.in-Some.ensures) in
+    let p : IsLongestBelow g.S.Stream.remote s c.args.key c.in-Some-found.other =
+    subst (λ o. IsFoundBelow g.S.Stream.remote s c.args.key o) c.in-Some-found.is c.requires in
+    let at : c.last_active_at.result ≡ p.client.last_active =
+    subst (λ (o : Option (Client g.row.S.Denot)). IfSome o (λ x. c.last_active_at.result ≡ x.last_active)) p.there c.last_active_at.ensures in
+    found_here g.S.Stream.remote s c.args.key client there (c.may_yield.ensures.0 c.if-not-may_yield.false)
+    (λ k other within stands yields. let low = p.longest k other within stands yields in omega (arith, low, at, c.if-last_active_at-client.false))
