@@ -72,13 +72,13 @@ class Drive:
                 giver.join()
 
     def do(self, *lines):
-        """The same of texts, all of which the log keeps."""
+        """The same of texts, all of which the log keeps. A client may have got a part of a character."""
         self.give("".join(f"{it}\n" for it in lines).encode())
         found = []
         for line in lines:
             found.append([])
             self.log.append((line, found[-1]))
-            found[-1] += [it.decode() for it in self.printed()]
+            found[-1] += [it.decode(errors="surrogateescape") for it in self.printed()]
         return found
 
     def give(self, text):

@@ -61,6 +61,7 @@ PARTS = [
     Part("import", "import {mpd_daemon}", listens=True),
     Part("install", "install {mpd_daemon}", listens=True),
     Part("stock", "stock {mpd_daemon}", listens=True),
+    Part("false_answers", "false_answers {test_driver}"),
     Part("loop", "run_scripts {test_driver} {scripts}/loop", is_counted=True),
     Part("workers", "run_scripts {test_driver} {scripts}/workers", is_counted=True),
     Part("stages", "run_scripts {test_driver} {scripts}/stages", is_counted=True),

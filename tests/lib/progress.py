@@ -8,6 +8,8 @@ import time
 EACH, SELDOM = 1, 60
 # Without a measure at least so many seconds pass before it is told how long the rest takes.
 FIRST = 10
+# Begins the line of a terminal anew.
+CLEARED = "\r\x1b[K"
 
 
 def clock(seconds):
@@ -41,26 +43,26 @@ class Progress:
         while not self.over.wait(EACH if self.is_terminal else SELDOM):
             if text := self.shown():
                 with self.lock:
-                    self.write(f"\r\x1b[K{text[: width() - 1]}" if self.is_terminal else f"{text}\n")
+                    self.write(f"{CLEARED}{text[: width(self.stream) - 1]}" if self.is_terminal else f"{text}\n")
 
     def say(self, text):
         """A line that stays."""
         with self.lock:
-            self.write(f"\r\x1b[K{text}\n" if self.is_terminal else f"{text}\n")
+            self.write(f"{CLEARED}{text}\n" if self.is_terminal else f"{text}\n")
 
     def clear(self):
         if self.is_terminal:
-            self.write("\r\x1b[K")
+            self.write(CLEARED)
 
     def write(self, text):
         self.stream.write(text)
         self.stream.flush()
 
 
-def width():
-    """How many columns the terminal has."""
+def width(terminal):
+    """How many columns a terminal has."""
     try:
-        return os.get_terminal_size(sys.stderr.fileno()).columns or 80
+        return os.get_terminal_size(terminal.fileno()).columns or 80
     except OSError:
         return 80
 

@@ -13,7 +13,9 @@ def listed_commands():
 class Readable(model.State):
     """What is kept, with the commands that read it."""
 
-    def ping(self):
+    def ping(self, *words):
+        if words:
+            raise model.Refused(2, 'wrong number of arguments for "ping"')
         return ""
 
     def commands(self):

@@ -9,6 +9,19 @@ GREETING = b"OK MPD 0.23.0\n"
 # In the order in which they are told.
 SUBSYSTEMS = ["database", "update", "stored_playlist", "playlist", "player", "mixer", "options", "sticker"]
 
+# Lines that are answered so, whatever the state is.
+FIXED = {
+    b"foo": b'ACK [5@0] {} unknown command "foo"\n',
+    b"": b"ACK [5@0] {} No command given\n",
+    b"setvol 101": b"ACK [2@0] {setvol} bad argument 1\n",
+    b'"ping': b"ACK [2@0] {} bad quoting\n",
+    b"ping x": b'ACK [2@0] {ping} wrong number of arguments for "ping"\n',
+    b"command_list_end": b"ACK [1@0] {command_list_end} not in a command list\n",
+    b"playid 999999": b"ACK [50@0] {playid} No such song\n",
+    b"\xff": b"ACK [2@0] {} invalid UTF-8\n",
+    b"ping\r": b"OK\n",
+}
+
 
 def changed(was, now):
     """The subsystems in which two states differ; of the database only a scan's end tells."""
@@ -35,6 +48,12 @@ class Request(typing.NamedTuple):
     # A line that is answered so, whatever the state is, and its command's name, if it has one.
     fixed: bytes = None
     name: bytes = b""
+
+
+def fixed(text):
+    """The request of a line that is answered so, whatever the state is; None of any other line."""
+    name = text[:4] if text == b"ping\r" else FIXED.get(text, b"").partition(b"{")[2].partition(b"}")[0]
+    return Request(text + b"\n", fixed=FIXED[text], name=name) if text in FIXED else None
 
 
 def line(words):
@@ -65,7 +84,8 @@ class Clients:
         sets = [(client, *sorted(it), self.waiting[client] and (*sorted(self.waiting[client]),)) for client, it in self.pending.items()]
         state = self.state
         kept = state.seen(), state.stamps, state.next_id, state.order_number, state.jobs, state.job
-        return self.has_ended, *sorted(self.closed), *kept, state.state, state.current, state.ticket, state.frame, *state.played, state.error, *sets
+        plays = state.state, state.current, state.ticket, state.frame, *state.played, state.error
+        return self.has_ended, *sorted(self.closed), *kept, *plays, *sets
 
     def connect(self, client):
         self.pending[client], self.waiting[client] = set(), None

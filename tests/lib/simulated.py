@@ -12,7 +12,8 @@ import drives
 import player
 import sessions
 import speaker
-from streams import Finding, Over, Stream, Turn, shown
+from sessions import FIXED
+from streams import Finding, Over, StockStream, Stream, Turn, shown
 
 KEY = bytes(32)
 # The songs that there may be, each with its frames and its title.
@@ -24,17 +25,13 @@ NO_MEMORY = "no memory for the line itself"
 # How many requests are served together, at most.
 GROUP = 64
 BROKEN, OUT_OF_MEMORY = "refused 42 broken by a disk fault", "refused 43 out of memory"
-FIXED = {
-    b"foo": b'ACK [5@0] {} unknown command "foo"\n',
-    b"": b"ACK [5@0] {} No command given\n",
-    b"setvol 101": b"ACK [2@0] {setvol} bad argument 1\n",
-    b'"ping': b"ACK [2@0] {} bad quoting\n",
-    b"ping x": b'ACK [2@0] {ping} wrong number of arguments for "ping"\n',
-    b"command_list_end": b"ACK [1@0] {command_list_end} not in a command list\n",
-    b"playid 999999": b"ACK [50@0] {playid} No such song\n",
-    b"\xff": b"ACK [2@0] {} invalid UTF-8\n",
-    b"ping\r": b"OK\n",
-}
+# In an episode this part of the clients are stock clients. What these ask beside what all do; what takes several steps is in tests/stock.
+STOCK = (0, 0.5)
+FOREIGN = """outputs|decoders|channels|urlhandlers|listmounts|listpartitions|replay_gain_status|binarylimit 64|readcomments a.wav
+readpicture a.wav 0|albumart a.wav 0|sendmessage a b|listneighbors|password x|crossfade 0|crossfade 2|mixrampdb 0|mixrampdelay 2
+partition default|enableoutput 0|enableoutput 1|disableoutput 0|toggleoutput 7|outputset 0 a b|outputs x|getvol|playlist|status|stats
+commands|lsinfo|lsinfo /|tagtypes|tagtypes clear|tagtypes all|tagtypes disable Title|tagtypes enable title|tagtypes foo|list AlbumArtist
+list Disc|find Composer ""|find AlbumArtist ""|search filename WAV|playlistfind albumsort ""|playlistinfo|currentsong""".replace("\n", "|")
 
 
 def unlike(found, greeting, asked):
@@ -73,6 +70,8 @@ class Episode:
         # Whether a checkpoint may become due: a group ends before it.
         self.is_near = False
         self.last_client, self.contents = 0, (b"", b"")
+        # This part of the clients to come are stock clients.
+        self.stock = 0
 
     def do(self, *lines):
         try:
@@ -92,9 +91,10 @@ class Episode:
 
     def begin(self):
         draw = random.Random(f"{self.seed}")
+        self.stock = draw.choice(STOCK)
         self.clients = sessions.Clients(player.Player({}, KEY))
         self.is_silent("folder d/e", *(self.put_song(uri, *SONGS[uri], draw) for uri in SONGS), "make_loop", "reads")
-        self.connect(draw)
+        self.connect(None)
         self.turn(draw)
         self.ask_alone(sessions.line(["update"]))
         self.turn(draw)
@@ -115,8 +115,9 @@ class Episode:
     def connect(self, draw):
         if len(self.streams) < MOST_CLIENTS:
             self.last_client += 1
-            self.is_silent(f"connect {self.last_client}")
-            self.streams[self.last_client] = Stream(self.last_client)
+            word, kind = ("stock", StockStream) if draw and draw.random() < self.stock else ("connect", Stream)
+            self.is_silent(f"{word} {self.last_client}")
+            self.streams[self.last_client] = kind(self.last_client)
             self.waiting.append(self.last_client)
 
     def ask_alone(self, *requests):
@@ -138,9 +139,7 @@ class Episode:
         if chance < 0.19:
             return sessions.line(["close" if chance < 0.188 else "kill"])
         if chance < 0.23:
-            text = draw.choice([*FIXED])
-            name = text[:4] if text == b"ping\r" else FIXED[text].partition(b"{")[2].partition(b"}")[0]
-            return sessions.Request(text + b"\n", fixed=FIXED[text], name=name)
+            return sessions.fixed(draw.choice([*FIXED]))
         if not state.songs or chance < 0.25:
             return sessions.line(["update"])
         if chance < 0.33:
@@ -150,6 +149,13 @@ class Episode:
         if chance < 0.63:
             return sessions.listing(changes.listed(state, draw), draw.random() < 0.5)
         return sessions.line(changes.change(state, draw))
+
+    def foreign(self, draw):
+        """What a stock client asks, alone or in a list."""
+        lines = [draw.choice(FOREIGN.split("|")) for _ in range(draw.choice([1, 1, 1, 2, 3]))]
+        if len(lines) > 1:
+            lines = [draw.choice(["command_list_begin", "command_list_ok_begin"]), *lines, "command_list_end"]
+        return sessions.Request("".join(f"{it}\n" for it in lines).encode())
 
     def send(self, draw):
         streams = self.open_streams()
@@ -162,7 +168,7 @@ class Episode:
         stream = draw.choice(streams)
         if len(stream.unsent) < MOST_WAITING and (not stream.unsent or draw.random() < 0.5):
             for _ in range(draw.choice([1, 1, 1, 2, 3])):
-                stream.ask(self.request(draw))
+                stream.ask(self.foreign(draw) if isinstance(stream, StockStream) and draw.random() < 0.5 else self.request(draw))
         return self.is_silent(f"{stream.number}>- {shown(stream.next_piece(draw))}")
 
     def slow(self, draw):
@@ -246,15 +252,16 @@ class Episode:
             raise Finding(f"the outputs of {turn.left} events were left, and not of {self.left}")
         self.left = 0
 
-    def give(self, given):
+    def give(self, given, asking=None):
+        """Clients are given this, for a request of one of them or for none."""
         for client, text in given:
             if client in self.streams:
-                self.streams[client].due += text
+                self.streams[client].give(text, client == asking)
 
     def serve(self, asked):
         for number, request in asked:
-            self.counts["connects" if request is None else "requests"] += 1
-            self.give(self.clients.connect(number) if request is None else self.clients.request(number, request))
+            self.counts["connects" if request is None else self.streams[number].KIND] += 1
+            self.give(self.clients.connect(number) if request is None else self.clients.request(number, request), number)
 
     def take_streams(self, turn):
         """What clients got, and who was let go of."""
@@ -282,7 +289,8 @@ class Episode:
         is_closed = number in self.clients.closed
         if not (is_closed or stream.has_ended or stream.may_fail):
             raise Finding(f"client {number} is let go of")
-        if stream.due and not stream.may_fail:
+        # One that sends nothing more is let go of behind the group of its last request, and what others change behind it is not told.
+        if len(stream.due) > stream.has_ended * stream.unasked and not stream.may_fail:
             raise Finding(f"client {number} is let go of, and is owed {stream.due[:300]!r}")
         self.clients.gone(number)
         self.clients.closed.discard(number)
@@ -314,14 +322,14 @@ class Episode:
     def after_fault(self, turn, asked, count, may_part):
         """The states that there may be, if so many of these requests were answered; a finding where clients got something else. The ends of
         clients, if there are some, may part a group where the requests of one client end."""
-        clients, due = self.clients.copy(), {number: it.due for number, it in self.streams.items()}
+        clients, streams = self.clients.copy(), {number: it.copied() for number, it in self.streams.items()}
         for number, request in asked[:count]:
             for client, text in clients.connect(number) if request is None else clients.request(number, request):
-                if client in due:
-                    due[client] += text
+                if client in streams:
+                    streams[client].give(text, client == number)
         for number, text in turn.got.items():
-            if not due[number].startswith(text):
-                raise Finding(f"client {number} got {text[:300]!r} before a fault, and is owed {due[number][:300]!r}")
+            if not streams[number].due.startswith(text):
+                raise Finding(f"client {number} got {text[:300]!r} before a fault, and is owed {streams[number].due[:300]!r}")
         states, group = [clients.state], grouped(asked[count:])
         for (number, request), (following, _) in zip(group, [*group[1:], (None, None)]):
             clients.request(number, request)
@@ -417,8 +425,8 @@ class Episode:
     # Memory that is refused.
 
     def scarce(self, draw):
-        """One allocation of a turn, of the player or of a scan is refused, in a life in which no disk fails."""
-        if self.may_break:
+        """One allocation of a turn, the player or a scan is refused, in a life in which no disk fails, where no stock client is there."""
+        if self.may_break or any(isinstance(it, StockStream) for it in self.streams.values()):
             return self.turn(draw)
         line, take, take_scarce = draw.choice([("turn", lambda it: self.take_turn(Turn(it)), self.scarce_turn)] * 3 + [
             ("play_once", self.take_play, self.scarce_play), ("scan_once", self.take_scan, self.scarce_scan)])
@@ -498,7 +506,7 @@ class Episode:
             self.clients.gone(number)
             self.clients.closed.discard(number)
         for number, stream in self.streams.items():
-            stream.due = due[number]
+            stream.due, stream.unasked = due[number], 0
         return self.end_life([self.clients.state], self.clients.has_ended)
 
     def asked_of(self, turn):
@@ -548,10 +556,11 @@ class Episode:
         return clients, due
 
     def look_again(self, states):
-        """All clients are let go of, and the state is looked at."""
+        """All clients are let go of, and the state is looked at. A job goes on, and what it has found is told of at its end."""
         self.do("close_all")
-        self.streams, self.waiting = {}, []
+        self.streams, self.waiting, has_found = {}, [], self.clients.has_found
         self.look(states)
+        self.clients.has_found = has_found
 
     def stray(self, draw):
         """The output reports something, mostly of a song that it plays no more."""

@@ -15,6 +15,7 @@ from scripts import Failure
 from sounds import (
     HEAD,
     LONG,
+    MOST_FRAMES,
     SONGS,
     SOUND,
     Recorded,
@@ -265,6 +266,20 @@ def player_that_ends(program, folder):
         raise Failure(f"{whole:.1f} seconds of sound were played in {seconds:.1f}; {tries} tries")
 
 
+def song_that_no_player_takes(program, folder):
+    """A song of so few frames a second that the player refuses it, and that sounds for hours, passes; the next one is heard whole."""
+    slow = Song("slow.wav", 1, 1, range(2 * MOST_FRAMES))
+    player = "sh -c 'test {rate} -ge 2000 && exec cat >player-$$-{rate}-{channels}'"
+    with playing(program, folder, [slow, LONG], output="sound") as daemon, Sound(folder, "--player", player, "sound") as sound:
+        with daemon.client() as client:
+            play_to_the_end(client, "play 0")
+            daemon.kill()
+        check("how it ends", sound.end()[0], 0)
+    (form, whole), found = sound_of(LONG), players(folder)
+    check("the player's form", list(found), [form])
+    check("a rest of the song", (whole.endswith(found[form][1]), len(found[form][1]) > len(whole) // 4), (True, True))
+
+
 def songs_without_frames(program, folder):
     """A queue in which nothing is heard makes at most ten changes a second, and `kill` ends it at once."""
     with Daemon(program, folder).create().start() as daemon:
@@ -294,5 +309,6 @@ ROWS = [
     bare_stream,
     players_of_a_queue,
     player_that_ends,
+    song_that_no_player_takes,
     songs_without_frames,
 ]

@@ -1,7 +1,11 @@
 """The streams of the clients of tests/simulation, and what a turn of the loop prints of them."""
 
 import collections
+import copy
 import re
+
+import sessions
+import translator
 
 TURN_WORDS = re.compile(r"(event|before|collected|refused|no memory at) (\d+)|nothing done, refused (43)")
 READ, GOT, CLOSED = re.compile(r"(\d+) read (\d+) (\d+)"), re.compile(r"(\d+)< (.*)", re.DOTALL), re.compile(r"(\d+) closed")
@@ -35,13 +39,15 @@ def lines_of(client, text):
 class Stream:
     """A client's connection, as its client sees it."""
 
+    KIND = "requests"
+
     def __init__(self, number):
         self.number = number
         # What it wants to send and has not, and the requests that were sent, each with the place behind its last byte.
         self.unsent, self.made, self.requests = b"", 0, collections.deque()
         self.sent = self.read = 0
-        # What it was given and has not got.
-        self.due = b""
+        # What it was given and has not got, and how many bytes of it came by requests of others behind its own last one.
+        self.due, self.unasked = b"", 0
         self.is_blocked, self.has_ended, self.budget = False, False, None
         # A call of it fails, or blocks, so that it may be let go of, or get things late.
         self.may_fail, self.may_lag = False, 0
@@ -78,11 +84,61 @@ class Stream:
             found.append(self.requests.popleft()[1])
         return found
 
+    def give(self, text, has_asked):
+        """It is to get these bytes, for a request of its own or of another."""
+        self.due, self.unasked = self.due + text, 0 if has_asked else self.unasked + len(text)
+
+    def copied(self):
+        return copy.copy(self)
+
     def get(self, text):
         """It gets these bytes."""
         if not self.due.startswith(text):
             raise Finding(f"client {self.number} got {text[:300]!r}, and is owed {self.due[:300]!r}")
         self.due = self.due[len(text) :]
+
+
+class StockStream(Stream):
+    """The connection of a stock client: the daemon is asked what a plain translator (lib/translator.py) makes of what it sends, and it is
+    owed what that makes of the answers."""
+
+    KIND = "requests for stock clients"
+
+    def __init__(self, number):
+        super().__init__(number)
+        self.translator, self.text = translator.Translator(), b""
+
+    def copied(self):
+        other = copy.copy(self)
+        other.translator = copy.deepcopy(self.translator)
+        return other
+
+    def ask(self, request):
+        self.unsent, self.text, self.made = self.unsent + request.text, self.text + request.text, self.made + len(request.text)
+
+    def taken(self, count):
+        """What the daemon is asked once so many bytes more were read."""
+        self.read += count
+        piece, self.text = self.text[:count], self.text[count:]
+        return [*natives(self.translator.ask(piece))]
+
+    def give(self, text, has_asked):
+        super().give(self.translator.answer(text), has_asked)
+
+
+def natives(text):
+    """The requests of these bytes, of which those of a list stand there whole."""
+    listed = None
+    for line in text.split(b"\n")[:-1]:
+        if line == b"command_list_ok_begin":
+            listed = []
+        elif line == b"command_list_end" and listed is not None:
+            yield sessions.listing(listed, True)
+            listed = None
+        elif listed is not None:
+            listed.append(translator.words_of(line))
+        else:
+            yield sessions.fixed(line) or sessions.line(translator.words_of(line))
 
 
 class Turn:
@@ -104,7 +160,7 @@ class Turn:
         elif found := READ.fullmatch(line):
             self.reads.append((int(found[3]), int(found[1]), int(found[2])))
         elif found := GOT.fullmatch(line):
-            text = found[2].encode()
+            text = found[2].encode(errors="surrogateescape")
             self.got[int(found[1])] = self.got.get(int(found[1]), b"") + (text[:-1] if text.endswith(b"%") else text + b"\n")
         elif found := CLOSED.fullmatch(line):
             self.closed.add(int(found[1]))

@@ -388,10 +388,13 @@ class Expression:
             return "!" + self.one()
         if self.take(r"(?=\()") is None:
             return self.comparison()
-        parts = [self.one()]
-        while self.take(r"AND(?=[ \t])"):
-            parts.append(self.one())
-        return " AND ".join(parts)
+        found = self.one()
+        while True:
+            # Without a blank before it, it is none to the daemon.
+            word = " AND " if self.text[self.place : self.place + 1] in (" ", "\t") else "AND "
+            if not self.take(r"AND(?=[ \t])"):
+                return found
+            found += word + self.one()
 
     def comparison(self):
         tag, begun = self.need(NAME), self.place

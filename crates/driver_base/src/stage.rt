@@ -9,7 +9,7 @@ use crate::rows::{drop_row, put};
 use crate::shown::{tell_live_error, tell_numbers, tell_order, tell_outputs, tell_scan_order};
 use crate::words::first_word;
 use daemon_core::Event;
-use live_stage::{Live, LiveError, Refused, Turn, TurnResult};
+use live_stage::{Live, LiveError, Refused, RefusedTurns, Turn, TurnResult, Turns};
 use player_core::Order;
 use song_db::ScanOrder;
 use std::alloc::Global;
@@ -38,6 +38,14 @@ fn ran(
     events: Vec<Event>,
 ) -> Result<Vec<TurnResult<TestDisk>>, LiveError> {
     stage.run(alloc, events)
+}
+
+fn grouped(
+    stage: &mut Stage,
+    alloc: Global,
+    events: Vec<Event>,
+) -> Result<Turns<TestDisk>, RefusedTurns> {
+    stage.turn_group(alloc, events)
 }
 
 fn checkpointed(stage: &mut Stage, alloc: Global) -> Result<(), LiveError> {
@@ -117,6 +125,41 @@ fn run(stage: &mut Stage, desk: &mut Desk) {
     }
 }
 
+/// Keeps the events that a group left, and prints how many there are, if there are some.
+fn keep_left(desk: &mut Desk, rest: Vec<Event>) {
+    if !rest.is_empty() {
+        desk.printer.count("left", rest.len() as u64);
+    }
+    desk.later = rest;
+}
+
+/// Lets the events that were kept happen as a group.
+fn group(stage: &mut Stage, desk: &mut Desk) {
+    let alloc = desk.printer.alloc;
+    let events = mem::replace(&mut desk.later, Vec::new(alloc));
+    match grouped(stage, alloc, events) {
+        Ok(
+            Turns {
+                turns,
+                is_refused,
+                rest,
+            },
+        ) => {
+            for turn in turns {
+                tell_turn(&mut desk.printer, &turn);
+            }
+            if is_refused {
+                tell_live_error(&mut desk.printer, LiveError::NoMemory);
+            }
+            keep_left(desk, rest);
+        }
+        Err(RefusedTurns { error, rest }) => {
+            tell_live_error(&mut desk.printer, error);
+            keep_left(desk, rest);
+        }
+    }
+}
+
 /// Makes a checkpoint.
 fn checkpoint(stage: &mut Stage, printer: &mut Printer) {
     match checkpointed(stage, printer.alloc) {
@@ -145,6 +188,7 @@ pub fn take_stage_line(stage: &mut Stage, desk: &mut Desk, line: &str) -> Result
         "put" => return put(&mut desk.collected, alloc, rest),
         "drop" => return drop_row(&mut desk.collected, alloc, rest),
         "run" => run(stage, desk),
+        "group" => group(stage, desk),
         "checkpoint" => checkpoint(stage, &mut desk.printer),
         "stage" => tell(stage, &mut desk.printer),
         "order" => {

@@ -34,4 +34,11 @@ impl Listener<TestStream> for Arrivals {
             _ => Err(ErrorKind::WouldBlock.into()),
         }
     }
+
+    // No time passes, so that nobody gives way.
+    fn now(&mut self) -> u64 {
+        0
+    }
+
+    fn gave_way(&mut self, _client: u64, _silence: u64) {}
 }

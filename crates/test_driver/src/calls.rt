@@ -82,6 +82,21 @@ pub fn settled<C: Ledger, P: Ledger, S: Ledger>(
     }
 }
 
+/// What a worker works with, which tells this one of its events.
+pub fn worker_of<'a, C: Ledger, P: Ledger, S: Ledger, R, K>(
+    rt: &'a R,
+    alloc: Global,
+    stage: &'a Stage<C, P, S>,
+    wake: &'a K,
+) -> Worker<'a, TestDisk, C, P, S, R, K> {
+    Worker {
+        rt,
+        alloc,
+        stage,
+        wake,
+    }
+}
+
 /// An order of the player, by this thread.
 pub fn played_once<'m, C: Ledger, P: Ledger, S: Ledger, R: Wait + Clock>(
     rt: &R,
@@ -91,12 +106,7 @@ pub fn played_once<'m, C: Ledger, P: Ledger, S: Ledger, R: Wait + Clock>(
     (folder, song): (&mut Music<'m, R>, &mut Option<OpenMusic<'m, R>>),
     (pass, order): (Pass<C, P, S>, &PlayOrder),
 ) -> Answer<(), C, P, S> {
-    let worker = Worker {
-        rt,
-        alloc,
-        stage,
-        wake: stand,
-    };
+    let worker = worker_of(rt, alloc, stage, stand);
     let mut output = output_of(stand);
     match laws::play_once(&worker, pass, stand, folder, &mut output, song, order) {
         Ok(pass) => (Ok(()), pass),
@@ -113,12 +123,7 @@ pub fn scanned_once<C: Ledger, P: Ledger, S: Ledger, R: Wait + Clock>(
     (pass, order): (Pass<C, P, S>, ScanOrder),
 ) -> Answer<(), C, P, S> {
     let alloc = host.alloc();
-    let worker = Worker {
-        rt,
-        alloc,
-        stage,
-        wake: stand,
-    };
+    let worker = worker_of(rt, alloc, stage, stand);
     match laws::scan_once(&worker, pass, &mut music(host, alloc, stand), order) {
         Ok(pass) => (Ok(()), pass),
         Err((error, pass)) => (Err(error), pass),
@@ -134,12 +139,7 @@ pub fn play<C: Ledger, P: Ledger, S: Ledger, R: Wait + Clock>(
     pass: Pass<C, P, S>,
 ) -> Pass<C, P, S> {
     let alloc = host.alloc();
-    let worker = Worker {
-        rt,
-        alloc,
-        stage,
-        wake: stand,
-    };
+    let worker = worker_of(rt, alloc, stage, stand);
     let mut output = output_of(stand);
     player_worker(
         &worker,
@@ -159,12 +159,7 @@ pub fn scan<C: Ledger, P: Ledger, S: Ledger, R: Wait + Clock>(
     (pass, orders): (Pass<C, P, S>, Receiver<ScanOrder>),
 ) -> Pass<C, P, S> {
     let alloc = host.alloc();
-    let worker = Worker {
-        rt,
-        alloc,
-        stage,
-        wake: stand,
-    };
+    let worker = worker_of(rt, alloc, stage, stand);
     let (pass, _) = scan_worker(&worker, pass, music(host, alloc, stand), &orders);
     pass
 }

@@ -18,10 +18,11 @@ use std::io::BufRead;
 use std::sync::Wait;
 use std::thread::Threads;
 use std::time::Clock;
+use stock_streams::StockReady;
 use wave_pcm::MemFolder;
 
 /// The clients of a daemon.
-type DaemonClients = Clients<TestStream, Arrivals, MemReady>;
+type DaemonClients = Clients<TestStream, Arrivals, StockReady<MemReady>>;
 
 // Serves clients over a journal that was opened, without a line of the log.
 fn serve_opened<W: Threads + Wait + Clock + Sync>(
@@ -84,7 +85,8 @@ fn run<W: Threads + Wait + Clock + Sync>(
     disks: (DaemonDisk, DaemonDisk),
     arrivals: Arrivals,
 ) -> Result<ServeEnd<DaemonDisk>, AllocError> {
-    let mut clients = Clients::new(alloc, arrivals, MemReady::new())?;
+    let ready = StockReady::new(MemReady::new());
+    let mut clients = Clients::new(alloc, arrivals, ready)?;
     Ok(serve(waits, alloc, disks, &mut clients))
 }
 
@@ -92,7 +94,7 @@ fn take_line(beside: &mut Beside, arrivals: &mut Arrivals, line: &str) -> Result
     let (word, rest) = first_word(line);
     match word {
         "connect" => {
-            let stream = beside.wires.add(number(rest)?)?;
+            let stream = beside.wires.add(number(rest)?, false)?;
             arrivals.add(Some(stream))
         }
         "nobody" => arrivals.add(None),

@@ -66,7 +66,7 @@ fn tell_part(printer: &mut Printer, part: &Part<TestDisk>) -> Option<Receipt> {
             return Some(served.turn.receipt());
         }
         Part::Collected(outbox) => tell_left(printer, "collected", outbox),
-        Part::Refused(number) => printer.count("refused", u64::from(*number)),
+        Part::Refused(error) => printer.count("refused", u64::from(error.number())),
     }
     None
 }
@@ -82,7 +82,7 @@ fn tell_parts(printer: &mut Printer, parts: &[Part<TestDisk>], receipt: &mut Opt
 fn tell_turned(printer: &mut Printer, turned: Turned, receipt: &mut Option<Receipt>) {
     match turned {
         Ok(parts) => tell_parts(printer, &parts, receipt),
-        Err(number) => printer.count("nothing done, refused", u64::from(number)),
+        Err(error) => printer.count("nothing done, refused", u64::from(error.number())),
     }
 }
 
@@ -202,10 +202,31 @@ fn scan<R: Wait + Clock, C: Ledger, P: Ledger, S: Ledger>(
     Ok(())
 }
 
-// A client waits to connect.
-fn connect(clients: &mut TestClients, beside: &mut Beside, client: u64) -> Result<(), Fault> {
-    let stream = beside.wires.add(client)?;
+// A client waits to connect, over a network or not.
+fn connect(
+    clients: &mut TestClients,
+    beside: &mut Beside,
+    client: u64,
+    is_remote: bool,
+) -> Result<(), Fault> {
+    let stream = beside.wires.add(client, is_remote)?;
     Ok(turns::connect(clients, stream)?)
+}
+
+// A stock client waits to connect.
+fn connect_stock(clients: &mut TestClients, beside: &mut Beside, client: u64) -> Result<(), Fault> {
+    let stream = beside.wires.add_stock(client)?;
+    Ok(turns::connect(clients, stream)?)
+}
+
+fn tell_yielded(clients: &mut TestClients, printer: &mut Printer) {
+    match turns::take_yielded(clients) {
+        Some((client, silence)) => {
+            printer.count("gave_way", client);
+            printer.count("silent", silence);
+        }
+        None => printer.line("nobody gave way"),
+    }
 }
 
 fn tell_clients(clients: &TestClients, printer: &mut Printer) {
@@ -225,7 +246,11 @@ fn call(
 ) -> Result<(), Fault> {
     let alloc = beside.printer.alloc;
     match word {
-        "connect" => return connect(clients, beside, number(rest)?),
+        "connect" => return connect(clients, beside, number(rest)?, false),
+        "remote" => return connect(clients, beside, number(rest)?, true),
+        "stock" => return connect_stock(clients, beside, number(rest)?),
+        "pass" => turns::pass_time(clients, number(rest)?),
+        "yielded" => tell_yielded(clients, &mut beside.printer),
         "accept" => tell_called(&mut beside.printer, turns::accept(clients, alloc)),
         "read" => tell_called(
             &mut beside.printer,

@@ -1,5 +1,5 @@
 //! The calls of the loop, and of its workers. The prover reads their long contracts in these functions alone.
-use crate::calls::{Answer, Stage};
+use crate::calls::{Answer, Stage, worker_of};
 use crate::sound::Sound;
 use crate::wires::TestStream;
 use driver_base::TestDisk;
@@ -7,21 +7,23 @@ use mio_clients::{Clients, ClientsError, MemListener, MemReady, Part};
 use player_core::PlayOrder;
 use song_db::ScanOrder;
 use song_output::OpenGate;
-use stage_workers::{Pass, Worker, laws};
+use stage_workers::{Pass, StageError, laws};
 use std::alloc::{AllocError, Global};
 use std::sync::Wait;
 use std::sync::ledger::Ledger;
 use std::time::Clock;
+use stock_streams::StockReady;
 use wave_pcm::FileFolder;
 
 /// The clients of each loop.
-pub type TestClients = Clients<TestStream, MemListener<TestStream>, MemReady>;
+pub type TestClients = Clients<TestStream, MemListener<TestStream>, StockReady<MemReady>>;
 
-/// What a turn of the loop answered: its parts, or the number of its refusal.
-pub type Turned = Result<Vec<Part<TestDisk>>, u8>;
+/// What a turn of the loop answered: its parts, or its refusal.
+pub type Turned = Result<Vec<Part<TestDisk>>, StageError>;
 
 pub fn new_clients(alloc: Global) -> Result<TestClients, AllocError> {
-    Clients::new(alloc, MemListener::new(alloc), MemReady::new())
+    let ready = StockReady::new(MemReady::new());
+    Clients::new(alloc, MemListener::new(alloc), ready)
 }
 
 /// A client waits to connect.
@@ -29,8 +31,20 @@ pub fn connect(clients: &mut TestClients, stream: TestStream) -> Result<(), Allo
     clients.listener_mut().connect(stream)
 }
 
+/// So many milliseconds pass.
+pub fn pass_time(clients: &mut TestClients, milliseconds: u64) {
+    clients.listener_mut().pass_time(milliseconds);
+}
+
+/// The client that gave way last, and for how many milliseconds it was silent.
+pub fn take_yielded(clients: &mut TestClients) -> Option<(u64, u64)> {
+    clients.listener_mut().take_yielded()
+}
+
 pub fn accept(clients: &mut TestClients, alloc: Global) -> Result<(), ClientsError> {
-    clients.accept_all(alloc)
+    let accepted = clients.accept_all(alloc);
+    clients.close_left();
+    accepted
 }
 
 pub fn read(clients: &mut TestClients, alloc: Global, key: usize) -> Result<(), ClientsError> {
@@ -58,7 +72,7 @@ pub fn turn<R: Wait, C: Ledger, P: Ledger, S: Ledger>(
 ) -> (Turned, Pass<C, P, S>) {
     match clients.turn_of_loop(rt, alloc, stage, pass) {
         Ok((parts, pass)) => (Ok(parts), pass),
-        Err((number, pass)) => (Err(number), pass),
+        Err((error, pass)) => (Err(error), pass),
     }
 }
 
@@ -71,12 +85,7 @@ pub fn play<R: Wait + Clock, C: Ledger, P: Ledger, S: Ledger>(
     (pass, order): (Pass<C, P, S>, &PlayOrder),
 ) -> Answer<(), C, P, S> {
     let alloc = host.alloc();
-    let worker = Worker {
-        rt,
-        alloc,
-        stage,
-        wake: &sound.woken,
-    };
+    let worker = worker_of(rt, alloc, stage, &sound.woken);
     let mut folder = FileFolder::new(host, String::new(alloc));
     let (output, song) = (&mut sound.output, &mut sound.song);
     match laws::play_once(&worker, pass, &OpenGate, &mut folder, output, song, order) {
@@ -94,12 +103,7 @@ pub fn scan<R: Wait + Clock, C: Ledger, P: Ledger, S: Ledger>(
     (pass, order): (Pass<C, P, S>, ScanOrder),
 ) -> Answer<(), C, P, S> {
     let alloc = host.alloc();
-    let worker = Worker {
-        rt,
-        alloc,
-        stage,
-        wake: &sound.woken,
-    };
+    let worker = worker_of(rt, alloc, stage, &sound.woken);
     let mut folder = FileFolder::new(host, String::new(alloc));
     match laws::scan_once(&worker, pass, &mut folder, order) {
         Ok(pass) => (Ok(()), pass),
