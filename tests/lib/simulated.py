@@ -16,8 +16,9 @@ from sessions import FIXED
 from streams import Finding, Over, StockStream, Stream, Turn, shown
 
 KEY = bytes(32)
-# The songs that there may be, each with its frames and its title.
-SONGS = {"a.wav": (800, "One"), "b.wav": (80, ""), "d/c.wav": (5000, "Zwei und drei"), "d/e/f.wav": (1, ""), "ö.wav": (0, "4")}
+# The songs that there may be, each with its frames and its title. What is found again is told by what clients read, which is milliseconds:
+# 8 frames.
+SONGS = {"a.wav": (800, "One"), "b.wav": (80, ""), "d/c.wav": (5000, "Zwei und drei"), "d/e/f.wav": (8, ""), "ö.wav": (0, "4")}
 MOST_CLIENTS, MOST_WAITING, MOST_RECORDS_LEFT = 6, 4_000, 12
 # Turns in which what is left behind want of memory must have been done.
 PATIENCE = 3
@@ -576,7 +577,7 @@ class Episode:
             lines.append(f"remove {uri}")
             del self.songs[uri], self.files[uri]
         if not lines or draw.random() < 0.6:
-            lines.append(self.put_song(uri, draw.choice([0, 1, 80, 800]), draw.choice(["", "One", f"Take {draw.randrange(9)}"]), draw))
+            lines.append(self.put_song(uri, draw.choice([0, 8, 80, 800]), draw.choice(["", "One", f"Take {draw.randrange(9)}"]), draw))
         self.is_silent(*lines)
 
     # Lives.
