@@ -81,6 +81,7 @@ PARTS = [
     Part("profile", "profile {mpd_daemon}"),
     Part("believed", "believed"),
     Part("documents", "documents {mpd_daemon}", listens=True),
+    Part("planted", "planted --look"),
     Part("mutants", "mutants --look"),
 ]
 
