@@ -6,7 +6,7 @@ ghost use Rattle.daemon_core.specs.State.{start};
 
 use crate::parts::CoreParts;
 use crate::room::Room;
-use crate::watching::Clients;
+use crate::watching::Watching;
 use machine_core::Machine;
 use no_memory::NoMemory;
 use player_core::{Order, PlayState};
@@ -41,7 +41,7 @@ impl Core {
         Core {
             parts: CoreParts {
                 machine: Machine::new(alloc, saved),
-                watch: Clients::new(alloc),
+                watch: Watching::new(alloc),
                 room: Room::new(alloc),
             },
         }

@@ -2,7 +2,7 @@
 ghost use Rattle.std.specs.Prelude.{◌≡◌};
 
 use crate::room::Room;
-use crate::watching::Clients;
+use crate::watching::Watching;
 use machine_core::Machine;
 use no_memory::NoMemory;
 use std::alloc::Global;
@@ -10,7 +10,7 @@ use std::alloc::Global;
 #[derive(Drop)]
 pub struct CoreParts {
     pub(crate) machine: Machine,
-    pub(crate) watch: Clients,
+    pub(crate) watch: Watching,
     // Memory for what the clients are told, kept from event to event.
     pub(crate) room: Room,
 }

@@ -10,12 +10,12 @@ use std::alloc::Global;
 use std::marker::Model;
 
 #[derive(Drop)]
-pub struct Clients {
+pub struct Watching {
     watch: Watch,
     is_quiet: bool,
 }
 
-impl Model for Clients {
+impl Model for Watching {
     ghost use Rattle.std.specs.Prelude.{◌≡◌, List, true};
     ghost use Rattle.std.specs.List.{list_all};
     ghost use Rattle.idle_masks.specs.Subsystems.{is_empty};
@@ -29,12 +29,12 @@ impl Model for Clients {
     ghost invariant = { λ c. c.is_quiet ≡ true → list_all (λ w. is_empty (due w)) c.watch ≡ true };
 }
 
-impl Clients {
+impl Watching {
     // No client.
     pub(crate) fn new(alloc: Global) -> Self
         ensures { result ≡ [] }
     {
-        Clients {
+        Watching {
             watch: Watch::new(alloc),
             is_quiet: true,
         }

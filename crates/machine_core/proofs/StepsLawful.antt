@@ -31,7 +31,7 @@ use Rattle.machine_core.specs.Steps.{step_ops, removal_ops, single_ops, consume_
 use Rattle.machine_core.specs.declared.steps.PlayerStep.{PlayerStep}
 use Rattle.machine_core.proofs.FormLaws.{TellsChanges, IsLawful, Lawful, same_lists_told, same_stickers_told, turns_lawful}
 use Rattle.machine_core.proofs.InTurn.{AreFree, all_apply}
-use Rattle.machine_core.proofs.PlayingSteps.{IsFair, FairIfMade, next_is_other, step_fair}
+use Rattle.machine_core.proofs.Playing.Steps.{IsFair, FairIfMade, next_is_other, step_fair}
 
 removal_free : (at : ℕ) (s : SavedState) → at < length s.queue.entries → queue_refusal (Delete at (at + 1)) s ≡ None
 removal_free at s within =

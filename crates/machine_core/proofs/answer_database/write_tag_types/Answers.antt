@@ -3,7 +3,7 @@ use Rattle.std.proofs.Math.ListN.{drop_of_length-le}
 use Rattle.command_text.specs.AnswerNames.{tag_type_line}
 use Rattle.command_text.specs.AnswerSongs.{shown_tags}
 use Rattle.wave_pcm.specs.declared.tags.Tag.TheVariants.{Title}
-use Rattle.machine_core.proofs.DatabaseLines.{next_item}
+use Rattle.machine_core.proofs.Database.Lines.{next_item}
 use Rattle.command_text.proofs.LineLoops.{leaves_fewer, leaves_none, leaves_off}
 use Rattle.machine_core.proofs.answer_database.write_tag_types.Goals as goal
 

@@ -1,6 +1,6 @@
 use Rattle.std.proofs.Common.{arith}
 use Rattle.machine_core.specs.Entries.{place_info}
-use Rattle.machine_core.proofs.QueueLines.{number_next, numbers_done, numbers_off}
+use Rattle.machine_core.proofs.Queue.Lines.{number_next, numbers_done, numbers_off}
 use Rattle.machine_core.proofs.answer_entries.write_places.Goals as goal
 
 pub loop-position-preserved : goal.loop-position-preserved

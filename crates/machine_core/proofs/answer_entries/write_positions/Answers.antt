@@ -1,6 +1,6 @@
 use Rattle.std.proofs.Common.{arith}
 use Rattle.machine_core.specs.Entries.{position_info}
-use Rattle.machine_core.proofs.QueueLines.{number_next, numbers_done, numbers_off}
+use Rattle.machine_core.proofs.Queue.Lines.{number_next, numbers_done, numbers_off}
 use Rattle.machine_core.proofs.answer_entries.write_positions.Goals as goal
 
 pub loop-position-preserved : goal.loop-position-preserved

@@ -1,7 +1,7 @@
 use Rattle.std.proofs.Common.{arith}
 use Rattle.machine_core.specs.Entries.{position_info}
 use Rattle.machine_core.specs.Spans.{positions_in}
-use Rattle.machine_core.proofs.QueueLines.{position_next, positions_done, positions_off}
+use Rattle.machine_core.proofs.Queue.Lines.{position_next, positions_done, positions_off}
 use Rattle.machine_core.proofs.answer_entries.write_span.Goals as goal
 
 pub loop-position-preserved : goal.loop-position-preserved

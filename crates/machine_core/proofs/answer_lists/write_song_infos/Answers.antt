@@ -1,7 +1,7 @@
 use Rattle.std.proofs.Common.{drop, ◌+◌, arith}
 use Rattle.machine_core.specs.Lists.{song_info}
 use Rattle.command_text.proofs.LineLoops.{leaves_fewer, leaves_none, leaves_off}
-use Rattle.machine_core.proofs.ListsLines.{next_song, none_left}
+use Rattle.machine_core.proofs.Lists.Lines.{next_song, none_left}
 use Rattle.machine_core.proofs.answer_lists.write_song_infos.Goals as goal
 
 pub loop-uri-preserved : goal.loop-uri-preserved

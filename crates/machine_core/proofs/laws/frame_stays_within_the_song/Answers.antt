@@ -1,5 +1,5 @@
-use Rattle.machine_core.proofs.SoundKept.{command_holds, when_broken_holds, when_ended_holds, when_fed_holds}
-use Rattle.machine_core.proofs.SoundKept.{when_found_holds, when_scanned_holds}
+use Rattle.machine_core.proofs.Sound.Kept.{command_holds, when_broken_holds, when_ended_holds, when_fed_holds}
+use Rattle.machine_core.proofs.Sound.Kept.{when_found_holds, when_scanned_holds}
 use Rattle.machine_core.proofs.laws.frame_stays_within_the_song.Goals as goal
 
 pub returns : goal.returns

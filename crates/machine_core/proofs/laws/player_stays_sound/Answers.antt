@@ -1,5 +1,5 @@
-use Rattle.machine_core.proofs.SoundCommands.{command_sound, when_broken_sound, when_ended_sound, when_fed_sound}
-use Rattle.machine_core.proofs.SoundCommands.{when_found_sound, when_scanned_sound}
+use Rattle.machine_core.proofs.Sound.Commands.{command_sound, when_broken_sound, when_ended_sound, when_fed_sound}
+use Rattle.machine_core.proofs.Sound.Commands.{when_found_sound, when_scanned_sound}
 use Rattle.machine_core.proofs.laws.player_stays_sound.Goals as goal
 
 pub returns : goal.returns

@@ -1,4 +1,4 @@
-use Rattle.machine_core.proofs.ListsRows.{pushed}
+use Rattle.machine_core.proofs.Lists.Rows.{pushed}
 use Rattle.machine_core.proofs.named.numbers_from.Goals as goal
 
 pub loop-number-preserved : goal.loop-number-preserved

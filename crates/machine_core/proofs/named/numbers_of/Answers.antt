@@ -3,7 +3,7 @@ use Rattle.song_db.specs.Query.{number_at}
 use Rattle.std.proofs.lemmas.Grind.{common_steps}
 use Rattle.std.proofs.lemmas.List.{length-take}
 use Rattle.std.proofs.lemmas.List.Elements.{filter_map-append}
-use Rattle.machine_core.proofs.ListsRows.{fewer}
+use Rattle.machine_core.proofs.Lists.Rows.{fewer}
 use Rattle.machine_core.proofs.named.numbers_of.Goals as goal
 
 pub row_numbers-requires : goal.row_numbers-requires

@@ -5,7 +5,7 @@ use Rattle.std.proofs.lemmas.Grind.{common_steps}
 use Rattle.std.proofs.lemmas.List.{length-map, length-take}
 use Rattle.std.proofs.lemmas.List.Elements.{filter_map-append}
 use Rattle.play_queue.specs.declared.entry.Entry.{Entry}
-use Rattle.machine_core.proofs.ListsRows.{fewer}
+use Rattle.machine_core.proofs.Lists.Rows.{fewer}
 use Rattle.machine_core.proofs.named.numbers_of_entries.Goals as goal
 
 pub row_numbers-requires : goal.row_numbers-requires

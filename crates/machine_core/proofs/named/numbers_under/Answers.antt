@@ -4,7 +4,7 @@ use Rattle.std.specs.List.{range_with_len}
 use Rattle.song_db.specs.Query.{is_folder, rows_under}
 use Rattle.song_db.specs.Row.{row_uri}
 use Rattle.machine_core.specs.Named.{numbers_of}
-use Rattle.machine_core.proofs.ListsRows.{is_there, run_numbers}
+use Rattle.machine_core.proofs.Lists.Rows.{is_there, run_numbers}
 use Rattle.machine_core.proofs.named.numbers_under.Goals as goal
 
 pub row_numbers-requires : goal.row_numbers-requires

@@ -1,7 +1,7 @@
 use Rattle.std.proofs.Common.{◌≡◌, None, sym}
 use Rattle.std.proofs.lemmas.List.{append-nil}
 use Rattle.song_db.specs.Query.{number_at}
-use Rattle.machine_core.proofs.ListsRows.{no_number}
+use Rattle.machine_core.proofs.Lists.Rows.{no_number}
 use Rattle.machine_core.proofs.RowsFound.{no_row}
 use Rattle.machine_core.proofs.named.push_number.Goals as goal
 

@@ -1,7 +1,7 @@
 use Rattle.std.proofs.Common.{ℕ, Option, length, map, ap, ◌∙◌, arith, sym}
 use Rattle.filter_expr.specs.Order.{window_of}
 use Rattle.machine_core.specs.Finding.{in_window}
-use Rattle.machine_core.proofs.FindingSorted.{seen_window, window_length}
+use Rattle.machine_core.proofs.Finding.Sorted.{seen_window, window_length}
 use Rattle.machine_core.proofs.commands.finding.windowed.Goals as goal
 
 pub returns-in-Some : goal.returns-in-Some

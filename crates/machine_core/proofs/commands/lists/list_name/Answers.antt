@@ -2,7 +2,7 @@ use Rattle.std.proofs.Common.{◌≡◌, true, sym, ◌∙◌}
 use Rattle.std.proofs.lemmas.Str.{is_utf8-from_IsUtf8}
 use Rattle.state_codec.specs.Text.{is_text}
 use Rattle.stored_lists.specs.Name.{is_good_name}
-use Rattle.machine_core.proofs.ListsNames.{name_is_text}
+use Rattle.machine_core.proofs.Lists.Names.{name_is_text}
 use Rattle.machine_core.proofs.commands.lists.list_name.Goals as goal
 
 pub unreachable-requires : goal.unreachable-requires

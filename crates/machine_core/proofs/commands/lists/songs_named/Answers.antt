@@ -1,5 +1,5 @@
 use Rattle.std.proofs.Common.{arith}
-use Rattle.machine_core.proofs.ListsLines.{no_more}
+use Rattle.machine_core.proofs.Lists.Lines.{no_more}
 use Rattle.machine_core.proofs.commands.lists.songs_named.Goals as goal
 
 pub returns-in-Ok-clause-few : goal.returns-in-Ok-clause-few

@@ -4,7 +4,7 @@ use Rattle.machine_core.specs.Adding.{adds}
 use Rattle.machine_core.specs.Finding.{found, numbers_in}
 use Rattle.machine_core.specs.State.{MachineState}
 use Rattle.machine_core.proofs.Answering.{also}
-use Rattle.machine_core.proofs.FindingMeanings.{add_means}
+use Rattle.machine_core.proofs.Finding.Meanings.{add_means}
 use Rattle.machine_core.proofs.machine.Machine.add_found.Goals as goal
 
 pub returns : goal.returns

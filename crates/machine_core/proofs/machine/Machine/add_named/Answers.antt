@@ -1,7 +1,7 @@
 use Rattle.std.proofs.Common.{ap, sym, ◌∙◌}
 use Rattle.machine_core.specs.Named.{numbers_named}
 use Rattle.machine_core.proofs.Answering.{also}
-use Rattle.machine_core.proofs.QueueMeanings.{songs_added}
+use Rattle.machine_core.proofs.Queue.Meanings.{songs_added}
 use Rattle.machine_core.proofs.machine.Machine.add_named.Goals as goal
 
 pub returns : goal.returns

@@ -7,7 +7,7 @@ use Rattle.state_codec.specs.declared.op.queue_op.QueueOp.TheVariants.{Add}
 use Rattle.machine_core.specs.Meaning.{edits}
 use Rattle.machine_core.specs.State.{MachineState}
 use Rattle.machine_core.specs.Work.{Performs}
-use Rattle.machine_core.proofs.QueueAnswered.{was_made, was_not_made}
+use Rattle.machine_core.proofs.Queue.Answered.{was_made, was_not_made}
 use Rattle.machine_core.proofs.machine.Machine.add_row.Goals as goal
 
 pub returns-then-is_err : goal.returns-then-is_err

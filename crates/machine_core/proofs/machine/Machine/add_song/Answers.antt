@@ -3,7 +3,7 @@ use Rattle.std.specs.Option.{ok_or}
 use Rattle.command_text.specs.declared.refusal.CommandRefusal.TheVariants.{NoSuchUri}
 use Rattle.song_db.specs.Query.{number_at}
 use Rattle.machine_core.proofs.Answering.{also}
-use Rattle.machine_core.proofs.QueueMeanings.{song_added}
+use Rattle.machine_core.proofs.Queue.Meanings.{song_added}
 use Rattle.machine_core.proofs.machine.Machine.add_song.Goals as goal
 
 pub returns : goal.returns

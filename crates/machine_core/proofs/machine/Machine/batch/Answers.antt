@@ -7,8 +7,8 @@ use Rattle.state_codec.specs.Changes.{AreChanges}
 use Rattle.machine_core.specs.Happening.{HasHappened, Happening, nothing_happens}
 use Rattle.machine_core.specs.Scanning.{changes_rows, finds, telling, when_found}
 use Rattle.machine_core.specs.State.{MachineState}
-use Rattle.machine_core.proofs.ScanningLaws.{found_is, none_told, nothing_happened, some_told}
-use Rattle.machine_core.proofs.ScanningRows.{telling_few}
+use Rattle.machine_core.proofs.Scans.Laws.{found_is, none_told, nothing_happened, some_told}
+use Rattle.machine_core.proofs.Scans.Rows.{telling_few}
 use Rattle.machine_core.proofs.machine.Machine.batch.Goals as goal
 
 pub change_rows-requires : goal.change_rows-requires

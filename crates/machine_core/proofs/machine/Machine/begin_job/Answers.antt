@@ -1,7 +1,7 @@
 use Rattle.std.proofs.Common.{◌≡◌, true, sym, ap, ◌∙◌}
 use Rattle.machine_core.specs.Held.{held}
 use Rattle.machine_core.specs.State.{MachineState}
-use Rattle.machine_core.proofs.DatabaseMeanings.{job_began, runs_already}
+use Rattle.machine_core.proofs.Database.Meanings.{job_began, runs_already}
 use Rattle.machine_core.proofs.machine.Machine.begin_job.Goals as goal
 
 pub returns-then-self-clause-performs : goal.returns-then-self-clause-performs

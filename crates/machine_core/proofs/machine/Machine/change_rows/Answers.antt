@@ -2,8 +2,8 @@ use Rattle.std.proofs.Common.{◌≡◌, not, ◌==◌, length, ap, ◌∙◌}
 use Rattle.machine_core.specs.Before.{changed_since}
 use Rattle.machine_core.specs.Followed.{follows_batch}
 use Rattle.machine_core.specs.State.{MachineState}
-use Rattle.machine_core.proofs.ScanningLaws.{rows_changed}
-use Rattle.machine_core.proofs.ScanningSize.{batch_fits}
+use Rattle.machine_core.proofs.Scans.Laws.{rows_changed}
+use Rattle.machine_core.proofs.Scans.Size.{batch_fits}
 use Rattle.machine_core.proofs.machine.Machine.change_rows.Goals as goal
 
 pub returns-clause-ok : goal.returns-clause-ok

@@ -7,7 +7,7 @@ use Rattle.song_db.specs.Row.{Row}
 use Rattle.machine_core.specs.Finding.{matching}
 use Rattle.machine_core.specs.State.{MachineState}
 use Rattle.machine_core.proofs.Answering.{reads}
-use Rattle.machine_core.proofs.FindingMeanings.{count_means}
+use Rattle.machine_core.proofs.Finding.Meanings.{count_means}
 use Rattle.machine_core.proofs.machine.Machine.count.Goals as goal
 
 pub returns : goal.returns

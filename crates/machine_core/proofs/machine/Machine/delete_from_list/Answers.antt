@@ -9,7 +9,7 @@ use Rattle.machine_core.specs.Spans.{span_in}
 use Rattle.machine_core.specs.State.{MachineState}
 use Rattle.machine_core.specs.declared.work.Failure.TheVariants.{Refused}
 use Rattle.machine_core.proofs.Answering.{also}
-use Rattle.machine_core.proofs.ListsNames.{name_is, named_well, not_both}
+use Rattle.machine_core.proofs.Lists.Names.{name_is, named_well, not_both}
 use Rattle.machine_core.proofs.LookUps.{fails, found, not_found}
 use Rattle.machine_core.proofs.machine.Machine.delete_from_list.Goals as goal
 

@@ -3,8 +3,8 @@ use Rattle.std.specs.List.{flat_map}
 use Rattle.command_text.specs.AnswerSongs.{song_lines}
 use Rattle.machine_core.specs.Finding.{found}
 use Rattle.machine_core.specs.State.{MachineState}
-use Rattle.machine_core.proofs.FindingMeanings.{find_means}
-use Rattle.machine_core.proofs.FindingWriters.{finds, writes_same}
+use Rattle.machine_core.proofs.Finding.Meanings.{find_means}
+use Rattle.machine_core.proofs.Finding.Writers.{finds, writes_same}
 use Rattle.machine_core.proofs.machine.Machine.find_by_uri.Goals as goal
 
 pub returns : goal.returns

@@ -2,8 +2,8 @@ use Rattle.std.proofs.Common.{refl, ap, ◌∙◌}
 use Rattle.play_queue.specs.Queue.{QueueState}
 use Rattle.machine_core.specs.Finding.{entries_found}
 use Rattle.machine_core.specs.State.{MachineState}
-use Rattle.machine_core.proofs.FindingMeanings.{entries_mean}
-use Rattle.machine_core.proofs.FindingWriters.{finds, writes_same}
+use Rattle.machine_core.proofs.Finding.Meanings.{entries_mean}
+use Rattle.machine_core.proofs.Finding.Writers.{finds, writes_same}
 use Rattle.machine_core.proofs.machine.Machine.find_entries.Goals as goal
 
 pub returns : goal.returns

@@ -5,7 +5,7 @@ use Rattle.command_text.specs.AnswerSongs.{song_lines}
 use Rattle.machine_core.specs.Finding.{found, in_window}
 use Rattle.machine_core.specs.State.{MachineState}
 use Rattle.machine_core.proofs.Answering.{reads}
-use Rattle.machine_core.proofs.FindingMeanings.{find_means, sorted_found}
+use Rattle.machine_core.proofs.Finding.Meanings.{find_means, sorted_found}
 use Rattle.machine_core.proofs.machine.Machine.find_sorted.Goals as goal
 
 pub returns : goal.returns

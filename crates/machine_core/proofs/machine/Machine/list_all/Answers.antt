@@ -4,7 +4,7 @@ use Rattle.machine_core.specs.Database.{all_at, all_below}
 use Rattle.machine_core.specs.Meaning.{answers}
 use Rattle.machine_core.specs.State.{MachineState}
 use Rattle.machine_core.proofs.Answering.{also}
-use Rattle.machine_core.proofs.DatabaseMeanings.{same_all_below}
+use Rattle.machine_core.proofs.Database.Meanings.{same_all_below}
 use Rattle.machine_core.proofs.RowsFound.{no_row}
 use Rattle.machine_core.proofs.machine.Machine.list_all.Goals as goal
 

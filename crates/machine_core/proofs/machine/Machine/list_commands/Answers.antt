@@ -1,5 +1,5 @@
 use Rattle.std.proofs.Common.{arith}
-use Rattle.machine_core.proofs.DatabaseLines.{adds_grows}
+use Rattle.machine_core.proofs.Database.Lines.{adds_grows}
 use Rattle.machine_core.proofs.machine.Machine.list_commands.Goals as goal
 
 pub keep-requires : goal.keep-requires

@@ -1,5 +1,5 @@
 use Rattle.std.proofs.Common.{arith}
-use Rattle.machine_core.proofs.ListsLines.{no_more}
+use Rattle.machine_core.proofs.Lists.Lines.{no_more}
 use Rattle.machine_core.proofs.machine.Machine.list_looks.Goals as goal
 
 pub overflow_mul-result : goal.overflow_mul-result

@@ -6,7 +6,7 @@ use Rattle.std.specs.Option.{option_copied}
 use Rattle.machine_core.specs.Finding.{chosen, value_lines}
 use Rattle.machine_core.specs.State.{MachineState}
 use Rattle.machine_core.proofs.Answering.{reads}
-use Rattle.machine_core.proofs.FindingMeanings.{values_mean}
+use Rattle.machine_core.proofs.Finding.Meanings.{values_mean}
 use Rattle.machine_core.proofs.machine.Machine.list_values.Goals as goal
 
 pub returns : goal.returns

@@ -3,7 +3,7 @@ use Rattle.command_text.proofs.Adding.{adds_same}
 use Rattle.machine_core.specs.Database.{statistics}
 use Rattle.machine_core.specs.State.{MachineState}
 use Rattle.machine_core.proofs.Answering.{reads}
-use Rattle.machine_core.proofs.DatabaseMeanings.{counted}
+use Rattle.machine_core.proofs.Database.Meanings.{counted}
 use Rattle.machine_core.proofs.machine.Machine.put_statistics.Goals as goal
 
 pub returns : goal.returns

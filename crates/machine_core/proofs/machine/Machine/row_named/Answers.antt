@@ -3,7 +3,7 @@ use Rattle.std.specs.Option.{ok_or}
 use Rattle.command_text.specs.declared.refusal.CommandRefusal.TheVariants.{NoSuchUri}
 use Rattle.song_db.specs.Row.{row_at}
 use Rattle.machine_core.specs.State.{MachineState}
-use Rattle.machine_core.proofs.ListsRows.{no_number}
+use Rattle.machine_core.proofs.Lists.Rows.{no_number}
 use Rattle.machine_core.proofs.RowsFound.{no_row}
 use Rattle.machine_core.proofs.machine.Machine.row_named.Goals as goal
 

@@ -2,7 +2,7 @@ use Rattle.std.proofs.Common.{◌≡◌, ℕ, Option, None, ap, sym, subst, ◌�
 use Rattle.song_db.specs.Query.{number_at}
 use Rattle.machine_core.specs.Named.{Finds, numbers_under, numbers_or_under}
 use Rattle.machine_core.specs.State.{MachineState}
-use Rattle.machine_core.proofs.ListsRows.{no_number, same_numbers_under}
+use Rattle.machine_core.proofs.Lists.Rows.{no_number, same_numbers_under}
 use Rattle.machine_core.proofs.RowsFound.{no_row}
 use Rattle.machine_core.proofs.machine.Machine.rows_named.Goals as goal
 

@@ -1,7 +1,7 @@
 use Rattle.std.proofs.Common.{sym, ap}
 use Rattle.machine_core.specs.Scanning.{over}
 use Rattle.machine_core.specs.State.{MachineState}
-use Rattle.machine_core.proofs.ScanningLaws.{scan_ended}
+use Rattle.machine_core.proofs.Scans.Laws.{scan_ended}
 use Rattle.machine_core.proofs.machine.Machine.scan_done.Goals as goal
 
 pub returns : goal.returns

@@ -7,7 +7,7 @@ use Rattle.machine_core.specs.Entries.{place_info}
 use Rattle.machine_core.specs.Queue.{changed_in}
 use Rattle.machine_core.specs.State.{MachineState}
 use Rattle.machine_core.proofs.Answering.{reads}
-use Rattle.machine_core.proofs.QueueMeanings.{places_shown}
+use Rattle.machine_core.proofs.Queue.Meanings.{places_shown}
 use Rattle.machine_core.proofs.machine.Machine.show_changed_places.Goals as goal
 
 pub returns : goal.returns

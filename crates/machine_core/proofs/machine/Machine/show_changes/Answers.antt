@@ -6,7 +6,7 @@ use Rattle.machine_core.specs.Entries.{position_info}
 use Rattle.machine_core.specs.Queue.{changed_in}
 use Rattle.machine_core.specs.State.{MachineState}
 use Rattle.machine_core.proofs.Answering.{reads}
-use Rattle.machine_core.proofs.QueueMeanings.{changes_shown}
+use Rattle.machine_core.proofs.Queue.Meanings.{changes_shown}
 use Rattle.machine_core.proofs.machine.Machine.show_changes.Goals as goal
 
 pub returns : goal.returns

@@ -3,7 +3,7 @@ use Rattle.command_text.proofs.Adding.{adds_same}
 use Rattle.machine_core.specs.Entries.{position_info}
 use Rattle.machine_core.specs.State.{MachineState}
 use Rattle.machine_core.proofs.Answering.{reads}
-use Rattle.machine_core.proofs.QueueMeanings.{id_shown}
+use Rattle.machine_core.proofs.Queue.Meanings.{id_shown}
 use Rattle.machine_core.proofs.machine.Machine.show_id.Goals as goal
 
 pub returns : goal.returns

@@ -5,7 +5,7 @@ use Rattle.machine_core.specs.Entries.{position_info}
 use Rattle.machine_core.specs.Spans.{positions_in}
 use Rattle.machine_core.specs.State.{MachineState}
 use Rattle.machine_core.proofs.Answering.{reads}
-use Rattle.machine_core.proofs.QueueMeanings.{range_shown}
+use Rattle.machine_core.proofs.Queue.Meanings.{range_shown}
 use Rattle.machine_core.proofs.machine.Machine.show_range.Goals as goal
 
 pub returns : goal.returns

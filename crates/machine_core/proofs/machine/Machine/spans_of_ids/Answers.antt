@@ -1,7 +1,7 @@
 use Rattle.std.proofs.Common.{◌≡◌, ℕ, List, Ok, ap, sym, ◌∙◌}
 use Rattle.play_queue.specs.Limits.{MAX_ENTRIES}
 use Rattle.play_queue.specs.Positions.{items_of, positions_of}
-use Rattle.machine_core.proofs.QueueMeanings.{places_within}
+use Rattle.machine_core.proofs.Queue.Meanings.{places_within}
 use Rattle.machine_core.proofs.machine.Machine.spans_of_ids.Goals as goal
 
 pub each_alone-requires : goal.each_alone-requires

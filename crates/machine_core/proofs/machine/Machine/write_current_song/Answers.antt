@@ -3,7 +3,7 @@ use Rattle.command_text.proofs.Adding.{adds_same}
 use Rattle.machine_core.specs.Entries.{shown_info}
 use Rattle.machine_core.specs.State.{MachineState, shown_of}
 use Rattle.machine_core.proofs.Answering.{reads}
-use Rattle.machine_core.proofs.PlayingMeanings.{current_means}
+use Rattle.machine_core.proofs.Playing.Meanings.{current_means}
 use Rattle.machine_core.proofs.machine.Machine.write_current_song.Goals as goal
 
 pub returns : goal.returns

@@ -5,7 +5,7 @@ use Rattle.song_db.specs.Limits.{MAX_ROWS}
 use Rattle.song_db.specs.Row.{row_at}
 use Rattle.state_codec.proofs.BatchRows.{database_batch}
 use Rattle.machine_core.specs.ScanningRows.{AreTold}
-use Rattle.machine_core.proofs.ScanningRows.{kept_one}
+use Rattle.machine_core.proofs.Scans.Rows.{kept_one}
 use Rattle.machine_core.proofs.scanning.rows.keep_telling.Goals as goal
 
 pub count_told-requires : goal.count_told-requires

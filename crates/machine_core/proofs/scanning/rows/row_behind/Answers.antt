@@ -2,7 +2,7 @@ use Rattle.std.proofs.Common.{◌≡◌, true, false, sym, ◌∙◌, ap}
 use Rattle.std.specs.Option.{option_copied}
 use Rattle.std.specs.Str.{bytes_eq}
 use Rattle.song_db.specs.Change.{uri_of}
-use Rattle.machine_core.proofs.ScanningRows.{row_step}
+use Rattle.machine_core.proofs.Scans.Rows.{row_step}
 use Rattle.machine_core.proofs.scanning.rows.row_behind.Goals as goal
 use Rattle.machine_core.proofs.scanning.rows.row_behind.Goals.{then-eq, else-eq}
 

@@ -2,7 +2,7 @@ use Rattle.std.proofs.Common.{◌++◌, length, sym, ap, ◌∙◌, arith}
 use Rattle.std.specs.Vec.Iter.{into_iter_items}
 use Rattle.song_db.specs.Change.{after_batch}
 use Rattle.machine_core.specs.Scanning.{telling}
-use Rattle.machine_core.proofs.ScanningRows.{tell_on}
+use Rattle.machine_core.proofs.Scans.Rows.{tell_on}
 use Rattle.machine_core.proofs.scanning.rows.telling.Goals as goal
 
 pub loop-change-preserved : goal.loop-change-preserved

@@ -3,7 +3,7 @@ use Rattle.std.proofs.lemmas.Result.{IfOk-weaker}
 use Rattle.filter_expr.specs.Meaning.{is_match}
 use Rattle.song_db.specs.Limits.{MAX_ROWS}
 use Rattle.song_db.specs.Valued.{numbers_of}
-use Rattle.machine_core.proofs.FindingSelected.{few_selected, numbers_selected}
+use Rattle.machine_core.proofs.Finding.Selected.{few_selected, numbers_selected}
 use Rattle.machine_core.proofs.commands.finding.gathering.all_numbers.Goals as goal
 
 pub returns : goal.returns

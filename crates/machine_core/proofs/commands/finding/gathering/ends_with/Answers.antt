@@ -1,7 +1,7 @@
 use Rattle.std.proofs.Common.{◌≡◌, [], ◌∷◌, map, ap, sym, ◌∙◌}
 use Rattle.std.proofs.lemmas.Slice.Eq.{bytes_eq-Decides}
 use Rattle.song_db.specs.Query.{with_texts, distinct_of}
-use Rattle.machine_core.proofs.FindingValues.{with_last}
+use Rattle.machine_core.proofs.Finding.Values.{with_last}
 use Rattle.machine_core.proofs.commands.finding.gathering.ends_with.Goals as goal
 
 pub returns-in-Some : goal.returns-in-Some

@@ -1,8 +1,8 @@
 use Rattle.std.proofs.Common.{◌≡◌, ◌+◌, ◌++◌, true, drop, ap, sym, ◌∙◌, arith}
 use Rattle.filter_expr.specs.Meaning.{is_match}
 use Rattle.machine_core.specs.Finding.{matching, numbers_in, part_of}
-use Rattle.machine_core.proofs.FindingNumbers.{number_of_row, one_number}
-use Rattle.machine_core.proofs.FindingSteps.{met}
+use Rattle.machine_core.proofs.Finding.Numbers.{number_of_row, one_number}
+use Rattle.machine_core.proofs.Finding.Steps.{met}
 use Rattle.machine_core.proofs.commands.finding.gathering.matching_numbers.Goals as goal
 
 pub loop-number-preserved : goal.loop-number-preserved

@@ -1,7 +1,7 @@
 use Rattle.std.proofs.Common.{◌∙◌}
 use Rattle.std.proofs.lemmas.Result.{IfOk-weaker}
 use Rattle.filter_expr.specs.Meaning.{is_match}
-use Rattle.machine_core.proofs.FindingSelected.{few_rows, selected_rows}
+use Rattle.machine_core.proofs.Finding.Selected.{few_rows, selected_rows}
 use Rattle.machine_core.proofs.commands.finding.gathering.matching_rows.Goals as goal
 
 pub returns : goal.returns

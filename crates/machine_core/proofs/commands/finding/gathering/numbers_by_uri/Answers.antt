@@ -2,7 +2,7 @@ use Rattle.std.proofs.Common.{Option, ap, sym, ◌∙◌}
 use Rattle.std.proofs.lemmas.Result.{IfOk-weaker}
 use Rattle.command_text.specs.declared.range.Window.{Window}
 use Rattle.machine_core.specs.Finding.{in_window, matching, numbers_in}
-use Rattle.machine_core.proofs.FindingMeanings.{matching_found}
+use Rattle.machine_core.proofs.Finding.Meanings.{matching_found}
 use Rattle.machine_core.proofs.commands.finding.gathering.numbers_by_uri.Goals as goal
 
 pub returns-in-None : goal.returns-in-None

@@ -2,7 +2,7 @@ use Rattle.std.proofs.Common.{List, ap, ◌∙◌}
 use Rattle.std.proofs.lemmas.Result.{IfOk-weaker}
 use Rattle.song_db.specs.Row.{Row}
 use Rattle.machine_core.specs.Finding.{found, numbers_in}
-use Rattle.machine_core.proofs.FindingMeanings.{found_by_uri}
+use Rattle.machine_core.proofs.Finding.Meanings.{found_by_uri}
 use Rattle.machine_core.proofs.commands.finding.gathering.numbers_in_window.Goals as goal
 
 pub returns-in-Folded : goal.returns-in-Folded

@@ -1,7 +1,7 @@
 use Rattle.std.proofs.Common.{◌≤◌, length, map, ap, ◌∙◌, arith}
 use Rattle.std.proofs.lemmas.Result.{IfOk-weaker}
 use Rattle.machine_core.specs.Finding.{in_window, numbers_in}
-use Rattle.machine_core.proofs.FindingMeanings.{matching_found}
+use Rattle.machine_core.proofs.Finding.Meanings.{matching_found}
 use Rattle.machine_core.proofs.commands.finding.gathering.numbers_selected.Goals as goal
 
 pub returns : goal.returns

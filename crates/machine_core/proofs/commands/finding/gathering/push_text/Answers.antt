@@ -1,7 +1,7 @@
 use Rattle.std.proofs.Common.{[], ◌∷◌, ap, refl, ◌∙◌}
 use Rattle.std.proofs.lemmas.List.{map-append}
 use Rattle.song_db.specs.Query.{distinct_of}
-use Rattle.machine_core.proofs.FindingValues.{shown, with_texts-append}
+use Rattle.machine_core.proofs.Finding.Values.{shown, with_texts-append}
 use Rattle.machine_core.proofs.commands.finding.gathering.push_text.Goals as goal
 
 pub returns : goal.returns

@@ -1,6 +1,6 @@
 use Rattle.std.proofs.Common.{◌≡◌, ap, ◌∙◌, map, arith}
 use Rattle.filter_expr.specs.Order.{is_before, sorted}
-use Rattle.machine_core.proofs.FindingSorted.{sorted_seen, written_back}
+use Rattle.machine_core.proofs.Finding.Sorted.{sorted_seen, written_back}
 use Rattle.machine_core.proofs.commands.finding.gathering.sorted_rows.Goals as goal
 
 pub returns-clause-found : goal.returns-clause-found

@@ -2,8 +2,8 @@ use Rattle.std.proofs.Common.{length, ap, ◌∙◌, arith}
 use Rattle.std.specs.List.{flat_map}
 use Rattle.command_text.specs.AnswerSongs.{song_lines}
 use Rattle.machine_core.specs.Finding.{found}
-use Rattle.machine_core.proofs.FindingMeanings.{found_by_uri}
-use Rattle.machine_core.proofs.FindingWriters.{writes_same}
+use Rattle.machine_core.proofs.Finding.Meanings.{found_by_uri}
+use Rattle.machine_core.proofs.Finding.Writers.{writes_same}
 use Rattle.machine_core.proofs.commands.finding.writing.write_by_uri.Goals as goal
 
 pub returns-in-Folded : goal.returns-in-Folded

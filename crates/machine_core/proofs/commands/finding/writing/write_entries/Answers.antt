@@ -1,7 +1,7 @@
 use Rattle.std.proofs.Common.{drop, arith}
 use Rattle.machine_core.specs.Finding.{entries_found}
-use Rattle.machine_core.proofs.FindingSteps.{no_entries}
-use Rattle.machine_core.proofs.FindingWriters.{none_remains}
+use Rattle.machine_core.proofs.Finding.Steps.{no_entries}
+use Rattle.machine_core.proofs.Finding.Writers.{none_remains}
 use Rattle.machine_core.proofs.commands.finding.writing.write_entries.Goals as goal
 
 pub returns : goal.returns

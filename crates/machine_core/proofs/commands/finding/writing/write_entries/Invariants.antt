@@ -1,6 +1,6 @@
 use Rattle.std.proofs.Common.{drop}
 use Rattle.machine_core.specs.Finding.{entries_found}
-use Rattle.machine_core.proofs.FindingWriters.{Remains}
+use Rattle.machine_core.proofs.Finding.Writers.{Remains}
 use Rattle.machine_core.proofs.commands.finding.writing.write_entries.Given as goal
 
 abbrev pub invariant-loop-position : goal.invariant-loop-position

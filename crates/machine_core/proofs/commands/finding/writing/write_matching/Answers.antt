@@ -5,8 +5,8 @@ use Rattle.filter_expr.specs.Meaning.{is_match}
 use Rattle.song_db.specs.Row.{Row}
 use Rattle.machine_core.specs.Finding.{matching, part_of}
 use Rattle.machine_core.specs.declared.commands.finding.part.Part.{Part}
-use Rattle.machine_core.proofs.FindingSteps.{passed_over, met, none_left, part_of_none}
-use Rattle.machine_core.proofs.FindingWriters.{of_adds, same_remains, less_remains, none_remains, stopped_writing, stopped_looking}
+use Rattle.machine_core.proofs.Finding.Steps.{passed_over, met, none_left, part_of_none}
+use Rattle.machine_core.proofs.Finding.Writers.{of_adds, same_remains, less_remains, none_remains, stopped_writing, stopped_looking}
 use Rattle.machine_core.proofs.commands.finding.writing.write_matching.Goals as goal
 
 abbrev lines : Part → List Row → List ℕ

@@ -2,7 +2,7 @@ use Rattle.std.proofs.Common.{drop}
 use Rattle.std.specs.List.{flat_map}
 use Rattle.command_text.specs.AnswerSongs.{song_lines}
 use Rattle.machine_core.specs.Finding.{matching, part_of}
-use Rattle.machine_core.proofs.FindingWriters.{Remains}
+use Rattle.machine_core.proofs.Finding.Writers.{Remains}
 use Rattle.machine_core.proofs.commands.finding.writing.write_matching.Given as goal
 
 abbrev pub invariant-loop-row : goal.invariant-loop-row

@@ -3,8 +3,8 @@ use Rattle.std.specs.List.{flat_map}
 use Rattle.command_text.proofs.Adding.{adds_same}
 use Rattle.command_text.specs.AnswerSongs.{song_lines}
 use Rattle.machine_core.specs.Finding.{in_window}
-use Rattle.machine_core.proofs.FindingMeanings.{matching_found}
-use Rattle.machine_core.proofs.FindingWriters.{of_adds, writes_no_more}
+use Rattle.machine_core.proofs.Finding.Meanings.{matching_found}
+use Rattle.machine_core.proofs.Finding.Writers.{of_adds, writes_no_more}
 use Rattle.machine_core.proofs.commands.finding.writing.write_selected.Goals as goal
 
 pub returns-in_err-found : goal.returns-in_err-found

@@ -1,7 +1,7 @@
 use Rattle.std.proofs.Common.{ℕ, List, sym, ap, ◌+◌, ◌∙◌, drop, arith}
 use Rattle.command_text.specs.declared.range.PositionRange.TheVariants.{One}
 use Rattle.machine_core.specs.Spans.{spans_in}
-use Rattle.machine_core.proofs.QueueMeanings.{behind, not_found, span_next, span_off, spans_done}
+use Rattle.machine_core.proofs.Queue.Meanings.{behind, not_found, span_next, span_off, spans_done}
 use Rattle.machine_core.proofs.commands.queue.priorities.spans_in.Goals as goal
 
 pub loop-range-preserved : goal.loop-range-preserved

@@ -1,6 +1,6 @@
 use Rattle.std.proofs.Common.{◌≡◌, drop}
 use Rattle.machine_core.specs.Spans.{spans_in}
-use Rattle.machine_core.proofs.QueueMeanings.{behind}
+use Rattle.machine_core.proofs.Queue.Meanings.{behind}
 use Rattle.machine_core.proofs.commands.queue.priorities.spans_in.Given as goal
 
 abbrev pub invariant-loop-range : goal.invariant-loop-range

@@ -10,8 +10,8 @@ use Rattle.song_db.specs.Replaced.{IsRising}
 use Rattle.song_db.specs.Row.{Row, row_uri}
 use Rattle.song_db.specs.Valued.{numbers_from, numbers_of}
 use Rattle.machine_core.specs.Finding.{numbers_in}
-use Rattle.machine_core.proofs.FindingMeanings.{fewer}
-use Rattle.machine_core.proofs.FindingNumbers.{number_of_row}
+use Rattle.machine_core.proofs.Finding.Meanings.{fewer}
+use Rattle.machine_core.proofs.Finding.Numbers.{number_of_row}
 
 module _ (passes : Row → Bool) (songs : List Row) where
   within : (row : Row) (rest : List Row) (n : ℕ) → drop n songs ≡ row ∷ rest → n < length songs

@@ -26,11 +26,11 @@ use Rattle.machine_core.specs.Steps.{moves, puts, step_in}
 use Rattle.machine_core.specs.declared.steps.PlayerStep.{PlayerStep}
 use Rattle.machine_core.specs.declared.steps.PlayerStep.TheVariants as steps
 use Rattle.machine_core.proofs.CommandForms.{KeptBy, KnowsLength, OfForms, Turn, command_so, turned}
-use Rattle.machine_core.proofs.SoundCommands.{turn_sound, when_broken_sound, when_fed_sound, when_found_sound}
-use Rattle.machine_core.proofs.SoundFrame.{FrameWithin}
-use Rattle.machine_core.proofs.SoundQueues.{batch_stays}
-use Rattle.machine_core.proofs.SoundWithin.{batch_framed, edited_holds, ended_holds, halted_within, next_holds, play_holds, previous_holds}
-use Rattle.machine_core.proofs.SoundWithin.{resume_holds, seek_current_holds, seek_holds}
+use Rattle.machine_core.proofs.Sound.Commands.{turn_sound, when_broken_sound, when_fed_sound, when_found_sound}
+use Rattle.machine_core.proofs.Sound.Frame.{FrameWithin}
+use Rattle.machine_core.proofs.Sound.Queues.{batch_stays}
+use Rattle.machine_core.proofs.Sound.Within.{batch_framed, edited_holds, ended_holds, halted_within, next_holds, play_holds, previous_holds}
+use Rattle.machine_core.proofs.Sound.Within.{resume_holds, seek_current_holds, seek_holds}
 
 turn_holds : (turn : Turn) (m : MachineState) → KeptBy IsSoundMachine m (puts (turned turn m) m)
 turn_holds Turn.ClearError m = λ holds.

@@ -25,9 +25,9 @@ use Rattle.player_core.specs.declared.playing.PlayState.TheVariants.{Stop, Play,
 use Rattle.player_core.specs.declared.settings.PlaySettings.{PlaySettings}
 use Rattle.player_core.proofs.LeftBlock.{left_by-empty}
 use Rattle.machine_core.specs.Sound.{is_in_queue, IsIn, AreOwn, IsSoundPlayer}
-use Rattle.machine_core.proofs.SoundChoices.{chosen_in, some_weaker}
-use Rattle.machine_core.proofs.SoundIds.{all_weaker, all_both, all_behind, all_without, own_without, apart_without, own_behind}
-use Rattle.machine_core.proofs.SoundIds.{has_here, has_later}
+use Rattle.machine_core.proofs.Sound.Choices.{chosen_in, some_weaker}
+use Rattle.machine_core.proofs.Sound.Ids.{all_weaker, all_both, all_behind, all_without, own_without, apart_without, own_behind}
+use Rattle.machine_core.proofs.Sound.Ids.{has_here, has_later}
 
 -- the ids of one list of entries are in another
 abbrev pub Within : List Entry → List Entry → Type 0

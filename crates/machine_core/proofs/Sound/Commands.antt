@@ -23,9 +23,9 @@ use Rattle.machine_core.specs.Sound.{IsSoundPlayer, IsSound}
 use Rattle.machine_core.specs.State.{MachineState, settings_of}
 use Rattle.machine_core.specs.Steps.{current_length, puts}
 use Rattle.machine_core.proofs.CommandForms.{KeptBy, OfForms, Turn, command_so, turned}
-use Rattle.machine_core.proofs.SoundForms.{batch_sound, edited_sound, moves_sound, puts_sound, steps_sound}
-use Rattle.machine_core.proofs.SoundPlaying.{previous_sound, sought_here_sound, halted_sound, ended_sound}
-use Rattle.machine_core.proofs.SoundSteps.{sound_from, played_of}
+use Rattle.machine_core.proofs.Sound.Forms.{batch_sound, edited_sound, moves_sound, puts_sound, steps_sound}
+use Rattle.machine_core.proofs.Sound.Playing.{previous_sound, sought_here_sound, halted_sound, ended_sound}
+use Rattle.machine_core.proofs.Sound.Steps.{sound_from, played_of}
 
 pub turn_sound : (turn : Turn) (m : MachineState) → KeptBy IsSound m (puts (turned turn m) m)
 turn_sound Turn.ClearError m = λ sound.

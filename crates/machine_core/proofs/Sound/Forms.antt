@@ -37,11 +37,11 @@ use Rattle.machine_core.specs.Steps.{moves, puts, from_named, step_in, steps, re
 use Rattle.machine_core.specs.declared.steps.PlayerStep.{PlayerStep}
 use Rattle.machine_core.specs.declared.steps.PlayerStep.TheVariants.{Resume, Play as PlayNamed, Seek, Next, Ended}
 use Rattle.machine_core.proofs.CommandForms.{KeptBy}
-use Rattle.machine_core.proofs.SoundEdits.{id_test, op_has, ruled_has}
-use Rattle.machine_core.proofs.SoundLeaving.{stays_deleted, stays_kept}
-use Rattle.machine_core.proofs.SoundPlaying.{StepSound, PlayerSound, left_of, over_sound, ended_sound, resumed_sound}
-use Rattle.machine_core.proofs.SoundPlaying.{played_from_sound, sought_sound, named_in}
-use Rattle.machine_core.proofs.SoundSteps.{Within, sound_from, sound_within, played_of, followed_sound}
+use Rattle.machine_core.proofs.Sound.Edits.{id_test, op_has, ruled_has}
+use Rattle.machine_core.proofs.Sound.Leaving.{stays_deleted, stays_kept}
+use Rattle.machine_core.proofs.Sound.Playing.{StepSound, PlayerSound, left_of, over_sound, ended_sound, resumed_sound}
+use Rattle.machine_core.proofs.Sound.Playing.{played_from_sound, sought_sound, named_in}
+use Rattle.machine_core.proofs.Sound.Steps.{Within, sound_from, sound_within, played_of, followed_sound}
 
 -- ---- ops
 

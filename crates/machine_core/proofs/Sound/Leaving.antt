@@ -8,7 +8,7 @@ use Rattle.play_queue.specs.declared.entry.Entry.{Entry}
 use Rattle.play_queue.specs.Entries.{Uris, deleted, kept, is_among}
 use Rattle.player_core.specs.Staying.{takes, staying, all_staying}
 use Rattle.machine_core.specs.Followed.{no_block}
-use Rattle.machine_core.proofs.SoundIds.{Has, Carries, has_here, has_later, has_more, has_front, has_back, has_either}
+use Rattle.machine_core.proofs.Sound.Ids.{Has, Carries, has_here, has_later, has_more, has_front, has_back, has_either}
 
 -- ---- a block
 

@@ -48,12 +48,12 @@ use Rattle.machine_core.specs.Steps.{puts, removal_ops, single_ops, step_in, ste
 use Rattle.machine_core.specs.declared.steps.PlayerStep.{PlayerStep}
 use Rattle.machine_core.specs.declared.steps.PlayerStep.TheVariants.{Resume, Play as PlayNamed, Seek, Next, Ended}
 use Rattle.machine_core.proofs.CommandForms.{KeptBy}
-use Rattle.machine_core.proofs.SoundEdits.{op_has, ruled_has, song_test}
-use Rattle.machine_core.proofs.SoundForms.{edited_sound, moves_sound}
-use Rattle.machine_core.proofs.SoundFrame.{FrameWithin, is_song, least_within, named_row, none_within, row_kept, row_kept_at}
-use Rattle.machine_core.proofs.SoundLeaving.{stays_deleted}
-use Rattle.machine_core.proofs.SoundQueues.{consumed_stays, batch_stays, queue_stays}
-use Rattle.machine_core.proofs.SoundSteps.{IsAt, no_entry, none_placed, placed_at, stays_song}
+use Rattle.machine_core.proofs.Sound.Edits.{op_has, ruled_has, song_test}
+use Rattle.machine_core.proofs.Sound.Forms.{edited_sound, moves_sound}
+use Rattle.machine_core.proofs.Sound.Frame.{FrameWithin, is_song, least_within, named_row, none_within, row_kept, row_kept_at}
+use Rattle.machine_core.proofs.Sound.Leaving.{stays_deleted}
+use Rattle.machine_core.proofs.Sound.Queues.{consumed_stays, batch_stays, queue_stays}
+use Rattle.machine_core.proofs.Sound.Steps.{IsAt, no_entry, none_placed, placed_at, stays_song}
 
 -- the frames of the song that is current among these entries
 abbrev Framed : List Row → List Entry → PlayerState → Type 0

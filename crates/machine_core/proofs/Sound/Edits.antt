@@ -22,7 +22,7 @@ use Rattle.state_codec.specs.SavedState.{SavedState}
 use Rattle.state_codec.specs.declared.op.queue_op.QueueOp.{QueueOp}
 use Rattle.state_codec.specs.declared.op.queue_op.QueueOp.TheVariants.{Add, Delete, Move, Swap, Shuffle, Prio}
 use Rattle.state_codec.proofs.KeptOps.{map_none, range_within, move_forward, swap_within}
-use Rattle.machine_core.proofs.SoundIds.{Has, Carries, has_more, has_front, has_back, has_either}
+use Rattle.machine_core.proofs.Sound.Ids.{Has, Carries, has_more, has_front, has_back, has_either}
 
 -- the stamp and the priority are nothing to the test
 pub record IsTest (test : Entry → Bool) : Type 0 where

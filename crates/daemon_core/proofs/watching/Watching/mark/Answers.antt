@@ -3,7 +3,7 @@ use Rattle.std.specs.List.{list_all}
 use Rattle.idle_masks.specs.Subsystems.{is_empty}
 use Rattle.idle_masks.specs.Watched.{due}
 use Rattle.daemon_core.proofs.RoomLaws.{marked_nothing}
-use Rattle.daemon_core.proofs.watching.Clients.mark.Goals as goal
+use Rattle.daemon_core.proofs.watching.Watching.mark.Goals as goal
 
 pub returns-then-is_empty-clause-marked : goal.returns-then-is_empty-clause-marked
 returns-then-is_empty-clause-marked c =

@@ -14,7 +14,7 @@ use Rattle.player_core.specs.declared.choice.Choice.{Choice}
 use Rattle.player_core.specs.declared.settings.PlaySettings.{PlaySettings}
 use Rattle.player_core.proofs.Least.{better, first_drawn, first_drawn-put_in, first_of-drawn}
 use Rattle.machine_core.specs.Sound.{IsIn}
-use Rattle.machine_core.proofs.SoundIds.{here_in, later_in, kept_in}
+use Rattle.machine_core.proofs.Sound.Ids.{here_in, later_in, kept_in}
 
 pub some_weaker : (P Q : ℕ → Type 0) → ((id : ℕ) → P id → Q id) → (found : Option ℕ) → IfSome found P → IfSome found Q
 some_weaker P Q f None h = tt

@@ -19,8 +19,8 @@ use Rattle.song_db.specs.Row.{Row, row_at}
 use Rattle.machine_core.specs.Followed.{entry_row}
 use Rattle.machine_core.specs.Sound.{IsIn}
 use Rattle.machine_core.specs.Steps.{named_entry}
-use Rattle.machine_core.proofs.SoundIds.{Has, Carries, has_later}
-use Rattle.machine_core.proofs.SoundSteps.{IsAt, at_song, no_entry, placed_at, placed_where}
+use Rattle.machine_core.proofs.Sound.Ids.{Has, Carries, has_later}
+use Rattle.machine_core.proofs.Sound.Steps.{IsAt, at_song, no_entry, placed_at, placed_where}
 
 -- an entry has the id, and is of the song
 abbrev pub is_song : ℕ → List ℕ → Entry → Bool

@@ -28,11 +28,11 @@ use Rattle.player_core.specs.declared.selector.Selector.TheVariants.{Position, I
 use Rattle.player_core.specs.declared.settings.PlaySettings.{PlaySettings}
 use Rattle.player_core.proofs.Leaving.{staying-all}
 use Rattle.machine_core.specs.Sound.{is_in_queue, IsIn, IsSoundPlayer}
-use Rattle.machine_core.proofs.SoundChoices.{chosen_in, first_chosen_in, some_weaker}
-use Rattle.machine_core.proofs.SoundIds.{all_without, here_in, later_in, own_without}
-use Rattle.machine_core.proofs.SoundLeaving.{stays_deleted}
-use Rattle.machine_core.proofs.SoundSteps.{Within, ArePlayed, IsAt, played_of, sound_from}
-use Rattle.machine_core.proofs.SoundSteps.{sound_within, gone_on_sound, left_played, placed_at}
+use Rattle.machine_core.proofs.Sound.Choices.{chosen_in, first_chosen_in, some_weaker}
+use Rattle.machine_core.proofs.Sound.Ids.{all_without, here_in, later_in, own_without}
+use Rattle.machine_core.proofs.Sound.Leaving.{stays_deleted}
+use Rattle.machine_core.proofs.Sound.Steps.{Within, ArePlayed, IsAt, played_of, sound_from}
+use Rattle.machine_core.proofs.Sound.Steps.{sound_within, gone_on_sound, left_played, placed_at}
 
 -- ---- the end of a song
 

@@ -1,0 +1,7 @@
+pub mod Meanings
+pub mod Writers
+pub mod Steps
+pub mod Numbers
+pub mod Selected
+pub mod Sorted
+pub mod Values

@@ -1,0 +1,12 @@
+pub mod Ids
+pub mod Choices
+pub mod Steps
+pub mod Leaving
+pub mod Playing
+pub mod Edits
+pub mod Forms
+pub mod Commands
+pub mod Frame
+pub mod Queues
+pub mod Within
+pub mod Kept
