@@ -57,7 +57,7 @@ def web_of_links(program, folder):
         first, second = told(daemon, "update ")
         found = first.split()
         # The first start may have come to one of them.
-        check("songs and gone", (found[:4], found[8:10]), ("update 1: 2 songs,".split(), ["0", "gone;"]))
+        check("songs and gone", (found[:4], found[8:12]), ("update 1: 2 songs,".split(), ["0", "changed,", "0", "gone;"]))
         check("folders that were not read", int(found[found.index("folders,") - 1]) > 0, True)
         check("why", second.startswith(f"update 1: one update reads {MOST} folders"), True)
 
@@ -79,6 +79,7 @@ def job_in_the_log(program, folder):
         os.rename(f"{folder}/music/d/e", f"{folder}/music/e")
         os.symlink("..", f"{folder}/music/d/e")
         put_song(daemon, "new.wav", RAMP)
+        put_song(daemon, "stereo.wav", RAMP[:100], channels=2)
         update(client)
         client.do("update d/b.wav")
         wait_for("the end of the job", lambda: client.value("status", "updating_db") is None)
@@ -89,11 +90,11 @@ def job_in_the_log(program, folder):
         left = "1 not WAVE, 1 of another format, 1 broken"
         none = "0 not WAVE, 0 of another format, 0 broken"
         wanted = [
-            f"update 1: 4 songs, 4 of them new, 0 gone; left out: {left}; not read: 0 folders, 0 files",
+            f"update 1: 4 songs, 4 of them new, 0 changed, 0 gone; left out: {left}; not read: 0 folders, 0 files",
             # The link that leads nowhere may be a folder or a file; the one upwards isn't read, and what was known below it is kept.
-            f"update 2: 4 songs, 2 of them new, 1 gone; left out: {left}; not read: 2 folders, 1 files",
-            f"update 3: 1 songs, 0 of them new, 0 gone; left out: {none}; not read: 0 folders, 0 files",
-            f"update 4: 0 songs, 0 of them new, 1 gone; left out: {none}; not read: 1 folders, 0 files",
+            f"update 2: 4 songs, 2 of them new, 1 changed, 1 gone; left out: {left}; not read: 2 folders, 1 files",
+            f"update 3: 1 songs, 0 of them new, 0 changed, 0 gone; left out: {none}; not read: 0 folders, 0 files",
+            f"update 4: 0 songs, 0 of them new, 0 changed, 1 gone; left out: {none}; not read: 1 folders, 0 files",
         ]
         check("the log", told(daemon, "update ", "left out"), wanted)
 

@@ -170,7 +170,7 @@ impl<F: Folder, R: Log> TalliedFolder<'_, F, R> {
     }
 
     // Says what the job came to, before which so many rows were known.
-    fn tell(&self, job: u32, before: u64) {
+    fn tell(&self, job: u32, before: u64, changed: usize) {
         let Tally {
             songs,
             known,
@@ -185,7 +185,7 @@ impl<F: Folder, R: Log> TalliedFolder<'_, F, R> {
         let new = songs.saturating_sub(known);
         let gone = before.saturating_sub(known).saturating_sub(kept);
         info!(self.rt;
-            "update {job}: {songs} songs, {new} of them new, {gone} gone; left out: {not_wave} not WAVE, {other_format} of another format, {broken} broken; not read: {folders} folders, {files} files"
+            "update {job}: {songs} songs, {new} of them new, {changed} changed, {gone} gone; left out: {not_wave} not WAVE, {other_format} of another format, {broken} broken; not read: {folders} folders, {files} files"
         );
         if is_full {
             info!(self.rt;
@@ -248,9 +248,9 @@ impl<F: Folder, R: Log> ScanFolder for TalliedFolder<'_, F, R> {
         self.tally = Tally::NONE;
     }
 
-    fn end_job(&mut self, job: u32) {
+    fn end_job(&mut self, job: u32, replaced: usize) {
         if let Some(before) = &self.before {
-            self.tell(job, before.known.len() as u64);
+            self.tell(job, before.known.len() as u64, replaced);
         }
         self.before = None;
     }

@@ -8,3 +8,4 @@ pub mod Group
 pub mod Settling
 pub mod Working
 pub mod Played
+pub mod Replacing

@@ -11,10 +11,12 @@ mod outbox;
 mod pass;
 mod player;
 mod refusal;
+mod replacing;
 mod scan;
 mod served;
 mod settling;
 mod shared;
+mod under_lock;
 mod worker;
 
 pub use books::Blanks;

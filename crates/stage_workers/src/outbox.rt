@@ -33,13 +33,6 @@ impl Outputs {
     {
         self.outputs.as_slice()
     }
-
-    /// The outputs, to be handed over.
-    pub fn into_vec(self) -> Vec<Output>
-        ensures { result.items ≡ self }
-    {
-        self.outputs
-    }
 }
 
 /// What was left in the outbox, the oldest event first. Contracts see it as a list, with a list of outputs for each event.
@@ -80,12 +73,5 @@ impl Outbox {
         ensures { result.now ≡ self.now }
     {
         self.events.as_slice()
-    }
-
-    /// What each event left, to be handed over.
-    pub fn into_vec(self) -> Vec<Outputs>
-        ensures { result.items ≡ self }
-    {
-        self.events
     }
 }

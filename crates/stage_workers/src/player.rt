@@ -4,11 +4,11 @@ ghost use Rattle.song_output.specs.declared.open_song.OrderKind.{OrderKind};
 ghost use Rattle.song_output.specs.OpenSong.{kind_of, IsOpen};
 ghost use Rattle.song_output.specs.Piece.{AppendsFront};
 ghost use Rattle.song_output.specs.Sound.{ordered_sound};
-ghost use Rattle.stage_workers.specs.Played.{IsSilent, IsWholeIfOpen};
+ghost use Rattle.stage_workers.specs.Played.{IsShort, IsWholeIfOpen};
 ghost use Rattle.stage_workers.specs.Working.{GoesOn, HasWorked, IsUndone};
 
 use crate::worker::{Report, Wake, Worker};
-use crate::{Pass, SharedStage, StageError};
+use crate::{Pass, SharedStage, StageError, laws};
 use disk_model::Disk;
 use live_stage::LiveError;
 use player_core::{Order, PlayOrder};
@@ -20,7 +20,7 @@ use std::sync::ledger::Ledger;
 use std::time::Clock;
 use wave_pcm::Folder;
 
-// So many milliseconds pass before an order where the two before it wrote no frame.
+// So many milliseconds pass before an order where the two before it were short.
 const SILENCE: u64 = 100;
 
 impl<D: Disk, C: Ledger, P: Ledger, S: Ledger> SharedStage<D, C, P, S> {
@@ -34,7 +34,7 @@ impl<D: Disk, C: Ledger, P: Ledger, S: Ledger> SharedStage<D, C, P, S> {
             if guard.is_closed {
                 return Ok(None);
             }
-            if let Order::Play(order) = guard.live.order(alloc)? {
+            if let Order::Play(order) = laws::ordered(&*guard, alloc)? {
                 return Ok(Some(order));
             }
             guard = self.changed.wait(rt, guard);
@@ -126,13 +126,17 @@ fn report_written<D: Disk, C: Ledger, P: Ledger, S: Ledger, R: Wait + Clock, K: 
     worker.report(pass, &Report::Ended { ticket })
 }
 
-// Whether an order wrote no frame, by the song that it left open. One of a song that has grown, at the end of its row, counts as one that
-// wrote some: the order before it did.
-fn is_silent<S>(song: &Option<OpenSong<S>>, order: &PlayOrder) -> bool
-    ensures { IsTrue result ↔ IsSilent song.now order.now }
+// Whether an order was short: with fewer frames than a tenth of a second has, or with none, it came to the end of its song's file. The song
+// that it left open tells it; of one that has grown, the frames behind its row count too.
+fn is_short<S>(song: &Option<OpenSong<S>>, order: &PlayOrder) -> bool
+    ensures { IsTrue result ↔ IsShort song.now order.now }
 {
     match song {
-        Some(song) => song.next_frame == order.first_frame,
+        Some(song) => {
+            let frames = song.next_frame.saturating_sub(order.first_frame);
+            let is_last = song.info.frames <= song.next_frame;
+            is_last && u128::from(frames) * 10 < u128::from(song.info.rate)
+        }
         None => false,
     }
 }
@@ -141,7 +145,8 @@ fn is_silent<S>(song: &Option<OpenSong<S>>, order: &PlayOrder) -> bool
 ///
 /// Nothing is written while the lock is held, and nothing is kept behind the output: what a listener hears of an older order is at most
 /// the piece that was begun, and what the output itself holds. Where memory is wanting, for a look or in opening or reading, it looks anew.
-/// Where two orders in a row wrote no frame, as of songs without any, it pauses for 100 milliseconds before it looks for the next.
+/// Where two orders in a row came to the end of a file with less than a tenth of a second of sound, as of songs of a few frames, it pauses
+/// for 100 milliseconds before it looks for the next. So songs are not cut, and a piece of 4,096 frames counts only where it is the last.
 pub fn player_worker<
     D: Disk,
     C: Ledger,
@@ -172,7 +177,7 @@ pub fn player_worker<
             Ok(None) => break,
             Ok(Some(order)) => {
                 let done = play_once(worker, pass, gate, folder, output, &mut song, &order);
-                last_two = (last_two.1, is_silent(&song, &order));
+                last_two = (last_two.1, is_short(&song, &order));
                 done
             }
             Err(LiveError::NoMemory) => Err((StageError::NoMemory, pass)),

@@ -20,8 +20,8 @@ pub trait ScanFolder: Folder {
     /// A job begins, by this order.
     fn begin_job(&mut self, _alloc: Global, _order: &ScanOrder) {}
 
-    /// The job of this number is over, and its end was reported.
-    fn end_job(&mut self, _job: u32) {}
+    /// The job of this number is over, and its end was reported. So many songs that were known have another row since.
+    fn end_job(&mut self, _job: u32, _replaced: usize) {}
 }
 
 /// What lies behind a gate is told.
@@ -30,8 +30,8 @@ impl<F: ScanFolder, G: Gate> ScanFolder for GatedFolder<'_, F, G> {
         self.folder.begin_job(alloc, order);
     }
 
-    fn end_job(&mut self, job: u32) {
-        self.folder.end_job(job);
+    fn end_job(&mut self, job: u32, replaced: usize) {
+        self.folder.end_job(job, replaced);
     }
 }
 
@@ -39,29 +39,35 @@ impl<F: ScanFolder, G: Gate> ScanFolder for GatedFolder<'_, F, G> {
 ///
 /// A report that finds no memory is made again until it does. Where the reading finds none, the scan is left off: its end is reported, and
 /// what was not read keeps its row. It ends early where the stage is closed once a batch was reported, and by a report that is refused.
+/// Beside the pass it answers how many songs have another row since.
 pub fn scan_once<D: Disk, C: Ledger, P: Ledger, S: Ledger, F: Folder, R: Wait + Clock, K: Wake>(
     worker: &Worker<'_, D, C, P, S, R, K>,
     pass: Pass<C, P, S>,
     folder: &mut F,
     order: ScanOrder,
-) -> Result<Pass<C, P, S>, (StageError, Pass<C, P, S>)>
-    ensures worked { MatchResult result (HasWorked pass) (λ e. GoesOn pass e.1) }
+) -> Result<(Pass<C, P, S>, usize), (StageError, Pass<C, P, S>)>
+    ensures worked { MatchResult result (λ r. HasWorked pass r.0) (λ e. GoesOn pass e.1) }
     ensures honest { F.honest folder.old → F.honest folder.new × (F.files folder.new ≡ F.files folder.old) }
 {
     let job = order.job();
     let mut pass = pass;
+    let mut replaced = 0usize;
     if let Ok(mut scan) = Scan::begin(worker.alloc, order) {
         for _ in worker.rt.forever() {
             let Some(changes) = next_changes(worker.alloc, &mut scan, folder) else {
                 break;
             };
+            // No other thread changes rows, so that they are the same at the report.
+            let count = worker.stage.count_replaced(worker.rt, changes.as_slice());
             pass = worker.report(pass, &Report::Batch { job, changes })?;
+            replaced = replaced.saturating_add(count);
             if worker.stage.is_closed(worker.rt) {
-                return Ok(pass);
+                return Ok((pass, replaced));
             }
         }
     }
-    worker.report(pass, &Report::ScanDone { job })
+    let pass = worker.report(pass, &Report::ScanDone { job })?;
+    Ok((pass, replaced))
 }
 
 /// What the scan finds next, as a batch; nothing at its end, or where memory runs out.
@@ -100,17 +106,18 @@ pub fn scan_worker<
         };
         let job = order.job();
         folder.begin_job(worker.alloc, &order);
-        match scan_once(worker, pass, &mut folder, order) {
-            Ok(back) => pass = back,
+        let (back, replaced) = match scan_once(worker, pass, &mut folder, order) {
+            Ok(worked) => worked,
             Err((_, back)) => {
                 pass = back;
                 break;
             }
-        }
+        };
+        pass = back;
         if worker.stage.is_closed(worker.rt) {
             break;
         }
-        folder.end_job(job);
+        folder.end_job(job, replaced);
     }
     (pass, folder)
 }

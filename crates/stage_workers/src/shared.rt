@@ -14,7 +14,7 @@ use daemon_core::Event;
 use disk_model::Disk;
 use live_stage::{Live, LiveError, Receipt};
 use player_core::Order;
-use song_db::ScanOrder;
+use song_db::{RowChange, ScanOrder};
 use std::alloc::Global;
 use std::sync::ledger::Ledger;
 use std::sync::{Condvar, Mutex, Wait};
@@ -173,6 +173,11 @@ impl<D: Disk, C: Ledger, P: Ledger, S: Ledger> SharedStage<D, C, P, S> {
         ensures { IfErr result (λ e. e ≡ LiveError.Broken) }
     {
         laws::running_job(&*self.locked.lock(rt))
+    }
+
+    /// How many of these changes put another row in the place of a song's, by `laws::count_replaced`. It is no event.
+    pub fn count_replaced(&self, rt: &impl Wait, changes: &[RowChange]) -> usize {
+        laws::count_replaced(&*self.locked.lock(rt), changes)
     }
 
     /// Tells the workers to end, by `laws::closed`, and wakes the player. It is no event.

@@ -125,7 +125,7 @@ pub fn scanned_once<C: Ledger, P: Ledger, S: Ledger, R: Wait + Clock>(
     let alloc = host.alloc();
     let worker = worker_of(rt, alloc, stage, stand);
     match laws::scan_once(&worker, pass, &mut music(host, alloc, stand), order) {
-        Ok(pass) => (Ok(()), pass),
+        Ok((pass, _)) => (Ok(()), pass),
         Err((error, pass)) => (Err(error), pass),
     }
 }

@@ -106,7 +106,7 @@ pub fn scan<R: Wait + Clock, C: Ledger, P: Ledger, S: Ledger>(
     let worker = worker_of(rt, alloc, stage, &sound.woken);
     let mut folder = FileFolder::new(host, String::new(alloc));
     match laws::scan_once(&worker, pass, &mut folder, order) {
-        Ok(pass) => (Ok(()), pass),
+        Ok((pass, _)) => (Ok(()), pass),
         Err((error, pass)) => (Err(error), pass),
     }
 }

@@ -9,7 +9,7 @@ use super::Live;
 use crate::LiveError;
 use disk_model::Disk;
 use player_core::Order;
-use song_db::ScanOrder;
+use song_db::{ScanOrder, SongDb};
 use std::alloc::Global;
 
 impl<D: Disk> Live<D> {
@@ -44,6 +44,13 @@ impl<D: Disk> Live<D> {
         ensures waits { result ≡ false → play_order self.now.state.machine ≡ PlayOrder.Wait }
     {
         self.core.is_playing()
+    }
+
+    /// The songs of the database. It takes no memory and refuses nothing; of a broken stage it tells what was before the fault.
+    pub fn songs(&self) -> &SongDb
+        ensures { result.now ≡ self.now.state.machine.saved.songs }
+    {
+        self.core.as_saved().songs()
     }
 
     /// The number of the job that runs, if one does: that of `scan_order`. It takes no memory and refuses nothing; of a broken

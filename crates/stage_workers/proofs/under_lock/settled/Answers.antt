@@ -5,7 +5,7 @@ use Rattle.stage_workers.specs.LockState.{LockState}
 use Rattle.stage_workers.specs.Books.{total_of}
 use Rattle.stage_workers.specs.Settling.{back_of, full_of, shares_of}
 use Rattle.stage_workers.proofs.SettlingLaws.{kinds_add_up, short_is_reason}
-use Rattle.stage_workers.proofs.laws.settled.Goals as goal
+use Rattle.stage_workers.proofs.under_lock.settled.Goals as goal
 
 pub returns-in-Some-clause-reason : goal.returns-in-Some-clause-reason
 returns-in-Some-clause-reason g c =

@@ -3,7 +3,7 @@ use Rattle.stage_workers.specs.LockState.{LockState, FindsItsState}
 use Rattle.stage_workers.specs.declared.refusal.StageError.TheVariants.{Broken, NumbersSpent}
 use Rattle.stage_workers.specs.PassState.{PassState}
 use Rattle.stage_workers.proofs.GroupLaws.{counted_later, first_refused_as, nothing_done}
-use Rattle.stage_workers.proofs.laws.enter_group.Goals as goal
+use Rattle.stage_workers.proofs.under_lock.enter_group.Goals as goal
 
 pub returns-then-is_broken-clause-events : goal.returns-then-is_broken-clause-events
 returns-then-is_broken-clause-events g c =

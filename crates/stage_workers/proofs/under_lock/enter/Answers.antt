@@ -1,7 +1,7 @@
 use Rattle.std.proofs.Common.{ap}
 use Rattle.stage_workers.specs.LockState.{LockState, FindsItsState}
 use Rattle.stage_workers.proofs.EntryLaws.{still, still_as}
-use Rattle.stage_workers.proofs.laws.enter.Goals as goal
+use Rattle.stage_workers.proofs.under_lock.enter.Goals as goal
 
 pub returns-in_err-rewound-clause-any_moment : goal.returns-in_err-rewound-clause-any_moment
 returns-in_err-rewound-clause-any_moment g c =

@@ -1,0 +1,27 @@
+// Which changes of a batch put another row in the place of a song's.
+ghost use Rattle.std.specs.Prelude.{◌≡◌, ◌≤◌, length};
+ghost use Rattle.stage_workers.specs.Replacing.{count_replaced, replaces};
+
+use song_db::{RowChange, SongDb};
+
+/// How many do.
+pub(crate) fn count_in(songs: &SongDb, changes: &[RowChange]) -> usize
+    ensures { result ≡ count_replaced songs.now changes.now }
+{
+    changes
+        .iter()
+        .filter(|change| is_replacing(songs, change))
+        .count()
+}
+
+fn is_replacing(songs: &SongDb, change: &RowChange) -> bool
+    ensures { result ≡ replaces songs.now change.now }
+{
+    match change {
+        RowChange::Put(row) => match songs.get(row.uri()) {
+            Ok(old) => !old.is_same(row),
+            Err(_) => false,
+        },
+        RowChange::Drop(_) => false,
+    }
+}
