@@ -1,13 +1,16 @@
 -- Clients that connect, in several steps.
-use Rattle.std.proofs.Common.{◌≡◌, ◌⊎◌, ℕ, ◌+◌, zero, suc, List, [], Bool, Result, Ok, Err, IfErr, inl, inr, ◌∷◌, ◌++◌, sym, subst, ◌∙◌, ap, append_assoc, arith}
+use Rattle.std.proofs.Common.{◌≡◌, ◌⊎◌, ℕ, ◌+◌, zero, suc, List, [], Bool, Result, Ok, Err, IfErr, inl, inr, ◌∷◌, ◌++◌, refl, sym, subst, ◌∙◌, ap, append_assoc, arith}
 use Rattle.std.proofs.lemmas.List.{append-nil}
 use Rattle.mio_clients.specs.declared.event.ClientEvent.TheVariants as events
 use Rattle.mio_clients.specs.Events.{connects}
-use Rattle.mio_clients.specs.Connections.{ConnectionsState, IsFull}
+use Rattle.slab.specs.Slab.{get}
+use Rattle.mio_clients.specs.Connections.{ConnectionsState, IsAdmitted, IsFull}
 use Rattle.mio_clients.specs.declared.refusal.ClientsError.{ClientsError}
 use Rattle.mio_clients.specs.declared.refusal.ClientsError.TheVariants.{NoMemory, TooManyClients}
 use Rattle.mio_clients.specs.Later.{Accepts}
-use Rattle.mio_clients.specs.Yielding.{Replaces, AcceptsAll}
+use Rattle.mio_clients.specs.declared.clients.Admission.{Admission}
+use Rattle.mio_clients.specs.declared.clients.Admission.TheVariants.{Taken, Unwatched, Refused}
+use Rattle.mio_clients.specs.Yielding.{ComesTo, Replaces, AcceptsAll}
 
 -- the refusals of which one at most was met
 pub refused_is : (result : Result (Unit {0}) ClientsError) (P : Type 0) → (result ≡ Ok tt) ⊎ ((result ≡ Err TooManyClients) × P)
@@ -32,6 +35,7 @@ module _ {S : Type 0} where
   accepts_twice a b c p q = record {
     count = p.count + q.count;
     last_id = omega (arith, p.last_id, q.last_id);
+    time = q.time ∙ p.time;
     gathered = q.gathered ∙ (ap (λ (t : ℕ). b.events ++ connects t q.count) p.last_id
         ∙ (ap (λ t. t ++ connects (a.last_id + p.count) q.count) p.gathered
         ∙ (append_assoc a.events (connects a.last_id p.count) (connects (a.last_id + p.count) q.count)
@@ -45,6 +49,7 @@ module _ {S : Type 0} where
       subst (λ (s : ConnectionsState S). Accepts a s) (sym same) (record {
         count = 0;
         last_id = omega arith;
+        time = refl;
         gathered = sym (append-nil a.events);
         stay = λ key client there. there;
       })
@@ -59,11 +64,29 @@ module _ {S : Type 0} where
   accepts_still a = record {
     count = 0;
     last_id = omega arith;
+    time = refl;
     gathered = sym (append-nil a.events);
     stay = λ key client there. there;
   }
 
+  accepts_admitted : (stream : S) (a b : ConnectionsState S) → IsAdmitted stream a b → Accepts a b
+  accepts_admitted stream a b ad = record {
+    count = 1;
+    last_id = ad.last_id;
+    time = ad.time;
+    gathered = ad.gathered;
+    stay = λ key client there. ad.there.others key (λ e. absurd (cc (ad.vacant, there, ap (get a.clients) e))) ∙ there;
+  }
+
 module _ {S : Type 0} (remote : S → Bool) where
+  -- one that connects
+  pub accepts_one : (came : Admission) (stream : S) (a b : ConnectionsState S) → ComesTo remote stream came a b
+      → Accepts a b ⊎ Replaces remote stream a b
+  accepts_one Taken stream a b (inl p) = inl (accepts_admitted p.0 a b p.1)
+  accepts_one Taken stream a b (inr p) = inr p
+  accepts_one Unwatched stream a b same = inl (subst (λ (s : ConnectionsState S). Accepts a s) (sym same) (accepts_still a))
+  accepts_one Refused stream a b p = inl (subst (λ (s : ConnectionsState S). Accepts a s) (sym p.2) (accepts_still a))
+
   all_then : (ways : List (S × ConnectionsState S × ConnectionsState S)) (a b c : ConnectionsState S) → AcceptsAll remote ways a b → Accepts b c
       → AcceptsAll remote ways a c
   all_then [] a b c p q = accepts_twice a b c p q

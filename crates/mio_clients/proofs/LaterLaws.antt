@@ -12,7 +12,7 @@ use Rattle.mio_clients.specs.declared.event.ClientEvent.TheVariants as events
 use Rattle.mio_clients.specs.Events.{asked_by_event, asked_in, asked_by, AsksNothing}
 use Rattle.mio_clients.specs.Given.{Moves}
 use Rattle.mio_clients.specs.Connections.{ConnectionsState, QueueState, AreConnections, IsToldGone, IsMovedAt, Reads, IsReadAt, IsAdmitted, IsFailedAt, client_limit}
-use Rattle.mio_clients.specs.Later.{GoesOn, IsNew, IsKept, AllGoOn, IsLater, Accepts, IsFault, Loses, no_bytes, no_requests, bytes_for}
+use Rattle.mio_clients.specs.Later.{GoesOn, IsNew, IsKept, AllGoOn, IsLater, IsFault, Loses, no_bytes, no_requests, bytes_for}
 use Rattle.mio_clients.specs.declared.refusal.ClientsError.{ClientsError}
 use Rattle.mio_clients.specs.declared.refusal.ClientsError.TheVariants.{NetFault}
 use Rattle.mio_clients.specs.declared.client.Reading.{Reading}
@@ -619,14 +619,6 @@ module _ {S : Type 0} (remaining contents : S → Option (List ℕ)) where
   go_is_later a b sent served p = record {
     last_id = omega (arith, p.last_id);
     each = λ key client there. inl (p.each key client there);
-  }
-
-  pub accepts_none : (a : ConnectionsState S) → Accepts a a
-  accepts_none a = record {
-    count = 0;
-    last_id = omega arith;
-    gathered = sym (append-nil a.events);
-    stay = λ key client there. there;
   }
 
   -- how much room there is matters to no client

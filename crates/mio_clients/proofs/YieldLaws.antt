@@ -8,16 +8,12 @@ use Rattle.slab.specs.Slab.{get}
 use Rattle.slab.proofs.SlabLemmas.{ContainsKey-within}
 use Rattle.mio_clients.specs.declared.client.Client.{Client}
 use Rattle.client_session.proofs.ByteLaws.{keeps_itself}
-use Rattle.mio_clients.specs.Connections.{ConnectionsState, IsAlone, IsMovedAt}
+use Rattle.mio_clients.specs.Connections.{ConnectionsState, IsVacant, IsAt, IsAlone, IsMovedAt}
 use Rattle.mio_clients.specs.Yielding.{IsHeard, MayYield, IsLongestBelow, IsFoundBelow, IsFound, NowWaits, WasGiven, active_at, still_waits}
 
 below_or_at : (k key : ℕ) (t : Bool) → (k == key) ≡ t → k < key + 1 → (k ≡ key) ⊎ (k < key)
 below_or_at k key true e within = inl (eqb-true k key e)
 below_or_at k key false e within = (let ne = eqb-false k key e in inr (omega (arith, ne, within)))
-
-here_or_away : (k key : ℕ) (t : Bool) → (k == key) ≡ t → (k ≡ key) ⊎ (k ≢ key)
-here_or_away k key true e = inl (eqb-true k key e)
-here_or_away k key false e = inr (eqb-false k key e)
 
 keeps_twice : (first now after : Option (List ℕ)) → Keeps first now → Keeps now after → Keeps first after
 keeps_twice None now after h k = tt
@@ -42,55 +38,87 @@ module _ {S : Type 0} where
   active_before now bytes x none = ap (λ (l : List ℕ). active_at now l x) none
 
   waits_at : (x y : Option (Client S)) (client : Client S)
-      → MatchOption x (y ≡ None) (λ u. IsSomeAnd y (λ v. v ≡ record u { is_waiting = true })) → y ≡ Some client
-      → client.is_waiting ≡ true
-  waits_at None y client moved there = absurd (cc (moved, there))
+      → MatchOption x (y ≡ None) (λ u. IsSomeAnd y (λ v. v ≡ record u { is_waiting = true })) → x ≡ Some client
+      → y ≡ Some (record client { is_waiting = true })
+  waits_at None y client moved there = absurd (cc there)
   waits_at (Some x) None client moved there = absurd moved
   waits_at (Some x) (Some y) client moved there =
-      let same : y ≡ client = cc there in
-      ap (λ (t : Client S). t.is_waiting) (sym same) ∙ ap (λ (t : Client S). t.is_waiting) moved
+      let same : x ≡ client = cc there in
+      ap Some moved ∙ ap (λ (t : Client S). Some (record t { is_waiting = true })) same
+
+  number_at : (id : ℕ) (slot : Option (Client S)) (client : Client S) → IsSomeAnd slot (λ x. x.id ≡ id) → slot ≡ Some client → client.id ≡ id
+  number_at id None client at there = absurd at
+  number_at id (Some x) client at there =
+      let same : x ≡ client = cc there in
+      ap (λ (t : Client S). t.id) (sym same) ∙ at
+
+  -- a client of another number stands at another key
+  apart : (a : ConnectionsState S) (id key k : ℕ) (client : Client S) → IsAt a id key → get a.clients k ≡ Some client → client.id ≢ id → k ≢ key
+  apart a id key k client at there ne = λ here. ne (number_at id (get a.clients key) client at (sym (ap (get a.clients) here) ∙ there))
 
   -- the client of this number, at this key, waits
-  pub now_waits : (a b : ConnectionsState S) (id key : ℕ) → IsAlone a id key
+  pub now_waits : (a b : ConnectionsState S) (id key : ℕ) → b ≡ record a { clients = b.clients } → IsAt a id key → IsAlone a id key
       → IsMovedAt (λ x y. y ≡ record x { is_waiting = true }) key a.clients b.clients
       → ((other : ℕ) → other ≢ key → get b.clients other ≡ get a.clients other) → NowWaits id a b
-  now_waits a b id key alone moved others = λ k client there is.
-      elim (here_or_away k key (k == key) refl) [
-        | inl here ↦ waits_at (get a.clients key) (get b.clients key) client moved (sym (ap (get b.clients) here) ∙ there)
-        | inr away ↦ absurd (away (alone k client (sym (others k away) ∙ there) is))
-      ]
+  now_waits a b id key same at alone moved others = record {
+    same = same;
+    waits = λ k client there is.
+        let here : k ≡ key = alone k client there is in
+        ap (get b.clients) here ∙ waits_at (get a.clients key) (get b.clients key) client moved (sym (ap (get a.clients) here) ∙ there);
+    others = λ k client there ne. others k (apart a id key k client at there ne) ∙ there;
+  }
+
+  -- nobody has this number
+  pub nobody_waits : (a : ConnectionsState S) (id : ℕ) → IsVacant a id → NowWaits id a a
+  nobody_waits a id vacant = record {
+    same = refl;
+    waits = λ k client there is. absurd (vacant k client there is);
+    others = λ k client there ne. there;
+  }
 
   given_moved : (bytes : List ℕ) (now : ℕ) (u v : Option (Client S)) (x y : Client S)
       → MatchOption u (v ≡ None) (λ s. IsSomeAnd v (λ t. t ≡ record s {
         session = t.session;
         is_waiting = still_waits bytes s;
         last_active = active_at now bytes s;
-      })) → u ≡ Some x → v ≡ Some y → (y.is_waiting ≡ still_waits bytes x) × (y.last_active ≡ active_at now bytes x)
+      })) → u ≡ Some x → v ≡ Some y
+      → y ≡ record x { session = y.session; is_waiting = still_waits bytes x; last_active = active_at now bytes x }
   given_moved bytes now None v x y moved was is = absurd (cc was)
   given_moved bytes now (Some s) None x y moved was is = absurd moved
   given_moved bytes now (Some s) (Some t) x y moved was is =
       let p : s ≡ x = cc was in
       let q : t ≡ y = cc is in
-      subst (λ (c : Client S). (c.is_waiting ≡ still_waits bytes x) × (c.last_active ≡ active_at now bytes x)) q
-      (subst (λ (c : Client S). (t.is_waiting ≡ still_waits bytes c) × (t.last_active ≡ active_at now bytes c)) p
-      (ap (λ (c : Client S). c.is_waiting) moved, ap (λ (c : Client S). c.last_active) moved))
+      subst (λ (c : Client S). c ≡ record x { session = c.session; is_waiting = still_waits bytes x; last_active = active_at now bytes x }) q
+      (subst (λ (c : Client S). t ≡ record c { session = t.session; is_waiting = still_waits bytes c; last_active = active_at now bytes c }) p moved)
 
   -- the client of this number, at this key, was given bytes, or was let go of
-  pub given_at : (a b : ConnectionsState S) (id key : ℕ) (bytes : List ℕ) → IsAlone a id key
+  pub given_at : (a b : ConnectionsState S) (id key : ℕ) (bytes : List ℕ) → IsAt a id key → IsAlone a id key
       → IsMovedAt (λ s t. t ≡ record s {
         session = t.session;
         is_waiting = still_waits bytes s;
         last_active = active_at a.time bytes s;
-      }) key a.clients b.clients → WasGiven id bytes a b
-  given_at a b id key bytes alone moved = λ k x y was is of.
-      let here : k ≡ key = alone k x was of in
-      given_moved bytes a.time (get a.clients key) (get b.clients key) x y moved (sym (ap (get a.clients) here) ∙ was)
-      (sym (ap (get b.clients) here) ∙ is)
+      }) key a.clients b.clients → ((other : ℕ) → other ≢ key → get b.clients other ≡ get a.clients other) → WasGiven id bytes a b
+  given_at a b id key bytes at alone moved others = record {
+    given = λ k x y was is of.
+        let here : k ≡ key = alone k x was of in
+        given_moved bytes a.time (get a.clients key) (get b.clients key) x y moved (sym (ap (get a.clients) here) ∙ was)
+        (sym (ap (get b.clients) here) ∙ is);
+    others = λ k x was ne. others k (apart a id key k x at was ne) ∙ was;
+  }
 
-  pub given_lost : (a b : ConnectionsState S) (id key : ℕ) (bytes : List ℕ) → IsAlone a id key → get b.clients key ≡ None
-      → WasGiven id bytes a b
-  given_lost a b id key bytes alone gone = λ k x y was is of.
-      absurd (cc (gone, sym (ap (get b.clients) (alone k x was of)) ∙ is))
+  pub given_lost : (a b : ConnectionsState S) (id key : ℕ) (bytes : List ℕ) → IsAt a id key → IsAlone a id key → get b.clients key ≡ None
+      → ((other : ℕ) → other ≢ key → get b.clients other ≡ get a.clients other) → WasGiven id bytes a b
+  given_lost a b id key bytes at alone gone others = record {
+    given = λ k x y was is of. absurd (cc (gone, sym (ap (get b.clients) (alone k x was of)) ∙ is));
+    others = λ k x was ne. others k (apart a id key k x at was ne) ∙ was;
+  }
+
+  -- nobody has this number
+  pub nobody_given : (a : ConnectionsState S) (id : ℕ) (bytes : List ℕ) → IsVacant a id → WasGiven id bytes a a
+  nobody_given a id bytes vacant = record {
+    given = λ k x y was is of. absurd (vacant k x was of);
+    others = λ k x was ne. was;
+  }
 
 module _ {S : Type 0} (remaining : S → Option (List ℕ)) where
   -- nothing came of a client

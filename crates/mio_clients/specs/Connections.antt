@@ -108,6 +108,7 @@ pub record IsAdmitted {S : Type 0} (stream : S) (old new : ConnectionsState S) :
   pub there : Updates old.clients new.clients key (Some client)
   pub number : client.id ≡ old.last_id + 1
   pub last_id : new.last_id ≡ old.last_id + 1
+  pub time : new.time ≡ old.time
   pub accepted : client.stream ≡ stream
   pub session : client.session ≡ fresh
   pub active : client.last_active ≡ old.time

@@ -1,6 +1,8 @@
 -- What clients did, gathered until it is served.
-use Rattle.std.specs.Prelude.{ℕ, zero, suc, ◌+◌, ◌==◌, List, [], ◌∷◌, ◌++◌, map, Bool, false, ◌||◌, if◌then◌else◌}
+use Rattle.std.specs.Prelude.{ℕ, zero, suc, ◌+◌, ◌==◌, List, [], ◌∷◌, ◌++◌, map, Bool, false, Option, None, Some, ◌||◌, if◌then◌else◌}
 use Rattle.command_text.specs.declared.request.Request.{Request}
+use Rattle.command_text.specs.declared.request.Request.TheVariants.{Single, OkList, Noidle}
+use Rattle.command_text.specs.declared.request.Request.TheVariants as requests
 use Rattle.mio_clients.specs.declared.event.ClientEvent.{ClientEvent}
 use Rattle.mio_clients.specs.declared.event.ClientEvent.TheVariants as events
 
@@ -30,6 +32,15 @@ has_request_of c (event ∷ rest) = is_request_of c event || has_request_of c re
 abbrev pub without : ℕ → List ClientEvent → List ClientEvent
 without c [] = []
 without c (event ∷ rest) = (if is_request_of c event then [] else event ∷ []) ++ without c rest
+
+-- the client that waits for an answer of an event: `noidle` has one to a client in `idle` alone, which waits already
+abbrev pub asker_of : ClientEvent → Option ℕ
+asker_of (events.Connect client) = None
+asker_of (events.Request client (Single line)) = Some client
+asker_of (events.Request client (requests.List lines)) = Some client
+asker_of (events.Request client (OkList lines)) = Some client
+asker_of (events.Request client Noidle) = None
+asker_of (events.Gone client) = None
 
 -- an event that is no request
 abbrev pub AsksNothing : ClientEvent → Type 0

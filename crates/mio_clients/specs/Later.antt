@@ -66,6 +66,7 @@ pub record Loses {S : Type 0} (key : ℕ) (old new : ConnectionsState S) : Type 
   pub gone : get new.clients key ≡ None
   pub others : (other : ℕ) → other ≢ key → get new.clients other ≡ get old.clients other
   pub last_id : new.last_id ≡ old.last_id
+  pub time : new.time ≡ old.time
   pub told : IsToldGone (get old.clients key) old.events new.events
 
 -- The stream of the client at this key has failed, and the client was let go of, as the error says; the others stay as they are.
@@ -80,5 +81,6 @@ pub record IsFault {S : Type 0} (remaining contents : S → Option (List ℕ)) (
 pub record Accepts {S : Type 0} (old new : ConnectionsState S) : Type 0 where
   pub count : ℕ
   pub last_id : new.last_id ≡ old.last_id + count
+  pub time : new.time ≡ old.time
   pub gathered : new.events ≡ old.events ++ connects old.last_id count
   pub stay : (key : ℕ) (client : Client S) → get old.clients key ≡ Some client → get new.clients key ≡ Some client

@@ -1,5 +1,5 @@
 -- What the parts of a turn of the loop carry.
-use Rattle.std.specs.Prelude.{◌≡◌, ◌≢◌, ℕ, ◌+◌, ◌≤◌, ◌==◌, List, [], ◌∷◌, ◌++◌, Bool, true, false, Option, None, Some, if◌then◌else◌}
+use Rattle.std.specs.Prelude.{◌≡◌, ◌≢◌, ℕ, ◌+◌, ◌≤◌, ◌==◌, List, [], ◌∷◌, ◌++◌, Bool, true, false, Option, if◌then◌else◌}
 use Rattle.command_text.specs.declared.request.Request.{Request}
 use Rattle.daemon_core.specs.declared.event.Event.{Event}
 use Rattle.daemon_core.specs.declared.event.Event.TheVariants as stage_events
@@ -132,11 +132,6 @@ goes_on_with error (kept.Client client) = goes_on_behind error
 abbrev pub IsKeptOf : ClientEvent → Kept → Type 0
 IsKeptOf event (kept.Event same) = (same ≡ event) × AsksNothing same
 IsKeptOf event (kept.Client client) = (c : ℕ) → client ≢ c → asked_by_event c event ≡ []
-
--- the client that asked for an event, of which this is kept
-abbrev pub asker_of : Kept → Option ℕ
-asker_of (kept.Event event) = None
-asker_of (kept.Client client) = Some client
 
 -- where an event is kept, it asks for nothing
 abbrev pub KeepsNoRequest : Kept → Type 0

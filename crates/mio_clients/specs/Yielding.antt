@@ -1,8 +1,10 @@
 -- Which client gives way to another, and how clients are accepted.
-use Rattle.std.specs.Prelude.{◌≡◌, ◌⊎◌, ℕ, ◌+◌, ◌^◌, ◌-◌, ◌<◌, ◌≤◌, List, [], ◌∷◌, Option, None, Some, Bool, true, false}
+use Rattle.std.specs.Prelude.{◌≡◌, ◌≢◌, ◌⊎◌, ℕ, ◌+◌, ◌^◌, ◌-◌, ◌<◌, ◌≤◌, List, [], ◌∷◌, Option, None, Some, Bool, true, false}
 use Rattle.std.specs.Io.KnownBytes.{Keeps}
 use Rattle.slab.specs.Slab.{get}
 use Rattle.mio_clients.specs.declared.client.Client.{Client}
+use Rattle.mio_clients.specs.declared.clients.Admission.{Admission}
+use Rattle.mio_clients.specs.declared.clients.Admission.TheVariants.{Taken, Unwatched, Refused}
 use Rattle.mio_clients.specs.Connections.{ConnectionsState, IsFull, IsAdmitted}
 use Rattle.mio_clients.specs.Events.{has_request_of}
 use Rattle.mio_clients.specs.Later.{Loses, Accepts}
@@ -26,19 +28,23 @@ abbrev pub IsHeard : {S : Type 0} → (S → Option (List ℕ)) → ℕ → Clie
 IsHeard remaining now old new =
     (new.last_active ≡ now) ⊎ ((new.last_active ≡ old.last_active) × Keeps (remaining old.stream) (remaining new.stream))
 
--- the same of the client at this key, if it was not let go of
-abbrev pub IsHeardAt : {S : Type 0} → (S → Option (List ℕ)) → ℕ → ConnectionsState S → ConnectionsState S → Type 0
-IsHeardAt {S} remaining key old new = (x y : Client S) → get old.clients key ≡ Some x → get new.clients key ≡ Some y
-    → IsHeard remaining old.time x y
+-- the same of the client at this key, if it was not let go of; the others stay as they are
+pub record IsHeardAt {S : Type 0} (remaining : S → Option (List ℕ)) (key : ℕ) (old new : ConnectionsState S) : Type 0 where
+  pub heard : (x y : Client S) → get old.clients key ≡ Some x → get new.clients key ≡ Some y → IsHeard remaining old.time x y
+  pub others : (other : ℕ) → other ≢ key → get new.clients other ≡ get old.clients other
 
--- a request of the client of this number is served: it waits until it is given something
-abbrev pub NowWaits : {S : Type 0} → ℕ → ConnectionsState S → ConnectionsState S → Type 0
-NowWaits {S} id old new = (key : ℕ) (client : Client S) → get new.clients key ≡ Some client → client.id ≡ id → client.is_waiting ≡ true
+-- A request of the client of this number is served: it waits until it is given something. All else stays as it is.
+pub record NowWaits {S : Type 0} (id : ℕ) (old new : ConnectionsState S) : Type 0 where
+  pub same : new ≡ record old { clients = new.clients }
+  pub waits : (key : ℕ) (client : Client S) → get old.clients key ≡ Some client → client.id ≡ id
+      → get new.clients key ≡ Some (record client { is_waiting = true })
+  pub others : (key : ℕ) (client : Client S) → get old.clients key ≡ Some client → client.id ≢ id → get new.clients key ≡ Some client
 
--- the client of this number, if it was not let go of, was given these bytes
-abbrev pub WasGiven : {S : Type 0} → ℕ → List ℕ → ConnectionsState S → ConnectionsState S → Type 0
-WasGiven {S} id bytes old new = (key : ℕ) (x y : Client S) → get old.clients key ≡ Some x → get new.clients key ≡ Some y → x.id ≡ id
-    → (y.is_waiting ≡ still_waits bytes x) × (y.last_active ≡ active_at old.time bytes x)
+-- the client of this number, if it was not let go of, was given these bytes; the others stay as they are
+pub record WasGiven {S : Type 0} (id : ℕ) (bytes : List ℕ) (old new : ConnectionsState S) : Type 0 where
+  pub given : (key : ℕ) (x y : Client S) → get old.clients key ≡ Some x → get new.clients key ≡ Some y → x.id ≡ id
+      → y ≡ record x { session = y.session; is_waiting = still_waits bytes x; last_active = active_at old.time bytes x }
+  pub others : (key : ℕ) (x : Client S) → get old.clients key ≡ Some x → x.id ≢ id → get new.clients key ≡ Some x
 
 -- It came over a network, waits in no idle, was sent all that it was given, and for an hour nothing came of it and it was given nothing.
 pub record IsSilent {S : Type 0} (remote : S → Bool) (now : ℕ) (client : Client S) : Type 0 where
@@ -101,6 +107,13 @@ pub record Replaces {S : Type 0} (remote : S → Bool) (stream : S) (old new : C
 abbrev pub NoneGivesWay : {S : Type 0} → (S → Bool) → S → ConnectionsState S → Type 0
 NoneGivesWay remote stream connections =
     (remote stream ≡ false) ⊎ NoneYields remote connections ⊎ (connections.last_id ≡ 2 ^ 64 - 1)
+
+-- What came of a client that connects: it was taken in, as its stream is registered, in the place of another where there are too many; or
+-- it was closed, and nothing else was done.
+abbrev pub ComesTo : {S : Type 0} → (S → Bool) → S → Admission → ConnectionsState S → ConnectionsState S → Type 0
+ComesTo {S} remote stream Taken old new = ((registered : S) × IsAdmitted registered old new) ⊎ Replaces remote stream old new
+ComesTo remote stream Unwatched old new = new ≡ old
+ComesTo remote stream Refused old new = IsFull old × NoneGivesWay remote stream old × (new ≡ old)
 
 -- Clients were accepted, one after the other: in between these gave way to others.
 abbrev pub AcceptsAll : {S : Type 0} → (S → Bool) → List (S × ConnectionsState S × ConnectionsState S) → ConnectionsState S

@@ -32,7 +32,7 @@ pub struct Client<S> {
     pub has_more: bool,
     /// When something last came of it or was given to it, or else it connected, in milliseconds by the listener's clock.
     pub last_active: u64,
-    /// A request of it was served, and it was given nothing since: it waits in `idle`.
+    /// A request of it other than `noidle` was served, and it was given nothing since: it waits in `idle`.
     pub is_waiting: bool,
 }
 

@@ -1,14 +1,14 @@
 // The clients of the daemon: who is accepted, read and written, and what of it is told.
-ghost use Rattle.std.specs.Prelude.{◌≡◌, ◌⊎◌, ◌+◌, ◌<◌, ◌≤◌, ℕ, ◌∷◌, [], List, false, length, OnSome, IfOk};
-ghost use Rattle.std.specs.Prelude.{IfErr, IsErrOf, IfSome, MatchOption};
+ghost use Rattle.std.specs.Prelude.{◌≡◌, ◌⊎◌, ◌+◌, ◌<◌, ◌≤◌, ℕ, ◌∷◌, [], List, length, OnSome, IfOk};
+ghost use Rattle.std.specs.Prelude.{◌↔◌, IfErr, IsErrOf, IsTrue, IfSome, MatchOption};
 ghost use Rattle.slab.specs.Slab.{get, slab_len};
 ghost use Rattle.mio_clients.specs.Events.{asked_by_event, asked_in};
 ghost use Rattle.mio_clients.specs.Grouping.{group_len, group_limit};
 ghost use Rattle.mio_clients.specs.Waiting.{StaysQuiet};
 ghost use Rattle.mio_clients.specs.Connections.{ConnectionsState, IsFull, IsVacant};
-ghost use Rattle.mio_clients.specs.Later.{no_bytes, no_requests, bytes_for, Accepts, IsFault, Loses};
+ghost use Rattle.mio_clients.specs.Later.{no_bytes, no_requests, bytes_for, IsFault, Loses};
 ghost use Rattle.mio_clients.specs.Leaving.{AllFollow, IsFollowed};
-ghost use Rattle.mio_clients.specs.Yielding.{AcceptsAll, NoneGivesWay, NowWaits, Replaces};
+ghost use Rattle.mio_clients.specs.Yielding.{AcceptsAll, ComesTo, NowWaits};
 
 use crate::client::{Reading, Writing};
 use crate::connections::Connections;
@@ -32,6 +32,25 @@ pub(crate) enum Sending {
     AtOnce,
     /// With what it is given later, by a call of `send_given`.
     Together,
+}
+
+/// What comes of a client that connects.
+#[derive(Clone, Copy, Debug, PartialEq, Eq)]
+pub(crate) enum Admission {
+    /// It was taken in.
+    Taken,
+    /// It was closed: nobody would be told of its stream.
+    Unwatched,
+    /// It was closed: there are too many, and none gives way to it.
+    Refused,
+}
+
+impl Admission {
+    pub(crate) fn is_refused(self) -> bool
+        ensures { IsTrue result ↔ (self ≡ Admission.Refused) }
+    {
+        matches!(self, Admission::Refused)
+    }
 }
 
 /// The clients of the daemon, on one thread: each is accepted, read and written without waiting for it.
@@ -102,7 +121,8 @@ impl<S: Stream, L: Listener<S>, P: Ready<S>> Clients<S, L, P> {
 
     // Closes what an earlier call left, waits until something is ready, and looks at the clock.
     pub(crate) fn begin_turn(&mut self)
-        ensures { self.new ≡ record self.old { left = []; places = self.new.places; gone = self.old.left; time = self.new.time } }
+        ensures told { (listener : L) × IfSome (L.clock listener) (λ time. self.new.time ≡ time) }
+        ensures same { self.new ≡ record self.old { left = []; places = self.new.places; gone = self.old.left; time = self.new.time } }
     {
         self.connections.close_left();
         let limit = if self.connections.event_count() > 0 {
@@ -134,7 +154,7 @@ impl<S: Stream, L: Listener<S>, P: Ready<S>> Clients<S, L, P> {
             }
             match self.listener.accept() {
                 Ok(stream) => {
-                    if !self.admit(alloc, stream) {
+                    if self.admit(alloc, stream).is_refused() {
                         result = Err(ClientsError::TooManyClients);
                     }
                 }
@@ -151,13 +171,12 @@ impl<S: Stream, L: Listener<S>, P: Ready<S>> Clients<S, L, P> {
     }
 
     // Takes a client in, in the place of another where there are too many. One of whose stream nobody would be told is closed.
-    fn admit(&mut self, alloc: Global, stream: S) -> bool
+    fn admit(&mut self, alloc: Global, stream: S) -> Admission
         requires room { slab_len self.old.clients + 2 ≤ self.old.room }
         requires places { slab_len self.old.clients + 1 ≤ self.old.places }
         ensures later { IsFollowed S.remaining S.contents no_bytes no_requests self.old self.new }
-        ensures accepted { Accepts self.old self.new ⊎ Replaces S.remote stream self.old self.new }
-        ensures full { (result ≡ false) ⊎ IsFull self.old → IsFull self.new }
-        ensures refused { result ≡ false → NoneGivesWay S.remote stream self.old × (self.new ≡ self.old) }
+        ensures full { (result ≡ Admission.Refused) ⊎ IsFull self.old → IsFull self.new }
+        ensures comes_to { ComesTo S.remote stream result self.old self.new }
     {
         if self.connections.is_full() {
             return self.admit_instead(alloc, stream);
@@ -166,28 +185,29 @@ impl<S: Stream, L: Listener<S>, P: Ready<S>> Clients<S, L, P> {
         let key = self.connections.vacant_key();
         if self.ready.register(&mut stream, key).is_ok() {
             self.connections.admit(alloc, stream);
+            Admission::Taken
+        } else {
+            Admission::Unwatched
         }
-        true
     }
 
     // Takes a client in that comes over a network, in the place of the one that was silent for longest, if one may give way.
-    fn admit_instead(&mut self, alloc: Global, stream: S) -> bool
+    fn admit_instead(&mut self, alloc: Global, stream: S) -> Admission
         requires room { slab_len self.old.clients + 2 ≤ self.old.room }
         requires places { slab_len self.old.clients + 1 ≤ self.old.places }
         requires full { IsFull self.old }
         ensures later { IsFollowed S.remaining S.contents no_bytes no_requests self.old self.new }
-        ensures accepted { Accepts self.old self.new ⊎ Replaces S.remote stream self.old self.new }
         ensures full { IsFull self.new }
-        ensures refused { result ≡ false → NoneGivesWay S.remote stream self.old × (self.new ≡ self.old) }
+        ensures comes_to { ComesTo S.remote stream result self.old self.new }
     {
         if !stream.is_remote() {
-            return false;
+            return Admission::Refused;
         }
         if self.connections.is_spent() {
-            return false;
+            return Admission::Refused;
         }
         let Some(key) = self.connections.longest_silent() else {
-            return false;
+            return Admission::Refused;
         };
         let mut stream = stream;
         if self.ready.register(&mut stream, key).is_ok() {
@@ -195,8 +215,10 @@ impl<S: Stream, L: Listener<S>, P: Ready<S>> Clients<S, L, P> {
             let silence = self.connections.silence_at(key);
             self.listener.gave_way(client, silence);
             self.connections.replace(alloc, key, stream);
+            Admission::Taken
+        } else {
+            Admission::Unwatched
         }
-        true
     }
 
     /// Reads what the client under a key sent, until there is nothing to be read or for 65,536 calls, and gathers its requests. Nothing is
@@ -255,7 +277,29 @@ impl<S: Stream, L: Listener<S>, P: Ready<S>> Clients<S, L, P> {
             self.take_token(alloc, token);
         }
         if self.is_accepting {
+            self.make_places();
             let _refused = self.accept_all(alloc);
+        }
+    }
+
+    // Where no further client may connect, lets go of those that are over, so that none gives way for nothing.
+    fn make_places(&mut self)
+        ensures later { AllFollow S.remaining S.contents no_bytes no_requests self.old self.new }
+    {
+        if !self.connections.is_full() {
+            return;
+        }
+        for key in 0..self.connections.capacity() {
+            self.drop_over(key);
+        }
+    }
+
+    // Lets go of a client that is to be closed, was sent all, and asked for nothing that waits.
+    fn drop_over(&mut self, key: usize)
+        ensures later { AllFollow S.remaining S.contents no_bytes no_requests self.old self.new }
+    {
+        if self.connections.is_over(key) {
+            self.connections.remove(key);
         }
     }
 
@@ -363,6 +407,7 @@ impl<S: Stream, L: Listener<S>, P: Ready<S>> Clients<S, L, P> {
         ensures later { AllFollow S.remaining S.contents (bytes_for client bytes.now) no_requests self.old self.new }
         ensures quiet { StaysQuiet self.old.events self.new.events }
         ensures forgotten { IsVacant self.new client → IsVacant self.old client ⊎ (asked_in client self.new.events ≡ []) }
+        ensures nobody { IsVacant self.old client → self.new ≡ self.old }
     {
         if !self.connections.give(client, bytes) {
             self.connections.forget(client);

@@ -352,6 +352,7 @@ impl<S: Stream> Connections<S> {
         ensures quiet { StaysQuiet self.old.events self.new.events }
         ensures vacant { result ≡ false → IsVacant self.new id }
         ensures stays { result ≡ true → IsVacant self.new id → IsVacant self.old id }
+        ensures nobody { IsVacant self.old id → (result ≡ true) × (self.new ≡ self.old) }
     {
         let Some(key) = self.find(id) else {
             return true;

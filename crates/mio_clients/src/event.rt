@@ -1,4 +1,7 @@
 // What a client does.
+ghost use Rattle.std.specs.Prelude.{◌≡◌};
+ghost use Rattle.mio_clients.specs.Events.{asker_of};
+
 use command_text::Request;
 
 /// What a client did, gathered until it is served.
@@ -10,4 +13,17 @@ pub enum ClientEvent {
     Request(u64, Request),
     /// The client's connection has ended.
     Gone(u64),
+}
+
+impl ClientEvent {
+    /// The client that waits for an answer of it, and until then waits in `idle`, if it has asked for that.
+    pub(crate) fn asker(&self) -> Option<u64>
+        ensures { result ≡ asker_of self.now }
+    {
+        match self {
+            ClientEvent::Request(_, Request::Noidle) => None,
+            ClientEvent::Request(client, _) => Some(*client),
+            ClientEvent::Connect(_) | ClientEvent::Gone(_) => None,
+        }
+    }
 }

@@ -24,11 +24,12 @@ use std::alloc::Global;
 use std::sync::Wait;
 use std::sync::ledger::Ledger;
 
-// Room for a group: its events as the stage takes them, and their clients.
+// Room for a group: its events as the stage takes them, their clients, and who waits for an answer of each.
 #[derive(Drop)]
 pub(crate) struct GroupRoom {
     events: Vec<Event>,
     clients: Vec<u64>,
+    askers: Vec<Option<u64>>,
 }
 
 impl GroupRoom {
@@ -42,6 +43,7 @@ impl GroupRoom {
         ensures empty { IfSome result (λ room. (room.events.items ≡ []) × (room.clients.items ≡ [])) }
         ensures events { IfSome result (λ room. count ≤ vec_capacity room.events) }
         ensures clients { IfSome result (λ room. count ≤ vec_capacity room.clients) }
+        ensures askers { IfSome result (λ room. (room.askers.items ≡ []) × (count ≤ vec_capacity room.askers)) }
     {
         if parts.reserve(count + 1).is_err() {
             return None;
@@ -49,8 +51,13 @@ impl GroupRoom {
         match (
             Vec::with_capacity(alloc, count),
             Vec::with_capacity(alloc, count),
+            Vec::with_capacity(alloc, count),
         ) {
-            (Ok(events), Ok(clients)) => Some(GroupRoom { events, clients }),
+            (Ok(events), Ok(clients), Ok(askers)) => Some(GroupRoom {
+                events,
+                clients,
+                askers,
+            }),
             _ => None,
         }
     }
@@ -106,6 +113,7 @@ impl<S: Stream, L: Listener<S>, P: Ready<S>> Clients<S, L, P> {
         requires parts { vec_len parts.old + count < vec_capacity parts.old }
         requires empty { (room.events.items ≡ []) × (room.clients.items ≡ []) }
         requires room { (count ≤ vec_capacity room.events) × (count ≤ vec_capacity room.clients) }
+        requires askers { (room.askers.items ≡ []) × (count ≤ vec_capacity room.askers) }
         ensures serves { Serves S.remaining S.contents (is_some result.0) self.old self.new parts.old.items parts.new.items pass result.1 }
         ensures some { IfSome result.0 (λ n. 0 < n) }
         ensures quiet { IfSome result.0 (λ n. TakesMany n self.old.events self.new.events) }
@@ -114,8 +122,9 @@ impl<S: Stream, L: Listener<S>, P: Ready<S>> Clients<S, L, P> {
         let GroupRoom {
             mut events,
             mut clients,
+            mut askers,
         } = room;
-        self.take_group(count, &mut events, &mut clients);
+        self.take_group(count, &mut events, &mut clients, &mut askers);
         match stage.serve_group(rt, alloc, pass, events) {
             Ok((group, pass)) => {
                 let ServedGroup {
@@ -128,7 +137,8 @@ impl<S: Stream, L: Listener<S>, P: Ready<S>> Clients<S, L, P> {
                 let begun = count - rest.len();
                 self.put_back_all(rest);
                 let asked = clients.as_slice();
-                self.queue_group(alloc, before, turns, asked, parts);
+                let askers = askers.as_slice();
+                self.queue_group(alloc, before, turns, askers, parts);
                 self.send_given();
                 let (begun_by, _) = asked.split_at(begun);
                 let (_, refused) = begun_by.split_at(answered);
@@ -150,10 +160,17 @@ impl<S: Stream, L: Listener<S>, P: Ready<S>> Clients<S, L, P> {
     }
 
     // Takes the events that stand first, so many.
-    fn take_group(&mut self, count: usize, events: &mut Vec<Event>, clients: &mut Vec<u64>)
+    fn take_group(
+        &mut self,
+        count: usize,
+        events: &mut Vec<Event>,
+        clients: &mut Vec<u64>,
+        askers: &mut Vec<Option<u64>>,
+    )
         requires count { (count ≡ group_len group_limit self.old.events) × (0 < count) }
         requires empty { (events.old.items ≡ []) × (clients.old.items ≡ []) }
         requires room { (count ≤ vec_capacity events.old) × (count ≤ vec_capacity clients.old) }
+        requires askers { (askers.old.items ≡ []) × (count ≤ vec_capacity askers.old) }
         ensures takes { TakesGroup self.old self.new events.new.items clients.new.items }
         ensures count { (length events.new.items ≡ count) × (length clients.new.items ≡ count) }
         ensures known { (c : ℕ) → self.new.last_id < c → asked_of_all c events.new.items ≡ [] }
@@ -163,9 +180,11 @@ impl<S: Stream, L: Listener<S>, P: Ready<S>> Clients<S, L, P> {
             let Some(event) = self.pop() else {
                 return;
             };
+            let asker = event.asker();
             let (client, event) = handed_over(event);
             events.push_reserved(event);
             clients.push_reserved(client);
+            askers.push_reserved(asker);
         }
     }
 
@@ -192,13 +211,13 @@ impl<S: Stream, L: Listener<S>, P: Ready<S>> Clients<S, L, P> {
         }
     }
 
-    // Queues the answers of a group for their clients, who asked for them in this order, and adds their parts.
+    // Queues the answers of a group for their clients, of which these wait for an answer, in this order, and adds their parts.
     fn queue_group<D: Disk>(
         &mut self,
         alloc: Global,
         before: Outbox,
         turns: Vec<Turn<D>>,
-        clients: &[u64],
+        askers: &[Option<u64>],
         parts: &mut Vec<Part<D>>,
     )
         requires room { vec_len parts.old + length turns.items < vec_capacity parts.old }
@@ -208,10 +227,10 @@ impl<S: Stream, L: Listener<S>, P: Ready<S>> Clients<S, L, P> {
         ensures room { vec_len parts.new < vec_capacity parts.new }
     {
         let mut before = before;
-        let mut clients = clients.iter();
+        let mut askers = askers.iter();
         for turn in turns {
             let served = Served { before, turn };
-            self.give_served(&served, clients.next().copied(), Sending::Together);
+            self.give_served(&served, askers.next().copied().flatten(), Sending::Together);
             parts.push_reserved(Part::Served(served));
             before = Outbox::empty(alloc);
         }

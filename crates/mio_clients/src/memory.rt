@@ -1,5 +1,5 @@
 //! Streams, a listener and readiness in memory.
-ghost use Rattle.std.specs.Prelude.{◌≡◌, ◌≢◌, true, IfErr};
+ghost use Rattle.std.specs.Prelude.{◌≡◌, ◌≢◌, Some, true, IfErr};
 
 use crate::listener::Listener;
 use crate::ready::{Interest, Ready, Token};
@@ -110,6 +110,8 @@ impl<S: Drop> MemListener<S> {
 }
 
 impl<S: Drop> Listener<S> for MemListener<S> {
+    ghost clock = { λ l. Some l.now };
+
     fn accept(&mut self) -> io::Result<S> {
         match self.waiting.pop_front() {
             Some(stream) => Ok(stream),

@@ -8,7 +8,7 @@ ghost use Rattle.mio_clients.specs.Later.{no_bytes, no_requests, IsLater};
 ghost use Rattle.mio_clients.specs.Leaving.{AllFollow, AllLeave};
 ghost use Rattle.mio_clients.specs.Parts.{bytes_in, requests_in, served_count, refuses, RefusesLast, IsServedAll};
 ghost use Rattle.mio_clients.specs.Parts.{sent_by, sent_by_all, sent_by_served, asked_of, IsKeptOf, IsKeptAs, KeepsNoRequest, Serves};
-ghost use Rattle.mio_clients.specs.Parts.{asker_of, stage_event_of, goes_on_with};
+ghost use Rattle.mio_clients.specs.Parts.{stage_event_of, goes_on_with};
 ghost use Rattle.mio_clients.specs.Yielding.{NowWaits};
 
 use crate::clients::{Clients, Sending};
@@ -32,18 +32,6 @@ enum Kept {
     Event(ClientEvent),
     // A request is lost, and its client with it.
     Client(u64),
-}
-
-impl Kept {
-    // The client that has asked for the event.
-    fn asker(&self) -> Option<u64>
-        ensures { result ≡ asker_of self.now }
-    {
-        match self {
-            Kept::Event(_) => None,
-            Kept::Client(client) => Some(*client),
-        }
-    }
 }
 
 impl ClientEvent {
@@ -208,10 +196,11 @@ impl<S: Stream, L: Listener<S>, P: Ready<S>> Clients<S, L, P> {
         let Some(event) = self.pop() else {
             return (true, pass);
         };
+        let asker = event.asker();
         let (event, kept) = event.handed_over();
         match stage.serve(rt, alloc, pass, event) {
             Ok((served, pass)) => {
-                self.give_served(&served, kept.asker(), Sending::AtOnce);
+                self.give_served(&served, asker, Sending::AtOnce);
                 parts.push_reserved(Part::Served(served));
                 (true, pass)
             }
@@ -276,7 +265,7 @@ impl<S: Stream, L: Listener<S>, P: Ready<S>> Clients<S, L, P> {
         }
     }
 
-    // Where a client has asked for something that is served, it waits until it is given something.
+    // Where a client waits for an answer of what is served, it waits until it is given something.
     fn await_asker(&mut self, asker: Option<u64>)
         ensures waits { IfSome asker (λ client. NowWaits client self.old self.new) }
         ensures later { AllFollow S.remaining S.contents no_bytes no_requests self.old self.new }
@@ -287,7 +276,7 @@ impl<S: Stream, L: Listener<S>, P: Ready<S>> Clients<S, L, P> {
         }
     }
 
-    // Gives what an event came to, for which this client has asked, if one has, and closes the clients that it closed.
+    // Gives what an event came to, of which this client waits for an answer, if one does, and closes the clients that it closed.
     pub(crate) fn give_served<D: Disk>(
         &mut self,
         served: &Served<D>,
@@ -297,7 +286,7 @@ impl<S: Stream, L: Listener<S>, P: Ready<S>> Clients<S, L, P> {
         ensures later { AllFollow S.remaining S.contents (sent_by_served served.now) no_requests self.old self.new }
         ensures quiet { StaysQuiet self.old.events self.new.events }
     {
-        self.give_outbox(&served.before, sending);
+        self.give_outbox(&served.before, Sending::Together);
         self.await_asker(asker);
         self.give_outputs(served.turn.outputs(), sending);
         self.release_each(served.turn.closes());

@@ -4,9 +4,9 @@ use Rattle.mio_clients.specs.Later.{no_bytes, no_requests}
 use Rattle.mio_clients.specs.Leaving.{IsFollowed}
 use Rattle.mio_clients.proofs.FollowLaws.{later_itself, later_room, later_more, later_roomy}
 use Rattle.mio_clients.specs.Yielding.{AcceptsAll}
-use Rattle.mio_clients.proofs.AcceptLaws.{accepts_begun, accepts_made, accepts_next, full_room, refused_is}
+use Rattle.mio_clients.proofs.AcceptLaws.{accepts_begun, accepts_made, accepts_next, accepts_one, full_room, refused_is}
 use Rattle.mio_clients.proofs.clients.Clients.accept_all.Goals as goal
-use Rattle.mio_clients.proofs.clients.Clients.accept_all.Goals.{in-Ok+then-not-admit, in-Ok+else-not-admit, in-Err+in-Interrupted}
+use Rattle.mio_clients.proofs.clients.Clients.accept_all.Goals.{in-Ok+then-is_refused, in-Ok+else-is_refused, in-Err+in-Interrupted}
 
 pub loop-call-init : goal.loop-call-init
 loop-call-init g c = record {
@@ -64,18 +64,18 @@ loop-call-preserved g c =
     subst (λ (s : ConnectionsState g.row.S.Denot). m ≡ record s { room = m.room; places = m.places }) c.self-in-loop-call.view_is c.reserve.ensures.same in
     let i = c.loop-call.invariant in
     elim c.match-accept.branch [
-      | in-Ok+then-not-admit w ↦ record {
+      | in-Ok+then-is_refused w ↦ record {
         later = subst (λ (s : ConnectionsState g.row.S.Denot). IsFollowed rem con no_bytes no_requests a s) (sym w.self-is)
             (later_roomy rem con a b m w.admit.new.self made i.later w.admit.ensures.later);
         accepted = subst (λ (s : ConnectionsState g.row.S.Denot). (ways : List (g.row.S.Denot × ConnectionsState g.row.S.Denot × ConnectionsState g.row.S.Denot)) × AcceptsAll g.S.Stream.remote ways a s) (sym w.self-is)
-            (accepts_next g.S.Stream.remote i.accepted.0 _ a b m w.admit.new.self i.accepted.1 made w.admit.ensures.accepted);
-        full = inr (w.result-is, subst (λ (s : ConnectionsState g.row.S.Denot). IsFull s) (sym w.self-is) (w.admit.ensures.full (inl w.if-not-admit.true)));
+            (accepts_next g.S.Stream.remote i.accepted.0 _ a b m w.admit.new.self i.accepted.1 made (accepts_one g.S.Stream.remote w.admit.result _ m w.admit.new.self w.admit.ensures.comes_to));
+        full = inr (w.result-is, subst (λ (s : ConnectionsState g.row.S.Denot). IsFull s) (sym w.self-is) (w.admit.ensures.full (inl (w.is_refused.ensures.0 w.if-is_refused.true))));
       }
-      | in-Ok+else-not-admit w ↦ record {
+      | in-Ok+else-is_refused w ↦ record {
         later = subst (λ (s : ConnectionsState g.row.S.Denot). IsFollowed rem con no_bytes no_requests a s) (sym w.self-is)
             (later_roomy rem con a b m w.admit.new.self made i.later w.admit.ensures.later);
         accepted = subst (λ (s : ConnectionsState g.row.S.Denot). (ways : List (g.row.S.Denot × ConnectionsState g.row.S.Denot × ConnectionsState g.row.S.Denot)) × AcceptsAll g.S.Stream.remote ways a s) (sym w.self-is)
-            (accepts_next g.S.Stream.remote i.accepted.0 _ a b m w.admit.new.self i.accepted.1 made w.admit.ensures.accepted);
+            (accepts_next g.S.Stream.remote i.accepted.0 _ a b m w.admit.new.self i.accepted.1 made (accepts_one g.S.Stream.remote w.admit.result _ m w.admit.new.self w.admit.ensures.comes_to));
         full = elim i.full [
           | inl ok ↦ inl (w.result-is ∙ ok)
           | inr full ↦ inr (

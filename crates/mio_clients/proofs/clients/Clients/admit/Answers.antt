@@ -1,5 +1,5 @@
-use Rattle.std.proofs.Common.{subst}
-use Rattle.mio_clients.specs.Connections.{ConnectionsState}
+use Rattle.std.proofs.Common.{inl, subst}
+use Rattle.mio_clients.specs.Connections.{ConnectionsState, IsAdmitted}
 use Rattle.mio_clients.specs.Later.{no_bytes, no_requests}
 use Rattle.mio_clients.specs.Leaving.{IsFollowed}
 use Rattle.mio_clients.proofs.FollowLaws.{later_itself}
@@ -19,3 +19,7 @@ returns-else-is_ok-clause-later g c =
     let rem = g.S.Stream.remaining in
     let con = g.S.Stream.contents in
     subst (λ (s : ConnectionsState g.row.S.Denot). IsFollowed rem con no_bytes no_requests s c.self.inside.connections) c.self.view_is (later_itself rem con c.self.inside.connections)
+
+pub returns-then-is_ok-clause-comes_to : goal.returns-then-is_ok-clause-comes_to
+returns-then-is_ok-clause-comes_to g c =
+    inl (c.register.new.stream, subst (λ (s : ConnectionsState g.row.S.Denot). IsAdmitted c.register.new.stream s c.admit.new.self) c.self.view_is c.admit.ensures.admitted)

@@ -3,16 +3,14 @@ use Rattle.mio_clients.specs.Connections.{ConnectionsState, IsFull}
 use Rattle.mio_clients.specs.Later.{no_bytes, no_requests}
 use Rattle.mio_clients.specs.Leaving.{IsFollowed}
 use Rattle.mio_clients.specs.Yielding.{Replaces}
-use Rattle.mio_clients.proofs.LaterLaws.{accepts_none}
 use Rattle.mio_clients.proofs.FollowLaws.{later_itself}
 use Rattle.mio_clients.proofs.clients.Clients.admit_instead.Goals as goal
 
 pub returns-then-not-is_remote : goal.returns-then-not-is_remote
 returns-then-not-is_remote g c = record {
   later = later_itself g.S.Stream.remaining g.S.Stream.contents c.args.self.now;
-  accepted = inl (accepts_none g.S.Stream.remaining g.S.Stream.contents c.args.self.now);
   full = c.requires.full;
-  refused = λ no. (inl (sym c.is_remote.ensures ∙ c.if-not-is_remote.true), refl);
+  comes_to = (c.requires.full, inl (sym c.is_remote.ensures ∙ c.if-not-is_remote.true), refl);
 }
 
 pub returns-then-is_spent-clause-later : goal.returns-then-is_spent-clause-later
@@ -21,8 +19,8 @@ returns-then-is_spent-clause-later g c = later_itself g.S.Stream.remaining g.S.S
 pub returns-in_default-clause-later : goal.returns-in_default-clause-later
 returns-in_default-clause-later g c = later_itself g.S.Stream.remaining g.S.Stream.contents c.args.self.now
 
-pub returns-then-is_ok-clause-accepted : goal.returns-then-is_ok-clause-accepted
-returns-then-is_ok-clause-accepted g c =
+pub returns-then-is_ok-clause-comes_to : goal.returns-then-is_ok-clause-comes_to
+returns-then-is_ok-clause-comes_to g c =
     inr (subst (λ (s : ConnectionsState g.row.S.Denot). Replaces g.S.Stream.remote c.args.stream s c.replace.new.self) c.self.view_is (record {
       full = subst (λ (s : ConnectionsState g.row.S.Denot). IsFull s) (sym c.self.view_is) c.requires.full;
       over_network = sym c.is_remote.ensures ∙ c.if-not-is_remote.false;

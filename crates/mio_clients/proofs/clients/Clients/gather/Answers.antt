@@ -28,6 +28,9 @@ returns-then-self g c =
       | then-loop-token-test+in_default w ↦ subst (λ (s : ConnectionsState g.row.S.Denot). AllFollow rem con no_bytes no_requests a s) (sym w.self-is)
           (subst (λ (s : ConnectionsState g.row.S.Denot). AllFollow rem con no_bytes no_requests a s) (sym w.self.view_is) c.loop-token.invariant)
     ] in
+    let p : ConnectionsState g.row.S.Denot = c.make_places.new.self in
     let later : IsFollowed rem con no_bytes no_requests a c.accept_all-refused.new.self =
-    later_more rem con a b c.accept_all-refused.new.self (all_is_later rem con a b no_bytes no_requests gathered) c.accept_all-refused.ensures.later in
+    later_more rem con a p c.accept_all-refused.new.self
+    (all_is_later rem con a p no_bytes no_requests (all_then_none rem con a b p no_bytes no_requests gathered c.make_places.ensures.later))
+    c.accept_all-refused.ensures.later in
     record { later = later }

@@ -41,3 +41,15 @@ pub returns-else-not-give-clause-forgotten : goal.returns-else-not-give-clause-f
 returns-else-not-give-clause-forgotten g c =
     λ vacant. inl (subst (λ (s : ConnectionsState g.row.S.Denot). IsVacant s c.args.client) c.self.view_is
     (c.give.ensures.stays c.if-not-give.false vacant))
+
+pub returns-then-not-give-clause-nobody : goal.returns-then-not-give-clause-nobody
+returns-then-not-give-clause-nobody g c =
+    λ vacant.
+    let was = subst (λ (s : ConnectionsState g.row.S.Denot). IsVacant s c.args.client) (sym c.self.view_is) vacant in
+    absurd (cc ((c.give.ensures.nobody was).0, c.if-not-give.true))
+
+pub returns-else-not-give-clause-nobody : goal.returns-else-not-give-clause-nobody
+returns-else-not-give-clause-nobody g c =
+    λ vacant.
+    let was = subst (λ (s : ConnectionsState g.row.S.Denot). IsVacant s c.args.client) (sym c.self.view_is) vacant in
+    (c.give.ensures.nobody was).1 ∙ c.self.view_is

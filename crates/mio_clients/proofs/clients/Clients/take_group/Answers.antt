@@ -9,6 +9,7 @@ pub loop-self-init : goal.loop-self-init
 loop-self-init g c =
     let none : vec_len c.args.events.now ≡ 0 = search rules in
     let no_ids : vec_len c.args.clients.now ≡ 0 = search rules in
+    let no_askers : vec_len c.args.askers.now ≡ 0 = search rules in
     record {
       takes = takes_begin c.args.self.now c.args.events.now.items c.args.clients.now.items c.requires.empty.0 c.requires.empty.1;
       few = omega (arith, none);
@@ -17,6 +18,7 @@ loop-self-init g c =
       known = λ n later. ap (asked_of_all n) c.requires.empty.0;
       room = λ some. absurd (omega (arith, some, none));
       places = c.requires.room;
+      askers = (omega (arith, none, no_askers), c.requires.askers.1);
     }
 
 pub loop-self-preserved : goal.loop-self-preserved
@@ -45,6 +47,10 @@ loop-self-preserved g c =
       places = (
         omega (arith, c.loop-self.invariant.places.0, c.push_reserved.ensures.capacity),
         omega (arith, c.loop-self.invariant.places.1, c.push_reserved-in-loop-self.ensures.capacity),
+      );
+      askers = (
+        omega (arith, c.loop-self.invariant.askers.0, long, c.push_reserved-in-loop-self-2.ensures.len),
+        omega (arith, c.loop-self.invariant.askers.1, c.push_reserved-in-loop-self-2.ensures.capacity),
       );
     }
 

@@ -12,6 +12,7 @@ invariant-loop-self g l = record {
   known : (c : ℕ) → l.self.last_id < c → asked_of_all c l.events.items ≡ [];
   room : 0 < vec_len l.events → slab_len l.self.clients + vec_len l.events ≤ l.self.room;
   places : (l.count ≤ vec_capacity l.events) × (l.count ≤ vec_capacity l.clients);
+  askers : (vec_len l.askers ≡ vec_len l.events) × (l.count ≤ vec_capacity l.askers);
 }
 
 abbrev pub decreases-loop-self : goal.decreases-loop-self

@@ -10,13 +10,13 @@ pub returns-clause-later : goal.returns-clause-later
 returns-clause-later g c =
     (turn_whole g.S.Stream.remaining g.S.Stream.contents c.args.self.now c.begin_turn.new.self c.gather.new.self c.serve_all-pass.new.self
     c.send_all.new.self c.close_left.new.self (bytes_in c.serve_all-pass.new.parts.items) (requests_in c.serve_all-pass.new.parts.items)
-    c.begin_turn.ensures c.gather.ensures.later c.serve_all-pass.ensures.later c.send_all.ensures.later c.close_left.ensures).0
+    c.begin_turn.ensures.same c.gather.ensures.later c.serve_all-pass.ensures.later c.send_all.ensures.later c.close_left.ensures).0
 
 pub returns-clause-left : goal.returns-clause-left
 returns-clause-left g c =
     (turn_whole g.S.Stream.remaining g.S.Stream.contents c.args.self.now c.begin_turn.new.self c.gather.new.self c.serve_all-pass.new.self
     c.send_all.new.self c.close_left.new.self (bytes_in c.serve_all-pass.new.parts.items) (requests_in c.serve_all-pass.new.parts.items)
-    c.begin_turn.ensures c.gather.ensures.later c.serve_all-pass.ensures.later c.send_all.ensures.later c.close_left.ensures).1
+    c.begin_turn.ensures.same c.gather.ensures.later c.serve_all-pass.ensures.later c.send_all.ensures.later c.close_left.ensures).1
 
 pub returns-clause-all : goal.returns-clause-all
 returns-clause-all g c =

@@ -6,7 +6,7 @@ use Rattle.mio_clients.specs.Leaving.{AllFollow}
 use Rattle.mio_clients.proofs.GivenLaws.{reads_none, moves_waiting}
 use Rattle.mio_clients.proofs.LaterLaws.{are_after}
 use Rattle.mio_clients.proofs.FollowLaws.{all_itself, all_moved}
-use Rattle.mio_clients.proofs.YieldLaws.{now_waits}
+use Rattle.mio_clients.proofs.YieldLaws.{now_waits, nobody_waits}
 use Rattle.mio_clients.proofs.connections.Connections.await_answer.Goals as goal
 
 pub returns-in-Some-clause-later : goal.returns-in-Some-clause-later
@@ -39,9 +39,11 @@ pub returns-in-Some-clause-waits : goal.returns-in-Some-clause-waits
 returns-in-Some-clause-waits g c =
     let b : ConnectionsState g.row.S.Denot = record { clients = c.wait_slot.new.clients; events = c.self.inside.queue.events; last_id = c.self.inside.last_id; room = c.self.inside.queue.room; left = c.self.inside.left.items; places = vec_capacity c.self.inside.left - vec_len c.self.inside.left; gone = c.self.inside.gone.value.items; time = c.self.inside.time } in
     let e = c.wait_slot.ensures in
-    now_waits c.args.self.now b c.args.id c.in-Some.key c.in-Some.ensures.alone
+    now_waits c.args.self.now b c.args.id c.in-Some.key
+    (subst (λ (s : ConnectionsState g.row.S.Denot). b ≡ record s { clients = b.clients }) c.self.view_is refl)
+    c.in-Some.ensures.found c.in-Some.ensures.alone
     (subst (λ (s : ConnectionsState g.row.S.Denot). IsMovedAt (λ x y. y ≡ record x { is_waiting = true }) c.in-Some.key s.clients b.clients) c.self.view_is e.moved)
     (subst (λ (s : ConnectionsState g.row.S.Denot). (other : ℕ) → other ≢ c.in-Some.key → get b.clients other ≡ get s.clients other) c.self.view_is e.elsewhere.others)
 
 pub returns-in_default-clause-waits : goal.returns-in_default-clause-waits
-returns-in_default-clause-waits g c = λ k client there is. absurd (c.in_default.ensures.found k client there is)
+returns-in_default-clause-waits g c = nobody_waits c.args.self.now c.args.id c.in_default.ensures.found

@@ -2,7 +2,7 @@ use Rattle.std.proofs.Common.{◌≡◌, ◌≢◌, ◌-◌, [], Some, refl, sym
 use Rattle.slab.specs.Slab.{get}
 use Rattle.mio_clients.specs.declared.client.Client.{Client}
 use Rattle.mio_clients.specs.Given.{Moves}
-use Rattle.mio_clients.specs.Connections.{ConnectionsState, IsAlone}
+use Rattle.mio_clients.specs.Connections.{ConnectionsState, IsAt, IsAlone}
 use Rattle.mio_clients.specs.Yielding.{WasGiven}
 use Rattle.mio_clients.specs.Waiting.{StaysQuiet}
 use Rattle.mio_clients.specs.Later.{no_requests, bytes_for}
@@ -12,7 +12,7 @@ use Rattle.mio_clients.proofs.LaterLaws.{are_after, told_quiet, moved_as}
 use Rattle.mio_clients.proofs.NumberLaws.{number_kept, number_there}
 use Rattle.mio_clients.proofs.FollowLaws.{all_vacant, all_given, all_refused}
 use Rattle.mio_clients.proofs.WaitingLaws.{quiet_itself, quiet_told}
-use Rattle.mio_clients.proofs.YieldLaws.{given_at, given_lost}
+use Rattle.mio_clients.proofs.YieldLaws.{given_at, given_lost, nobody_given}
 use Rattle.mio_clients.proofs.connections.Connections.give.Goals as goal
 
 pub returns-in_default-clause-later : goal.returns-in_default-clause-later
@@ -96,12 +96,17 @@ returns-else-not-is_queued-clause-quiet g c =
     subst (λ (s : ConnectionsState g.row.S.Denot). StaysQuiet s.events c.self.inside.queue.events) c.self.view_is (quiet_itself c.self.inside.queue.events)
 
 pub returns-in_default-clause-active : goal.returns-in_default-clause-active
-returns-in_default-clause-active g c = λ k x y was is of. absurd (c.in_default.ensures.found k x was of)
+returns-in_default-clause-active g c = nobody_given c.args.self.now c.args.id c.args.bytes.now c.in_default.ensures.found
 
 pub returns-then-not-is_queued-clause-active : goal.returns-then-not-is_queued-clause-active
 returns-then-not-is_queued-clause-active g c =
+    let a : ConnectionsState g.row.S.Denot = record { clients = c.self.inside.clients; events = c.self.inside.queue.events; last_id = c.self.inside.last_id; room = c.self.inside.queue.room; left = c.self.inside.left.items; places = vec_capacity c.self.inside.left - vec_len c.self.inside.left; gone = c.self.inside.gone.value.items; time = c.self.inside.time } in
     let b : ConnectionsState g.row.S.Denot = record { clients = c.drop_slot.new.clients; events = c.drop_slot.new.queue.events; last_id = c.self.inside.last_id; room = c.drop_slot.new.queue.room; left = c.drop_slot.new.left.items; places = vec_capacity c.drop_slot.new.left - vec_len c.drop_slot.new.left; gone = c.self.inside.gone.value.items; time = c.self.inside.time } in
-    given_lost c.args.self.now b c.args.id c.in-Some.key c.args.bytes.now c.in-Some.ensures.alone c.drop_slot.ensures.gone
+    subst (λ (s : ConnectionsState g.row.S.Denot). WasGiven c.args.id c.args.bytes.now s b) c.self.view_is
+    (given_lost a b c.args.id c.in-Some.key c.args.bytes.now
+    (subst (λ (s : ConnectionsState g.row.S.Denot). IsAt s c.args.id c.in-Some.key) (sym c.self.view_is) c.in-Some.ensures.found)
+    (subst (λ (s : ConnectionsState g.row.S.Denot). IsAlone s c.args.id c.in-Some.key) (sym c.self.view_is) c.in-Some.ensures.alone)
+    c.drop_slot.ensures.gone (λ other ne. c.drop_slot.ensures.others other ne ∙ c.queue_slot-is_queued.ensures.elsewhere.others other ne))
 
 pub returns-else-not-is_queued-clause-active : goal.returns-else-not-is_queued-clause-active
 returns-else-not-is_queued-clause-active g c =
@@ -109,8 +114,9 @@ returns-else-not-is_queued-clause-active g c =
     let b : ConnectionsState g.row.S.Denot = record { clients = c.queue_slot-is_queued.new.clients; events = c.self.inside.queue.events; last_id = c.self.inside.last_id; room = c.self.inside.queue.room; left = c.self.inside.left.items; places = vec_capacity c.self.inside.left - vec_len c.self.inside.left; gone = c.self.inside.gone.value.items; time = c.self.inside.time } in
     subst (λ (s : ConnectionsState g.row.S.Denot). WasGiven c.args.id c.args.bytes.now s b) c.self.view_is
     (given_at a b c.args.id c.in-Some.key c.args.bytes.now
+    (subst (λ (s : ConnectionsState g.row.S.Denot). IsAt s c.args.id c.in-Some.key) (sym c.self.view_is) c.in-Some.ensures.found)
     (subst (λ (s : ConnectionsState g.row.S.Denot). IsAlone s c.args.id c.in-Some.key) (sym c.self.view_is) c.in-Some.ensures.alone)
-    c.queue_slot-is_queued.ensures.session)
+    c.queue_slot-is_queued.ensures.session c.queue_slot-is_queued.ensures.elsewhere.others)
 
 pub returns-then-not-is_queued-clause-vacant : goal.returns-then-not-is_queued-clause-vacant
 returns-then-not-is_queued-clause-vacant g c =
@@ -139,3 +145,14 @@ returns-else-not-is_queued-clause-stays g c =
     (λ x y is. ap (λ (t : Client g.row.S.Denot). t.id) is) q.session in
     λ yes vacant. absurd (number_there b c.args.id c.in-Some.key (get b.clients c.in-Some.key) refl
     (number_kept c.args.id (get a.clients c.in-Some.key) (get b.clients c.in-Some.key) at moved) vacant)
+
+pub returns-in_default-clause-nobody : goal.returns-in_default-clause-nobody
+returns-in_default-clause-nobody g c = λ vacant. (refl, refl)
+
+pub returns-then-not-is_queued-clause-nobody : goal.returns-then-not-is_queued-clause-nobody
+returns-then-not-is_queued-clause-nobody g c =
+    λ vacant. absurd (number_there c.args.self.now c.args.id c.in-Some.key (get c.args.self.now.clients c.in-Some.key) refl c.in-Some.ensures.found vacant)
+
+pub returns-else-not-is_queued-clause-nobody : goal.returns-else-not-is_queued-clause-nobody
+returns-else-not-is_queued-clause-nobody g c =
+    λ vacant. absurd (number_there c.args.self.now c.args.id c.in-Some.key (get c.args.self.now.clients c.in-Some.key) refl c.in-Some.ensures.found vacant)

@@ -66,7 +66,10 @@ returns-then-is_refused g c =
     record {
       later = subst (λ (s : ConnectionsState g.row.S.Denot). AllFollow rem con no_bytes no_requests s b) c.self.view_is on;
       heard = subst (λ (s : ConnectionsState g.row.S.Denot). IsHeardAt rem c.args.key s b) c.self.view_is
-          (λ x y was is. absurd (cc (e.gone, is)));
+          (record {
+            heard = λ x y was is. absurd (cc (e.gone, is));
+            others = λ other ne. e.others other ne ∙ r.elsewhere.others other ne;
+          });
       failed = λ is. absurd (cc (is, refused));
     }
 
@@ -84,7 +87,10 @@ returns-else-is_refused g c =
     record {
       later = subst (λ (s : ConnectionsState g.row.S.Denot). AllFollow rem con no_bytes no_requests s b) c.self.view_is on;
       heard = subst (λ (s : ConnectionsState g.row.S.Denot). IsHeardAt rem c.args.key s b) c.self.view_is
-          (λ x y was is. heard_moved rem c.self.inside.time (get a.clients c.args.key) (get b.clients c.args.key) x y r.heard was is);
+          (record {
+            heard = λ x y was is. heard_moved rem c.self.inside.time (get a.clients c.args.key) (get b.clients c.args.key) x y r.heard was is;
+            others = r.elsewhere.others;
+          });
       failed = λ is. subst (λ (s : ConnectionsState g.row.S.Denot). IsFailedAt rem con g.S.Stream.failed c.args.key s b) c.self.view_is
           (failed_at rem con g.S.Stream.failed _ c.args.key a b moved (λ x y reads. reads) (r.failed is) r.elsewhere.others);
     }
