@@ -120,7 +120,7 @@ long_start_decides start rest none is long =
     ap is_http_line on.0 ∙ too_long (start ++ more) (method_stays start more few ∙ is) longer in
     either (has_line (start ++ rest)) _ _ false line (method_stays start rest few ∙ is)
 
-no_line : (xs : List ℕ) → HasNoNewline xs → has_line xs ≡ false
+pub no_line : (xs : List ℕ) → HasNoNewline xs → has_line xs ≡ false
 no_line [] none = refl
 no_line (b ∷ xs) none = let other : nat_eq b newline ≡ false = ne_eqb b newline none.0 in rw (other, no_line xs none.1)
 

@@ -59,8 +59,9 @@ is_http stream = if has_line stream then is_http_line (first_line stream) else b
 abbrev pub is_shut_out : List ℕ → Bool
 is_shut_out stream = begins_with_control stream || is_http stream
 
--- What the bytes so far tell of the stream, whatever follows. Nothing yet: it is let in so far, and its line may still be within the limit.
+-- What the bytes so far tell of the stream, whatever follows. Nothing yet: it is let in so far, and its first line has not ended and may
+-- still be within the limit.
 abbrev pub IsVerdict : List ℕ → Verdict → Type 0
 IsVerdict seen ShutOut = (rest : List ℕ) → is_shut_out (seen ++ rest) ≡ true
 IsVerdict seen LetIn = (rest : List ℕ) → is_shut_out (seen ++ rest) ≡ false
-IsVerdict seen Unknown = (is_shut_out seen ≡ false) × (length seen ≤ line_limit)
+IsVerdict seen Unknown = (is_shut_out seen ≡ false) × (has_line seen ≡ false) × (length seen ≤ line_limit)

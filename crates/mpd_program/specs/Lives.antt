@@ -8,10 +8,11 @@ use Rattle.state_codec.specs.SavedState.{SavedState}
 use Rattle.daemon_core.specs.declared.event.Event.{Event}
 use Rattle.daemon_core.specs.Replay.{Entry, replay}
 use Rattle.live_stage.specs.declared.refusal.StartError.{StartError}
-use Rattle.live_stage.specs.declared.refusal.StartError.TheVariants.{NotEmpty, NoJournal, Damaged, NoMemory, NumbersSpent, Broken}
+use Rattle.live_stage.specs.declared.refusal.StartError.TheVariants.{NoMemory, NumbersSpent, Broken}
 use Rattle.live_stage.specs.Errors.{IsRefusalOfOpen, IsCause, start_number_of}
 use Rattle.live_stage.specs.Found.{found_state, AllFindNow, KeepsFoundState}
 use Rattle.client_session.specs.Requests.{requests_of}
+use Rattle.mpd_server.specs.Ends.{refusal_number}
 use Rattle.mpd_program.specs.Serving.{IsAllRead}
 use Rattle.mpd_program.specs.Console.{asked, asked_in, given, events_of, ClosesNone, ClosesAtLast, ClosesNoneBefore, JobsInTurn, RunsNone}
 use Rattle.mpd_program.specs.declared.console.Ending.{Ending}
@@ -146,14 +147,14 @@ IsLife Honest c (Ok Cut) first last = IsCut Honest c first last
 IsLife Honest c (Ok Faulted) first last = IsFaulted Honest c first last
 IsLife Honest c (Err number) first last = IsRefused Honest number first last
 
+-- what a life came to whose journal was refused with this number, or in whose opening a disk failed
+abbrev pub came_to_of : Option ℕ → Result Ending ℕ
+came_to_of None = Ok Faulted
+came_to_of (Some number) = Err number
+
 -- what a life whose journal was not opened came to
 abbrev pub refusal_of : StartError → Result Ending ℕ
-refusal_of NotEmpty = Err 3
-refusal_of NoJournal = Err 4
-refusal_of (Damaged offset) = Err 5
-refusal_of NoMemory = Err 7
-refusal_of NumbersSpent = Err 49
-refusal_of Broken = Ok Faulted
+refusal_of error = came_to_of (refusal_number error)
 
 -- the status of a console whose last life came to this
 abbrev pub status_of : Result Ending ℕ → Status

@@ -12,7 +12,8 @@ mod serving;
 
 use client_session::Session;
 use disk_model::Disk;
-use live_stage::{Live, Refused, StartError};
+use live_stage::{Live, Refused};
+use mpd_server::refusal_number;
 use serving::{Service, ending_with};
 use std::alloc::Global;
 use std::fmt;
@@ -84,16 +85,16 @@ pub struct ConsoleEnd<D> {
     pub b: D,
 }
 
-// What came of the time from one opening of the journal on: how the client's serving ended, or the number with which the
-// journal was refused; whether the journal was brought to the present layout; and both disks.
-struct Life<D> {
+// What came of a client, whose life begins with an opening of the journal: how its serving ended, or the number with which the journal was
+// refused; whether the journal was brought to the present layout; and both disks.
+struct ClientEnd<D> {
     came_to: Result<Ending, u8>,
     migrated: bool,
     a: D,
     b: D,
 }
 
-impl<D> Life<D> {
+impl<D> ClientEnd<D> {
     // Whether a disk fault ended it.
     fn is_faulted(&self) -> bool
         ensures { IsTrue result ↔ (self.now.came_to ≡ Ok Ending.Faulted) }
@@ -118,7 +119,7 @@ fn serve_life<D: Disk, F: Folder, R: Read, W: Write>(
     folder: &mut F,
     reader: &mut R,
     writer: &mut W,
-) -> Life<D>
+) -> ClientEnd<D>
     ensures life { IsLife (D.honest a × D.honest b) client result.came_to
         (moment_of D.content D.history D.faults a b (R.remaining reader.old) (W.contents writer.old))
         (moment_of D.content D.history D.faults result.a result.b (R.remaining reader.new) (W.contents writer.new)) }
@@ -151,7 +152,7 @@ fn serve_life<D: Disk, F: Folder, R: Read, W: Write>(
     // As long as no disk failed, the files give its state.
     let _broken = live.is_broken();
     let (a, b) = live.into_disks();
-    Life {
+    ClientEnd {
         came_to: Ok(ending_with(served)),
         migrated,
         a,
@@ -160,17 +161,17 @@ fn serve_life<D: Disk, F: Folder, R: Read, W: Write>(
 }
 
 // A journal that was not opened.
-fn refused_life<D>(refused: Refused<D>) -> Life<D>
+fn refused_life<D>(refused: Refused<D>) -> ClientEnd<D>
     ensures came_to { result.came_to ≡ refusal_of refused.error }
     ensures a { result.a ≡ refused.a }
     ensures b { result.b ≡ refused.b }
 {
     let Refused { error, a, b } = refused;
-    let came_to = match error {
-        StartError::Broken => Ok(Ending::Faulted),
-        other => Err(other.number()),
+    let came_to = match refusal_number(error) {
+        None => Ok(Ending::Faulted),
+        Some(number) => Err(number),
     };
-    Life {
+    ClientEnd {
         came_to,
         migrated: false,
         a,
@@ -179,10 +180,10 @@ fn refused_life<D>(refused: Refused<D>) -> Life<D>
 }
 
 // The end of a console whose last life was this one.
-fn ended<D>(ending: Ending, migrated: bool, last: Life<D>) -> ConsoleEnd<D>
+fn ended<D>(ending: Ending, migrated: bool, last: ClientEnd<D>) -> ConsoleEnd<D>
     ensures { result ≡ record { status = status_of last.came_to; ending = ending; migrated = migrated; a = last.a; b = last.b } }
 {
-    let Life {
+    let ClientEnd {
         came_to,
         migrated: _,
         a,
@@ -245,7 +246,7 @@ pub fn run_console<D: Disk, F: Folder, R: Read, W: Write>(
         let migrated = first.migrated;
         return ended(ending, migrated, first);
     }
-    let Life {
+    let ClientEnd {
         came_to: _,
         migrated,
         a,

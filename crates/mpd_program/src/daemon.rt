@@ -256,7 +256,7 @@ fn serve_over<R: Threads + Wait + Clock + Log + Sync>(
     } else {
         Level::Info
     };
-    let threads = Logged::new(threads, level, LoopLog { rt });
+    let threads = Logged::new(threads, level, LoopLog::new(rt));
     let end = mpd_server::serve(&threads, rt.alloc(), opened, &mut clients, workers);
     ended(rt, config, end)
 }

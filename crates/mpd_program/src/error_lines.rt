@@ -6,12 +6,18 @@ use log::span::Spans;
 use log::{Line, Log, Metadata, Record};
 use std::fmt::Display;
 use std::os::fd::RawFd;
+use std::sync::atomic::{AtomicBool, Ordering};
 
 /// The descriptor of standard error.
 const STANDARD_ERROR: RawFd = 2;
 
-/// How many milliseconds a line of the loop waits at most for a reader.
+/// How many milliseconds a line waits at most for a reader.
 const PATIENCE: u64 = 1_000;
+
+/// How long a line waits: not at all behind one that was not taken.
+fn patience(is_full: bool) -> u64 {
+    if is_full { 0 } else { PATIENCE }
+}
 
 /// What is known of standard error.
 #[derive(Drop)]
@@ -33,14 +39,18 @@ impl Watch {
         }
     }
 
-    // Whether a line is taken within so many milliseconds. Where that isn't known it would wait for a reader, who may never come: so it
-    // counts as not taken.
-    fn takes_line(&mut self, limit: u64) -> bool {
+    // Whether a line is taken within so many milliseconds; none where the system can't tell, and hasn't waited.
+    fn answer(&mut self, limit: u64) -> Option<bool> {
         match self {
-            Watch::Always => true,
-            Watch::Told(readiness) => readiness.wait(limit).unwrap_or(false),
-            Watch::Unknown => false,
+            Watch::Always => Some(true),
+            Watch::Told(readiness) => readiness.wait(limit).ok(),
+            Watch::Unknown => None,
         }
+    }
+
+    // The same. Where it isn't known the line would wait for a reader, who may never come: so it counts as not taken.
+    fn takes_line(&mut self, limit: u64) -> bool {
+        self.answer(limit).unwrap_or(false)
     }
 }
 
@@ -49,22 +59,27 @@ pub fn takes_line(rt: &HostRuntime) -> bool {
     Watch::new(rt).takes_line(PATIENCE)
 }
 
-/// Lines of the loop's thread that are told where descriptors are used up: what watches standard error was made before that.
+/// Lines of the loop's thread that are told also where descriptors are used up: what watches standard error was made before that.
 #[derive(Drop)]
 pub struct WatchedLines {
     watch: Watch,
+    // The line before was not taken.
+    is_full: bool,
 }
 
 impl WatchedLines {
     pub fn new(rt: &HostRuntime) -> Self {
         WatchedLines {
             watch: Watch::new(rt),
+            is_full: false,
         }
     }
 
-    /// Whether a line is taken now, or within a second.
+    /// Whether a line is taken now, or within a second if the one before it was.
     pub fn takes_line(&mut self) -> bool {
-        self.watch.takes_line(PATIENCE)
+        let is_taken = self.watch.takes_line(patience(self.is_full));
+        self.is_full = !is_taken;
+        is_taken
     }
 }
 
@@ -83,27 +98,37 @@ impl ErrorLines {
         }
     }
 
-    /// Waits until a line is taken; `false` where the flag is set before that, or it isn't known.
+    /// Waits until a line is taken; `false` where the flag is set before that, or the system can't tell.
     pub fn is_ready(&mut self) -> bool {
-        if let Watch::Unknown = &self.watch {
-            return false;
-        }
         for _ in 0..u64::MAX {
             if self.stop.is_set() {
                 return false;
             }
-            if self.watch.takes_line(STEP) {
-                return true;
+            match self.watch.answer(STEP) {
+                Some(true) => return true,
+                Some(false) => {}
+                None => return false,
             }
         }
         false
     }
 }
 
-/// Log lines of the loop's thread: one that isn't taken within a second is dropped.
-#[derive(Clone, Copy)]
+/// Log lines of the daemon: one that isn't taken within a second is dropped, and behind it each that isn't taken at once.
+#[derive(Drop)]
 pub struct LoopLog<'a> {
-    pub rt: &'a HostRuntime,
+    lines: TakenLog<'a>,
+    // The line before was not taken.
+    is_full: AtomicBool,
+}
+
+impl<'a> LoopLog<'a> {
+    pub fn new(rt: &'a HostRuntime) -> Self {
+        LoopLog {
+            lines: TakenLog { rt },
+            is_full: AtomicBool::new(false),
+        }
+    }
 }
 
 impl Log for LoopLog<'_> {
@@ -118,8 +143,11 @@ impl Log for LoopLog<'_> {
     }
 
     fn log<D: Display, K: Source, S: Spans>(&self, record: &Record<'_, D, K, S>) {
-        if takes_line(self.rt) {
-            TakenLog { rt: self.rt }.log(record);
+        let limit = patience(self.is_full.load(Ordering::SeqCst));
+        let is_taken = Watch::new(self.lines.rt).takes_line(limit);
+        self.is_full.store(!is_taken, Ordering::SeqCst);
+        if is_taken {
+            self.lines.log(record);
         }
     }
 

@@ -26,7 +26,7 @@ impl<'a> Opening<'a> {
         let b = length_of(rt, config.journal_b.as_str());
         let bytes = a.saturating_add(b);
         if bytes >= LARGE {
-            info!(LoopLog { rt }; "the journal is opened, both files have {bytes} bytes");
+            info!(LoopLog::new(rt); "the journal is opened, both files have {bytes} bytes");
         }
         Opening {
             rt,
@@ -48,7 +48,7 @@ impl<'a> Opening<'a> {
         }
         let (bytes, seconds) = (self.bytes, taken.as_secs());
         let tenths = taken.subsec_millis() / 100;
-        info!(LoopLog { rt: self.rt };
+        info!(LoopLog::new(self.rt);
             "the journal was opened in {seconds}.{tenths} seconds, both files have {bytes} bytes"
         );
     }

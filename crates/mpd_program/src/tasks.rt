@@ -14,9 +14,10 @@ use crate::file_lock::FileLock;
 use crate::look::look;
 use crate::music::Music;
 use disk_model::{Disk, FileDisk, MemDisk};
-use live_stage::{LAYOUT, Live, Refused, StartError};
+use live_stage::{LAYOUT, Live, Refused};
 use log::Log;
-use std::fs::File;
+use mpd_server::refusal_number;
+use std::fs::{self, File};
 use std::io::{self, ErrorKind, Read};
 use std::sync::Wait;
 use std::thread::Threads;
@@ -119,10 +120,29 @@ pub(crate) fn open_files(rt: &HostRuntime, a: &str, b: &str) -> Result<JournalFi
     })
 }
 
+/// Where a link stands at the path of a journal file: syncs the folder of the file that it leads to, as its opening does the link's, so
+/// that a file that was made there outlives a power cut too.
+fn sync_behind_link(rt: &HostRuntime, path: &str) -> io::Result<()> {
+    if !fs::symlink_metadata(rt, path)?.is_symlink() {
+        return Ok(());
+    }
+    match fs::canonicalize(rt, path)?.parent() {
+        Some(folder) => File::open(rt, folder)?.sync_all(),
+        None => Ok(()),
+    }
+}
+
+/// Opens a journal file, which is made, empty, where it is missing, and syncs the folder in which it stands.
+fn open_disk(rt: &HostRuntime, path: &str) -> io::Result<FileDisk<File>> {
+    let disk = FileDisk::open(rt, path)?;
+    sync_behind_link(rt, path)?;
+    Ok(disk)
+}
+
 /// Opens and locks a journal file, and makes it, empty, where it is missing.
 fn open_file(rt: &HostRuntime, path: &str) -> Result<(FileDisk<File>, FileLock), Exit> {
     let fault = Exit::Ended(Status::DiskFault);
-    let disk = match FileDisk::open(rt, path) {
+    let disk = match open_disk(rt, path) {
         Ok(disk) => disk,
         Err(error) => return Err(told(rt, path, &error, fault)),
     };
@@ -148,16 +168,18 @@ pub(crate) fn tell_refusal(rt: &HostRuntime, a: &str, b: &str, number: u8) {
             "of an old layout, and with the last generation: no checkpoint can bring it to the present layout",
         _ => return,
     };
-    let _printed = eprintln!(rt; "{a}, {b}: {advice}");
+    if takes_line(rt) {
+        let _printed = eprintln!(rt; "{a}, {b}: {advice}");
+    }
 }
 
 /// Why no journal was made.
 fn refused<D: Disk + Drop>(refused: Refused<D>) -> Exit
     ensures { result ≡ Exit.Ended (status_of (refusal_of refused.error)) }
 {
-    match refused.error {
-        StartError::Broken => Exit::Ended(Status::DiskFault),
-        error => Exit::Ended(Status::JournalRefused(error.number())),
+    match refusal_number(refused.error) {
+        None => Exit::Ended(Status::DiskFault),
+        Some(number) => Exit::Ended(Status::JournalRefused(number)),
     }
 }
 

@@ -1,5 +1,5 @@
 // Where clients connect, with a line on standard error where they can't.
-use crate::error_lines::{LoopLog, TakenLog, WatchedLines};
+use crate::error_lines::{TakenLog, WatchedLines};
 use log::{Log, warn};
 use mio_clients::{Listener, Socket, SocketListener};
 use std::io::{self, ErrorKind};
@@ -9,7 +9,7 @@ use std::time::{Duration, Instant};
 /// meanwhile. They say too which client gave way to another.
 #[derive(Drop)]
 pub struct ToldListener<'a> {
-    log: LoopLog<'a>,
+    log: TakenLog<'a>,
     lines: WatchedLines,
     sockets: SocketListener,
     is_told: bool,
@@ -27,7 +27,7 @@ fn milliseconds(passed: Duration) -> u64 {
 impl<'a> ToldListener<'a> {
     pub fn new(rt: &'a HostRuntime, sockets: SocketListener) -> Self {
         ToldListener {
-            log: LoopLog { rt },
+            log: TakenLog { rt },
             lines: WatchedLines::new(rt),
             sockets,
             is_told: false,
@@ -48,7 +48,7 @@ impl Listener<Socket> for ToldListener<'_> {
                 _ => {
                     self.is_told = true;
                     if self.lines.takes_line() {
-                        warn!(TakenLog { rt: self.log.rt }; "clients wait, none can be accepted: {error}");
+                        warn!(self.log; "clients wait, none can be accepted: {error}");
                     }
                 }
             }
@@ -67,7 +67,9 @@ impl Listener<Socket> for ToldListener<'_> {
     }
 
     fn gave_way(&mut self, client: u64, silence: u64) {
-        let minutes = silence / 60_000;
-        warn!(self.log; "client {client} gave its place to another: nothing came of it for {minutes} minutes");
+        if self.lines.takes_line() {
+            let minutes = silence / 60_000;
+            warn!(self.log; "client {client} gave its place to another: nothing came of it for {minutes} minutes");
+        }
     }
 }

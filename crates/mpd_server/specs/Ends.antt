@@ -1,5 +1,5 @@
 -- How a daemon's lives end.
-use Rattle.std.specs.Prelude.{◌≡◌, ◌⊎◌, Bool, true, false}
+use Rattle.std.specs.Prelude.{◌≡◌, ◌⊎◌, Bool, true, false, ℕ, Option, Some, None}
 use Rattle.live_stage.specs.declared.refusal.StartError.{StartError}
 use Rattle.live_stage.specs.declared.refusal.StartError.TheVariants.{NotEmpty, NoJournal, Damaged, NoMemory, NumbersSpent, Broken}
 use Rattle.live_stage.specs.Errors.{start_number_of}
@@ -8,14 +8,23 @@ use Rattle.mpd_server.specs.declared.ending.ServeStatus.TheVariants.{JournalRefu
 use Rattle.mpd_server.specs.declared.ending.LifeEnding.{LifeEnding}
 use Rattle.mpd_server.specs.declared.ending.LifeEnding.TheVariants.{Faulted, Ended}
 
+-- the number with which a journal is refused; none where a disk failed
+abbrev pub refusal_number : StartError → Option ℕ
+refusal_number Broken = None
+refusal_number NotEmpty = Some (start_number_of NotEmpty)
+refusal_number NoJournal = Some (start_number_of NoJournal)
+refusal_number (Damaged offset) = Some (start_number_of (Damaged offset))
+refusal_number NoMemory = Some (start_number_of NoMemory)
+refusal_number NumbersSpent = Some (start_number_of NumbersSpent)
+
+-- how a life ends whose journal was refused with this number, or in whose opening a disk failed
+abbrev pub ending_unopened : Option ℕ → LifeEnding
+ending_unopened None = Faulted
+ending_unopened (Some number) = Ended (JournalRefused number)
+
 -- how a life ends in which the journal was refused
 abbrev pub refusal_of : StartError → LifeEnding
-refusal_of Broken = Faulted
-refusal_of NotEmpty = Ended (JournalRefused (start_number_of NotEmpty))
-refusal_of NoJournal = Ended (JournalRefused (start_number_of NoJournal))
-refusal_of (Damaged offset) = Ended (JournalRefused (start_number_of (Damaged offset)))
-refusal_of NoMemory = Ended (JournalRefused (start_number_of NoMemory))
-refusal_of NumbersSpent = Ended (JournalRefused (start_number_of NumbersSpent))
+refusal_of error = ending_unopened (refusal_number error)
 
 -- how a life ends whose stage came back broken or not, of a daemon that was ended already or not, and that would else have ended so
 abbrev pub ending_of : Bool → Bool → ServeStatus → LifeEnding

@@ -1,6 +1,6 @@
 // How a daemon ends.
 ghost use Rattle.std.specs.Prelude.{◌≡◌, ◌↔◌, IsTrue};
-ghost use Rattle.mpd_server.specs.Ends.{ending_of, refusal_of, status_of};
+ghost use Rattle.mpd_server.specs.Ends.{ending_of, refusal_number, refusal_of, status_of};
 
 use disk_model::Disk;
 use live_stage::{Live, Refused, StartError};
@@ -26,6 +26,16 @@ pub struct ServeEnd<D> {
     pub a: D,
     /// The disk of file b.
     pub b: D,
+}
+
+/// The number with which a journal is refused, opened or made; none where a disk failed.
+pub fn refusal_number(error: StartError) -> Option<u8>
+    ensures { result ≡ refusal_number error }
+{
+    match error {
+        StartError::Broken => None,
+        other => Some(other.number()),
+    }
 }
 
 /// What came of the time from one opening of the journal on.
@@ -62,9 +72,9 @@ impl<D: Disk> Life<D> {
         ensures b { result.b ≡ refused.b }
     {
         let Refused { error, a, b } = refused;
-        let ending = match error {
-            StartError::Broken => LifeEnding::Faulted,
-            other => LifeEnding::Ended(ServeStatus::JournalRefused(other.number())),
+        let ending = match refusal_number(error) {
+            None => LifeEnding::Faulted,
+            Some(number) => LifeEnding::Ended(ServeStatus::JournalRefused(number)),
         };
         Life { ending, a, b }
     }

@@ -12,7 +12,7 @@ mod server;
 mod tally;
 mod workers;
 
-pub use ending::{ServeEnd, ServeStatus};
+pub use ending::{ServeEnd, ServeStatus, refusal_number};
 pub use job_folder::{JobFolder, MAX_LISTINGS, MAX_OPENINGS, Visits};
 pub use opening::{Opened, open_journal};
 pub use server::serve;

@@ -1,5 +1,6 @@
 use Rattle.std.proofs.Common.{◌∙◌, ◌++◌, ◌<◌, length, arith}
-use Rattle.http_guard.proofs.LineLaws.{start_decides, long_start_decides, start_so_far, http_is_shut_out, text_decides, text_so_far}
+use Rattle.http_guard.proofs.LineLaws.{start_decides, long_start_decides, no_line, start_so_far, http_is_shut_out, text_decides}
+use Rattle.http_guard.proofs.LineLaws.{text_so_far}
 use Rattle.http_guard.proofs.first_line.judge_start.Goals as goal
 
 pub returns-then-begins_with_method : goal.returns-then-begins_with_method
@@ -13,4 +14,5 @@ returns-then-start-gt-LINE_LIMIT c = λ rest.
 
 pub returns-else-start-gt-LINE_LIMIT : goal.returns-else-start-gt-LINE_LIMIT
 returns-else-start-gt-LINE_LIMIT c =
-    (text_so_far c.args.start.now c.requires.text (start_so_far c.args.start.now c.requires.one (cc)), omega arith)
+    let start = c.args.start.now in
+    (text_so_far start c.requires.text (start_so_far start c.requires.one (cc)), no_line start c.requires.one, omega arith)
