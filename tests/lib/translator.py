@@ -30,6 +30,9 @@ VALUE = r"""'(?:[^'\\]|\\.)*'|"(?:[^"\\]|\\.)*\""""
 NAME = r"""[^ \t()'"=!]+"""
 TEST = rf"[ \t]*(?P<operator>==|!=|contains(?=[ \t]))[ \t]*(?P<value>{VALUE})"
 PIECE = re.compile(rf"""{VALUE}|['"].*|\([ \t]*(?P<name>{NAME})(?P<behind>(?:{TEST})?)""", re.DOTALL)
+# A comparison as the daemon reads it.
+COMPARED = rf"(?i:{'|'.join(sorted(NATIVE))}|any)(?:[ \t]*[=!]=[ \t]*|[ \t]+contains[ \t]+)"
+COMPARED = rf"(?:{COMPARED}|(?i:base)[ \t]*|(?i:file)[ \t]*==[ \t]*)(?:{VALUE})"
 # The commands that the daemon hasn't: how many arguments they have, and the lines that they are answered by.
 PLAIN = {
     "outputs": (0, ["outputid: 0", "outputname: output", "plugin: raw", "outputenabled: 1"]),
@@ -160,7 +163,7 @@ def by_words(line, alone, name, given):
     if name == "list" and given:
         if given[1:][-2:-1] == ["group"] and given[0].lower() in ALL:
             return grouped(alone, "list", given[:1], given[1:], 31)
-        return list_of(line, *given)
+        return list_of(*given)
     if name in TAILS:
         return filtered(line, name, given)
     return None
@@ -266,20 +269,35 @@ def tag_types(given):
     return answered("tagtypes", then=lambda mask: mask | named if what == "enable" else mask - named)
 
 
-def list_of(line, tag, *given):
-    """`list TAG ..`."""
+def list_of(tag, *given):
+    """`list TAG ..`: how many songs lack it is asked before its values, where that can be asked."""
     given, kind = list(given), tag.lower()
+    if kind not in ALL:
+        return None
     if kind == "album" and len(given) == 1 and not given[0].startswith("("):
-        return Part([line_of("list", tag, "Artist", *given)], "list")
-    found = filter_of(given, ()) if given else []
-    if kind in NATIVE:
-        return Part([line if found == given else line_of("list", tag, *found)], "list")
-    if kind in ALIASES:
-        front, new = f"{ALIASES[kind]}: ".encode(), f"{SPELLED[kind]}: ".encode()
-        return Part([line_of("list", ALIASES[kind], *found)], "list", told=lambda line, number: new + line.removeprefix(front))
+        given = ["Artist", *given]
+    found, name = filter_of(given, ()) if given else [], ALIASES.get(kind, tag)
     if kind in ABSENT:
-        return Part([line_of("count", *(found or ["base", ""]))], "list", told=lambda line, number: None)
-    return None
+        natives = [line_of("count", *(found or ["base", ""]))]
+    else:
+        lacking = without_tag(name, found)
+        natives = [*([line_of("count", *lacking)] if lacking else []), line_of("list", name, *found)]
+
+    def told(line, number):
+        key, _, value = line.partition(b": ")
+        if key == b"songs" and value != b"0":
+            return f"{SPELLED[kind]}: ".encode()
+        return f"{SPELLED[kind]}: ".encode() + value if key == ALIASES.get(kind, SPELLED[kind]).encode() else None
+
+    return Part(natives, "list", told=told)
+
+
+def without_tag(name, words):
+    """The filter for those songs of a filter that lack a tag of the daemon's; None where an expression can't be put into another one."""
+    if not words or not words[0].startswith("("):
+        return [*words, name, ""]
+    whole = f'({words[0]} AND ({name} == ""))'
+    return [whole] if is_filter(words[0]) and is_filter(whole) else None
 
 
 def filtered(line, name, given):
@@ -403,6 +421,36 @@ class Expression:
             return tag + self.text[begun : self.place]
         operator, value = self.need("==|!=|contains(?=[ \t])"), self.need(VALUE)
         return test_of_none(operator, value) if tag.lower() in ABSENT else name_of(tag) + self.text[begun : self.place]
+
+
+def is_filter(text):
+    """Whether it is an expression over the daemon's tags, in which at most 32 parentheses are open at once."""
+    try:
+        return behind_expression(text, 32) == ""
+    except Unreadable:
+        return False
+
+
+def behind_expression(text, room):
+    text = behind(r"\([ \t]*", text)
+    if not room:
+        raise Unreadable
+    if text.startswith("("):
+        text = behind_expression(text, room - 1)
+        while not re.match(r"[ \t]*\)", text):
+            text = behind_expression(behind(r"[ \t]+AND[ \t]+", text), room - 1)
+    elif text.startswith("!"):
+        text = behind_expression(behind(r"![ \t]*", text), room - 1)
+    else:
+        text = behind(COMPARED, text)
+    return behind(r"[ \t]*\)", text)
+
+
+def behind(pattern, text):
+    found = re.compile(pattern, re.DOTALL).match(text)
+    if not found:
+        raise Unreadable
+    return text[found.end() :]
 
 
 class Awaited:

@@ -1,17 +1,16 @@
 -- What becomes of each line of the daemon's answers.
-use Rattle.std.specs.Prelude.{◌≡◌, ℕ, ◌+◌, ◌-◌, nat_eq, ◌==◌, Bool, true, false, ◌&&◌, List, [], ◌∷◌, ◌++◌, length, drop, min, not, codes}
+use Rattle.std.specs.Prelude.{◌≡◌, ℕ, ◌+◌, ◌-◌, nat_eq, ◌==◌, Bool, true, false, ◌&&◌, List, [], ◌∷◌, ◌++◌, length, min, not, codes}
 use Rattle.std.specs.Prelude.{Option, Some, None, if◌then◌else◌}
 use Rattle.std.specs.List.{starts_with}
 use Rattle.std.specs.Fmt.{decimal}
 use Rattle.client_session.specs.Lines.{newline, ended}
-use Rattle.stock_requests.specs.Masks.{all_in_set, after_change, is_line_of, is_shown, tag_lines}
-use Rattle.stock_requests.specs.Tags.{tag_text}
+use Rattle.stock_requests.specs.Listed.{told_value}
+use Rattle.stock_requests.specs.Masks.{all_in_set, after_change, is_shown, tag_lines}
 use Rattle.stock_requests.specs.declared.mask.TagSet.{TagSet}
-use Rattle.wave_pcm.specs.TagName.{name_of}
 use Rattle.stock_requests.specs.Texts.{text_of}
 use Rattle.stock_requests.specs.declared.change.Change.{Change}
 use Rattle.stock_requests.specs.declared.change.LineChange.{LineChange}
-use Rattle.stock_requests.specs.declared.change.LineChange.TheVariants.{Kept, Masked, Dropped, OnlyVolume, Renamed, Numbered}
+use Rattle.stock_requests.specs.declared.change.LineChange.TheVariants.{Kept, Masked, OnlyVolume, Values, Numbered}
 use Rattle.stock_requests.specs.declared.change.Ending.{Ending}
 use Rattle.stock_requests.specs.declared.change.Ending.TheVariants.{Nothing, Text, Times, Tags, Masks}
 use Rattle.stock_requests.specs.declared.steps.Steps.{Steps}
@@ -41,17 +40,12 @@ shown_line shown line = if is_shown shown line then ended line else []
 abbrev pub is_file : List ℕ → Bool
 is_file line = starts_with nat_eq line (codes "file: ")
 
--- the value of one tag, told as that of another
-abbrev pub renamed_line : List ℕ → List ℕ → List ℕ → List ℕ
-renamed_line from to line = if is_line_of from line then to ++ ended (drop (length from) line) else ended line
-
 -- what is given for a line that tells something, behind so many that named a song
 abbrev pub changed_line : LineChange → TagSet → ℕ → List ℕ → List ℕ
 changed_line Kept shown told line = ended line
 changed_line Masked shown told line = shown_line shown line
-changed_line Dropped shown told line = []
 changed_line OnlyVolume shown told line = if starts_with nat_eq line (codes "volume: ") then ended line else []
-changed_line (Renamed from to) shown told line = renamed_line (name_of from) (tag_text to) line
+changed_line (Values tag) shown told line = told_value tag line
 changed_line Numbered shown told line = if is_file line then decimal told ++ codes ":" ++ ended line else []
 
 -- how many such lines are counted

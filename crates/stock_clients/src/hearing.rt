@@ -4,7 +4,7 @@ ghost use Rattle.client_session.specs.Lines.{ended};
 ghost use Rattle.command_text.specs.Answer.{number_pair};
 ghost use Rattle.stock_clients.specs.Heard.{answered_one, answered_several, answered_passing, answered_songs, changed_line, done, ended_part};
 ghost use Rattle.stock_clients.specs.Heard.{heard, heard_end, heard_first, heard_step, heard_steps, is_file, part_end, part_line};
-ghost use Rattle.stock_clients.specs.Heard.{part_refusal, renamed_line, shown_behind, shown_line, told_at_end, told_then, unheard};
+ghost use Rattle.stock_clients.specs.Heard.{part_refusal, shown_behind, shown_line, told_at_end, told_then, unheard};
 ghost use Rattle.stock_clients.specs.Heard.{waiting, IsAnswered};
 ghost use Rattle.stock_clients.specs.Lines.{kind_of};
 ghost use Rattle.stock_requests.specs.Steps.{after_step};
@@ -49,17 +49,6 @@ fn write_shown(out: &mut Vec<u8>, shown: &TagSet, line: &[u8]) -> Result<(), NoM
     Ok(())
 }
 
-// Adds the value of one tag as that of another.
-fn write_renamed(out: &mut Vec<u8>, from: &[u8], to: &[u8], line: &[u8]) -> Result<(), NoMemory>
-    ensures { OnOk result (out.new.items ≡ out.old.items ++ renamed_line from.now to.now line.now) }
-{
-    if line.starts_with(from) && line[from.len()..].starts_with(b": ") {
-        out.extend_from_slice(to)?;
-        return write_line(out, &line[from.len()..]);
-    }
-    write_line(out, line)
-}
-
 // Adds what becomes of a line that tells something.
 fn write_changed(
     out: &mut Vec<u8>,
@@ -73,12 +62,9 @@ fn write_changed(
     match lines {
         LineChange::Kept => write_line(out, line),
         LineChange::Masked => write_shown(out, shown, line),
-        LineChange::Dropped => Ok(()),
         LineChange::OnlyVolume if line.starts_with(b"volume: ") => write_line(out, line),
         LineChange::OnlyVolume => Ok(()),
-        LineChange::Renamed { from, to } => {
-            write_renamed(out, from.name().as_bytes(), to.text().as_bytes(), line)
-        }
+        LineChange::Values(tag) => tag.write_value(out, line),
         LineChange::Numbered if is_file(line) => {
             let mut digits = Buffer::new();
             out.extend_from_slice(digits.format(told).as_bytes())?;

@@ -1,10 +1,8 @@
 -- No native line of a translation is longer than a line may be.
 use Rattle.std.proofs.Common.{◌≡◌, ℕ, ◌≤◌, List, [], ◌∷◌, ◌++◌, length, Bool, true, false, nat_le, Option, Some, None, Result, Ok, Err, refl, arith}
 use Rattle.std.proofs.lemmas.Bool.{leb-true}
-use Rattle.std.specs.Prelude.{if◌then◌else◌, codes}
+use Rattle.std.specs.Prelude.{if◌then◌else◌, codes, IfSome}
 use Rattle.std.specs.Str.{bytes_eq}
-use Rattle.wave_pcm.specs.declared.tags.Tag.{Tag}
-use Rattle.wave_pcm.specs.TagName.{name_of}
 use Rattle.command_text.specs.declared.name.CommandName.{CommandName}
 use Rattle.command_text.specs.declared.name.CommandName.TheVariants as names
 use Rattle.command_text.specs.Counts.{Word}
@@ -15,11 +13,11 @@ use Rattle.stock_requests.specs.declared.change.Ending.{Ending}
 use Rattle.stock_requests.specs.declared.change.Ending.TheVariants as endings
 use Rattle.stock_requests.specs.declared.change.ForeignRefusal.{ForeignRefusal}
 use Rattle.stock_requests.specs.declared.change.ForeignRefusal.TheVariants as refusals
-use Rattle.stock_requests.specs.declared.change.LineChange.{LineChange}
 use Rattle.stock_requests.specs.declared.change.LineChange.TheVariants as lines
+use Rattle.stock_requests.specs.declared.change.Natives.{Natives}
 use Rattle.stock_requests.specs.declared.change.RefusalChange.TheVariants.{Replaced}
 use Rattle.stock_requests.specs.declared.change.Translation.{Translation}
-use Rattle.stock_requests.specs.declared.change.Translation.TheVariants.{Same, Songs, Changed, Stepped}
+use Rattle.stock_requests.specs.declared.change.Translation.TheVariants.{Same, Songs, Changed, Other, Stepped}
 use Rattle.stock_requests.specs.declared.foreign.Reply.{Reply}
 use Rattle.stock_requests.specs.declared.foreign.Reply.TheVariants as replies
 use Rattle.stock_requests.specs.declared.mask.MaskChange.{MaskChange}
@@ -38,15 +36,17 @@ use Rattle.stock_requests.specs.declared.volume.VolumeStep.{VolumeStep}
 use Rattle.stock_requests.specs.declared.tag.Standing.{Standing}
 use Rattle.stock_requests.specs.declared.tag.Standing.TheVariants as standings
 use Rattle.stock_requests.specs.Filters.{native_filter}
-use Rattle.stock_requests.specs.Fits.{Fits}
+use Rattle.stock_requests.specs.Fits.{Fits, NativesFit}
 use Rattle.stock_requests.specs.Grouped.{begun_group, is_grouped, most_ends, part_ends, Parted}
-use Rattle.stock_requests.specs.Groups.{count_line, counts_in}
+use Rattle.stock_requests.specs.Groups.{count_line, counts_in, fits, is_short, second_fits}
+use Rattle.stock_requests.specs.Listed.{listing_natives}
+use Rattle.stock_requests.proofs.GroupFits.{both, short_text}
 use Rattle.stock_requests.specs.Foreign.{by_reply, foreign_translation, louder, reply_for}
 use Rattle.stock_requests.specs.Names.{foreign_named}
-use Rattle.stock_requests.specs.Native.{adding_to_playlist, answered, as_it_is, by_handling, by_line, by_one, counting, filtered, handling_of}
+use Rattle.stock_requests.specs.Native.{adding_to_playlist, answered, as_it_is, by_handling, by_line, by_natives, by_one, counting, filtered}
 use Rattle.stock_requests.specs.Native.{by_steps, grouped_count, grouped_count_of, grouped_list, grouped_list_of, grouping}
-use Rattle.stock_requests.specs.Native.{list_info, listing, listing_by, listing_line, listing_native, listing_nothing, listing_of}
-use Rattle.stock_requests.specs.Native.{listing_renamed, listing_words, filter_or_all, has_list_count, is_root, mask_alone, mask_by, mask_change, mask_of}
+use Rattle.stock_requests.specs.Native.{handling_of, list_info, listing, listing_by, listing_change, listing_empty, listing_of, listing_values}
+use Rattle.stock_requests.specs.Native.{listing_words, filter_or_all, has_list_count, is_root, mask_alone, mask_by, mask_change, mask_of}
 use Rattle.stock_requests.specs.Native.{mask_refused, refused, root, songs_lines, tag_types, telling, with_named}
 use Rattle.stock_requests.specs.Masks.{empty_set, only_tag}
 use Rattle.stock_requests.specs.Spelling.{line_limit, spelled_line, spelled_words, words_eq}
@@ -139,33 +139,44 @@ unfolding adding_to_playlist
 playlist_fits [] = same_holds
 playlist_fits (list ∷ words) = filter_fits names.SearchAddPlaylist false false (list ∷ []) words
 
-values_fit : (words : List Word) (told : LineChange) → Holds (listing_line words told)
-values_fit words told =
-    line_fits Same (spelled_line (codes "list") words) (telling (Native names.ListTag) told endings.Nothing) same_holds
+second_fits_so : (second : Option (List ℕ)) → second_fits second ≡ true → IfSome second (λ line. length line ≤ line_limit)
+second_fits_so None e = tt
+second_fits_so (Some line) e = short_text line e
 
-native_fits : (name : List Word) (tag : Tag) (words : List Word) → Holds (listing_native name tag words)
-unfolding listing_native
-native_fits name tag words =
-    choice (words_eq (listing_words tag words) words) Same _ same_holds (values_fit (name ++ listing_words tag words) lines.Kept)
+natives_fit : (natives : Natives) → fits natives ≡ true → NativesFit natives
+natives_fit natives e =
+    let parts = both (is_short natives.first) (second_fits natives.second) e in
+    (short_text natives.first parts.0, second_fits_so natives.second parts.1)
 
-renamed_fits : (tag : ForeignTag) (other : Tag) (words : List Word) → Holds (listing_renamed tag other words)
-unfolding listing_renamed
-renamed_fits tag other words = values_fit (name_of other ∷ native_filter false words) (lines.Renamed other tag)
+natives_hold : (natives : Natives) (change : Change) → fits natives ≡ true → Holds (Other natives change)
+unfolding Holds
+natives_hold natives change h = natives_fit natives h
 
-nothing_fits : (words : List Word) → Holds (listing_nothing words)
-unfolding listing_nothing
-nothing_fits words =
-    choice (has_list_count words) _ Same (line_fits Same (spelled_line (codes "count") (filter_or_all words))
-    (telling (Native names.ListTag) lines.Dropped endings.Nothing) same_holds) same_holds
+by_natives_fits : (natives : Natives) (change : Change) → Holds (by_natives natives change)
+by_natives_fits natives change = by_test (fits natives) refl
+  where
+    by_test : (b : Bool) → fits natives ≡ b → Holds (by_natives natives change)
+    by_test true e = rw e (natives_hold natives change e)
+    by_test false e = rw e same_holds
 
-standing_fits : (standing : Standing) (tag : ForeignTag) (name : Word) (words : List Word) → Holds (listing_by standing tag name words)
-standing_fits (standings.Native other) tag name words = native_fits (name ∷ []) other words
-standing_fits (standings.FallsBackTo other) tag name words = renamed_fits tag other words
-standing_fits standings.Absent tag name words = nothing_fits words
+values_fit : (tag : ForeignTag) (words : List Word) → Holds (listing_values tag words)
+values_fit tag words =
+    choice (has_list_count words) _ Same (by_natives_fits (listing_natives tag words) (listing_change tag)) same_holds
 
-tag_fits : (tag : Option ForeignTag) (name : Word) (words : List Word) → Holds (listing_of tag name words)
-tag_fits None name words = same_holds
-tag_fits (Some tag) name words = standing_fits (standing_of tag) tag name words
+empty_fits : (tag : ForeignTag) (words : List Word) → Holds (listing_empty tag words)
+unfolding listing_empty
+empty_fits tag words =
+    choice (has_list_count words) _ Same (line_fits Same (spelled_line (codes "count") (filter_or_all words)) (listing_change tag) same_holds)
+    same_holds
+
+standing_fits : (standing : Standing) (tag : ForeignTag) (words : List Word) → Holds (listing_by standing tag words)
+standing_fits (standings.Native other) tag words = values_fit tag (listing_words other words)
+standing_fits (standings.FallsBackTo other) tag words = values_fit tag (native_filter false words)
+standing_fits standings.Absent tag words = empty_fits tag words
+
+tag_fits : (tag : Option ForeignTag) (words : List Word) → Holds (listing_of tag words)
+tag_fits None words = same_holds
+tag_fits (Some tag) words = standing_fits (standing_of tag) tag words
 
 parted_list_fits : (tag : ForeignTag) (parted : Result Parted ForeignRefusal) → Holds (grouped_list_of tag parted)
 parted_list_fits tag (Err refusal) = refusal_fits (group_name false) refusal
@@ -181,7 +192,7 @@ unfolding listing
 list_fits is_alone [] = same_holds
 list_fits is_alone (name ∷ words) =
     choice (is_grouped words) (grouped_list is_alone (tag_named name) words) _ (grouped_list_fits is_alone (tag_named name) words)
-    (tag_fits (tag_named name) name words)
+    (tag_fits (tag_named name) words)
 
 root_fits : Holds root
 unfolding Holds

@@ -23,10 +23,10 @@ use Rattle.stock_requests.specs.Tags.{tag_text}
 abbrev AreShort : List (List ℕ) → Type 0
 AreShort lines = AllByRecursion (λ line. length line ≤ line_limit) lines
 
-short_text : (text : List ℕ) → is_short text ≡ true → length text ≤ line_limit
+pub short_text : (text : List ℕ) → is_short text ≡ true → length text ≤ line_limit
 short_text text e = leb-true (length text) line_limit e
 
-both : (a b : Bool) → (a && b) ≡ true → (a ≡ true) × (b ≡ true)
+pub both : (a b : Bool) → (a && b) ≡ true → (a ≡ true) × (b ≡ true)
 both true true e = (refl, refl)
 both true false e = absurd (cc)
 both false b e = absurd (cc)

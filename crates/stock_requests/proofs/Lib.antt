@@ -3,6 +3,7 @@ pub mod WordLists
 pub mod Lines
 pub mod ReadBack
 pub mod AbsentTags
+pub mod Counting
 pub mod SetLaws
 pub mod NameLaws
 pub mod Fitting

@@ -1,9 +1,11 @@
+pub mod Counted
 pub mod Expressions
 pub mod Filters
 pub mod Fits
 pub mod Foreign
 pub mod Grouped
 pub mod Groups
+pub mod Listed
 pub mod Masks
 pub mod Names
 pub mod Native

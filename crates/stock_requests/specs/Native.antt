@@ -4,7 +4,6 @@ use Rattle.std.specs.Prelude.{if◌then◌else◌, Result, Ok, Err}
 use Rattle.std.specs.Str.{bytes_eq}
 use Rattle.wave_pcm.specs.declared.tags.Tag.{Tag}
 use Rattle.wave_pcm.specs.declared.tags.Tag.TheVariants as native
-use Rattle.wave_pcm.specs.TagName.{name_of}
 use Rattle.command_text.specs.declared.name.CommandName.{CommandName}
 use Rattle.command_text.specs.declared.name.CommandName.TheVariants as names
 use Rattle.filter_expr.specs.Parts.{begins_so, opening}
@@ -19,6 +18,7 @@ use Rattle.stock_requests.specs.declared.change.ForeignRefusal.{ForeignRefusal}
 use Rattle.stock_requests.specs.declared.change.ForeignRefusal.TheVariants as refusals
 use Rattle.stock_requests.specs.declared.change.LineChange.{LineChange}
 use Rattle.stock_requests.specs.declared.change.LineChange.TheVariants as lines
+use Rattle.stock_requests.specs.declared.change.Natives.{Natives}
 use Rattle.stock_requests.specs.declared.change.RefusalChange.TheVariants.{Named, Replaced}
 use Rattle.stock_requests.specs.declared.change.Translation.{Translation}
 use Rattle.stock_requests.specs.declared.change.Translation.TheVariants.{Same, Songs, Changed, Other, Stepped}
@@ -37,7 +37,8 @@ use Rattle.stock_requests.specs.declared.steps.Steps as declared
 use Rattle.stock_requests.specs.declared.steps.Steps.TheVariants.{Group}
 use Rattle.stock_requests.specs.Filters.{native_filter}
 use Rattle.stock_requests.specs.Grouped.{begun_group, is_grouped, most_ends, part_ends, Parted}
-use Rattle.stock_requests.specs.Groups.{count_line, counts_in}
+use Rattle.stock_requests.specs.Groups.{count_line, counts_in, fits}
+use Rattle.stock_requests.specs.Listed.{listing_natives}
 use Rattle.stock_requests.specs.Masks.{empty_set, only_tag, with_tags}
 use Rattle.stock_requests.specs.Spelling.{line_limit, spelled_line, spelled_words, words_eq}
 use Rattle.stock_requests.specs.Steps.{group_name}
@@ -122,39 +123,36 @@ is_artist_alone tag words = false
 abbrev pub listing_words : Tag → List Word → List Word
 listing_words tag words = if is_artist_alone tag words then codes "Artist" ∷ words else native_filter false words
 
--- a line in the place of a `list`
-abbrev pub listing_line : List Word → LineChange → Translation
-listing_line words told = by_line Same (spelled_line (codes "list") words) (telling (Native names.ListTag) told endings.Nothing)
+-- an answer of which the values of a tag are told
+abbrev pub listing_change : ForeignTag → Change
+listing_change tag = telling (Native names.ListTag) (lines.Values tag) endings.Nothing
 
--- the values of a tag that songs have, by its name
-unfoldable pub listing_native : List Word → Tag → List Word → Translation
-listing_native name tag words =
-    if words_eq (listing_words tag words) words then Same else listing_line (name ++ listing_words tag words) lines.Kept
+-- native lines in a command's place, where lines may be so long; else the command goes on as it is
+abbrev pub by_natives : Natives → Change → Translation
+by_natives natives change = if fits natives then Other natives change else Same
 
--- those of the tag that MPD falls back to, under the name of the other
-unfoldable pub listing_renamed : ForeignTag → Tag → List Word → Translation
-listing_renamed tag other words = listing_line (name_of other ∷ native_filter false words) (lines.Renamed other tag)
+-- the values of a tag that songs have, or of the one that MPD falls back to, within a filter over the daemon's tags
+abbrev pub listing_values : ForeignTag → List Word → Translation
+listing_values tag words = if has_list_count words then by_natives (listing_natives tag words) (listing_change tag) else Same
 
 -- a filter that holds for every song, where there is none
 abbrev pub filter_or_all : List Word → List Word
 filter_or_all [] = codes "base" ∷ [] ∷ []
 filter_or_all (word ∷ words) = native_filter false (word ∷ words)
 
--- none; the filter may still be refused
-unfoldable pub listing_nothing : List Word → Translation
-listing_nothing words =
-    if has_list_count words
-    then by_line Same (spelled_line (codes "count") (filter_or_all words)) (telling (Native names.ListTag) lines.Dropped endings.Nothing)
-    else Same
+-- of a tag that no song has the empty one, where there are songs
+unfoldable pub listing_empty : ForeignTag → List Word → Translation
+listing_empty tag words =
+    if has_list_count words then by_line Same (spelled_line (codes "count") (filter_or_all words)) (listing_change tag) else Same
 
-abbrev pub listing_by : Standing → ForeignTag → Word → List Word → Translation
-listing_by (standings.Native other) tag name words = listing_native (name ∷ []) other words
-listing_by (standings.FallsBackTo other) tag name words = listing_renamed tag other words
-listing_by standings.Absent tag name words = listing_nothing words
+abbrev pub listing_by : Standing → ForeignTag → List Word → Translation
+listing_by (standings.Native other) tag words = listing_values tag (listing_words other words)
+listing_by (standings.FallsBackTo other) tag words = listing_values tag (native_filter false words)
+listing_by standings.Absent tag words = listing_empty tag words
 
-abbrev pub listing_of : Option ForeignTag → Word → List Word → Translation
-listing_of None name words = Same
-listing_of (Some tag) name words = listing_by (standing_of tag) tag name words
+abbrev pub listing_of : Option ForeignTag → List Word → Translation
+listing_of None words = Same
+listing_of (Some tag) words = listing_by (standing_of tag) tag words
 
 abbrev pub grouped_list_of : ForeignTag → Result Parted ForeignRefusal → Translation
 grouped_list_of tag (Err refusal) = refused (group_name false) refusal
@@ -168,7 +166,7 @@ grouped_list true (Some tag) words = grouped_list_of tag (part_ends most_ends (o
 unfoldable pub listing : Bool → List Word → Translation
 listing is_alone [] = Same
 listing is_alone (name ∷ words) =
-    if is_grouped words then grouped_list is_alone (tag_named name) words else listing_of (tag_named name) name words
+    if is_grouped words then grouped_list is_alone (tag_named name) words else listing_of (tag_named name) words
 
 abbrev pub is_root : Word → Bool
 is_root place = bytes_eq place [] || bytes_eq place (codes "/")

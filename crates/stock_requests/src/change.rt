@@ -7,7 +7,6 @@ use crate::name::ForeignName;
 use crate::steps::Steps;
 use crate::tag::ForeignTag;
 use command_text::Line;
-use wave_pcm::Tag;
 
 /// What becomes of a command of a client.
 #[derive(Debug, Drop)]
@@ -47,11 +46,10 @@ pub enum LineChange {
     Kept,
     /// Those of songs' tags that `tagtypes` took away are left out.
     Masked,
-    Dropped,
     /// Only the line of the volume is told.
     OnlyVolume,
-    /// The one tag is told under the name of the other.
-    Renamed { from: Tag, to: ForeignTag },
+    /// The values of the tag are told under its name: those of the one that MPD falls back to too, the empty one where songs are counted.
+    Values(ForeignTag),
     /// Only lines of files are told, each behind its number, from 0 on.
     Numbered,
 }

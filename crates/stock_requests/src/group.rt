@@ -168,7 +168,11 @@ pub(crate) fn count_line(alloc: Global, words: &[u8]) -> Result<Vec<u8>, AllocEr
     Ok(line)
 }
 
-fn list_line(alloc: Global, standing: Standing, words: &[u8]) -> Result<Vec<u8>, AllocError>
+pub(crate) fn list_line(
+    alloc: Global,
+    standing: Standing,
+    words: &[u8],
+) -> Result<Vec<u8>, AllocError>
     ensures { IfOk result (λ line. line.items ≡ list_line standing words.now) }
 {
     match standing {
@@ -183,7 +187,7 @@ fn list_line(alloc: Global, standing: Standing, words: &[u8]) -> Result<Vec<u8>,
 }
 
 /// One native line.
-fn one_native(alloc: Global, first: &[u8]) -> Result<Natives, AllocError>
+pub(crate) fn one_native(alloc: Global, first: &[u8]) -> Result<Natives, AllocError>
     ensures { IfOk result (λ natives. natives ≡ one_native first.now) }
 {
     Ok(Natives {
@@ -192,7 +196,7 @@ fn one_native(alloc: Global, first: &[u8]) -> Result<Natives, AllocError>
     })
 }
 
-fn two_natives(alloc: Global, first: &[u8], second: &[u8]) -> Result<Natives, AllocError>
+pub(crate) fn two_natives(alloc: Global, first: &[u8], second: &[u8]) -> Result<Natives, AllocError>
     ensures { IfOk result (λ natives. natives ≡ two_natives first.now second.now) }
 {
     Ok(Natives {
@@ -202,7 +206,7 @@ fn two_natives(alloc: Global, first: &[u8], second: &[u8]) -> Result<Natives, Al
 }
 
 /// What asks how many songs are without a tag.
-fn missing_line(
+pub(crate) fn missing_line(
     alloc: Global,
     is_expression: bool,
     filter: &[u8],
@@ -267,7 +271,7 @@ pub(crate) fn fits(natives: &Natives) -> bool
 }
 
 /// Whether a line counts songs, at least one.
-fn tells_songs(text: &[u8]) -> bool
+pub(crate) fn tells_songs(text: &[u8]) -> bool
     ensures { result ≡ tells_songs text.now }
 {
     text.starts_with(b"songs: ") && text != b"songs: 0".as_slice()
@@ -292,18 +296,23 @@ fn named_value<'t>(name: &str, text: &'t [u8]) -> Option<&'t [u8]>
     }
 }
 
+/// The value that a line tells of a tag.
+pub(crate) fn value_in(standing: Standing, text: &[u8]) -> Option<&[u8]>
+    ensures { option_map (λ value. value.now) result ≡ value_in standing text.now }
+{
+    match standing {
+        Standing::Absent => None,
+        Standing::Native(tag) | Standing::FallsBackTo(tag) => named_value(tag.name(), text),
+    }
+}
+
 /// The value that a line tells of the first of these tags.
 fn value_below<'t>(below: &Tags, text: &'t [u8]) -> Option<&'t [u8]>
     ensures { option_map (λ value. value.now) result ≡ value_below below.now text.now }
 {
     match below.first() {
         None => None,
-        Some(tag) => match tag.standing() {
-            Standing::Absent => None,
-            Standing::Native(other) | Standing::FallsBackTo(other) => {
-                named_value(other.name(), text)
-            }
-        },
+        Some(tag) => value_in(tag.standing(), text),
     }
 }
 

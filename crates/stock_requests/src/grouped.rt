@@ -91,7 +91,7 @@ pub(crate) fn is_expression(words: &[LineWord<'_>]) -> bool
 }
 
 /// A filter to which pairs or tests may be added.
-fn open_filter(alloc: Global, words: &[LineWord<'_>]) -> Result<Vec<u8>, AllocError>
+pub(crate) fn open_filter(alloc: Global, words: &[LineWord<'_>]) -> Result<Vec<u8>, AllocError>
     ensures { IfOk result (λ filter. filter.items ≡ open_filter words.now) }
 {
     let mut filter = Vec::new(alloc);

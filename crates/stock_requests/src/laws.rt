@@ -1,11 +1,16 @@
 //! Laws of the definitions that the contracts cite.
-ghost use Rattle.std.specs.Prelude.{◌≡◌, ◌≢◌, ◌<◌, ◌^◌, ◌||◌, ◌&&◌, not, ℕ, Bool, true, false, List, ◌∷◌, Some, None, IfSome};
+ghost use Rattle.std.specs.Prelude.{◌≡◌, ◌≢◌, ◌<◌, ◌^◌, ◌||◌, ◌&&◌, not, ℕ, Bool, true, false, List, [], ◌∷◌, Ok, Some, None, IfSome};
 ghost use Rattle.wave_pcm.specs.declared.tags.Tag.{Tag};
 ghost use Rattle.wave_pcm.specs.Tag.{text_of};
 ghost use Rattle.song_db.specs.Uri.{is_uri};
 ghost use Rattle.filter_expr.specs.declared.case.Case.{Case};
+ghost use Rattle.filter_expr.specs.Grammar.{Spells};
 ghost use Rattle.filter_expr.specs.Meaning.{Song, denotes};
+ghost use Rattle.filter_expr.specs.Tree.{Tree};
+ghost use Rattle.filter_expr.specs.Tree.Tree.{Base};
+ghost use Rattle.filter_expr.specs.Words.{filter_of};
 ghost use Rattle.command_text.specs.Counts.{Word};
+ghost use Rattle.command_text.specs.Finding.{is_expression};
 ghost use Rattle.command_text.specs.Names.{named};
 ghost use Rattle.command_text.specs.Words.{words_of};
 ghost use Rattle.stock_requests.specs.declared.expression.Operator.{Operator};
@@ -13,8 +18,10 @@ ghost use Rattle.stock_requests.specs.declared.mask.TagSet.{TagSet};
 ghost use Rattle.stock_requests.specs.declared.name.ForeignCommand.{ForeignCommand};
 ghost use Rattle.stock_requests.specs.declared.tag.ForeignTag.{ForeignTag};
 ghost use Rattle.stock_requests.specs.declared.group.Grouping.{Grouping};
+ghost use Rattle.stock_requests.specs.Counted.{CountsLacking, IsOf};
 ghost use Rattle.stock_requests.specs.Fits.{Fits, LinesFit};
-ghost use Rattle.stock_requests.specs.Groups.{group_after};
+ghost use Rattle.stock_requests.specs.Grouped.{open_filter};
+ghost use Rattle.stock_requests.specs.Groups.{group_after, missing_line};
 ghost use Rattle.stock_requests.specs.Masks.{all_in_set, empty_set, has, only_tag, with_tags, without_tags};
 ghost use Rattle.stock_requests.specs.Names.{foreign_named, foreign_text};
 ghost use Rattle.stock_requests.specs.Spelling.{is_bare, spelled_line};
@@ -35,6 +42,18 @@ pub fn absent_tags_have_no_text()
     ensures pair { (case : Case) (value : List ℕ) (tag : Tag) (song : Song) → is_uri song.uri ≡ true → text_of song.texts tag ≡ None
         → denotes case (in_its_place Operator.Equal value) song ≡ denotes case (pair_of tag value) song }
 {}
+
+/// What is counted before the values of a tag are listed are the songs of the filter that lack the tag: of none, of pairs, and of an
+/// expression in which at most 31 parentheses are open at once.
+pub fn songs_without_the_tag_are_counted()
+    ensures all { (own : Tag) (tag : ForeignTag) → IsOf own tag → CountsLacking own (Base []) (missing_line false (open_filter []) tag) }
+    ensures pairs { (own : Tag) (tag : ForeignTag) (words : List Word) (tree : Tree) → IsOf own tag → is_expression words ≡ false
+        → filter_of words ≡ Ok tree → CountsLacking own tree (missing_line false (open_filter words) tag) }
+    ensures expression { (own : Tag) (tag : ForeignTag) (text : List ℕ) (tree : Tree) → IsOf own tag → Spells 31 tree text
+        → CountsLacking own tree (missing_line true (open_filter (text ∷ [])) tag) }
+{
+    filter_expr::laws::grammar_is_read();
+}
 
 /// The numbers are sets of tags.
 pub fn numbers_are_sets()

@@ -9,6 +9,7 @@ mod group;
 mod grouped;
 pub mod laws;
 mod line;
+mod listed;
 mod mask;
 mod name;
 mod native;

@@ -1,11 +1,11 @@
 // What becomes of the daemon's own commands where MPD's do more.
 ghost use Rattle.std.specs.Prelude.{◌≡◌, ◌++◌, Some, IfOk};
 ghost use Rattle.command_text.specs.Finding.{has_filter_count};
-ghost use Rattle.stock_requests.specs.Native.{adding, answered, as_it_is, by_handling, by_line, by_one, by_two, filtered};
-ghost use Rattle.stock_requests.specs.Native.{handling_of, is_artist_alone, listing_line, listing_words, refused};
+ghost use Rattle.stock_requests.specs.Native.{adding, answered, as_it_is, by_handling, by_line, by_natives, by_one, by_two, filtered};
+ghost use Rattle.stock_requests.specs.Native.{handling_of, is_artist_alone, listing_change, listing_words, refused};
 ghost use Rattle.stock_requests.specs.Native.{adding_to_playlist, counting, has_list_count, is_root, list_info, listing};
 ghost use Rattle.stock_requests.specs.Native.{by_steps, grouped_count, grouped_list, grouping};
-ghost use Rattle.stock_requests.specs.Native.{filter_or_all, listing_native, listing_nothing, listing_renamed, mask_of, tag_types};
+ghost use Rattle.stock_requests.specs.Native.{filter_or_all, listing_empty, listing_values, mask_of, tag_types};
 ghost use Rattle.stock_requests.specs.Native.{mask_alone, mask_refused, masked, songs_lines, telling, with_named};
 ghost use Rattle.stock_requests.specs.Masks.{empty_set};
 
@@ -13,8 +13,9 @@ use crate::change::{
     Change, Ending, FixedText, ForeignRefusal, LineChange, Natives, RefusalChange, Translation,
 };
 use crate::filter::{begins_so, is_word, native_filter, with_words};
-use crate::group::{count_line, counts_in};
+use crate::group::{count_line, counts_in, fits};
 use crate::grouped::{MOST_ENDS, begun_group, is_expression, is_grouped, part_ends};
+use crate::listed::listing_natives;
 use crate::mask::{MaskChange, TagSet};
 use crate::name::ForeignName;
 use crate::spelling::{LINE_LIMIT, line_of, put_words, same_words};
@@ -322,58 +323,41 @@ fn listing_words<'w>(
     native_filter(alloc, false, words)
 }
 
-/// A line in the place of a `list`: this command, a first word and others.
-fn listing_line(
-    alloc: Global,
-    first: &[LineWord<'_>],
-    words: &[LineWord<'_>],
-    lines: LineChange,
-) -> Result<Translation, AllocError>
-    ensures { IfOk result (λ t. t ≡ listing_line (first.now ++ words.now) lines) }
+/// An answer of which the values of a tag are told.
+fn listing_change(tag: ForeignTag) -> Change
+    ensures { result ≡ listing_change tag }
 {
-    let line = line_of(alloc, "list", first, words)?;
-    let change = telling(
+    telling(
         ForeignName::Native(CommandName::ListTag),
-        lines,
+        LineChange::Values(tag),
         Ending::Nothing,
-    );
-    by_line(alloc, false, line.as_slice(), change)
+    )
 }
 
-/// The values of a tag that songs have; the first of the words is its name.
-#[tactic(auto, unfolding(crate::specs::Native::listing_native))]
-fn listing_native(
-    alloc: Global,
-    tag: Tag,
-    name: &[LineWord<'_>],
-    words: &[LineWord<'_>],
-) -> Result<Translation, AllocError>
-    ensures { IfOk result (λ t. t ≡ listing_native name.now tag words.now) }
+/// Native lines in the command's place, where lines may be so long.
+fn by_natives(natives: Natives, change: Change) -> Translation
+    ensures { result ≡ by_natives natives change }
 {
-    let new = listing_words(alloc, tag, words)?;
-    if same_words(new.as_slice(), words) {
-        return Ok(Translation::Same);
+    if fits(&natives) {
+        Translation::Other(natives, change)
+    } else {
+        Translation::Same
     }
-    listing_line(alloc, name, new.as_slice(), LineChange::Kept)
 }
 
-/// The values of the tag that MPD falls back to, under the name of the other.
-#[tactic(auto, unfolding(crate::specs::Native::listing_renamed))]
-fn listing_renamed(
+/// The values of a tag that songs have, or of the one that MPD falls back to, within a filter over the daemon's tags.
+fn listing_values(
     alloc: Global,
     tag: ForeignTag,
-    other: Tag,
     words: &[LineWord<'_>],
 ) -> Result<Translation, AllocError>
-    ensures { IfOk result (λ t. t ≡ listing_renamed tag other words.now) }
+    ensures { IfOk result (λ t. t ≡ listing_values tag words.now) }
 {
-    let name = [LineWord::from_slice(other.name().as_bytes())];
-    let new = native_filter(alloc, false, words)?;
-    let lines = LineChange::Renamed {
-        from: other,
-        to: tag,
-    };
-    listing_line(alloc, &name, new.as_slice(), lines)
+    if !has_list_count(words) {
+        return Ok(Translation::Same);
+    }
+    let natives = listing_natives(alloc, tag, words)?;
+    Ok(by_natives(natives, listing_change(tag)))
 }
 
 /// Whether words are as many as stand behind the tag of a `list`.
@@ -399,22 +383,21 @@ fn filter_or_all<'w>(
     native_filter(alloc, false, words)
 }
 
-/// No values; the filter may still be refused.
-#[tactic(auto, unfolding(crate::specs::Native::listing_nothing))]
-fn listing_nothing(alloc: Global, words: &[LineWord<'_>]) -> Result<Translation, AllocError>
-    ensures { IfOk result (λ t. t ≡ listing_nothing words.now) }
+/// The empty value of a tag that no song has, where there are songs.
+#[tactic(auto, unfolding(crate::specs::Native::listing_empty))]
+fn listing_empty(
+    alloc: Global,
+    tag: ForeignTag,
+    words: &[LineWord<'_>],
+) -> Result<Translation, AllocError>
+    ensures { IfOk result (λ t. t ≡ listing_empty tag words.now) }
 {
     if !has_list_count(words) {
         return Ok(Translation::Same);
     }
     let new = filter_or_all(alloc, words)?;
     let line = line_of(alloc, "count", &[], new.as_slice())?;
-    let change = telling(
-        ForeignName::Native(CommandName::ListTag),
-        LineChange::Dropped,
-        Ending::Nothing,
-    );
-    by_line(alloc, false, line.as_slice(), change)
+    by_line(alloc, false, line.as_slice(), listing_change(tag))
 }
 
 /// A `list` of this tag with `group` at the end.
@@ -452,9 +435,15 @@ fn listing(alloc: Global, is_alone: bool, words: &[LineWord<'_>]) -> Result<Tran
         None => Ok(Translation::Same),
         Some(tag) if is_grouped(words) => grouped_list(alloc, is_alone, tag, words),
         Some(tag) => match tag.standing() {
-            Standing::Native(other) => listing_native(alloc, other, name, words),
-            Standing::FallsBackTo(other) => listing_renamed(alloc, tag, other, words),
-            Standing::Absent => listing_nothing(alloc, words),
+            Standing::Native(other) => {
+                let new = listing_words(alloc, other, words)?;
+                listing_values(alloc, tag, new.as_slice())
+            }
+            Standing::FallsBackTo(_) => {
+                let new = native_filter(alloc, false, words)?;
+                listing_values(alloc, tag, new.as_slice())
+            }
+            Standing::Absent => listing_empty(alloc, tag, words),
         },
     }
 }
