@@ -20,6 +20,21 @@ ROOT = os.path.dirname(os.path.dirname(os.path.dirname(os.path.abspath(__file__)
 # How much is done to make them quick: from 0 on, each level takes longer to build. At 0 the scripts take ten times as long.
 LEVEL = 1
 SECONDS = 60
+# What a check of the prover was seen to take at most, in bytes.
+CHECK = 5_000_000_000
+
+
+def lanes(memory):
+    """How many things that take so many bytes stand side by side: one a processor, as far as the free memory goes."""
+    with open("/proc/meminfo", encoding="utf-8") as file:
+        free = next(int(line.split()[1]) * 1024 for line in file if line.startswith("MemAvailable:"))
+    return max(1, min(len(os.sched_getaffinity(0)), free // memory))
+
+
+def settings_of_proofs():
+    """The environment of `rt ci`, with how many checks it makes at once. Left to itself it reckons with up to three times the memory that
+    they take, and a large crate of the longest chain waits for the others to end."""
+    return {"RT_JOBS": str(lanes(CHECK)), **os.environ}
 
 
 def crates_of(name):

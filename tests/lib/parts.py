@@ -14,6 +14,8 @@ import threading
 import time
 from typing import NamedTuple
 
+import builds
+
 TESTS = os.path.dirname(os.path.dirname(os.path.abspath(__file__)))
 COUNTS = re.compile(r"(\d+) passed, (\d+) failed")
 # So many lines of what a part printed are passed on: of one that failed, and of scripts, some of which say what they met.
@@ -143,10 +145,8 @@ class Report:
 
 
 def lanes():
-    """How much stands side by side: one a processor, as far as the free memory goes."""
-    with open("/proc/meminfo", encoding="utf-8") as file:
-        free = next(int(line.split()[1]) * 1024 for line in file if line.startswith("MemAvailable:"))
-    return max(1, min(len(os.sched_getaffinity(0)), free // MEMORY))
+    """How many parts stand side by side."""
+    return builds.lanes(MEMORY)
 
 
 @contextlib.contextmanager
