@@ -23,7 +23,7 @@ LEFT_OUT = {
     "contrib/import_mpd": "it wants an MPD in the network; the part `import` has one here",
 }
 # What is run only where these commands are on the path.
-WANTED = {"mpc": ("mpc",), "while": ("sox",)}
+WANTED = {"mpc": ("mpc",), "while": ("ffmpeg",)}
 
 
 def blocks(text):
