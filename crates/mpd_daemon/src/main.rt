@@ -1,10 +1,23 @@
 //! A music player daemon that speaks the MPD protocol, version 0.23: its program.
 #![tactic(auto)]
 
+mod standard_streams;
+
 use mpd_program::{run_command_line, takes_line};
+use standard_streams::take_standard_stream;
 use std::process::ExitCode;
 
+/// The status where `/dev/null` can't be opened: it was started wrongly.
+const NO_STREAMS: u8 = 1;
+
 fn main(rt: HostRuntime) -> ExitCode {
+    let (Ok(_first), Ok(_second), Ok(_third)) = (
+        take_standard_stream(&rt),
+        take_standard_stream(&rt),
+        take_standard_stream(&rt),
+    ) else {
+        return ExitCode::from(NO_STREAMS);
+    };
     let exit = run_command_line(&rt, &rt);
     if !exit.is_silent() && takes_line(&rt) {
         let _printed = eprintln!(rt; "{exit}");

@@ -1,0 +1,23 @@
+// What stands in the place of standard streams without which the program was started.
+use std::fs::{File, OpenOptions};
+use std::io;
+use std::os::fd::{AsRawFd, RawFd};
+
+/// The greatest descriptor of a standard stream: that of standard error.
+const LAST_STANDARD: RawFd = 2;
+
+/// Opens `/dev/null`, which gets the lowest descriptor that is free, and keeps it where that is one of a standard stream's.
+///
+/// Called three times before anything else is opened, it leaves none of these free: else the first files, as those of the journal, would get
+/// them, and lines and answers would be written into these. What it keeps stays open as long as the value.
+pub fn take_standard_stream(rt: &HostRuntime) -> io::Result<Option<File>> {
+    let file = OpenOptions::new()
+        .read(true)
+        .write(true)
+        .open(rt, "/dev/null")?;
+    if file.as_raw_fd() <= LAST_STANDARD {
+        Ok(Some(file))
+    } else {
+        Ok(None)
+    }
+}
