@@ -141,14 +141,14 @@ NCMPCPP = [
     ("1", ["Playlist (5 items", "Alpha", 'say "x"', "Zoë"]),
     ("2", ["Browse: /", "[d]", "One - Alpha", "playlist old"]),
     ("3", ["Search engine", "Album Artist", "Composer"]),
-    ("4", ["Media library", "One", "Two", "Second"]),
+    ("4", ["Media library", "<empty>", "One", "Two", "<no album>"]),
     ("5", ["Playlist editor", "Content (5 items)", "One - Alpha", "old"]),
     ("1", ["Playlist (5 items", "Alpha"]),
 ]
 NCMPC = [
     ("F2", ["Queue", "One - Alpha", "Zoë"]),
     ("F3", ["Browse", "[d]", "b.wav", "old"]),
-    ("F4", ["Artists", "[One]", "[Two]"]),
+    ("F4", ["Artists", "[]", "[One]", "[Two]"]),
     ("F8", ["[X] output", "Partition: default"]),
 ]
 SETTINGS = {**os.environ, "LC_ALL": "C.UTF-8", "TERM": "xterm"}
