@@ -1,13 +1,13 @@
--- What a gate changes of the bytes that reads give.
+-- What a guard changes of the bytes that reads give.
 use Rattle.std.proofs.Common.{◌≡◌, ℕ, Bool, false, cond, List, [], ◌++◌, take, Option, Some, None, Result, Ok, Err}
 use Rattle.std.proofs.Common.{refl, sym, ◌∙◌, ap, append_assoc}
 use Rattle.std.specs.Io.KnownBytes.{Consumes, IsAtEnd, Keeps, ReadConsumes, prepend_known}
 use Rattle.std.proofs.lemmas.Bool.{false≢true}
 use Rattle.std.proofs.lemmas.List.{append-nil}
 use Rattle.http_guard.specs.declared.first_line.Verdict.TheVariants.{Unknown, ShutOut, LetIn}
-use Rattle.http_guard.specs.declared.guarded.Gate.TheVariants.{Looking, Shut}
+use Rattle.http_guard.specs.declared.guarded.Passage.TheVariants.{Looking, Shut}
 use Rattle.http_guard.specs.FirstLine.{is_shut_out, IsVerdict}
-use Rattle.http_guard.specs.Guarded.{let_in, known_behind_gate, IsKnownShutOut}
+use Rattle.http_guard.specs.Guarded.{let_in, known_behind_guard, IsKnownShutOut}
 
 pub keeps_on : (first now after : Option (List ℕ)) → Keeps first now → Keeps now after → Keeps first after
 keeps_on None now after p q = tt
@@ -17,7 +17,7 @@ keeps_on (Some xs) (Some ys) (Some zs) p q = q ∙ p
 
 -- what is read below is held
 pub holds_more : (held piece seen : List ℕ) (first now : Option (List ℕ)) → seen ≡ held ++ piece → Consumes first now piece
-    → Keeps (known_behind_gate Looking held first) (known_behind_gate Looking seen now)
+    → Keeps (known_behind_guard Looking held first) (known_behind_guard Looking seen now)
 holds_more held piece seen None now is taken = tt
 holds_more held piece seen (Some xs) None is taken = taken
 holds_more held piece seen (Some xs) (Some ys) is taken =
@@ -25,7 +25,7 @@ holds_more held piece seen (Some xs) (Some ys) is taken =
 
 -- it is shut out
 pub shuts : (seen held : List ℕ) (now : Option (List ℕ)) → IsVerdict seen ShutOut
-    → Keeps (known_behind_gate Looking seen now) (known_behind_gate Shut held now)
+    → Keeps (known_behind_guard Looking seen now) (known_behind_guard Shut held now)
 shuts seen held None verdict = tt
 shuts seen held (Some ys) verdict = sym (ap (λ (b : Bool). cond b [] (seen ++ ys)) (verdict ys))
 
@@ -44,7 +44,7 @@ free_at_end seen (Some xs) verdict at_end = λ ys is.
     let same : xs ≡ ys = (cc) in
     ap (λ (v : List ℕ). is_shut_out (seen ++ v)) (sym same ∙ at_end) ∙ ap is_shut_out (append-nil seen) ∙ verdict.0
 
-pub opens : (seen : List ℕ) (now : Option (List ℕ)) → IsFree seen now → Keeps (known_behind_gate Looking seen now) (prepend_known seen now)
+pub opens : (seen : List ℕ) (now : Option (List ℕ)) → IsFree seen now → Keeps (known_behind_guard Looking seen now) (prepend_known seen now)
 unfolding IsFree
 opens seen None free = tt
 opens seen (Some ys) free = sym (ap (λ (b : Bool). cond b [] (seen ++ ys)) (free ys refl))

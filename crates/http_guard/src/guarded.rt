@@ -3,7 +3,7 @@ ghost use Rattle.std.specs.Prelude.{◌≡◌, ◌≢◌, ◌<◌, ◌||◌, [],
 ghost use Rattle.std.specs.Io.{ReadsAtMost};
 ghost use Rattle.std.specs.Io.KnownBytes.{Keeps, ReadConsumes, prepend_known};
 ghost use Rattle.std.specs.IoError.{error_kind};
-ghost use Rattle.http_guard.specs.Guarded.{known_behind_gate, IsKnownShutOut, IsShutOut};
+ghost use Rattle.http_guard.specs.Guarded.{known_behind_guard, IsKnownShutOut, IsShutOut};
 
 use crate::first_line::{Verdict, judge};
 use bytes::BytesMut;
@@ -14,7 +14,7 @@ use std::io::{self, ErrorKind, Read};
 
 /// Whether a stream is let in.
 #[derive(Clone, Copy, Debug, PartialEq, Eq)]
-pub(crate) enum Gate {
+pub(crate) enum Passage {
     /// That isn't known yet: its first line has not ended.
     Looking,
     /// It is let in.
@@ -32,7 +32,7 @@ pub struct Guarded<S> {
     pub(crate) stream: S,
     // What was read below and is not given yet.
     held: BytesMut,
-    gate: Gate,
+    passage: Passage,
     // A read has failed by itself, and not by the stream below.
     has_failed: bool,
 }
@@ -42,12 +42,12 @@ impl<S> Guarded<S> {
     pub fn new(alloc: Global, stream: S) -> Self
         ensures stream { result.stream ≡ stream }
         ensures held { result.held.items ≡ [] }
-        ensures gate { result.gate ≡ Gate.Looking }
+        ensures passage { result.passage ≡ Passage.Looking }
     {
         Guarded {
             stream,
             held: BytesMut::new(alloc),
-            gate: Gate::Looking,
+            passage: Passage::Looking,
             has_failed: false,
         }
     }
@@ -65,11 +65,11 @@ impl<S> Guarded<S> {
 impl<S: Stream> Guarded<S> {
     // Gives what is held, or else what the stream below gives.
     fn give(&mut self, buf: &mut [u8]) -> io::Result<usize>
-        requires { self.old.gate ≡ Gate.Open }
+        requires { self.old.passage ≡ Passage.Open }
         ensures bound { ReadsAtMost result buf.new }
         ensures bytes { ReadConsumes (prepend_known self.old.held.items (S.remaining self.old.stream))
             (prepend_known self.new.held.items (S.remaining self.new.stream)) result buf.new }
-        ensures gate { self.new.gate ≡ Gate.Open }
+        ensures passage { self.new.passage ≡ Passage.Open }
         ensures unwritten { Keeps (S.contents self.old.stream) (S.contents self.new.stream) }
         ensures fault { IfErr result (λ e. error_kind e ≢ ErrorKind.WouldBlock → error_kind e ≢ ErrorKind.Interrupted →
             S.failed self.new.stream ≡ true) }
@@ -89,22 +89,22 @@ impl<S: Stream> Guarded<S> {
         ensures bound { ReadsAtMost result buf.new }
         ensures bytes { ReadConsumes (prepend_known self.old.held.items (S.remaining self.old.stream))
             (prepend_known self.new.held.items (S.remaining self.new.stream)) result buf.new }
-        ensures gate { self.new.gate ≡ Gate.Open }
+        ensures passage { self.new.passage ≡ Passage.Open }
         ensures unwritten { Keeps (S.contents self.old.stream) (S.contents self.new.stream) }
         ensures fault { IfErr result (λ e. error_kind e ≢ ErrorKind.WouldBlock → error_kind e ≢ ErrorKind.Interrupted →
             S.failed self.new.stream ≡ true) }
     {
-        self.gate = Gate::Open;
+        self.passage = Passage::Open;
         self.give(buf)
     }
 
     // Reads on in the first line. Where that doesn't tell yet, the caller reads again.
     fn look(&mut self, buf: &mut [u8]) -> io::Result<usize>
-        requires looking { self.old.gate ≡ Gate.Looking }
+        requires looking { self.old.passage ≡ Passage.Looking }
         requires room { 0 < length buf.old }
         ensures bound { ReadsAtMost result buf.new }
-        ensures bytes { ReadConsumes (known_behind_gate self.old.gate self.old.held.items (S.remaining self.old.stream))
-            (known_behind_gate self.new.gate self.new.held.items (S.remaining self.new.stream)) result buf.new }
+        ensures bytes { ReadConsumes (known_behind_guard self.old.passage self.old.held.items (S.remaining self.old.stream))
+            (known_behind_guard self.new.passage self.new.held.items (S.remaining self.new.stream)) result buf.new }
         ensures shut { IsKnownShutOut self.old.held.items (S.remaining self.old.stream) → IsErr result }
         ensures unwritten { Keeps (S.contents self.old.stream) (S.contents self.new.stream) }
         ensures fault { IfErr result (λ e. error_kind e ≢ ErrorKind.WouldBlock → error_kind e ≢ ErrorKind.Interrupted →
@@ -120,7 +120,7 @@ impl<S: Stream> Guarded<S> {
         }
         match judge(self.held.as_slice()) {
             Verdict::ShutOut => {
-                self.gate = Gate::Shut;
+                self.passage = Passage::Shut;
                 Err(self.failed(ErrorKind::InvalidData))
             }
             Verdict::LetIn => self.open(buf),
@@ -133,9 +133,9 @@ impl<S: Stream> Guarded<S> {
 
 impl<S: Stream> Stream for Guarded<S> {
     ghost use Rattle.std.specs.Prelude.{◌||◌};
-    ghost use Rattle.http_guard.specs.Guarded.{known_behind_gate};
+    ghost use Rattle.http_guard.specs.Guarded.{known_behind_guard};
 
-    ghost remaining = { λ g. known_behind_gate g.gate g.held.items (S.remaining g.stream) };
+    ghost remaining = { λ g. known_behind_guard g.passage g.held.items (S.remaining g.stream) };
 
     ghost contents = { λ g. S.contents g.stream };
 
@@ -150,18 +150,18 @@ impl<S: Stream> Stream for Guarded<S> {
     /// A read of a stream of HTTP into a buffer with room gives no byte and no end: it fails, or is to be made again.
     fn read(&mut self, buf: &mut [u8]) -> io::Result<usize>
         ensures bound { ReadsAtMost result buf.new }
-        ensures bytes { ReadConsumes (known_behind_gate self.old.gate self.old.held.items (S.remaining self.old.stream))
-            (known_behind_gate self.new.gate self.new.held.items (S.remaining self.new.stream)) result buf.new }
-        ensures shut { IsShutOut self.old.gate self.old.held.items (S.remaining self.old.stream) → 0 < length buf.old → IsErr result }
+        ensures bytes { ReadConsumes (known_behind_guard self.old.passage self.old.held.items (S.remaining self.old.stream))
+            (known_behind_guard self.new.passage self.new.held.items (S.remaining self.new.stream)) result buf.new }
+        ensures shut { IsShutOut self.old.passage self.old.held.items (S.remaining self.old.stream) → 0 < length buf.old → IsErr result }
         ensures unwritten { Keeps (S.contents self.old.stream) (S.contents self.new.stream) }
         ensures fault { IfErr result (λ e. error_kind e ≢ ErrorKind.WouldBlock → error_kind e ≢ ErrorKind.Interrupted →
             self.new.has_failed || S.failed self.new.stream ≡ true) }
     {
-        match self.gate {
-            Gate::Open => self.give(buf),
-            Gate::Shut => Err(self.failed(ErrorKind::InvalidData)),
-            Gate::Looking if buf.is_empty() => Ok(0),
-            Gate::Looking => self.look(buf),
+        match self.passage {
+            Passage::Open => self.give(buf),
+            Passage::Shut => Err(self.failed(ErrorKind::InvalidData)),
+            Passage::Looking if buf.is_empty() => Ok(0),
+            Passage::Looking => self.look(buf),
         }
     }
 

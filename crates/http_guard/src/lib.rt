@@ -1,4 +1,4 @@
-//! A gate before the daemon's clients: of a stream that begins as HTTP or TLS nothing is read, so that no web page commands the daemon.
+//! A guard before the daemon's clients: of a stream that begins as HTTP or TLS nothing is read, so that no web page commands the daemon.
 #![tactic(auto)]
 
 mod first_line;

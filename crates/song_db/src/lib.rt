@@ -38,5 +38,5 @@ pub use song_db::SongDb;
 pub use text_key::TextKey;
 pub use texts::Texts;
 pub use uri::{Uri, is_uri};
-pub use values::ValueCounts;
+pub use values::{ValueCounts, values_among};
 pub use walk::{Listed, Walk};

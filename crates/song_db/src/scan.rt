@@ -15,7 +15,7 @@ use crate::order::ScanOrder;
 use crate::refusal::SongDbError;
 use crate::scan::droppable::Droppable;
 use crate::scan::reader::Reader;
-use crate::scan::walk::Walk;
+use crate::scan::walk::FolderWalk;
 use std::alloc::Global;
 use std::marker::Model;
 use wave_pcm::Folder;
@@ -64,7 +64,7 @@ impl Scan {
     {
         let (job, place, known) = order.into_parts();
         let droppable = Droppable::new(alloc, known)?;
-        let walk = Walk::new(alloc, place);
+        let walk = FolderWalk::new(alloc, place);
         Ok(Scan {
             job,
             reader: Reader {

@@ -37,6 +37,34 @@ fn row_values(alloc: Global, rows: &[SongRow], tag: Tag) -> Result<Vec<&str>, Al
     Ok(values)
 }
 
+/// The distinct values of a tag among these rows, which are sorted once, rising by their bytes. Refused memory leaves nothing of them.
+pub fn values_among<'a>(
+    alloc: Global,
+    rows: &[&'a SongRow],
+    tag: Tag,
+) -> Result<Texts<'a>, AllocError>
+    ensures { IfOk result (λ values. values ≡ values_of (map (λ row. row.now) rows.now) tag) }
+{
+    let values = values_of_each(alloc, rows, tag)?;
+    Texts::of(alloc, values)
+}
+
+// The values of a tag of each of these rows, without one that the row before has, too.
+fn values_of_each<'a>(
+    alloc: Global,
+    rows: &[&'a SongRow],
+    tag: Tag,
+) -> Result<Vec<&'a str>, AllocError>
+    ensures { IfOk result (λ values. distinct_of (map (λ value. value.now) values.items)
+        ≡ values_of (map (λ row. row.now) rows.now) tag) }
+{
+    let mut values = Vec::new(alloc);
+    for row in rows {
+        push_value(&mut values, *row, tag)?;
+    }
+    Ok(values)
+}
+
 // Takes a row's value of a tag, if it has one, and it isn't the last one taken.
 fn push_value<'a>(values: &mut Vec<&'a str>, row: &'a SongRow, tag: Tag) -> Result<(), AllocError>
     ensures { OnOk result (distinct_of (map (λ value. value.now) values.new.items)

@@ -23,11 +23,7 @@ use Rattle.song_db.specs.declared.change.RowChange.TheVariants.{Put, Drop}
 use Rattle.song_db.proofs.Batches.{AreBehind, behind_trans, flip}
 use Rattle.song_db.proofs.Rising.{texts, apart_less, apart_greater}
 use Rattle.song_db.proofs.Turns.{none_behind, database_after}
-
--- the row that a change leaves under its URI
-abbrev pub row_left : RowChange → Option Row
-row_left (Put row) = Some row
-row_left (Drop uri) = None
+use Rattle.state_codec.specs.RowSteps.{row_left}
 
 same_bytes : (a b : List ℕ) → bytes_eq a b ≡ true → a ≡ b
 same_bytes a b same = (bytes_eq-Decides a b).0 same

@@ -1,4 +1,4 @@
--- A batch change by change: whether a URI has a row, how many rows there are, what is dropped and what has changed.
+-- A batch change by change: the row of a URI, how many rows there are, what is dropped and what has changed.
 use Rattle.std.proofs.Common.{◌≡◌, ℕ, suc, ◌+◌, ◌-◌, ◌<◌, Bool, true, false, cond, ◌||◌, List, [], ◌∷◌, ◌++◌, length, Option, Some, None}
 use Rattle.std.proofs.Common.{is_some, take, drop, get_or, nat_lt, refl, sym, ap, ◌∙◌, arith}
 use Rattle.std.specs.List.{list_any}
@@ -15,8 +15,8 @@ use Rattle.song_db.specs.Scan.{drops_of}
 use Rattle.song_db.specs.declared.change.RowChange.{RowChange}
 use Rattle.song_db.specs.declared.change.RowChange.TheVariants.{Put, Drop}
 use Rattle.song_db.specs.declared.effect.Effect.TheVariants.{Nothing, Came, Replaced, LeftOut}
-use Rattle.state_codec.specs.RowSteps.{is_put, count_after, changed_first, changed_by}
-use Rattle.state_codec.proofs.BatchRows.{AllFit, row_left, row_after, length_after, database_batch, batch_more, fit_more, fit_front}
+use Rattle.state_codec.specs.RowSteps.{row_left, count_after, changed_first, changed_by}
+use Rattle.state_codec.proofs.BatchRows.{AllFit, row_after, length_after, database_batch, batch_more, fit_more, fit_front}
 use Rattle.state_codec.proofs.BatchRows.{left_out_at}
 
 or_false : (a b : Bool) → (a || b) ≡ false → (a ≡ false) × (b ≡ false)
@@ -39,26 +39,16 @@ fit_at rows changes i change fit within is =
     rw (one_more changes i change within is) at front in
     or_false _ _ (sym (fit_more rows (take i changes) change) ∙ more)
 
-pub has_step : (rows : List Row) (changes : List RowChange) (i : ℕ) (change : RowChange) (uri : List ℕ) → IsDatabase rows
+-- the row of a URI behind one change more
+pub row_step : (rows : List Row) (changes : List RowChange) (i : ℕ) (change : RowChange) (uri : List ℕ) → IsDatabase rows
     → AllFit rows changes → i < length changes → change ≡ get_or changes i change
-    → has_uri (after_batch rows (take (i + 1) changes)) uri ≡ cond (bytes_eq uri (uri_of change)) (is_put change)
-    (has_uri (after_batch rows (take i changes)) uri)
-has_step rows changes i change uri database fit within is =
+    → row_at (after_batch rows (take (i + 1) changes)) uri
+    ≡ cond (bytes_eq uri (uri_of change)) (row_left change) (row_at (after_batch rows (take i changes)) uri)
+row_step rows changes i change uri database fit within is =
     let before = after_batch rows (take i changes) in
-    let here = fit_at rows changes i change fit within is in
-    let row = row_after before change uri (database_batch rows (take i changes) database) here.1 in
-    ap (λ cs. has_uri (after_batch rows cs) uri) (one_more changes i change within is)
-    ∙ ap (λ rs. has_uri rs uri) (batch_more rows (take i changes) (change ∷ []))
-    ∙ ap is_some row
-    ∙ of (bytes_eq uri (uri_of change)) change (row_at before uri)
-  where
-    left : (c : RowChange) → is_some (row_left c) ≡ is_put c
-    left (Put row) = refl
-    left (Drop key) = refl
-
-    of : (b : Bool) (c : RowChange) (o : Option Row) → is_some (cond b (row_left c) o) ≡ cond b (is_put c) (is_some o)
-    of true c o = left c
-    of false c o = refl
+    ap (λ cs. row_at (after_batch rows cs) uri) (one_more changes i change within is)
+    ∙ ap (λ rs. row_at rs uri) (batch_more rows (take i changes) (change ∷ []))
+    ∙ row_after before change uri (database_batch rows (take i changes) database) (fit_at rows changes i change fit within is).1
 
 -- the count of the rows after a change, unless it is left out
 count_put : (rows : List Row) (row : Row) (n : ℕ) (o : Option Row)

@@ -24,7 +24,8 @@ use Rattle.song_db.proofs.Rising.{texts}
 use Rattle.song_db.proofs.Turns.{database_after}
 use Rattle.state_codec.specs.Changes.{IsSavedRow, IsChange}
 use Rattle.state_codec.specs.SavedState.{AreSavedSongs, IsSavedEntry, IsSavedSticker, IsSavedQueue}
-use Rattle.state_codec.proofs.BatchRows.{replaced_row, row_left, same_or_not, database_batch}
+use Rattle.state_codec.proofs.BatchRows.{replaced_row, same_or_not, database_batch}
+use Rattle.state_codec.specs.RowSteps.{row_left}
 use Rattle.stickers.specs.Sticker.{Sticker}
 
 rows_changed : (change : RowChange) (rows : List Row) → IsChange change → All IsSavedRow rows → All IsSavedRow (changed change rows)

@@ -19,10 +19,11 @@ use Rattle.song_db.specs.declared.change.RowChange.TheVariants.{Put, Drop}
 use Rattle.song_db.proofs.SameRows.{same_exactly}
 use Rattle.song_db.proofs.Turns.{database_after}
 use Rattle.state_codec.specs.Laws.{LeaveRows}
+use Rattle.state_codec.specs.RowSteps.{row_left}
 use Rattle.state_codec.specs.OpsRows.{rows_refusal, changed_uris, without_songs, with_batch, after_rows, leaves_rows}
 use Rattle.state_codec.specs.SavedState.{SavedState, IsSavedState, IsSavedEntry, IsSavedSticker}
 use Rattle.state_codec.proofs.BatchFollowed.{changed_among}
-use Rattle.state_codec.proofs.BatchRows.{AllFit, row_left, row_after}
+use Rattle.state_codec.proofs.BatchRows.{AllFit, row_after}
 use Rattle.state_codec.proofs.KeptOps.{map_none, cond_none, or_false}
 use Rattle.state_codec.proofs.QueueUnchanged.{ruled_unchanged, version_tells}
 use Rattle.state_codec.proofs.Unchanged.{none_changed}

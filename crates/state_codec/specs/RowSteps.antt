@@ -12,9 +12,10 @@ use Rattle.song_db.specs.Same.{same_row}
 use Rattle.song_db.specs.declared.change.RowChange.{RowChange}
 use Rattle.song_db.specs.declared.change.RowChange.TheVariants.{Put, Drop}
 
-abbrev pub is_put : RowChange → Bool
-is_put (Put row) = true
-is_put (Drop uri) = false
+-- the row that a change leaves under its URI
+abbrev pub row_left : RowChange → Option Row
+row_left (Put row) = Some row
+row_left (Drop uri) = None
 
 -- how many rows there are after a change, where its URI has a row or none; nothing where a new row finds no place
 abbrev pub count_after : ℕ → Bool → RowChange → Option ℕ

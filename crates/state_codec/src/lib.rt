@@ -13,5 +13,5 @@ mod writing;
 pub use op::{Changes, ListOp, Op, OpRanges, QueueOp, RowNumbers, Setting, StickerOp, Text};
 pub use reading::{take_ops, take_saved};
 pub use refusal::{ApplyError, BodyError, CodecError, OpRefusal};
-pub use saved::{Saved, SavedParts, dropped_by};
+pub use saved::{Saved, SavedParts, dropped_by, row_behind};
 pub use writing::{put_op, put_saved};

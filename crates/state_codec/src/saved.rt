@@ -24,7 +24,7 @@ mod row_edits;
 mod sticker_edits;
 mod telling;
 
-pub use batch::dropped_by;
+pub use batch::{dropped_by, row_behind};
 pub use parts::SavedParts;
 
 /// The state that is kept on disk. Each URI of the queue and of a sticker has a row.

@@ -1,6 +1,6 @@
 // The songs of one playlist.
 ghost use Rattle.std.specs.Prelude.{◌≡◌, ◌≢◌, ◌<◌, ◌≤◌, ◌↔◌, [], ◌∷◌, ◌++◌, length, take, drop, slice_range};
-ghost use Rattle.std.specs.Prelude.{not, IsTrue, IfOk, IsOkUnless, OnOk, OnErr, option_copied, slice_get};
+ghost use Rattle.std.specs.Prelude.{not, IsTrue, IfOk, IsOkUnless, OnOk, OnErr};
 ghost use Rattle.std.specs.Bool.{OnTrue, OnFalse};
 ghost use Rattle.std.specs.Str.{bytes_eq};
 ghost use Rattle.stored_lists.specs.Songs.{AreUris, without_range, moved};
@@ -58,13 +58,6 @@ impl Songs {
         ensures { IsTrue result ↔ (self.now ≡ []) }
     {
         self.uris.is_empty()
-    }
-
-    /// The URI at a position from 0 on, if there is one.
-    pub fn get(&self, at: usize) -> Option<&Uri>
-        ensures { option_copied result ≡ slice_get self.now at }
-    {
-        self.uris.get(at)
     }
 
     /// The URIs in order.

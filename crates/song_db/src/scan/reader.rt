@@ -13,7 +13,7 @@ use crate::refusal::SongDbError;
 use crate::scan::droppable::Droppable;
 use crate::scan::found::{found_in, settle};
 use crate::scan::visit::{Visit, visit_of};
-use crate::scan::walk::{Walk, prefix_of};
+use crate::scan::walk::{FolderWalk, prefix_of};
 use crate::uri::Uri;
 use std::alloc::Global;
 use wave_pcm::{Folder, FolderEntry, FolderFault};
@@ -21,7 +21,7 @@ use wave_pcm::{Folder, FolderEntry, FolderFault};
 // What a scan has still to read, and what it may still drop.
 #[derive(Debug, Drop)]
 pub(crate) struct Reader {
-    pub(crate) walk: Walk,
+    pub(crate) walk: FolderWalk,
     pub(crate) droppable: Droppable,
     // Whether the job's own folder or song was looked at.
     pub(crate) is_begun: bool,

@@ -24,12 +24,12 @@ struct Level {
 // The walk of a scan through the folders of its place. It holds what is left of the listings on the present path: 33 at
 // most, since no folder is entered below the 32nd.
 #[derive(Debug, Drop)]
-pub(crate) struct Walk {
+pub(crate) struct FolderWalk {
     place: Option<Uri>,
     levels: Vec<Level>,
 }
 
-impl Model for Walk {
+impl Model for FolderWalk {
     ghost use Rattle.std.specs.Prelude.{ℕ, List, Option, string_bytes};
     ghost use Rattle.std.specs.List.{All, flat_map};
     ghost use Rattle.song_db.specs.Found.{IsPrefixIn};
@@ -45,11 +45,11 @@ impl Model for Walk {
     ghost invariant = { λ w. All (λ level. IsPrefixIn w.place (string_bytes level.prefix)) w.levels.items };
 }
 
-impl Walk {
-    pub(crate) fn new(alloc: Global, place: Option<Uri>) -> Walk
+impl FolderWalk {
+    pub(crate) fn new(alloc: Global, place: Option<Uri>) -> FolderWalk
         ensures { result ≡ record { place = place; pending = [] } }
     {
-        Walk {
+        FolderWalk {
             place,
             levels: Vec::new(alloc),
         }

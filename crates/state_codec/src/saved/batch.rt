@@ -1,14 +1,14 @@
 // What a batch does, told before any of it is made.
 ghost use Rattle.std.specs.Prelude.{◌≡◌, ◌≤◌, false, [], ◌∷◌, ◌++◌, option_map, IfOk, OnOk};
-ghost use Rattle.std.specs.Option.{option_to_list};
+ghost use Rattle.std.specs.Option.{option_to_list, option_copied};
 ghost use Rattle.std.specs.List.{list_any};
-ghost use Rattle.song_db.specs.Change.{has_uri, after_batch};
+ghost use Rattle.song_db.specs.Change.{after_batch};
 ghost use Rattle.song_db.specs.Effect.{effects_of, is_left_out};
 ghost use Rattle.song_db.specs.Refusal.{refusal_of as batch_refusal};
 ghost use Rattle.song_db.specs.Row.{row_at};
 ghost use Rattle.song_db.specs.Scan.{drops_of};
 ghost use Rattle.state_codec.specs.Editing.{AnswersCheck};
-ghost use Rattle.state_codec.specs.RowSteps.{is_put, count_after, is_named, says_other, changed_first, changed_by};
+ghost use Rattle.state_codec.specs.RowSteps.{row_left, count_after, is_named, says_other, changed_first, changed_by};
 ghost use Rattle.state_codec.specs.declared.refusal.OpRefusal.TheVariants.{Songs};
 
 use crate::refusal::OpRefusal;
@@ -21,7 +21,8 @@ pub(super) fn check_rows(songs: &SongDb, changes: &[RowChange]) -> Result<(), Op
 {
     let mut count = songs.len();
     for (at, change) in changes.iter().enumerate() {
-        let there = has_row(songs, &changes[..at], change.uri());
+        let behind = row_behind(songs, &changes[..at], change.uri());
+        let there = behind.is_some();
         match count_after(count, there, change) {
             Some(after) => count = after,
             None => return Err(OpRefusal::Songs(SongDbError::DbFull)),
@@ -30,26 +31,26 @@ pub(super) fn check_rows(songs: &SongDb, changes: &[RowChange]) -> Result<(), Op
     Ok(())
 }
 
-// Whether a URI has a row after changes none of which is left out.
-fn has_row(songs: &SongDb, changes: &[RowChange], uri: &str) -> bool
+/// The row that a URI has behind changes none of which is left out, without making them; `None` where it has none there.
+pub fn row_behind<'a>(songs: &'a SongDb, changes: &'a [RowChange], uri: &str) -> Option<&'a SongRow>
     requires { list_any is_left_out (effects_of songs.now changes.now) ≡ false }
-    ensures { result ≡ has_uri (after_batch songs.now changes.now) uri.now }
+    ensures { option_copied result ≡ row_at (after_batch songs.now changes.now) uri.now }
 {
-    let mut there = songs.row_number(uri).is_ok();
+    let mut row = songs.get(uri).ok();
     for change in changes {
         if uri == change.uri() {
-            there = is_put(change);
+            row = row_left(change);
         }
     }
-    there
+    row
 }
 
-fn is_put(change: &RowChange) -> bool
-    ensures { result ≡ is_put change.now }
+fn row_left(change: &RowChange) -> Option<&SongRow>
+    ensures { option_copied result ≡ row_left change.now }
 {
     match change {
-        RowChange::Put(_) => true,
-        RowChange::Drop(_) => false,
+        RowChange::Put(row) => Some(row),
+        RowChange::Drop(_) => None,
     }
 }
 

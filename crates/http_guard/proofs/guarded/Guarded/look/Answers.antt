@@ -26,7 +26,7 @@ returns-in-LetIn-clause-bytes g c =
     c.in-Ok.ensures.ok ∙ ap (λ (v : List ℕ). v ++ take c.in_ok-count.count c.read.new.buf) c.reserve.ensures.items in
     let told = subst (λ (v : List ℕ). IsVerdict v c.judge.result) c.as_slice.ensures c.judge.ensures in
     let free = free_of_verdict held now (subst (λ (v : Verdict). IsVerdict held v) c.in-LetIn.is told) in
-    rw (c.requires.looking, c.open.ensures.gate)
+    rw (c.requires.looking, c.open.ensures.passage)
     (reads_from _ _ _ c.open.result c.open.new.buf
     (keeps_on _ _ _ (holds_more c.args.self.now.held.items (take c.in_ok-count.count c.read.new.buf) held first now seen
     c.in_ok-count.ensures.bytes.0) (opens held now free))
@@ -55,7 +55,7 @@ returns-in-Unknown-clause-bytes g c =
     let room : 0 < length c.read.new.buf = omega arith in
     let at_end = c.in_ok-count.ensures.bytes.1 c.if-count-eq0.true room in
     let free = free_at_end held now (subst (λ (v : Verdict). IsVerdict held v) c.in-Unknown.is told) at_end in
-    rw (c.requires.looking, c.open-in-Unknown.ensures.gate)
+    rw (c.requires.looking, c.open-in-Unknown.ensures.passage)
     (reads_from _ _ _ c.open-in-Unknown.result c.open-in-Unknown.new.buf
     (keeps_on _ _ _ (holds_more c.args.self.now.held.items (take c.in_ok-count.count c.read.new.buf) held first now seen
     c.in_ok-count.ensures.bytes.0) (opens held now free))

@@ -5,7 +5,7 @@ use Rattle.song_db.specs.declared.scan.walk.Level.{Level}
 use Rattle.song_db.specs.Found.{IsPrefixIn}
 use Rattle.song_db.specs.Pending.{Walked}
 use Rattle.song_db.proofs.Taken.{taken_entry, popped}
-use Rattle.song_db.proofs.scan.walk.Walk.next.Goals as goal
+use Rattle.song_db.proofs.scan.walk.FolderWalk.next.Goals as goal
 
 pub invariant_of-self-2 : goal.invariant_of-self-2
 invariant_of-self-2 c =

@@ -3,7 +3,7 @@ use Rattle.std.specs.String.{string_bytes}
 use Rattle.song_db.specs.declared.scan.walk.Level.{Level}
 use Rattle.song_db.specs.Pending.{entries_pending, times_pending, Walked}
 use Rattle.song_db.proofs.Taken.{entered}
-use Rattle.song_db.proofs.scan.walk.Walk.enter.Goals as goal
+use Rattle.song_db.proofs.scan.walk.FolderWalk.enter.Goals as goal
 
 pub returns-clause-pending : goal.returns-clause-pending
 returns-clause-pending c = λ uri.
