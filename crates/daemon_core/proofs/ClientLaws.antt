@@ -20,13 +20,14 @@ use Rattle.daemon_core.proofs.RoomLaws.{fewer_fit, length_with, reports_fit, mar
 
 -- what an event does that answers or closes, and nothing else
 pub does_but : (a : Acted) (q : CoreParts) (h : Handled) → IsNothingBut a.answer a.closes h → state_of q ≡ a.after → a.ops ≡ [] →
-    a.refused_at ≡ None → a.ended ≡ false → a.changed ≡ none → IsReadyToTell q → Does a q h
-does_but a q h but state ops refused ended changed ready = record {
+    a.refused_at ≡ None → a.looks ≡ 0 → a.ended ≡ false → a.changed ≡ none → IsReadyToTell q → Does a q h
+does_but a q h but state ops refused looks ended changed ready = record {
   state = state;
   answer = but.answer;
   closes = but.closes;
   ops = but.ops ∙ sym ops;
   refused_at = but.refused_at ∙ sym refused;
+  looks = but.looks ∙ sym looks;
   ended = but.ended ∙ sym ended;
   changed = but.changed ∙ sym changed;
   one = but.one;

@@ -9,6 +9,7 @@ pub mod StepLaws
 pub mod RecoverLaws
 pub mod ClientLaws
 pub mod EndLaws
+pub mod LooksLaws
 mod QuietLaws
 mod StrayLaws
 mod KillLaws

@@ -1,12 +1,18 @@
 -- The commands of a request, one after the other.
 use Rattle.std.proofs.Common.{◌≡◌, ℕ, suc, ◌+◌, ◌≤◌, ◌<◌, Bool, true, false, ◌||◌, List, [], ◌∷◌, ◌++◌, length, Option, Some, None, cond}
 use Rattle.std.proofs.Common.{refl, sym, ◌∙◌, ap, subst, arith, append_assoc, eq-eqb}
-use Rattle.std.specs.Prelude.{Result, Ok, Err, IfSome, OnOk}
+use Rattle.std.specs.Prelude.{Result, Ok, Err, IfSome, nat_le}
 use Rattle.std.proofs.lemmas.Bool.{le-leb, ne_eqb}
 use Rattle.std.proofs.lemmas.List.{append-nil}
 use Rattle.command_text.specs.Answer.{ok, ack}
 use Rattle.command_text.specs.Reading.{line_words, command_of, line_reading, command_in, name_of_line, want_of_memory, Gives, GivesWords}
+use Rattle.command_text.specs.declared.command.Command.{Command}
+use Rattle.command_text.specs.declared.command.Command.TheVariants as commands
 use Rattle.command_text.specs.declared.command.NamedCommand.{NamedCommand}
+use Rattle.command_text.specs.declared.command.session.SessionCommand.{SessionCommand}
+use Rattle.command_text.specs.declared.command.session.SessionCommand.TheVariants as session
+use Rattle.command_text.specs.declared.command.settings.SettingsCommand.{SettingsCommand}
+use Rattle.command_text.specs.declared.command.settings.SettingsCommand.TheVariants as settings
 use Rattle.command_text.specs.declared.place.Place.{Place}
 use Rattle.command_text.specs.declared.refusal.CommandRefusal.{CommandRefusal}
 use Rattle.command_text.specs.declared.refusal.CommandRefusal.TheVariants.{RequestTooLarge}
@@ -18,7 +24,7 @@ use Rattle.idle_masks.specs.Subsystems.{contains, none, union}
 use Rattle.idle_masks.specs.declared.subsystem.Subsystems.{Subsystems}
 use Rattle.machine_core.specs.Changed.{changed}
 use Rattle.machine_core.specs.Command.{meaning}
-use Rattle.machine_core.specs.Looks.{looks_of, weighed}
+use Rattle.machine_core.specs.Looks.{looked, looks_of, max_looks, settings_looks, weighed}
 use Rattle.machine_core.specs.Meaning.{Meaning, Meant}
 use Rattle.machine_core.specs.Size.{max_request_bytes, within}
 use Rattle.machine_core.specs.State.{MachineState}
@@ -29,10 +35,10 @@ use Rattle.state_codec.specs.declared.op.Op.{Op}
 use Rattle.daemon_core.specs.Handled.{Does}
 use Rattle.daemon_core.specs.Parts.{state_of}
 use Rattle.daemon_core.specs.Request.{stop_of_reading, ran_of, WentOn, IsStop, Stopped, RunsLine, AnswersStop}
-use Rattle.daemon_core.specs.Request.{RunsLines}
+use Rattle.daemon_core.specs.Request.{CountsLooks, RunsLines, looks_at_end}
 use Rattle.daemon_core.specs.Session.{of_ran, runs}
 use Rattle.daemon_core.specs.Run.{Did, Goes, Refuses, Ends, ending_of, did_of, unless_it_ends, performed, read_and_performed, attempted}
-use Rattle.daemon_core.specs.Run.{Ran, ends, wants_memory, preceded, follow, is_refused_at, ran}
+use Rattle.daemon_core.specs.Run.{Ran, ends, wants_memory, preceded, follow, is_refused_at, ran, session_ending, settings_ending}
 use Rattle.daemon_core.specs.Run.{Spent, looks_of_line, looks_read, spent_behind, spent_of, unspent, within_both}
 use Rattle.daemon_core.specs.declared.outcome.Ending.{Ending}
 use Rattle.daemon_core.specs.declared.handled.Handled.{Handled}
@@ -160,6 +166,7 @@ preceded_twice t u a b os ps r = λ i. record {
   ops = sym (append_assoc os ps r.ops) i;
   ending = r.ending;
   refused_at = r.refused_at;
+  looks = r.looks;
 }
 
 preceded_none : (r : Ran) → preceded [] none [] r ≡ r
@@ -170,6 +177,7 @@ preceded_none r = λ i. record {
   ops = r.ops;
   ending = r.ending;
   refused_at = r.refused_at;
+  looks = r.looks;
 }
 
 -- memory was not refused before this command
@@ -228,9 +236,9 @@ pub so_far_goes : (place : Place) (between : List ℕ) (lines rest : List (List 
     (first s t : MachineState) (before now after : Work) (looks more : ℕ) (changes set : Subsystems) →
     SoFar place between lines (line ∷ rest) index first s before now looks changes →
     WentOn between (attempted place (spent_of now.size looks) line s) s t now after set →
-    more ≡ looks + looks_of_line place line s →
+    more ≡ looked looks (looks_of_line place line s) →
     SoFar place between lines rest (suc index) first t before after more (union changes set)
-so_far_goes place between lines rest line index first s t before now after looks more changes set far went looked =
+so_far_goes place between lines rest line index first s t before now after looks more changes set far went counted =
     let x : Meaning = went.meaning in
     let a = went.ops in
     record {
@@ -248,7 +256,7 @@ so_far_goes place between lines rest line index first s t before now after looks
           ∙ preceded_twice far.text (x.text ++ between) changes (changed s x.after) far.made x.ops
           (ran place between refused (suc index) (spent_behind place line s (spent_of now.size looks) x.ops) rest x.after)
           ∙ (λ i. preceded (far.text ++ (x.text ++ between)) (union changes (changed s (sym went.stands i))) (far.made ++ x.ops)
-          (ran place between refused (suc index) (spent_of (sym a.size i) (sym looked i)) rest (sym went.stands i)))
+          (ran place between refused (suc index) (spent_of (sym a.size i) (sym counted i)) rest (sym went.stands i)))
           ∙ ap (λ c. preceded (far.text ++ (x.text ++ between)) (union changes c) (far.made ++ x.ops)
           (ran place between refused (suc index) (spent_of after.size more) rest t)) (sym went.changed);
     }
@@ -256,35 +264,36 @@ so_far_goes place between lines rest line index first s t before now after looks
 -- what the answer to a stop makes of the rest of a request
 pub record StopsIt
     (place : Place) (between line : List ℕ) (rest : List (List ℕ)) (index : ℕ) (spent : Spent) (s : MachineState) (refused : Option ℕ)
-    (ending : Ending) (work done : Work) : Type 0 where
+    (ending : Ending) (looks : ℕ) (work done : Work) : Type 0 where
   pub text : List ℕ
-  pub same : ran place between refused index spent (line ∷ rest) s ≡ record (ends s text ending) { refused_at = refused }
+  pub same : ran place between refused index spent (line ∷ rest) s ≡ record (ends s looks text ending) { refused_at = refused }
   pub adds : AddsText text work done
   pub later : NotBefore index refused
   pub within : IfSome refused (λ at. at ≡ index)
 
 pub stops_it : (place : Place) (between line : List ℕ) (rest : List (List ℕ)) (index : ℕ) (spent : Spent) (s : MachineState)
-    (stop : Stop) (refused : Option ℕ) (ending : Ending) (work done : Work) → IsStop (attempted place spent line s) stop →
-    AnswersStop stop index line refused ending work done → StopsIt place between line rest index spent s refused ending work done
+    (stop : Stop) (refused : Option ℕ) (ending : Ending) (looks : ℕ) (work done : Work) → IsStop (attempted place spent line s) stop →
+    CountsLooks (looked spent.looks (looks_of_line place line s)) looks (Err stop) → AnswersStop stop index line refused ending work done →
+    StopsIt place between line rest index spent s refused ending (looks_at_end refused looks) work done
 unfolding ran
-stops_it place between line rest index spent s (stops.Ends it) None ending work done did answer = record {
+stops_it place between line rest index spent s (stops.Ends it) None ending looks work done did counted answer = record {
   text = [];
   same = ap (follow between index (spent_behind place line s spent) s (λ n u. ran place between None (suc index) n rest u)) did
-      ∙ ap (ends s []) (sym answer.0);
+      ∙ (λ i. ends s (sym counted i) [] (sym answer.0 i));
   adds = answer.1;
   later = tt;
   within = tt;
 }
-stops_it place between line rest index spent s (stops.Refused refusal) None ending work done did answer = record {
+stops_it place between line rest index spent s (stops.Refused refusal) None ending looks work done did counted answer = record {
   text = ack index refusal;
   same = ap (follow between index (spent_behind place line s spent) s (λ n u. ran place between None (suc index) n rest u)) did
-      ∙ ap (ends s (ack index refusal)) (sym answer.0);
+      ∙ (λ i. ends s (sym counted i) (ack index refusal) (sym answer.0 i));
   adds = answer.1;
   later = tt;
   within = tt;
 }
-stops_it place between line rest index spent s stops.NoMemory None ending work done did answer = absurd answer
-stops_it place between line rest index spent s stop (Some at) ending work done did answer =
+stops_it place between line rest index spent s stops.NoMemory None ending looks work done did counted answer = absurd answer
+stops_it place between line rest index spent s stop (Some at) ending looks work done did counted answer =
     let wants = answer.1 in
     record {
       text = ack index (want_of_memory (name_of_line line));
@@ -292,7 +301,8 @@ stops_it place between line rest index spent s stop (Some at) ending work done d
           (follow between index (spent_behind place line s spent) s (λ n u. ran place between (Some at) (suc index) n rest u)
           (attempted place spent line s)))
           (eq-eqb at index answer.0)
-          ∙ (λ i. record (ends s (ack index (want_of_memory (name_of_line line))) (sym wants.0 i)) { refused_at = Some (sym answer.0 i) });
+          ∙ (λ i. record (ends s max_looks (ack index (want_of_memory (name_of_line line))) (sym wants.0 i))
+          { refused_at = Some (sym answer.0 i) });
       adds = wants.1;
       later = omega (arith, answer.0);
       within = answer.0;
@@ -300,15 +310,15 @@ stops_it place between line rest index spent s stop (Some at) ending work done d
 
 -- the request has ended
 ran_ends : (place : Place) (between : List ℕ) (lines rest : List (List ℕ)) (index : ℕ) (first s : MachineState) (before now after : Work)
-    (looks : ℕ) (changes : Subsystems) (refused : Option ℕ) (text : List ℕ) (ending : Ending) →
+    (looks all : ℕ) (changes : Subsystems) (refused : Option ℕ) (text : List ℕ) (ending : Ending) →
     SoFar place between lines rest index first s before now looks changes → NotBefore index refused →
-    ran place between refused index (spent_of now.size looks) rest s ≡ record (ends s text ending) { refused_at = refused } → AddsText
+    ran place between refused index (spent_of now.size looks) rest s ≡ record (ends s all text ending) { refused_at = refused } → AddsText
     text now after →
     IfSome refused (λ at. at < length lines) →
-    RunsLines place between lines first s before after (record { ending = ending; changed = changes; refused_at = refused })
-ran_ends place between lines rest index first s before now after looks changes refused text ending far later ended adds within =
+    RunsLines place between lines first s before after (record { ending = ending; changed = changes; refused_at = refused; looks = all })
+ran_ends place between lines rest index first s before now after looks all changes refused text ending far later ended adds within =
     let whole : ran place between refused 0 (spent_of before.size 0) lines first
-    ≡ preceded far.text changes far.made (record (ends s text ending) { refused_at = refused }) =
+    ≡ preceded far.text changes far.made (record (ends s all text ending) { refused_at = refused }) =
     far.whole refused later ∙ ap (preceded far.text changes far.made) ended in
     record {
       stands = sym (ap (λ r. r.after) whole);
@@ -319,6 +329,7 @@ ran_ends place between lines rest index first s before now after looks changes r
       changed = sym (ap (λ r. r.changed) whole ∙ union_none_right changes);
       ending = sym (ap (λ r. r.ending) whole);
       refused_at = sym (ap (λ r. r.refused_at) whole);
+      looks = sym (ap (λ r. r.looks) whole);
       within = within;
     }
 
@@ -328,20 +339,24 @@ at_within index count (Some at) below h = omega (arith, below, h)
 
 -- the next command stopped it
 pub ran_stops : (place : Place) (between : List ℕ) (lines whole rest : List (List ℕ)) (bytes : List ℕ) (index : ℕ)
-    (first s t : MachineState) (before now mid after : Work) (looks : ℕ) (changes : Subsystems) (stop : Stop) (refused : Option ℕ)
-    (ending : Ending) → whole ≡ bytes ∷ rest → SoFar place between lines whole index first s before now looks changes →
-    Stopped (attempted place (spent_of now.size looks) bytes s) s t now mid stop → AnswersStop stop index bytes refused ending mid after →
-    RunsLines place between lines first t before after (record { ending = ending; changed = changes; refused_at = refused })
-ran_stops place between lines whole rest bytes index first s t before now mid after looks changes stop refused ending parts whole_far
-    stopped answer =
+    (first s t : MachineState) (before now mid after : Work) (looks more all : ℕ) (changes : Subsystems) (stop : Stop)
+    (refused : Option ℕ) (ending : Ending) → whole ≡ bytes ∷ rest → SoFar place between lines whole index first s before now looks changes →
+    Stopped (attempted place (spent_of now.size looks) bytes s) s t now mid stop →
+    CountsLooks (looked looks (looks_of_line place bytes s)) more (Err stop) → all ≡ looks_at_end refused more →
+    AnswersStop stop index bytes refused ending mid after →
+    RunsLines place between lines first t before after (record { ending = ending; changed = changes; refused_at = refused; looks = all })
+ran_stops place between lines whole rest bytes index first s t before now mid after looks more all changes stop refused ending parts
+    whole_far stopped counted is answer =
     let far : SoFar place between lines (bytes ∷ rest) index first s before now looks changes =
     subst (λ r. SoFar place between lines r index first s before now looks changes) parts whole_far in
-    let it = stops_it place between bytes rest index (spent_of now.size looks) s stop refused ending mid after stopped.why answer in
+    let it = stops_it place between bytes rest index (spent_of now.size looks) s stop refused ending more mid after stopped.why counted
+    answer in
     let nothing = stopped.nothing in
     let adds = it.adds in
-    subst (λ u. RunsLines place between lines first u before after (record { ending = ending; changed = changes; refused_at = refused }))
-    (sym stopped.stands)
-    (ran_ends place between lines (bytes ∷ rest) index first s before now after looks changes refused it.text ending far it.later it.same
+    subst (λ u. RunsLines place between lines first u before after
+    (record { ending = ending; changed = changes; refused_at = refused; looks = all })) (sym stopped.stands)
+    (ran_ends place between lines (bytes ∷ rest) index first s before now after looks all changes refused it.text ending far it.later
+    (it.same ∙ (λ i. record (ends s (sym is i) it.text ending) { refused_at = refused }))
     (record {
       text = adds.text ∙ ap (λ x. x ++ it.text) nothing.text;
       ops = adds.ops ∙ nothing.ops;
@@ -353,26 +368,26 @@ pub ran_goes : (place : Place) (between : List ℕ) (lines whole rest : List (Li
     (first s t : MachineState) (before now after : Work) (looks more : ℕ) (changes set : Subsystems) → whole ≡ bytes ∷ rest →
     SoFar place between lines whole index first s before now looks changes →
     WentOn between (attempted place (spent_of now.size looks) bytes s) s t now after set →
-    more ≡ looks + looks_of_line place bytes s →
+    more ≡ looked looks (looks_of_line place bytes s) →
     SoFar place between lines rest (index + 1) first t before after more (union changes set)
-ran_goes place between lines whole rest bytes index first s t before now after looks more changes set parts far h looked =
+ran_goes place between lines whole rest bytes index first s t before now after looks more changes set parts far h counted =
     subst (λ n. SoFar place between lines rest n first t before after more (union changes set)) (omega arith)
     (so_far_goes place between lines rest bytes index first s t before now after looks more changes set
-    (subst (λ r. SoFar place between lines r index first s before now looks changes) parts far) h looked)
+    (subst (λ r. SoFar place between lines r index first s before now looks changes) parts far) h counted)
 
 next_none : (place : Place) (between : List ℕ) (index : ℕ) (spent : Spent) (s : MachineState) →
-    ran place between None index spent [] s ≡ ends s ok Answered
+    ran place between None index spent [] s ≡ ends s spent.looks ok Answered
 unfolding ran
 next_none place between index spent s = refl
 
 pub ran_all : (place : Place) (between : List ℕ) (lines rest : List (List ℕ)) (index : ℕ) (first s : MachineState)
-    (before now after : Work) (looks : ℕ) (changes : Subsystems) → rest ≡ [] →
-    SoFar place between lines rest index first s before now looks changes → AddsText ok now after →
-    RunsLines place between lines first s before after (record { ending = Answered; changed = changes; refused_at = None })
-ran_all place between lines [] index first s before now after looks changes empty far h =
-    ran_ends place between lines [] index first s before now after looks changes None ok Answered far tt
-    (next_none place between index (spent_of now.size looks) s) h tt
-ran_all place between lines (r ∷ rest) index first s before now after looks changes empty far h = cc
+    (before now after : Work) (looks all : ℕ) (changes : Subsystems) → rest ≡ [] →
+    SoFar place between lines rest index first s before now looks changes → all ≡ looks → AddsText ok now after →
+    RunsLines place between lines first s before after (record { ending = Answered; changed = changes; refused_at = None; looks = all })
+ran_all place between lines [] index first s before now after looks all changes empty far is h =
+    ran_ends place between lines [] index first s before now after looks all changes None ok Answered far tt
+    (next_none place between index (spent_of now.size looks) s ∙ (λ i. ends s (sym is i) ok Answered)) h tt
+ran_all place between lines (r ∷ rest) index first s before now after looks all changes empty far is h = cc
 
 -- a command that went well, and what stands behind it
 pub went_on : (named : NamedCommand) (separator : List ℕ) (s t : MachineState) (before mid after : Work) (looks : ℕ) (set : Subsystems) →
@@ -427,10 +442,82 @@ unfolding looks_of_line line_reading
 line_looks place line words slice named m parted same read =
     sym (ap (λ w. looks_read (command_in place w) m) (parted ∙ ap Ok (sym same)) ∙ ap (λ r. looks_read r m) read)
 
-pub looks_added : {n m : ℕ} (r : Result Subsystems Stop) (looks more : ℕ) → n ≡ m → OnOk r (more ≡ looks + n) →
-    OnOk r (more ≡ looks + m)
-looks_added (Ok set) looks more same h = h ∙ ap (λ k. looks + k) same
-looks_added (Err stop) looks more same h = tt
+pub looks_counted : {n m : ℕ} (r : Result Subsystems Stop) (looks more : ℕ) → n ≡ m → more ≡ looked looks n →
+    CountsLooks (looked looks m) more r
+looks_counted (Ok set) looks more same h = h ∙ ap (looked looks) same
+looks_counted (Err (stops.Ends ending)) looks more same h = h ∙ ap (looked looks) same
+looks_counted (Err (stops.Refused refusal)) looks more same h = h ∙ ap (looked looks) same
+looks_counted (Err stops.NoMemory) looks more same h = tt
+
+-- What ends a request, and a line of which no command was read, looks at nothing.
+cond_same : (b : Bool) (n m : ℕ) → m ≡ n → m ≡ cond b n m
+cond_same true n m same = same
+cond_same false n m same = refl
+
+looked_none : (looks n : ℕ) → n ≡ 0 → looks ≡ looked looks n
+looked_none looks n none = cond_same (nat_le (looks + n) max_looks) (looks + n) looks (omega (arith, none))
+
+abbrev LooksIfEnding : Option Ending → ℕ → Type 0
+LooksIfEnding None looks = Unit {0}
+LooksIfEnding (Some ending) looks = looks ≡ 0
+
+settings_end : (command : SettingsCommand) (m : MachineState) → LooksIfEnding (settings_ending command) (settings_looks command m)
+settings_end settings.Close m = refl
+settings_end settings.Kill m = refl
+settings_end other m = tt
+
+session_end : (command : SessionCommand) → LooksIfEnding (session_ending command) 0
+session_end (session.Idle mask) = refl
+session_end other = tt
+
+command_end : (command : Command) (m : MachineState) → LooksIfEnding (ending_of command) (looks_of command m)
+unfolding ending_of
+command_end (commands.Settings command) m = settings_end command m
+command_end (commands.Session command) m = session_end command
+command_end other m = tt
+
+pub end_counts : (command : Command) (m : MachineState) (ending : Ending) (looks : ℕ) → ending_of command ≡ Some ending →
+    looks ≡ looked looks (looks_of command m)
+end_counts command m ending looks is =
+    looked_none looks (looks_of command m) (subst (λ o. LooksIfEnding o (looks_of command m)) is (command_end command m))
+
+unread_counts : (place : Place) (line : List ℕ) (m : MachineState) (refusal : Refusal) (looks : ℕ) → line_reading place line ≡ Err refusal →
+    looks ≡ looked looks (looks_of_line place line m)
+unfolding looks_of_line
+unread_counts place line m refusal looks read =
+    looked_none looks (looks_of_line place line m) (ap (λ r. looks_read r m) read)
+
+words_unread : (place : Place) (line : List ℕ) (refusal : Refusal) → line_words line ≡ Err refusal → line_reading place line ≡ Err refusal
+unfolding line_reading
+words_unread place line refusal parted = ap (command_in place) parted
+
+command_unread : (place : Place) (line : List ℕ) (words : List (List ℕ)) (refusal : Refusal) → line_words line ≡ Ok words →
+    command_of place words ≡ Err refusal → line_reading place line ≡ Err refusal
+unfolding line_reading
+command_unread place line words refusal parted read = ap (command_in place) parted ∙ read
+
+stop_counts : (place : Place) (line : List ℕ) (m : MachineState) (refusal : Refusal) (stop : Stop) (looks : ℕ) →
+    line_reading place line ≡ Err refusal → stop ≡ stops.Refused refusal →
+    CountsLooks (looked looks (looks_of_line place line m)) looks (Err stop)
+stop_counts place line m refusal stop looks read is =
+    subst (λ (it : Stop). CountsLooks (looked looks (looks_of_line place line m)) looks (Err it)) (sym is)
+    (unread_counts place line m refusal looks read)
+
+pub words_count : (place : Place) (line : List ℕ) (m : MachineState) (error : ReadError) (stop : Stop) (looks : ℕ) →
+    GivesWords (Err error) (line_words line) → stop ≡ stop_of_reading error →
+    CountsLooks (looked looks (looks_of_line place line m)) looks (Err stop)
+words_count place line m (errors.Refused refusal) stop looks read is =
+    stop_counts place line m refusal stop looks (words_unread place line refusal read) is
+words_count place line m errors.NoMemory stop looks read is =
+    subst (λ (it : Stop). CountsLooks (looked looks (looks_of_line place line m)) looks (Err it)) (sym is) tt
+
+pub command_counts : (place : Place) (line : List ℕ) (words slice : List (List ℕ)) (m : MachineState) (error : ReadError) (stop : Stop)
+    (looks : ℕ) → line_words line ≡ Ok words → slice ≡ words → Gives {A = NamedCommand} (Err error) (command_of place slice) →
+    stop ≡ stop_of_reading error → CountsLooks (looked looks (looks_of_line place line m)) looks (Err stop)
+command_counts place line words slice m (errors.Refused refusal) stop looks parted same read is =
+    stop_counts place line m refusal stop looks (command_unread place line slice refusal (parted ∙ ap Ok (sym same)) read) is
+command_counts place line words slice m errors.NoMemory stop looks parted same read is =
+    subst (λ (it : Stop). CountsLooks (looked looks (looks_of_line place line m)) looks (Err it)) (sym is) tt
 
 -- what a request that ran makes of the clients doesn't hang on the machine before it
 of_ran_same : (c : ℕ) (clients : List Watched) (m n : MachineState) (r : Ran) (ending : Ending) →
@@ -459,6 +546,7 @@ lines_do c place between lines before mid after fresh work end handled text ops 
           ∙ ap (λ x. x.ops) here) i;
       ending = (ran_so.ending ∙ ap (λ x. x.ending) here) i;
       refused_at = (ran_so.refused_at ∙ ap (λ x. x.refused_at) here) i;
+      looks = (ran_so.looks ∙ ap (λ x. x.looks) here) i;
     } in
     let at : handled.outcome.refused_at ≡ end.refused_at =
     does.refused_at ∙ of_ran_place c (state_of mid) (ran_of mid.machine work end) end.ending in

@@ -34,6 +34,7 @@ is_outcome s event p q handled outputs does told watch machine place = record {
   ops = does.ops;
   ended = does.ended;
   refused_at = does.refused_at;
+  looks = does.looks;
   place = place;
 }
 

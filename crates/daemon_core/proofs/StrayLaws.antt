@@ -80,6 +80,7 @@ tells s clients reports = record {
   closes = [];
   ops = [];
   refused_at = None;
+  looks = 0;
   ended = false;
   moment = record { connected = None; changed = none; reports = reports };
 }

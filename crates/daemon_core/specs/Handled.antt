@@ -16,6 +16,7 @@ pub record Does (a : Acted) (after : CoreParts) (handled : Handled) : Type 0 whe
   pub closes : handled.outcome.closes.items ≡ a.closes
   pub ops : handled.outcome.ops.items ≡ a.ops
   pub refused_at : handled.outcome.refused_at ≡ a.refused_at
+  pub looks : handled.outcome.looks ≡ a.looks
   pub ended : handled.outcome.ended ≡ a.ended
   pub changed : handled.changed ≡ a.changed
   pub one : vec_len handled.outcome.outputs ≤ 1
@@ -28,6 +29,7 @@ pub record IsNothingBut (given : List Output) (closed : List ℕ) (handled : Han
   pub closes : handled.outcome.closes.items ≡ closed
   pub ops : handled.outcome.ops.items ≡ []
   pub refused_at : handled.outcome.refused_at ≡ None
+  pub looks : handled.outcome.looks ≡ 0
   pub ended : handled.outcome.ended ≡ false
   pub changed : handled.changed ≡ none
 
@@ -38,5 +40,6 @@ pub record IsOf (happened : Happened) (handled : Handled) : Type 0 where
   pub closes : handled.outcome.closes.items ≡ []
   pub ops : handled.outcome.ops.items ≡ happened.ops.items
   pub refused_at : handled.outcome.refused_at ≡ None
+  pub looks : handled.outcome.looks ≡ 0
   pub ended : handled.outcome.ended ≡ false
   pub changed : handled.changed ≡ happened.changed

@@ -34,4 +34,5 @@ pub record IsOutcome (s : State) (event : Event) (o : Outcome) (t : State) : Typ
   pub ops : o.ops.items ≡ (step s event o.refused_at).ops
   pub ended : o.ended ≡ (step s event o.refused_at).ended
   pub refused_at : o.refused_at ≡ (step s event o.refused_at).refused_at
+  pub looks : o.looks ≡ (step s event o.refused_at).looks
   pub place : IfSome o.refused_at (λ place. place < command_count event)

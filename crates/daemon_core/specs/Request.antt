@@ -7,6 +7,7 @@ use Rattle.command_text.specs.declared.refusal.ReadError.{ReadError}
 use Rattle.command_text.specs.declared.refusal.ReadError.TheVariants as errors
 use Rattle.idle_masks.specs.declared.subsystem.Subsystems.{Subsystems}
 use Rattle.machine_core.specs.Changed.{changed}
+use Rattle.machine_core.specs.Looks.{max_looks}
 use Rattle.machine_core.specs.Meaning.{Meaning}
 use Rattle.machine_core.specs.State.{MachineState}
 use Rattle.machine_core.specs.Work.{AddsNothing, AddsOps, AddsText, HasRoom, ack_room}
@@ -32,6 +33,7 @@ ran_of m work end = record {
   ops = work.ops.items;
   ending = end.ending;
   refused_at = end.refused_at;
+  looks = end.looks;
 }
 
 -- the command did what it means: its lines, the separator and its ops were added, and there is room for what ends a request
@@ -60,6 +62,18 @@ abbrev pub RunsLine : List ℕ → Did → MachineState → MachineState → Wor
 RunsLine separator did before after work done (Ok set) = WentOn separator did before after work done set
 RunsLine separator did before after work done (Err stop) = Stopped did before after work done stop
 
+-- So much was looked at behind a command. Nothing is said where it found no memory.
+abbrev pub CountsLooks : ℕ → ℕ → Result Subsystems Stop → Type 0
+CountsLooks all looks (Ok set) = looks ≡ all
+CountsLooks all looks (Err (stops.Ends ending)) = looks ≡ all
+CountsLooks all looks (Err (stops.Refused refusal)) = looks ≡ all
+CountsLooks all looks (Err stops.NoMemory) = Unit {0}
+
+-- how much a request looked at that ended at a command: all that it may where memory was refused
+abbrev pub looks_at_end : Option ℕ → ℕ → ℕ
+looks_at_end None looks = looks
+looks_at_end (Some place) looks = max_looks
+
 -- How a stop is answered: by nothing where the command ends the request, by the line of its refusal, or by that of want of memory.
 abbrev pub AnswersIt : Stop → ℕ → Ending → Work → Work → Type 0
 AnswersIt (stops.Ends it) index ending work done = (ending ≡ it) × AddsText [] work done
@@ -83,4 +97,5 @@ pub record RunsLines
   pub changed : end.changed ≡ (ran place between end.refused_at 0 (spent_of work.size 0) lines before).changed
   pub ending : end.ending ≡ (ran place between end.refused_at 0 (spent_of work.size 0) lines before).ending
   pub refused_at : end.refused_at ≡ (ran place between end.refused_at 0 (spent_of work.size 0) lines before).refused_at
+  pub looks : end.looks ≡ (ran place between end.refused_at 0 (spent_of work.size 0) lines before).looks
   pub within : IfSome end.refused_at (λ place. place < length lines)

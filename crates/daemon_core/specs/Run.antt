@@ -18,7 +18,7 @@ use Rattle.idle_masks.specs.Subsystems.{none, union}
 use Rattle.idle_masks.specs.declared.subsystem.Subsystems.{Subsystems}
 use Rattle.machine_core.specs.Changed.{changed}
 use Rattle.machine_core.specs.Command.{meaning}
-use Rattle.machine_core.specs.Looks.{looks_of, weighed}
+use Rattle.machine_core.specs.Looks.{looked, looks_of, max_looks, weighed}
 use Rattle.machine_core.specs.Meaning.{Meaning, Meant}
 use Rattle.machine_core.specs.Size.{within}
 use Rattle.machine_core.specs.State.{MachineState}
@@ -93,10 +93,11 @@ looks_of_line place line m = looks_read (line_reading place line) m
 
 -- what is spent behind the command of a line, which makes these ops
 abbrev pub spent_behind : Place → List ℕ → MachineState → Spent → List Op → Spent
-spent_behind place line m spent ops = spent_of (spent.size + length (ops_bytes ops)) (spent.looks + looks_of_line place line m)
+spent_behind place line m spent ops = spent_of (spent.size + length (ops_bytes ops)) (looked spent.looks (looks_of_line place line m))
 
 -- What a request did: the machine after it, its answer, the subsystems that one of its commands changed, its ops in order, how
--- it ended, and the place of the command that it reached and that was refused memory, if there was one.
+-- it ended, the place of the command that it reached and that was refused memory, if there was one, and how much its commands looked at,
+-- that at which it ended too.
 pub record Ran : Type 0 where
   pub after : MachineState
   pub text : List ℕ
@@ -104,14 +105,18 @@ pub record Ran : Type 0 where
   pub ops : List Op
   pub ending : Ending
   pub refused_at : Option ℕ
+  pub looks : ℕ
 
--- it ends here, with this text
-abbrev pub ends : MachineState → List ℕ → Ending → Ran
-ends m text ending = record { after = m; text = text; changed = none; ops = []; ending = ending; refused_at = None }
+-- it ends here, where so much was looked at, with this text
+abbrev pub ends : MachineState → ℕ → List ℕ → Ending → Ran
+ends m looks text ending =
+    record { after = m; text = text; changed = none; ops = []; ending = ending; refused_at = None; looks = looks }
 
--- it ends here, since the command of this line, in this place, was refused memory
+-- It ends here, since the command of this line, in this place, was refused memory: how much it had looked at by then isn't told, and it
+-- counts as all that a request may look at.
 abbrev pub wants_memory : MachineState → ℕ → List ℕ → Ran
-wants_memory m index line = record (ends m (ack index (want_of_memory (name_of_line line))) Answered) { refused_at = Some index }
+wants_memory m index line =
+    record (ends m max_looks (ack index (want_of_memory (name_of_line line))) Answered) { refused_at = Some index }
 
 -- a command that went well, before the rest of the request
 abbrev pub preceded : List ℕ → Subsystems → List Op → Ran → Ran
@@ -122,6 +127,7 @@ preceded text changes ops rest = record {
   ops = ops ++ rest.ops;
   ending = rest.ending;
   refused_at = rest.refused_at;
+  looks = rest.looks;
 }
 
 -- memory was refused at this command
@@ -138,13 +144,13 @@ separator true = list_ok
 abbrev pub follow : List ℕ → ℕ → (List Op → Spent) → MachineState → (Spent → MachineState → Ran) → Did → Ran
 follow separator index behind m rest (Goes x) =
     preceded (x.text ++ separator) (changed m x.after) x.ops (rest (behind x.ops) x.after)
-follow separator index behind m rest (Refuses refusal) = ends m (ack index refusal) Answered
-follow separator index behind m rest (Ends ending) = ends m [] ending
+follow separator index behind m rest (Refuses refusal) = ends m (behind []).looks (ack index refusal) Answered
+follow separator index behind m rest (Ends ending) = ends m (behind []).looks [] ending
 
 -- The commands from this index on, where those before have spent so much, and memory is refused at one command or at none.
 -- Each command that goes well adds its lines and the separator; the first that doesn't ends the request, and what ran before it stays.
 unfoldable pub ran : Place → List ℕ → Option ℕ → ℕ → Spent → List (List ℕ) → MachineState → Ran
-ran place separator refused index spent [] m = ends m ok Answered
+ran place separator refused index spent [] m = ends m spent.looks ok Answered
 ran place separator refused index spent (line ∷ lines) m =
     if is_refused_at refused index then wants_memory m index line
     else follow separator index (spent_behind place line m spent) m

@@ -13,14 +13,15 @@ use Rattle.daemon_core.specs.declared.outcome.Ending.TheVariants.{Answered, Clos
 use Rattle.daemon_core.specs.declared.outcome.Output.{Output}
 
 -- What an event does before clients that wait are told: the state, the answer of the event's own client, the clients
--- that are closed, the ops, the place of the command that was refused memory, if one was, whether the daemon ends, the client
--- that it connected, and the subsystems that it changed.
+-- that are closed, the ops, the place of the command that was refused memory, if one was, how much the commands of a request looked at,
+-- whether the daemon ends, the client that it connected, and the subsystems that it changed.
 pub record Acted : Type 0 where
   pub after : State
   pub answer : List Output
   pub closes : List ℕ
   pub ops : List Op
   pub refused_at : Option ℕ
+  pub looks : ℕ
   pub ended : Bool
   pub connected : Option ℕ
   pub changed : Subsystems
@@ -28,7 +29,7 @@ pub record Acted : Type 0 where
 -- an event that does nothing
 abbrev pub nothing : State → Acted
 nothing s =
-    record { after = s; answer = []; closes = []; ops = []; refused_at = None; ended = false; connected = None; changed = none }
+    record { after = s; answer = []; closes = []; ops = []; refused_at = None; looks = 0; ended = false; connected = None; changed = none }
 
 -- an event of the player or of a scan did this
 abbrev pub happened : State → Happening → Acted
@@ -50,7 +51,8 @@ numbers_of clients = map (λ w. w.client) clients
 
 -- a request did this, and nothing was said to its client
 abbrev pub ran_silently : State → Ran → Acted
-ran_silently s r = record (nothing (with_machine s r.after)) { ops = r.ops; refused_at = r.refused_at; changed = r.changed }
+ran_silently s r =
+    record (nothing (with_machine s r.after)) { ops = r.ops; refused_at = r.refused_at; looks = r.looks; changed = r.changed }
 
 -- What comes of a request of this client, by how it ended. A client that waits is answered where the changes are told.
 abbrev pub of_ran : ℕ → State → Ran → Ending → Acted

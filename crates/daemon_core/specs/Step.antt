@@ -88,6 +88,7 @@ pub record Stepped : Type 0 where
   pub closes : List ℕ
   pub ops : List Op
   pub refused_at : Option ℕ
+  pub looks : ℕ
   pub ended : Bool
   pub moment : Moment
 
@@ -102,6 +103,7 @@ settles a =
       closes = a.closes;
       ops = a.ops;
       refused_at = a.refused_at;
+      looks = a.looks;
       ended = a.ended;
       moment = record { connected = a.connected; changed = a.changed; reports = reports_of clients };
     }

@@ -43,6 +43,7 @@ stays s = record {
   closes = [];
   ops = [];
   refused_at = None;
+  looks = 0;
   ended = false;
   moment = record { connected = None; changed = none; reports = [] };
 }

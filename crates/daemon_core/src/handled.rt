@@ -28,6 +28,7 @@ impl Handled {
             closes,
             ops: Vec::new(alloc),
             refused_at: None,
+            looks: 0,
             ended: false,
         };
         Handled {
@@ -52,6 +53,7 @@ impl Handled {
             closes: Vec::new(alloc),
             ops,
             refused_at: None,
+            looks: 0,
             ended: false,
         };
         Handled { outcome, changed }

@@ -1,5 +1,5 @@
 //! Laws of the definitions, for the layers above: a call brings its clauses into their proofs.
-ghost use Rattle.std.specs.Prelude.{◌≡◌, ◌⊎◌, ◌∷◌, ℕ, List, [], Option, None, true, false, IfSome};
+ghost use Rattle.std.specs.Prelude.{◌≡◌, ◌⊎◌, ◌≤◌, ◌∷◌, ℕ, List, [], Option, None, true, false, IfSome};
 ghost use Rattle.std.specs.List.{AllByRecursion};
 ghost use Rattle.daemon_core.specs.Kill.{ends_daemon};
 ghost use Rattle.daemon_core.specs.Leaving.{missing, still_there, there, ClosesNoOther};
@@ -12,6 +12,7 @@ ghost use Rattle.daemon_core.specs.Step.{Stepped, step};
 ghost use Rattle.daemon_core.specs.Stray.{is_stray, stays};
 ghost use Rattle.daemon_core.specs.Unchanged.{LeavesSaved};
 ghost use Rattle.daemon_core.specs.declared.event.Event.{Event};
+ghost use Rattle.machine_core.specs.Looks.{max_looks};
 ghost use Rattle.machine_core.specs.Sound.{IsIn, AreOwn, IsWithinSong};
 ghost use Rattle.state_codec.specs.SavedState.{SavedState, IsSavedState};
 
@@ -34,6 +35,11 @@ pub fn refused_place_is_reached()
     ensures reached { (s : State) (event : Event) (refused : Option ℕ)
         → ((step s event refused).refused_at ≡ refused) ⊎ (step s event refused ≡ step s event None) }
     ensures none { (s : State) (event : Event) → (step s event None).refused_at ≡ None }
+{}
+
+/// No event looks at more than one request may.
+pub fn event_looks_within_the_limit()
+    ensures { (s : State) (event : Event) (refused : Option ℕ) → (step s event refused).looks ≤ max_looks }
 {}
 
 /// After any history no client waits for a subsystem that is pending for it: neither by what the state keeps nor by what happened.

@@ -51,6 +51,8 @@ pub struct Outcome {
     pub ops: Vec<Op>,
     /// The place, from 0, of the command at which memory was refused, if it was. The commands before it stand.
     pub refused_at: Option<u32>,
+    /// How much the commands of a request looked at, as docs/PROTOCOL.md counts it; all that a request may where memory was refused.
+    pub looks: u64,
     /// The daemon ends.
     pub ended: bool,
 }

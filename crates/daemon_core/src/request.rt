@@ -1,9 +1,9 @@
 // The commands of a request, one after the other, and how it ends.
-ghost use Rattle.std.specs.Prelude.{◌≡◌, ◌+◌, ◌<◌, ◌^◌, true, length, OnOk};
-ghost use Rattle.daemon_core.specs.Request.{stop_of_reading, RunsLine, RunsLines, AnswersStop};
+ghost use Rattle.std.specs.Prelude.{◌≡◌, ◌<◌, ◌^◌, true, length};
+ghost use Rattle.daemon_core.specs.Request.{stop_of_reading, looks_at_end, CountsLooks, RunsLine, RunsLines, AnswersStop};
 ghost use Rattle.daemon_core.specs.Run.{attempted, ending_of, looks_of_line, performed, separator, spent_of};
 ghost use Rattle.daemon_core.specs.Step.{is_noidle};
-ghost use Rattle.machine_core.specs.Looks.{looks_of};
+ghost use Rattle.machine_core.specs.Looks.{looked, looks_of};
 ghost use Rattle.machine_core.specs.Memory.{takes_memory};
 ghost use Rattle.machine_core.specs.Work.{AddsText, HasRoom, ack_room, command_room};
 
@@ -15,7 +15,7 @@ use command_text::{
     SettingsCommand, read_words,
 };
 use idle_masks::{ClientId, Subsystems};
-use machine_core::{Failure, Looks, Machine, Work};
+use machine_core::{Failure, Looks, MAX_LOOKS, Machine, Work};
 use no_memory::NoMemory;
 use std::alloc::Global;
 
@@ -49,6 +49,8 @@ pub struct RequestEnd {
     pub(crate) changed: Subsystems,
     // The place of the command at which memory was refused.
     pub(crate) refused_at: Option<u32>,
+    // How much its commands looked at.
+    pub(crate) looks: u64,
 }
 
 // Why a line that wasn't read stops its request.
@@ -90,6 +92,16 @@ fn answer_stop(index: u32, line: &[u8], stop: Stop, work: &mut Work) -> (Ending,
     }
     work.want_memory(index, line);
     (Ending::Answered, Some(index))
+}
+
+// How much a request looked at that ended at a command: all that it may where memory was refused.
+fn looks_at_end(refused_at: Option<u32>, looks: &Looks) -> u64
+    ensures { result ≡ looks_at_end refused_at looks.now }
+{
+    match refused_at {
+        Some(_) => MAX_LOOKS,
+        None => looks.taken(),
+    }
 }
 
 // Adds what stands behind each command of a list that asks for it.
@@ -198,6 +210,7 @@ impl CoreParts {
             ending,
             changed,
             refused_at,
+            looks,
         } = end;
         let Work { text, ops, .. } = work;
         match ending {
@@ -209,6 +222,7 @@ impl CoreParts {
                     closes: Vec::new(alloc),
                     ops,
                     refused_at,
+                    looks,
                     ended: false,
                 };
                 Handled { outcome, changed }
@@ -222,6 +236,7 @@ impl CoreParts {
                     closes,
                     ops,
                     refused_at,
+                    looks,
                     ended: false,
                 };
                 Handled { outcome, changed }
@@ -234,6 +249,7 @@ impl CoreParts {
                     closes,
                     ops,
                     refused_at,
+                    looks,
                     ended: true,
                 };
                 Handled { outcome, changed }
@@ -245,6 +261,7 @@ impl CoreParts {
                     closes: Vec::new(alloc),
                     ops,
                     refused_at,
+                    looks,
                     ended: false,
                 };
                 Handled { outcome, changed }
@@ -275,10 +292,12 @@ fn run_lines(
             Ok(set) => changed = changed.union(set),
             Err(stop) => {
                 let (ending, refused_at) = answer_stop(index, line, stop, work);
+                let looks = looks_at_end(refused_at, &looks);
                 return RequestEnd {
                     ending,
                     changed,
                     refused_at,
+                    looks,
                 };
             }
         }
@@ -290,6 +309,7 @@ fn run_lines(
         ending: Ending::Answered,
         changed,
         refused_at: None,
+        looks: looks.taken(),
     }
 }
 
@@ -306,7 +326,7 @@ fn run_line(
     requires { HasRoom ack_room work.old }
     ensures runs { RunsLine (separator separated) (attempted place (spent_of work.old.size looks.old) line.now machine.old)
         machine.old machine.new work.old work.new result }
-    ensures looks { OnOk result (looks.new ≡ looks.old + looks_of_line place line.now machine.old) }
+    ensures looks { CountsLooks (looked looks.old (looks_of_line place line.now machine.old)) looks.new result }
 {
     if work.make_room().is_err() {
         return Err(Stop::NoMemory);
@@ -333,7 +353,7 @@ fn run_command(
     requires { HasRoom command_room work.old }
     ensures ran { RunsLine (separator separated) (performed (spent_of work.old.size looks.old) command.entry machine.old)
         machine.old machine.new work.old work.new result }
-    ensures looks { OnOk result (looks.new ≡ looks.old + looks_of command.entry.command machine.old) }
+    ensures looks { looks.new ≡ looked looks.old (looks_of command.entry.command machine.old) }
     ensures memory { result ≡ Err Stop.NoMemory → takes_memory command.entry.command machine.old ≡ true }
 {
     let NamedCommand { name, command } = command;

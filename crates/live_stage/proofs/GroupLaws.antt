@@ -1,5 +1,5 @@
 -- A group, one event more at a time.
-use Rattle.std.proofs.Common.{◌≡◌, ◌≢◌, ◌⊎◌, inl, inr, ℕ, ◌+◌, ◌-◌, ◌^◌, ◌<◌, ◌≤◌, min, Bool, true, false, not, ◌&&◌, ◌||◌, List, [], ◌∷◌, ◌++◌}
+use Rattle.std.proofs.Common.{◌≡◌, ◌≢◌, ◌⊎◌, inl, inr, ℕ, ◌+◌, ◌-◌, ◌*◌, ◌^◌, ◌<◌, ◌≤◌, min, Bool, true, false, not, ◌&&◌, ◌||◌, List, [], ◌∷◌, ◌++◌}
 use Rattle.std.proofs.Common.{length, length-append, map, reverse, Option, Some, None, Result, Ok, Err, refl, sym, ap, subst, ◌∙◌}
 use Rattle.std.proofs.Common.{append_assoc, arith}
 use Rattle.std.specs.Prelude.{sum_by, nat_le, nat_lt, ◌==◌}
@@ -12,6 +12,7 @@ use Rattle.std.proofs.lemmas.List.Folds.{list_any-append}
 use Rattle.play_journal.specs.Content.{Content, present_layout, with_record, with_records}
 use Rattle.play_journal.specs.File.{records_len}
 use Rattle.play_journal.proofs.GroupLaws.{records_len-one, records_len-append, no_records}
+use Rattle.machine_core.specs.Looks.{max_looks}
 use Rattle.state_codec.specs.declared.op.Op.{Op}
 use Rattle.state_codec.specs.SavedState.{SavedState}
 use Rattle.state_codec.specs.Applied.{all_applied}
@@ -21,12 +22,13 @@ use Rattle.daemon_core.specs.declared.event.Event.{Event}
 use Rattle.daemon_core.specs.State.{State}
 use Rattle.daemon_core.specs.Step.{Stepped, step}
 use Rattle.daemon_core.specs.Replay.{Entry, stepped}
+use Rattle.daemon_core.proofs.LooksLaws.{step_within}
 use Rattle.live_stage.specs.declared.staging.Begin.{Begin}
 use Rattle.live_stage.specs.declared.refusal.LiveError.{LiveError}
 use Rattle.live_stage.specs.Answer.{Answer, IsNumbered}
 use Rattle.live_stage.specs.Found.{state_of}
-use Rattle.live_stage.specs.Group.{AreParted, BearTheirStates, TookEach, answer_bytes, are_last, asked_by, bodies_after, body_of, file_with}
-use Rattle.live_stage.specs.Group.{history_in, may_follow, most_answer_bytes, takes_more}
+use Rattle.live_stage.specs.Group.{AreParted, BearTheirStates, EndsThere, TookEach, answer_bytes, answer_looks, are_last, asked_by}
+use Rattle.live_stage.specs.Group.{bodies_after, body_of, file_with, group_file, history_in, may_follow, most_answer_bytes, most_looks, takes_more}
 use Rattle.live_stage.specs.LiveState.{LiveState}
 use Rattle.live_stage.specs.Numbers.{Numbers, FileNumbers, greatest, is_due, longest_record, most_bytes, most_records, next_numbers}
 use Rattle.live_stage.specs.Numbers.{record_bytes}
@@ -242,40 +244,50 @@ module _ (D : Type 0) (begin : Begin) (s : State) (turns : List Answer) (core : 
 counted_within : (n : ℕ) → nat_le (min n greatest) most_answer_bytes ≡ nat_le n most_answer_bytes
 counted_within n = grind (arith, nat_tests)
 
+looked_within : (n : ℕ) → nat_le (min n greatest) most_looks ≡ nat_le n most_looks
+looked_within n = grind (arith, nat_tests)
+
 -- what the code asks is whether another event may follow
-pub takes_as : (begin : Begin) (s : State) (turns : List Answer) (bodies : List (List ℕ)) (bytes : ℕ) (has_ended : Bool) → turns ≢ []
+pub takes_as : (begin : Begin) (s : State) (turns : List Answer) (bodies : List (List ℕ)) (bytes looks : ℕ) (has_ended : Bool) → turns ≢ []
     → bodies ≡ bodies_after s (history_in turns) → bytes ≡ min (sum_by answer_bytes turns) greatest
-    → has_ended ≡ list_any (λ a. a.ended) turns
-    → may_follow (file_with (file_begun begin) bodies) (numbers_staged begin (length turns) bodies) (records_len bodies) bytes has_ended
-    ≡ takes_more s (numbers_begun begin) (file_begun begin) turns
-takes_as begin s [] bodies bytes has_ended some is given ended = absurd (some refl)
-takes_as begin s (t ∷ turns) bodies bytes has_ended some is given ended =
+    → looks ≡ min (sum_by answer_looks turns) greatest → has_ended ≡ list_any (λ a. a.ended) turns
+    → may_follow (file_with (file_begun begin) bodies) (numbers_staged begin (length turns) bodies) (records_len bodies) bytes looks
+    has_ended ≡ takes_more s (numbers_begun begin) (file_begun begin) turns
+takes_as begin s [] bodies bytes looks has_ended some is given looked ended = absurd (some refl)
+takes_as begin s (t ∷ turns) bodies bytes looks has_ended some is given looked ended =
     let all : List Answer = t ∷ turns in
     let file = file_begun begin in
     let numbers = numbers_staged begin (length all) bodies in
     let within : nat_le bytes most_answer_bytes ≡ nat_le (sum_by answer_bytes all) most_answer_bytes =
     ap (λ (n : ℕ). nat_le n most_answer_bytes) given ∙ counted_within (sum_by answer_bytes all) in
+    let seen : nat_le looks most_looks ≡ nat_le (sum_by answer_looks all) most_looks =
+    ap (λ (n : ℕ). nat_le n most_looks) looked ∙ looked_within (sum_by answer_looks all) in
     let first : Bool = not (is_due (file_with file bodies)) && not (are_last numbers) && nat_le (records_len bodies) longest_record in
-    ap (λ (b : Bool). first && b && not has_ended) within
-    ∙ ap (λ (b : Bool). first && nat_le (sum_by answer_bytes all) most_answer_bytes && not b) ended
-    ∙ ap (λ (l : List (List ℕ)). may_follow (file_with file l) numbers (records_len l) (sum_by answer_bytes all) (list_any (λ a. a.ended) all)) is
+    ap (λ (b : Bool). first && b && nat_le looks most_looks && not has_ended) within
+    ∙ ap (λ (b : Bool). first && nat_le (sum_by answer_bytes all) most_answer_bytes && b && not has_ended) seen
+    ∙ ap (λ (b : Bool). first && nat_le (sum_by answer_bytes all) most_answer_bytes && nat_le (sum_by answer_looks all) most_looks && not b) ended
+    ∙ ap (λ (l : List (List ℕ)). may_follow (file_with file l) numbers (records_len l) (sum_by answer_bytes all) (sum_by answer_looks all)
+    (list_any (λ a. a.ended) all)) is
     ∙ ap (λ (n : Numbers). may_follow (file_with file (bodies_after s (history_in all))) n (records_len (bodies_after s (history_in all)))
-    (sum_by answer_bytes all) (list_any (λ a. a.ended) all)) (staged_are begin s all bodies is)
+    (sum_by answer_bytes all) (sum_by answer_looks all) (list_any (λ a. a.ended) all)) (staged_are begin s all bodies is)
 
 -- what may follow says
-pub record MayFollow (file : FileNumbers) (numbers : Numbers) (bytes : ℕ) (has_ended : Bool) : Type 0 where
+pub record MayFollow (file : FileNumbers) (numbers : Numbers) (bytes looks : ℕ) (has_ended : Bool) : Type 0 where
   pub undue : is_due file ≡ false
   pub event : numbers.event ≢ greatest
   pub last : numbers.last_record ≢ greatest
   pub short : bytes ≤ longest_record
+  pub within : looks ≤ most_looks
   pub on : has_ended ≡ false
 
-pub may_follow_says : (file : FileNumbers) (numbers : Numbers) (bytes given : ℕ) (has_ended : Bool)
-    → may_follow file numbers bytes given has_ended ≡ true → MayFollow file numbers bytes has_ended
-may_follow_says file numbers bytes given has_ended may =
-    let ended = and_parts (not (is_due file) && not (are_last numbers) && nat_le bytes longest_record && nat_le given most_answer_bytes)
-    (not has_ended) may in
-    let within = and_parts (not (is_due file) && not (are_last numbers) && nat_le bytes longest_record) (nat_le given most_answer_bytes) ended.0 in
+pub may_follow_says : (file : FileNumbers) (numbers : Numbers) (bytes given looks : ℕ) (has_ended : Bool)
+    → may_follow file numbers bytes given looks has_ended ≡ true → MayFollow file numbers bytes looks has_ended
+may_follow_says file numbers bytes given looks has_ended may =
+    let ended = and_parts (not (is_due file) && not (are_last numbers) && nat_le bytes longest_record && nat_le given most_answer_bytes
+    && nat_le looks most_looks) (not has_ended) may in
+    let looked = and_parts (not (is_due file) && not (are_last numbers) && nat_le bytes longest_record && nat_le given most_answer_bytes)
+    (nat_le looks most_looks) ended.0 in
+    let within = and_parts (not (is_due file) && not (are_last numbers) && nat_le bytes longest_record) (nat_le given most_answer_bytes) looked.0 in
     let short = and_parts (not (is_due file) && not (are_last numbers)) (nat_le bytes longest_record) within.0 in
     let last = and_parts (not (is_due file)) (not (are_last numbers)) short.0 in
     let numbers_are = or_parts (numbers.event == greatest) (numbers.last_record == greatest) (not-true (are_last numbers) last.1) in
@@ -284,5 +296,39 @@ may_follow_says file numbers bytes given has_ended may =
       event = eqb-false numbers.event greatest numbers_are.0;
       last = eqb-false numbers.last_record greatest numbers_are.1;
       short = leb-true bytes longest_record short.1;
+      within = leb-true looks most_looks looked.1;
       on = not-true has_ended ended.1;
     }
+
+-- ---- what a group looks at
+
+-- behind answers on which another event is taken a group has looked at no more than one request may
+front_looks : (s : State) (first : Numbers) (file : FileNumbers) (front : List Answer) → takes_more s first file front ≡ true
+    → sum_by answer_looks front ≤ max_looks
+front_looks s first file [] takes = omega arith
+front_looks s first file (t ∷ turns) takes =
+    let all : List Answer = t ∷ turns in
+    let whole = history_in all in
+    let bodies = bodies_after s whole in
+    let says = may_follow_says (file_with file bodies) (numbers_after s first whole) (records_len bodies) (sum_by answer_bytes all)
+    (sum_by answer_looks all) (list_any (λ a. a.ended) all) takes in
+    says.within
+
+took_looks : (s : State) (first : Numbers) (file : FileNumbers) (before turns : List Answer)
+    → TookEach (takes_more s first file) before turns → sum_by answer_looks before ≤ 2 * max_looks
+    → sum_by answer_looks (before ++ turns) ≤ 2 * max_looks
+took_looks s first file before [] took within = subst (λ (l : List Answer). sum_by answer_looks l ≤ 2 * max_looks) (sym (append-nil before)) within
+took_looks s first file before (t ∷ turns) took within =
+    subst (λ (l : List Answer). sum_by answer_looks l ≤ 2 * max_looks) (append_assoc before (t ∷ []) turns)
+    (took_looks s first file (before ++ t ∷ []) turns took.1
+    (omega (
+      arith,
+      front_looks s first file before took.0,
+      step_within t.before t.asked t.refused_at,
+      sum_by-append answer_looks before (t ∷ []),
+    )))
+
+pub looks_within : {D : Type 0} (old : LiveState D) (events : List Event) (turns : List Answer) (is_refused : Bool) (rest : List Event)
+    → EndsThere old events turns is_refused rest → sum_by answer_looks turns ≤ 2 * max_looks
+looks_within old events turns is_refused rest ends =
+    took_looks old.state old.numbers (group_file old turns) [] turns ends.took (omega arith)

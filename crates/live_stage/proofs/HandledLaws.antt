@@ -16,9 +16,9 @@ use Rattle.live_stage.specs.declared.refusal.LiveError.TheVariants.{Broken, NoMe
 use Rattle.live_stage.specs.declared.staging.Begin.{Begin}
 use Rattle.live_stage.specs.Answer.{Answer}
 use Rattle.live_stage.specs.Found.{AllFindNow, AllFindSince, state_of}
-use Rattle.live_stage.specs.Group.{AreParted, EndsThere, IsGroup, IsNoneOrAll, IsOfFront, RefusesFront, answer_bytes, are_last, asked_by}
-use Rattle.live_stage.specs.Group.{bodies_after, events_in, file_with, goes_without, group_file, group_takes, history_in, may_follow}
-use Rattle.live_stage.specs.Group.{most_answer_bytes, takes_more}
+use Rattle.live_stage.specs.Group.{AreParted, EndsThere, IsGroup, IsNoneOrAll, IsOfFront, RefusesFront, answer_bytes, answer_looks, are_last}
+use Rattle.live_stage.specs.Group.{asked_by, bodies_after, events_in, file_with, goes_without, group_file, group_takes, history_in, may_follow}
+use Rattle.live_stage.specs.Group.{most_answer_bytes, most_looks, takes_more}
 use Rattle.live_stage.specs.LiveState.{LiveState}
 use Rattle.live_stage.specs.Numbers.{FileNumbers, Numbers, is_due, longest_record}
 use Rattle.live_stage.specs.Staging.{AreStaged, AreTaken, IsGroupHandled, KeepsToBounds, begin_of, file_begun, numbers_begun}
@@ -40,7 +40,8 @@ takes_any s first file g (t ∷ turns) =
     let all : List Answer = t ∷ turns in
     let bodies = bodies_after s (history_in all) in
     ap (λ (b : Bool). not b && not (are_last (numbers_after s first (history_in all))) && nat_le (records_len bodies) longest_record
-    && nat_le (sum_by answer_bytes all) most_answer_bytes && not (list_any (λ a. a.ended) all)) (due_same file g bodies)
+    && nat_le (sum_by answer_bytes all) most_answer_bytes && nat_le (sum_by answer_looks all) most_looks
+    && not (list_any (λ a. a.ended) all)) (due_same file g bodies)
 
 bounds_same : (file : FileNumbers) (g : ℕ) (bodies : List (List ℕ)) → KeepsToBounds (file_with (record file { generation = g }) bodies)
     → KeepsToBounds (file_with file bodies)

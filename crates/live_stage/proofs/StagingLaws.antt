@@ -15,8 +15,8 @@ use Rattle.daemon_core.specs.State.{State}
 use Rattle.daemon_core.specs.Step.{Stepped, step}
 use Rattle.live_stage.specs.declared.staging.Begin.{Begin}
 use Rattle.live_stage.specs.Answer.{Answer}
-use Rattle.live_stage.specs.Group.{AreParted, TookEach, answer_bytes, asked_by, bodies_after, body_of, file_with, history_in, may_follow}
-use Rattle.live_stage.specs.Group.{takes_more}
+use Rattle.live_stage.specs.Group.{AreParted, TookEach, answer_bytes, answer_looks, asked_by, bodies_after, body_of, file_with, history_in}
+use Rattle.live_stage.specs.Group.{may_follow, takes_more}
 use Rattle.live_stage.specs.Numbers.{FileNumbers, greatest, is_due, longest_record, most_bytes, most_records, record_bytes}
 use Rattle.live_stage.specs.Staging.{AddsStep, AreStaged, AreTaken, IsAnswerOf, KeepsToBounds, file_begun, numbers_begun, numbers_staged}
 use Rattle.live_stage.proofs.GroupLaws.{MayFollow, asked_on, body_bytes, body_few, due_stays, file_bytes, file_records, file_snapshot}
@@ -36,13 +36,14 @@ given_both counts counted adds added is also = omega (arith, is, also)
 
 -- ---- a group so far
 
--- Events were taken and staged; these are left, the first one last, and another may follow where the last two say so.
+-- Events were taken and staged; these are left, the first one last, and another may follow where the last three say so.
 pub record IsStagedTo (D : Type 0) (begin : Begin) (s : State) (events : List Event) (turns : List Answer) (core : State)
-    (bodies : List (List ℕ)) (left : List Event) (bytes : ℕ) (has_ended : Bool) : Type 0 where
+    (bodies : List (List ℕ)) (left : List Event) (bytes looks : ℕ) (has_ended : Bool) : Type 0 where
   pub staged : AreStaged D begin s turns core bodies
   pub parted : events ≡ asked_by turns ++ reverse left
   pub took : TookEach (takes_more s (numbers_begun begin) (file_begun begin)) [] turns
   pub given : bytes ≡ min (sum_by answer_bytes turns) greatest
+  pub looked : looks ≡ min (sum_by answer_looks turns) greatest
   pub ended : has_ended ≡ list_any (λ a. a.ended) turns
   pub alone : begin.is_overdue ≡ true → length turns ≤ 1
   pub bounded : begin.is_overdue ≡ false → KeepsToBounds (file_with (file_begun begin) bodies)
@@ -91,12 +92,13 @@ begins_with begin numbers due =
     record { event = numbers.0; last = numbers.1; bytes = omega (arith, fits); due = due }
 
 none_of_all : (D : Type 0) (begin : Begin) (s : State) (events left : List Event) → BeginsWell begin → events ≡ reverse left
-    → IsStagedTo D begin s events [] s [] left 0 false
+    → IsStagedTo D begin s events [] s [] left 0 0 false
 none_of_all D begin s events left well is = record {
   staged = none_staged D begin s;
   parted = is;
   took = tt;
   given = omega arith;
+  looked = omega arith;
   ended = refl;
   alone = λ overdue. omega arith;
   bounded = λ not_overdue. undue_bounded (file_begun begin) (well.due ∙ not_overdue);
@@ -105,10 +107,10 @@ none_of_all D begin s events left well is = record {
 }
 
 pub none_yet : (D : Type 0) (begin : Begin) (s : State) (left : List Event) (turns : List Answer) (bodies : List (List ℕ))
-    → BeginsWell begin → turns ≡ [] → bodies ≡ [] → IsStagedTo D begin s (reverse left) turns s bodies left 0 false
+    → BeginsWell begin → turns ≡ [] → bodies ≡ [] → IsStagedTo D begin s (reverse left) turns s bodies left 0 0 false
 none_yet D begin s left turns bodies well none no_bodies =
-    subst (λ (l : List Answer). IsStagedTo D begin s (reverse left) l s bodies left 0 false) (sym none)
-    (subst (λ (l : List (List ℕ)). IsStagedTo D begin s (reverse left) [] s l left 0 false) (sym no_bodies)
+    subst (λ (l : List Answer). IsStagedTo D begin s (reverse left) l s bodies left 0 0 false) (sym none)
+    (subst (λ (l : List (List ℕ)). IsStagedTo D begin s (reverse left) [] s l left 0 0 false) (sym no_bodies)
     (none_of_all D begin s (reverse left) left well refl))
 
 -- what it takes that another event is taken
@@ -124,10 +126,10 @@ both_ways : {A : Type 0} (b : Bool) → b ≡ true → b ≡ false → A
 both_ways b is is_not = absurd cc
 
 place : (D : Type 0) (begin : Begin) (s : State) (events : List Event) (turns : List Answer) (core : State) (bodies : List (List ℕ))
-    (left : List Event) (bytes : ℕ) (has_ended : Bool) → BeginsWell begin
-    → IsStagedTo D begin s events turns core bodies left bytes has_ended
+    (left : List Event) (bytes looks : ℕ) (has_ended : Bool) → BeginsWell begin
+    → IsStagedTo D begin s events turns core bodies left bytes looks has_ended
     → takes_more s (numbers_begun begin) (file_begun begin) turns ≡ true → HasPlace begin turns bodies has_ended
-place D begin s events [] core bodies left bytes has_ended well so_far takes =
+place D begin s events [] core bodies left bytes looks has_ended well so_far takes =
     let none : bodies ≡ [] = so_far.staged.records in
     record {
       undue = λ is. ap (λ (l : List (List ℕ)). is_due (file_with (file_begun begin) l)) none ∙ well.due ∙ is;
@@ -137,10 +139,10 @@ place D begin s events [] core bodies left bytes has_ended well so_far takes =
       short = omega (arith, ap records_len none);
       on = so_far.ended;
     }
-place D begin s events (t ∷ turns) core bodies left bytes has_ended well so_far takes =
+place D begin s events (t ∷ turns) core bodies left bytes looks has_ended well so_far takes =
     let all : List Answer = t ∷ turns in
     let says = may_follow_says (file_with (file_begun begin) bodies) (numbers_staged begin (length all) bodies) (records_len bodies) bytes
-    has_ended (takes_as begin s all bodies bytes has_ended (λ none. cc) so_far.staged.records so_far.given so_far.ended ∙ takes) in
+    looks has_ended (takes_as begin s all bodies bytes looks has_ended (λ none. cc) so_far.staged.records so_far.given so_far.looked so_far.ended ∙ takes) in
     let event = says.event in
     let last = says.last in
     record {
@@ -154,60 +156,60 @@ place D begin s events (t ∷ turns) core bodies left bytes has_ended well so_fa
     }
 
 -- what the code asks before an event
-pub record IsAsked (begin : Begin) (turns : List Answer) (bodies : List (List ℕ)) (bytes : ℕ) (has_ended says : Bool) : Type 0 where
+pub record IsAsked (begin : Begin) (turns : List Answer) (bodies : List (List ℕ)) (bytes looks : ℕ) (has_ended says : Bool) : Type 0 where
   pub many : ℕ
   pub count : many ≡ length turns
   pub is : says ≡ (many == 0 || may_follow (file_with (file_begun begin) bodies) (numbers_staged begin many bodies) (records_len bodies)
-      bytes has_ended)
+      bytes looks has_ended)
 
-pub asked_is : (begin : Begin) (turns : List Answer) (bodies : List (List ℕ)) (bytes : ℕ) (has_ended says : Bool) (many : ℕ)
+pub asked_is : (begin : Begin) (turns : List Answer) (bodies : List (List ℕ)) (bytes looks : ℕ) (has_ended says : Bool) (many : ℕ)
     → many ≡ length turns
     → says ≡ (many == 0 || may_follow (file_with (file_begun begin) bodies) (numbers_staged begin many bodies) (records_len bodies) bytes
-    has_ended)
-    → IsAsked begin turns bodies bytes has_ended says
-asked_is begin turns bodies bytes has_ended says many count is = record { many = many; count = count; is = is }
+    looks has_ended)
+    → IsAsked begin turns bodies bytes looks has_ended says
+asked_is begin turns bodies bytes looks has_ended says many count is = record { many = many; count = count; is = is }
 
 -- the same of the number of the answers
-asked_of_all : (begin : Begin) (turns : List Answer) (bodies : List (List ℕ)) (bytes : ℕ) (has_ended says : Bool)
-    → IsAsked begin turns bodies bytes has_ended says
+asked_of_all : (begin : Begin) (turns : List Answer) (bodies : List (List ℕ)) (bytes looks : ℕ) (has_ended says : Bool)
+    → IsAsked begin turns bodies bytes looks has_ended says
     → says ≡ (length turns == 0 || may_follow (file_with (file_begun begin) bodies) (numbers_staged begin (length turns) bodies)
-    (records_len bodies) bytes has_ended)
-asked_of_all begin turns bodies bytes has_ended says asked = asked.is ∙ ap (λ (n : ℕ). n == 0 || may_follow (file_with (file_begun begin) bodies)
-    (numbers_staged begin n bodies) (records_len bodies) bytes has_ended) asked.count
+    (records_len bodies) bytes looks has_ended)
+asked_of_all begin turns bodies bytes looks has_ended says asked = asked.is ∙ ap (λ (n : ℕ). n == 0 || may_follow (file_with (file_begun begin) bodies)
+    (numbers_staged begin n bodies) (records_len bodies) bytes looks has_ended) asked.count
 
 pub takes_so : (D : Type 0) (begin : Begin) (s : State) (events : List Event) (turns : List Answer) (core : State) (bodies : List (List ℕ))
-    (left : List Event) (bytes : ℕ) (has_ended : Bool) → IsStagedTo D begin s events turns core bodies left bytes has_ended
-    → (says : Bool) → IsAsked begin turns bodies bytes has_ended says → says ≡ true
+    (left : List Event) (bytes looks : ℕ) (has_ended : Bool) → IsStagedTo D begin s events turns core bodies left bytes looks has_ended
+    → (says : Bool) → IsAsked begin turns bodies bytes looks has_ended says → says ≡ true
     → takes_more s (numbers_begun begin) (file_begun begin) turns ≡ true
-takes_so D begin s events [] core bodies left bytes has_ended so_far says asked holds = refl
-takes_so D begin s events (t ∷ turns) core bodies left bytes has_ended so_far says asked holds =
+takes_so D begin s events [] core bodies left bytes looks has_ended so_far says asked holds = refl
+takes_so D begin s events (t ∷ turns) core bodies left bytes looks has_ended so_far says asked holds =
     let all : List Answer = t ∷ turns in
     let may : Bool = may_follow (file_with (file_begun begin) bodies) (numbers_staged begin (length all) bodies) (records_len bodies) bytes
-    has_ended in
-    elim (or_cases (length all == 0) may (sym (asked_of_all begin all bodies bytes has_ended says asked) ∙ holds)) [
+    looks has_ended in
+    elim (or_cases (length all == 0) may (sym (asked_of_all begin all bodies bytes looks has_ended says asked) ∙ holds)) [
       | inl none ↦ absurd (omega (arith, eqb-true (length all) 0 none))
-      | inr follows ↦ sym (takes_as begin s all bodies bytes has_ended (λ none. cc) so_far.staged.records so_far.given so_far.ended) ∙ follows
+      | inr follows ↦ sym (takes_as begin s all bodies bytes looks has_ended (λ none. cc) so_far.staged.records so_far.given so_far.looked so_far.ended) ∙ follows
     ]
 
 pub stops_so : (D : Type 0) (begin : Begin) (s : State) (events : List Event) (turns : List Answer) (core : State) (bodies : List (List ℕ))
-    (left : List Event) (bytes : ℕ) (has_ended : Bool) → IsStagedTo D begin s events turns core bodies left bytes has_ended
-    → (says : Bool) → IsAsked begin turns bodies bytes has_ended says → says ≡ false
+    (left : List Event) (bytes looks : ℕ) (has_ended : Bool) → IsStagedTo D begin s events turns core bodies left bytes looks has_ended
+    → (says : Bool) → IsAsked begin turns bodies bytes looks has_ended says → says ≡ false
     → takes_more s (numbers_begun begin) (file_begun begin) turns ≡ false
-stops_so D begin s events turns core bodies left bytes has_ended so_far says asked fails =
+stops_so D begin s events turns core bodies left bytes looks has_ended so_far says asked fails =
     let may : Bool = may_follow (file_with (file_begun begin) bodies) (numbers_staged begin (length turns) bodies) (records_len bodies) bytes
-    has_ended in
-    let neither = or_parts (length turns == 0) may (sym (asked_of_all begin turns bodies bytes has_ended says asked) ∙ fails) in
-    sym (takes_as begin s turns bodies bytes has_ended (λ none. eqb-false (length turns) 0 neither.0 (ap (λ (l : List Answer). length l) none))
-    so_far.staged.records so_far.given so_far.ended) ∙ neither.1
+    looks has_ended in
+    let neither = or_parts (length turns == 0) may (sym (asked_of_all begin turns bodies bytes looks has_ended says asked) ∙ fails) in
+    sym (takes_as begin s turns bodies bytes looks has_ended (λ none. eqb-false (length turns) 0 neither.0 (ap (λ (l : List Answer). length l) none))
+    so_far.staged.records so_far.given so_far.looked so_far.ended) ∙ neither.1
 
 pub place_for : (D : Type 0) (begin : Begin) (s : State) (events : List Event) (turns : List Answer) (core : State) (bodies : List (List ℕ))
-    (left : List Event) (bytes : ℕ) (has_ended : Bool) → BeginsWell begin
-    → IsStagedTo D begin s events turns core bodies left bytes has_ended
-    → (says : Bool) → IsAsked begin turns bodies bytes has_ended says → says ≡ true
+    (left : List Event) (bytes looks : ℕ) (has_ended : Bool) → BeginsWell begin
+    → IsStagedTo D begin s events turns core bodies left bytes looks has_ended
+    → (says : Bool) → IsAsked begin turns bodies bytes looks has_ended says → says ≡ true
     → HasPlace begin turns bodies has_ended
-place_for D begin s events turns core bodies left bytes has_ended well so_far says asked holds =
-    place D begin s events turns core bodies left bytes has_ended well so_far
-    (takes_so D begin s events turns core bodies left bytes has_ended so_far says asked holds)
+place_for D begin s events turns core bodies left bytes looks has_ended well so_far says asked holds =
+    place D begin s events turns core bodies left bytes looks has_ended well so_far
+    (takes_so D begin s events turns core bodies left bytes looks has_ended so_far says asked holds)
 
 or_none : (b : Bool) → (false || (b || false)) ≡ b
 or_none true = refl
@@ -224,18 +226,19 @@ left_on events turns left less event t asked is parted =
     ∙ ap (λ (l : List Event). l ++ reverse less) (sym (asked_on turns t))
 
 pub stage_on : (D : Type 0) (begin : Begin) (s : State) (events : List Event) (turns : List Answer) (core : State) (bodies : List (List ℕ))
-    (left : List Event) (bytes : ℕ) (has_ended : Bool) → BeginsWell begin
-    → IsStagedTo D begin s events turns core bodies left bytes has_ended
-    → (says : Bool) → IsAsked begin turns bodies bytes has_ended says → says ≡ true
-    → (less : List Event) (event : Event) (t : Answer) (after : State) (more : List (List ℕ)) (given : ℕ) → left ≡ less ++ event ∷ []
+    (left : List Event) (bytes looks : ℕ) (has_ended : Bool) → BeginsWell begin
+    → IsStagedTo D begin s events turns core bodies left bytes looks has_ended
+    → (says : Bool) → IsAsked begin turns bodies bytes looks has_ended says → says ≡ true
+    → (less : List Event) (event : Event) (t : Answer) (after : State) (more : List (List ℕ)) (given looked : ℕ) → left ≡ less ++ event ∷ []
     → (let now = step core event t.refused_at in
     IsAnswerOf now (numbers_staged begin (length turns) bodies) begin.is_overdue core event t)
     → (let now = step core event t.refused_at in AddsStep now core after bodies more) → given ≡ min (bytes + min (answer_bytes t) greatest) greatest
-    → IsStagedTo D begin s events (turns ++ t ∷ []) after more less given t.ended
-stage_on D begin s events turns core bodies left bytes has_ended well so_far says asked holds less event t after more given is answer added
-    gives =
-    let takes = takes_so D begin s events turns core bodies left bytes has_ended so_far says asked holds in
-    let free = place D begin s events turns core bodies left bytes has_ended well so_far takes in
+    → looked ≡ min (looks + answer_looks t) greatest
+    → IsStagedTo D begin s events (turns ++ t ∷ []) after more less given looked t.ended
+stage_on D begin s events turns core bodies left bytes looks has_ended well so_far says asked holds less event t after more given looked is
+    answer added gives looks_at =
+    let takes = takes_so D begin s events turns core bodies left bytes looks has_ended so_far says asked holds in
+    let free = place D begin s events turns core bodies left bytes looks has_ended well so_far takes in
     let made : Stepped = step core event t.refused_at in
     let file = file_begun begin in
     record {
@@ -244,6 +247,8 @@ stage_on D begin s events turns core bodies left bytes has_ended well so_far say
       took = took_on (takes_more s (numbers_begun begin) file) [] turns t so_far.took takes;
       given = gives ∙ given_both bytes (sum_by answer_bytes turns) (min (answer_bytes t) greatest) (answer_bytes t) so_far.given refl
           ∙ ap (λ (n : ℕ). min n greatest) (omega (arith, sum_by-append answer_bytes turns (t ∷ [])));
+      looked = looks_at ∙ given_more looks (sum_by answer_looks turns) (answer_looks t) so_far.looked
+          ∙ ap (λ (n : ℕ). min n greatest) (omega (arith, sum_by-append answer_looks turns (t ∷ [])));
       ended = sym (list_any-append (λ (a : Answer). a.ended) turns (t ∷ [])
           ∙ ap (λ (b : Bool). b || (t.ended || false)) (sym so_far.ended ∙ free.on) ∙ or_none t.ended);
       alone = λ overdue. omega (arith, length-append turns (t ∷ []), ap (λ (l : List Answer). length l) (free.first overdue));
@@ -263,9 +268,9 @@ stage_on D begin s events turns core bodies left bytes has_ended well so_far say
 
 -- no event is left
 pub ends_empty : (D : Type 0) (begin : Begin) (s : State) (events : List Event) (turns : List Answer) (core : State) (bodies : List (List ℕ))
-    (left : List Event) (bytes : ℕ) (has_ended : Bool) → IsStagedTo D begin s events turns core bodies left bytes has_ended → left ≡ []
+    (left : List Event) (bytes looks : ℕ) (has_ended : Bool) → IsStagedTo D begin s events turns core bodies left bytes looks has_ended → left ≡ []
     → AreTaken begin s events turns false (reverse left) bodies
-ends_empty D begin s events turns core bodies left bytes has_ended so_far none = record {
+ends_empty D begin s events turns core bodies left bytes looks has_ended so_far none = record {
   parted = so_far.parted;
   took = so_far.took;
   refused = λ is. absurd cc;
@@ -278,14 +283,14 @@ ends_empty D begin s events turns core bodies left bytes has_ended so_far none =
 
 -- no other event may follow
 pub ends_full : (D : Type 0) (begin : Begin) (s : State) (events : List Event) (turns : List Answer) (core : State) (bodies : List (List ℕ))
-    (left : List Event) (bytes : ℕ) (has_ended : Bool) → IsStagedTo D begin s events turns core bodies left bytes has_ended
-    → (says : Bool) → IsAsked begin turns bodies bytes has_ended says → says ≡ false
+    (left : List Event) (bytes looks : ℕ) (has_ended : Bool) → IsStagedTo D begin s events turns core bodies left bytes looks has_ended
+    → (says : Bool) → IsAsked begin turns bodies bytes looks has_ended says → says ≡ false
     → AreTaken begin s events turns false (reverse left) bodies
-ends_full D begin s events turns core bodies left bytes has_ended so_far says asked fails = record {
+ends_full D begin s events turns core bodies left bytes looks has_ended so_far says asked fails = record {
   parted = so_far.parted;
   took = so_far.took;
   refused = λ is. absurd cc;
-  full = λ is rest. stops_so D begin s events turns core bodies left bytes has_ended so_far says asked fails;
+  full = λ is rest. stops_so D begin s events turns core bodies left bytes looks has_ended so_far says asked fails;
   alone = so_far.alone;
   bounded = so_far.bounded;
   counted = so_far.counted;
@@ -294,18 +299,18 @@ ends_full D begin s events turns core bodies left bytes has_ended so_far says as
 
 -- an event found no memory
 pub ends_refused : (D : Type 0) (begin : Begin) (s : State) (events : List Event) (turns : List Answer) (core : State)
-    (bodies : List (List ℕ)) (left : List Event) (bytes : ℕ) (has_ended : Bool)
-    → IsStagedTo D begin s events turns core bodies left bytes has_ended
-    → (says : Bool) → IsAsked begin turns bodies bytes has_ended says → says ≡ true
+    (bodies : List (List ℕ)) (left : List Event) (bytes looks : ℕ) (has_ended : Bool)
+    → IsStagedTo D begin s events turns core bodies left bytes looks has_ended
+    → (says : Bool) → IsAsked begin turns bodies bytes looks has_ended says → says ≡ true
     → (less : List Event) (event : Event) → left ≡ less ++ event ∷ [] → AreTaken begin s events turns true (reverse less) bodies
-ends_refused D begin s events turns core bodies left bytes has_ended so_far says asked holds less event is = record {
+ends_refused D begin s events turns core bodies left bytes looks has_ended so_far says asked holds less event is = record {
   parted = (
     event,
     so_far.parted ∙ ap (λ (l : List Event). asked_by turns ++ reverse l) is
         ∙ ap (λ (l : List Event). asked_by turns ++ l) (reverse-append less (event ∷ [])),
   );
   took = so_far.took;
-  refused = λ is_so. takes_so D begin s events turns core bodies left bytes has_ended so_far says asked holds;
+  refused = λ is_so. takes_so D begin s events turns core bodies left bytes looks has_ended so_far says asked holds;
   full = λ is_not. absurd cc;
   alone = so_far.alone;
   bounded = so_far.bounded;

@@ -9,9 +9,11 @@ use Rattle.play_journal.specs.File.{records_len}
 use Rattle.state_codec.specs.declared.op.Op.{Op}
 use Rattle.state_codec.specs.SavedState.{SavedState}
 use Rattle.state_codec.specs.Spelling.{ops_bytes}
+use Rattle.machine_core.specs.Looks.{max_looks}
 use Rattle.daemon_core.specs.declared.event.Event.{Event}
 use Rattle.daemon_core.specs.State.{State}
 use Rattle.daemon_core.specs.Replay.{Entry, stepped}
+use Rattle.daemon_core.specs.Step.{step}
 use Rattle.live_stage.specs.declared.turns.RefusedTurns.{RefusedTurns}
 use Rattle.live_stage.specs.declared.refusal.LiveError.{LiveError}
 use Rattle.live_stage.specs.declared.refusal.LiveError.TheVariants.{Broken}
@@ -71,15 +73,25 @@ most_answer_bytes = 1048576
 abbrev pub answer_bytes : Answer → ℕ
 answer_bytes t = sum_by (λ o. length o.bytes) t.outputs
 
+-- The most that the events of a group look at behind which another event is taken: as much as one request may. So a group looks at twice as
+-- much at most, and one of 64 cheap requests doesn't come to it.
+abbrev pub most_looks : ℕ
+most_looks = max_looks
+
+-- how much the event of an answer looked at, in the state before it
+abbrev pub answer_looks : Answer → ℕ
+answer_looks t = let now = step t.before t.asked t.refused_at in now.looks
+
 -- whether the last event or the last record has the greatest number
 abbrev pub are_last : Numbers → Bool
 are_last numbers = numbers.event == greatest || numbers.last_record == greatest
 
 -- Whether another event is taken where a group has come to these numbers of a file and of the stage, its records take so many bytes, its
--- answers give out so many, and one of them ended the daemon or none.
-abbrev pub may_follow : FileNumbers → Numbers → ℕ → ℕ → Bool → Bool
-may_follow file numbers bytes given_out has_ended =
-    not (is_due file) && not (are_last numbers) && nat_le bytes longest_record && nat_le given_out most_answer_bytes && not has_ended
+-- answers give out so many, its events looked at so much, and one of them ended the daemon or none.
+abbrev pub may_follow : FileNumbers → Numbers → ℕ → ℕ → ℕ → Bool → Bool
+may_follow file numbers bytes given_out looks has_ended =
+    not (is_due file) && not (are_last numbers) && nat_le bytes longest_record && nat_le given_out most_answer_bytes
+    && nat_le looks most_looks && not has_ended
 
 -- The first event of a group is taken, and another behind these answers if it may follow on them, where the group began with this state,
 -- these numbers and this file.
@@ -89,7 +101,7 @@ takes_more s first file (t ∷ turns) =
     let whole = history_in (t ∷ turns) in
     let bodies = bodies_after s whole in
     may_follow (file_with file bodies) (numbers_after s first whole) (records_len bodies) (sum_by answer_bytes (t ∷ turns))
-    (list_any (λ a. a.ended) (t ∷ turns))
+    (sum_by answer_looks (t ∷ turns)) (list_any (λ a. a.ended) (t ∷ turns))
 
 -- Behind each front of these answers another event was taken, and so it might be. So many went before.
 abbrev pub TookEach : (List Answer → Bool) → List Answer → List Answer → Type 0

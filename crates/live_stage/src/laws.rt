@@ -1,11 +1,13 @@
 //! Laws of the definitions, for the layers above: a call brings its clauses into their proofs.
-ghost use Rattle.std.specs.Prelude.{◌≡◌, List, [], ◌∷◌};
+ghost use Rattle.std.specs.Prelude.{◌≡◌, ◌≤◌, ◌*◌, Bool, List, [], ◌∷◌, sum_by};
 ghost use Rattle.daemon_core.specs.Replay.{Entry, replay};
 ghost use Rattle.daemon_core.specs.State.{start};
+ghost use Rattle.daemon_core.specs.declared.event.Event.{Event};
 ghost use Rattle.live_stage.specs.Answer.{Answer, IsTurn};
-ghost use Rattle.live_stage.specs.Group.{IsGroup};
+ghost use Rattle.live_stage.specs.Group.{EndsThere, IsGroup, answer_looks};
 ghost use Rattle.live_stage.specs.LiveState.{LiveState};
 ghost use Rattle.live_stage.specs.Transcript.{replayed};
+ghost use Rattle.machine_core.specs.Looks.{max_looks};
 ghost use Rattle.state_codec.specs.SavedState.{SavedState};
 
 use disk_model::Disk;
@@ -19,4 +21,10 @@ pub fn run_from_the_start_is_the_replay()
 /// A group that gives one answer is a turn.
 pub fn group_of_one_is_a_turn<D: Disk>()
     ensures { (old new : LiveState D) (t : Answer) → IsGroup old (t ∷ []) new → IsTurn old t.asked t new }
+{}
+
+/// The events of a group look at twice as much as one request may, at most.
+pub fn group_looks_at_most_twice<D: Disk>()
+    ensures { (old : LiveState D) (events : List Event) (turns : List Answer) (is_refused : Bool) (rest : List Event)
+        → EndsThere old events turns is_refused rest → sum_by answer_looks turns ≤ 2 * max_looks }
 {}

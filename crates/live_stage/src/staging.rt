@@ -6,7 +6,7 @@ ghost use Rattle.play_journal.specs.File.{longest_body, records_len};
 ghost use Rattle.state_codec.specs.Ops.{IsOp};
 ghost use Rattle.state_codec.specs.Spelling.{ops_bytes};
 ghost use Rattle.daemon_core.specs.Step.{step};
-ghost use Rattle.live_stage.specs.Group.{body_of, may_follow, file_with};
+ghost use Rattle.live_stage.specs.Group.{answer_looks, body_of, may_follow, file_with};
 ghost use Rattle.live_stage.specs.Numbers.{longest_record, record_number, greatest, is_due};
 ghost use Rattle.live_stage.specs.Staging.{AddsStep, IsAnswerOf, AreStaged, AreTaken, file_begun, numbers_staged};
 
@@ -14,6 +14,7 @@ use crate::due::is_due_at;
 use crate::recording::spell;
 use crate::turn::Turn;
 use daemon_core::{Core, Event, Output};
+use machine_core::MAX_LOOKS;
 use no_memory::NoMemory;
 use play_journal::Group;
 use state_codec::Op;
@@ -59,7 +60,8 @@ fn stage_ops(group: &mut Group, room: &mut Vec<u8>, ops: &[Op], last_record: u64
     Some(number)
 }
 
-// Steps one event in memory, before which so many of the group were, and puts its record behind theirs.
+// Steps one event in memory, before which so many of the group were, and puts its record behind theirs. It answers too how much the event
+// looked at.
 fn stage_one<D>(
     alloc: Global,
     core: &mut Core,
@@ -68,14 +70,15 @@ fn stage_one<D>(
     begin: Begin,
     many: u64,
     event: Event,
-) -> Result<Turn<D>, NoMemory>
+) -> Result<(Turn<D>, u64), NoMemory>
     requires room { longest_body ≤ vec_capacity room.old }
     requires fits { records_len group.old ≤ longest_record }
     requires numbers { (begin.event + many < 2 ^ 64 - 1) × (begin.last_record + length group.old < 2 ^ 64 - 1) }
-    ensures answer { IfOk result (λ t. let now = step core.old event t.refused_at in
-        IsAnswerOf now (numbers_staged begin many group.old) begin.is_overdue core.old event t) }
-    ensures added { IfOk result (λ t. let now = step core.old event t.refused_at in
+    ensures answer { IfOk result (λ r. let now = step core.old event r.0.refused_at in
+        IsAnswerOf now (numbers_staged begin many group.old) begin.is_overdue core.old event r.0) }
+    ensures added { IfOk result (λ r. let now = step core.old event r.0.refused_at in
         AddsStep now core.old core.new group.old group.new) }
+    ensures looks { IfOk result (λ r. r.1 ≡ answer_looks r.0) }
     ensures err { OnErr result ((core.new ≡ core.old) × (group.new ≡ group.old)) }
     ensures capacity { vec_capacity room.new ≡ vec_capacity room.old }
 {
@@ -84,7 +87,9 @@ fn stage_one<D>(
     let outcome = core.step(alloc, event)?;
     let number = stage_ops(group, room, &outcome.ops, begin.last_record);
     let event = begin.event + many + 1;
-    Ok(Turn::new(outcome, event, number, begin.is_overdue, asked, before))
+    let looks = outcome.looks;
+    let turn = Turn::new(outcome, event, number, begin.is_overdue, asked, before);
+    Ok((turn, looks))
 }
 
 // How many bytes are given out, counted up to 2^64 - 1.
@@ -98,20 +103,35 @@ fn given_out(outputs: &[Output]) -> u64
     bytes
 }
 
-// Whether an event is the first, or may follow on so many with these records, whose answers give out so many bytes.
-fn may_go_on(group: &Group, begin: Begin, many: u64, bytes: u64, has_ended: bool) -> bool
+// Whether an event is the first, or may follow on so many with these records, whose answers give out so many bytes, and which looked at so
+// much.
+fn may_go_on(
+    group: &Group,
+    begin: Begin,
+    many: u64,
+    bytes: u64,
+    looks: u64,
+    has_ended: bool,
+) -> bool
     requires numbers { (begin.event + many < 2 ^ 64) × (begin.last_record + length group.now < 2 ^ 64) }
     ensures { result ≡ (many == 0 || may_follow (file_with (file_begun begin) group.now) (numbers_staged begin many group.now)
-        (records_len group.now) bytes has_ended) }
+        (records_len group.now) bytes looks has_ended) }
 {
-    many == 0 || may_follow_on(group, begin, many, bytes, has_ended)
+    many == 0 || may_follow_on(group, begin, many, bytes, looks, has_ended)
 }
 
-// Whether another event may follow on so many, with these records, whose answers give out so many bytes.
-fn may_follow_on(group: &Group, begin: Begin, many: u64, bytes: u64, has_ended: bool) -> bool
+// Whether another event may follow on so many, with these records, whose answers give out so many bytes, and which looked at so much.
+fn may_follow_on(
+    group: &Group,
+    begin: Begin,
+    many: u64,
+    bytes: u64,
+    looks: u64,
+    has_ended: bool,
+) -> bool
     requires numbers { (begin.event + many < 2 ^ 64) × (begin.last_record + length group.now < 2 ^ 64) }
     ensures { result ≡ may_follow (file_with (file_begun begin) group.now) (numbers_staged begin many group.now)
-        (records_len group.now) bytes has_ended }
+        (records_len group.now) bytes looks has_ended }
 {
     let records = begin.records.saturating_add(group.records());
     let record_bytes = begin.bytes.saturating_add(group.bytes());
@@ -120,6 +140,7 @@ fn may_follow_on(group: &Group, begin: Begin, many: u64, bytes: u64, has_ended: 
         && begin.last_record + group.records() != u64::MAX
         && group.bytes() <= LONGEST_RECORD
         && bytes <= MOST_ANSWER_BYTES
+        && looks <= MAX_LOOKS
         && !has_ended
 }
 
@@ -145,14 +166,17 @@ pub(crate) fn stage_events<D>(
 {
     group.clear();
     let mut bytes: u64 = 0;
+    let mut looks: u64 = 0;
     let mut has_ended = false;
-    'events: while may_go_on(group, begin, turns.len() as u64, bytes, has_ended) {
+    'events: while may_go_on(group, begin, turns.len() as u64, bytes, looks, has_ended) {
         let Some(event) = left.pop() else {
             return false;
         };
         match stage_one(alloc, core, group, room, begin, turns.len() as u64, event) {
-            Ok(turn) => {
+            Ok(staged) => {
+                let (turn, looked_at) = staged;
                 bytes = bytes.saturating_add(given_out(turn.outputs()));
+                looks = looks.saturating_add(looked_at);
                 has_ended = turn.ended();
                 turns.push_reserved(turn);
             }

@@ -90,6 +90,7 @@ impl<D> Turn<D> {
             closes,
             ops: _,
             refused_at,
+            looks: _,
             ended,
         } = outcome;
         Turn {

@@ -40,6 +40,10 @@ max_looks = 10000000
 abbrev pub weighed : ℕ → ℕ → Meant → Meant
 weighed before looks meant = if nat_le (before + looks) max_looks then meant else Err RequestTooLarge
 
+-- how much is looked at behind a command that looks at so much: where that would be too much, it looks at nothing
+abbrev pub looked : ℕ → ℕ → ℕ
+looked before looks = if nat_le (before + looks) max_looks then before + looks else before
+
 -- a song is chosen, or looked for: in random order a word is drawn for each entry
 abbrev pub choice_looks : MachineState → ℕ
 choice_looks m = if m.saved.options.random then 10 * queue_length m else queue_length m

@@ -9,11 +9,6 @@ use Rattle.song_db.specs.Same.{same_row}
 use Rattle.song_db.specs.declared.change.RowChange.{RowChange}
 use Rattle.song_db.specs.declared.change.RowChange.TheVariants.{Put, Drop}
 
--- the row that a change leaves under its URI
-abbrev pub row_left : RowChange → Option Row
-row_left (Put row) = Some row
-row_left (Drop uri) = None
-
 -- how many rows there are after a change of a URI that had this row; nothing where it changes no row
 abbrev pub count_told : ℕ → RowChange → Option Row → Option ℕ
 count_told count (Put row) None = if nat_lt count MAX_ROWS then Some (count + 1) else None

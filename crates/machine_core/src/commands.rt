@@ -2,7 +2,7 @@
 ghost use Rattle.std.specs.Prelude.{◌≡◌, ◌+◌, true, IfOk};
 ghost use Rattle.machine_core.specs.Changed.{changed};
 ghost use Rattle.machine_core.specs.Command.{meaning};
-ghost use Rattle.machine_core.specs.Looks.{looks_of, weighed};
+ghost use Rattle.machine_core.specs.Looks.{looked, looks_of, weighed};
 ghost use Rattle.machine_core.specs.Memory.{takes_memory};
 ghost use Rattle.machine_core.specs.Work.{HasRoom, Performs, command_room};
 
@@ -39,7 +39,7 @@ impl Machine {
         requires room { HasRoom command_room work.old }
         ensures performs { Performs (weighed looks.old (looks_of command.entry self.old) (meaning command.entry self.old))
             self.old self.new work.old work.new result }
-        ensures looks { IfOk result (λ _. looks.new ≡ looks.old + looks_of command.entry self.old) }
+        ensures looks { looks.new ≡ looked looks.old (looks_of command.entry self.old) }
         ensures changed { IfOk result (λ set. set ≡ changed self.old self.new) }
         ensures memory { result ≡ Err Failure.NoMemory → takes_memory command.entry self.old ≡ true }
     {

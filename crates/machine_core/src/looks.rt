@@ -45,6 +45,13 @@ impl Looks {
         Looks { taken: 0 }
     }
 
+    /// So much.
+    pub fn taken(&self) -> u64
+        ensures { result ≡ self.now }
+    {
+        self.taken
+    }
+
     // Takes so much more, where the request may look at it.
     pub(crate) fn take(&mut self, more: u64) -> Result<(), CommandRefusal>
         ensures within { OnOk result (self.old + more ≤ max_looks) }

@@ -26,7 +26,8 @@ impl<D: Disk> Live<D> {
     /// answers are given out once all are there. A checkpoint that is due is made before the first event.
     ///
     /// It ends before an event where a checkpoint has become due, a number is spent, the records take more bytes than the longest one,
-    /// 2,097,157, or the answers more than 1 MiB; and behind one that ends the daemon or finds no memory. What is left is handed back.
+    /// 2,097,157, the answers more than 1 MiB, or the events looked at more than one request may; and behind one that ends the daemon or
+    /// finds no memory. What is left is handed back.
     ///
     /// It refuses in the order `Broken` (from before), `NumbersSpent`, `NoMemory` (for the list of answers, or at the first event),
     /// `Broken` (by a disk fault now). After the last all events that were begun may be kept, or none: open the files again.

@@ -1,11 +1,9 @@
 -- What one change of a batch does at its turn, and which changes tell something.
-use Rattle.std.proofs.Common.{◌≡◌, ℕ, ◌+◌, ◌-◌, ◌<◌, ◌≤◌, Bool, true, false, cond, ◌||◌, List, [], ◌∷◌, ◌++◌, length, take, get_or, nat_lt}
+use Rattle.std.proofs.Common.{◌≡◌, ℕ, ◌+◌, ◌-◌, ◌≤◌, Bool, true, false, cond, ◌||◌, List, [], ◌∷◌, ◌++◌, length, nat_lt}
 use Rattle.std.proofs.Common.{Option, Some, None, is_some, refl, sym, ap, ◌∙◌, arith, append_assoc, if◌then◌else◌}
-use Rattle.std.proofs.lemmas.List.{append-nil, take_more}
-use Rattle.std.specs.List.{list_any}
-use Rattle.std.specs.Str.{bytes_eq}
+use Rattle.std.proofs.lemmas.List.{append-nil}
 use Rattle.song_db.specs.Change.{IsDatabase, after_change, after_batch, uri_of}
-use Rattle.song_db.specs.Effect.{effect_of, effects_of, put_effect, drop_effect, changes_a_row, is_left_out}
+use Rattle.song_db.specs.Effect.{effect_of, put_effect, drop_effect, changes_a_row, is_left_out}
 use Rattle.song_db.specs.Limits.{MAX_ROWS}
 use Rattle.song_db.specs.Row.{Row, row_at}
 use Rattle.song_db.specs.Same.{same_row}
@@ -13,11 +11,10 @@ use Rattle.song_db.specs.declared.change.RowChange.{RowChange}
 use Rattle.song_db.specs.declared.change.RowChange.TheVariants.{Put, Drop}
 use Rattle.song_db.specs.declared.effect.Effect.{Effect}
 use Rattle.song_db.specs.declared.effect.Effect.TheVariants.{Nothing, Came, Replaced, Went, LeftOut}
-use Rattle.state_codec.proofs.BatchRows.{row_left as row_of_change, row_after, length_after, database_batch, batch_more, fit_more}
-use Rattle.state_codec.proofs.BatchSteps.{fit_at}
+use Rattle.state_codec.proofs.BatchRows.{length_after, database_batch, batch_more, fit_more}
 use Rattle.state_codec.proofs.Unchanged.{none_changed}
 use Rattle.machine_core.specs.Scanning.{telling}
-use Rattle.machine_core.specs.ScanningRows.{AreTold, count_told, row_left}
+use Rattle.machine_core.specs.ScanningRows.{AreTold, count_told}
 
 -- what changes a row isn't left out
 changes_fits : (e : Effect) → changes_a_row e ≡ true → is_left_out e ≡ false
@@ -117,21 +114,3 @@ tell_on rows told rest more change database is =
     by_cases false h e =
         (λ i. (e ∙ append-nil told) i ++ telling (after_batch rows ((e ∙ append-nil told) i)) rest)
         ∙ ap (λ rs. told ++ telling rs rest) (sym (none_changed after change (database_batch rows told database) h))
-
--- the row of a URI behind one change more
-pub row_step : (rows : List Row) (told : List RowChange) (i : ℕ) (change : RowChange) (uri : List ℕ) → IsDatabase rows
-    → list_any is_left_out (effects_of rows told) ≡ false → i < length told → change ≡ get_or told i change
-    → row_at (after_batch rows (take (i + 1) told)) uri
-    ≡ cond (bytes_eq uri (uri_of change)) (row_left change) (row_at (after_batch rows (take i told)) uri)
-row_step rows told i change uri database fit within is =
-    let before : List Row = after_batch rows (take i told) in
-    let more : take (i + 1) told ≡ take i told ++ change ∷ [] =
-    take_more told i change within ∙ ap (λ c. take i told ++ c ∷ []) (sym is) in
-    ap (λ cs. row_at (after_batch rows cs) uri) more
-    ∙ ap (λ rs. row_at rs uri) (batch_more rows (take i told) (change ∷ []))
-    ∙ row_after before change uri (database_batch rows (take i told) database) (fit_at rows told i change fit within is).1
-    ∙ ap (λ o. cond (bytes_eq uri (uri_of change)) o (row_at before uri)) (left change)
-  where
-    left : (c : RowChange) → row_of_change c ≡ row_left c
-    left (Put row) = refl
-    left (Drop key) = refl

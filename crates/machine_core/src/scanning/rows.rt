@@ -1,16 +1,15 @@
 // Which changes of a batch change a row at their turn, told before any of them is made.
-ghost use Rattle.std.specs.Prelude.{◌≡◌, ◌<◌, ◌≤◌, ◌+◌, ◌++◌, ◌∷◌, [], false, length, vec_len, vec_capacity, IfOk};
+ghost use Rattle.std.specs.Prelude.{◌≡◌, ◌<◌, ◌≤◌, ◌+◌, ◌++◌, ◌∷◌, [], false, vec_len, vec_capacity, IfOk};
 ghost use Rattle.std.specs.List.{list_any};
 ghost use Rattle.std.specs.Option.{option_copied};
 ghost use Rattle.song_db.specs.Change.{after_batch};
 ghost use Rattle.song_db.specs.Effect.{effects_of, is_left_out};
-ghost use Rattle.song_db.specs.Row.{row_at};
 ghost use Rattle.song_db.specs.declared.change.RowChange.TheVariants.{Put};
 ghost use Rattle.machine_core.specs.Scanning.{telling};
-ghost use Rattle.machine_core.specs.ScanningRows.{AreTold, count_told, row_left};
+ghost use Rattle.machine_core.specs.ScanningRows.{AreTold, count_told};
 
 use song_db::{MAX_ROWS, RowChange, SongDb, SongRow};
-use state_codec::Changes;
+use state_codec::{Changes, row_behind};
 use std::alloc::{AllocError, Global};
 
 // Those that do, in their order. Each is looked up among the rows and among those before it.
@@ -45,29 +44,6 @@ fn keep_telling(songs: &SongDb, change: RowChange, told: &mut Vec<RowChange>, co
     if let Some(after) = count_told(*count, &change, row) {
         *count = after;
         told.push_reserved(change);
-    }
-}
-
-// The row of a URI behind changes none of which is left out.
-fn row_behind<'a>(songs: &'a SongDb, told: &'a [RowChange], uri: &str) -> Option<&'a SongRow>
-    requires { AreTold songs.now told.now (length (after_batch songs.now told.now)) }
-    ensures { option_copied result ≡ row_at (after_batch songs.now told.now) uri.now }
-{
-    let mut row = songs.get(uri).ok();
-    for change in told {
-        if uri == change.uri() {
-            row = row_left(change);
-        }
-    }
-    row
-}
-
-fn row_left(change: &RowChange) -> Option<&SongRow>
-    ensures { option_copied result ≡ row_left change.now }
-{
-    match change {
-        RowChange::Put(row) => Some(row),
-        RowChange::Drop(_) => None,
     }
 }
 

@@ -1,6 +1,6 @@
 use Rattle.std.proofs.Common.{refl, sym, arith}
 use Rattle.daemon_core.specs.Run.{separator, spent_of}
-use Rattle.daemon_core.proofs.RequestLaws.{went_on, performed_ends, performed_refuses}
+use Rattle.daemon_core.proofs.RequestLaws.{end_counts, went_on, performed_ends, performed_refuses}
 use Rattle.daemon_core.proofs.request.run_command.Goals as goal
 
 pub returns-in-Ok-clause-ran : goal.returns-in-Ok-clause-ran
@@ -27,3 +27,8 @@ returns-in-Some-clause-ran c = record {
   why = performed_ends (spent_of c.args.work.now.size c.args.looks.now) c.args.command c.args.machine.now c.in-Some.ending
       (sym c.in-Some.ensures);
 }
+
+pub returns-in-Some-clause-looks : goal.returns-in-Some-clause-looks
+returns-in-Some-clause-looks c =
+    let it = c.args.command in
+    end_counts it.command c.args.machine.now c.in-Some.ending c.args.looks.now (sym c.in-Some.ensures)

@@ -1,6 +1,6 @@
 use Rattle.std.proofs.Common.{refl}
 use Rattle.daemon_core.specs.Run.{separator, spent_of}
-use Rattle.daemon_core.proofs.RequestLaws.{words_stop, command_stop, line_runs, line_looks, looks_added}
+use Rattle.daemon_core.proofs.RequestLaws.{words_stop, words_count, command_stop, command_counts, line_runs, line_looks, looks_counted}
 use Rattle.daemon_core.proofs.request.run_line.Goals as goal
 
 pub returns-in-Err-clause-runs : goal.returns-in-Err-clause-runs
@@ -12,6 +12,11 @@ returns-in-Err-clause-runs c = record {
       c.in-Err.ensures.exact c.stop_of_reading.ensures;
 }
 
+pub returns-in-Err-clause-looks : goal.returns-in-Err-clause-looks
+returns-in-Err-clause-looks c =
+    words_count c.args.place c.args.line.now c.args.machine.now c.in-Err.error c.stop_of_reading.result c.args.looks.now
+    c.in-Err.ensures.exact c.stop_of_reading.ensures
+
 pub returns-clause-runs : goal.returns-clause-runs
 returns-clause-runs c = record {
   stands = refl;
@@ -20,6 +25,12 @@ returns-clause-runs c = record {
       c.args.machine.now c.in-Err-read.error c.stop_of_reading-in-Err-read.result c.in-Ok.ensures.exact c.as_slice.ensures.value
       c.in-Err-read.ensures.exact c.stop_of_reading-in-Err-read.ensures;
 }
+
+pub returns-clause-looks : goal.returns-clause-looks
+returns-clause-looks c =
+    command_counts c.args.place c.args.line.now c.in-Ok.words.items c.as_slice.result.now c.args.machine.now c.in-Err-read.error
+    c.stop_of_reading-in-Err-read.result c.args.looks.now c.in-Ok.ensures.exact c.as_slice.ensures.value c.in-Err-read.ensures.exact
+    c.stop_of_reading-in-Err-read.ensures
 
 pub returns-in-Ok-read-clause-runs : goal.returns-in-Ok-read-clause-runs
 returns-in-Ok-read-clause-runs c =
@@ -31,6 +42,6 @@ returns-in-Ok-read-clause-runs c =
 
 pub returns-in-Ok-read-clause-looks : goal.returns-in-Ok-read-clause-looks
 returns-in-Ok-read-clause-looks c =
-    looks_added c.run_command.result c.args.looks.now c.run_command.new.looks
+    looks_counted c.run_command.result c.args.looks.now c.run_command.new.looks
     (line_looks c.args.place c.args.line.now c.in-Ok.words.items c.as_slice.result.now c.in-Ok-read.command c.args.machine.now
     c.in-Ok.ensures.exact c.as_slice.ensures.value c.in-Ok-read.ensures.exact) c.run_command.ensures.looks

@@ -25,13 +25,14 @@ returns-in-Err c =
     ran_stops c.args.place (separator c.args.separated) c.args.lines c.loop-line.rest c.in-Some.after
     c.in-Some.line.now c.loop-line.index c.args.machine.now c.loop-line.machine
     c.run_line.new.machine c.args.work.now c.loop-line.work c.run_line.new.work c.answer_stop-ending.new.work c.loop-line.looks
+    c.run_line.new.looks c.looks_at_end-looks.result
     c.loop-line.changed c.in-Err.stop c.answer_stop-ending.result.1 c.answer_stop-ending.result.0 c.in-Some.ensures.first
     c.loop-line.invariant
-    c.in-Err.ensures.runs c.answer_stop-ending.ensures
+    c.in-Err.ensures.runs c.in-Err.ensures.looks c.looks_at_end-looks.ensures c.answer_stop-ending.ensures
 
 pub returns : goal.returns
 returns c =
     ran_all c.args.place (separator c.args.separated) c.args.lines c.loop-line.rest c.loop-line.index c.args.machine.now
-    c.loop-line.machine c.args.work.now c.loop-line.work c.end.new.self c.loop-line.looks c.loop-line.changed
+    c.loop-line.machine c.args.work.now c.loop-line.work c.end.new.self c.loop-line.looks c.taken.result c.loop-line.changed
     (c.in_default.ensures.none refl)
-    c.loop-line.invariant c.end.ensures
+    c.loop-line.invariant c.taken.ensures c.end.ensures

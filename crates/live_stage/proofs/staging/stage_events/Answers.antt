@@ -6,7 +6,7 @@ use Rattle.daemon_core.specs.declared.event.Event.{Event}
 use Rattle.daemon_core.specs.declared.outcome.Output.{Output}
 use Rattle.live_stage.specs.declared.staging.Begin.{Begin}
 use Rattle.live_stage.specs.Answer.{Answer}
-use Rattle.live_stage.specs.Group.{answer_bytes}
+use Rattle.live_stage.specs.Group.{answer_bytes, answer_looks}
 use Rattle.live_stage.specs.Numbers.{greatest}
 use Rattle.live_stage.specs.Staging.{AreTaken}
 use Rattle.live_stage.proofs.StagingLaws.{HasPlace, IsStagedTo, asked_is, begins_with, ends_empty, ends_full, ends_refused, none_yet}
@@ -41,14 +41,14 @@ returns-in_default-clause-taken g c =
     let none : at.left.items ≡ [] = (let length_is = c.in_default.ensures.len in let no = c.in_default.ensures.cases in cc) in
     subst (λ (l : List Event). AreTaken c.args.begin c.args.core.now (reverse c.args.left.now.items) at.turns.items false (reverse l) at.group)
     same (ends_empty g.row.D.Denot c.args.begin c.args.core.now (reverse c.args.left.now.items) at.turns.items at.core at.group at.left.items
-    at.bytes at.has_ended at.invariant.staged none)
+    at.bytes at.looks at.has_ended at.invariant.staged none)
 
 pub returns-in_default-clause-capacity : goal.returns-in_default-clause-capacity
 returns-in_default-clause-capacity g c = c.events.invariant.room
 
 free : (g : Over) (c : goal.After-len-in-events g) → HasPlace c.args.begin c.events.turns.items c.events.group c.events.has_ended
 free g c = let at = c.events in place_for g.row.D.Denot c.args.begin c.args.core.now (reverse c.args.left.now.items) at.turns.items at.core at.group
-    at.left.items at.bytes at.has_ended (begins_with c.args.begin c.requires.numbers c.requires.due) at.invariant.staged c.may_go_on.result (asked_is c.args.begin at.turns.items at.group at.bytes at.has_ended c.may_go_on.result c.len.result
+    at.left.items at.bytes at.looks at.has_ended (begins_with c.args.begin c.requires.numbers c.requires.due) at.invariant.staged c.may_go_on.result (asked_is c.args.begin at.turns.items at.group at.bytes at.looks at.has_ended c.may_go_on.result c.len.result
     (c.len.ensures ∙ omega arith) c.may_go_on.ensures) c.events-test.true
 
 pub stage_one-requires-clause-room : goal.stage_one-requires-clause-room
@@ -72,7 +72,8 @@ push_reserved-requires g c =
 pub events-preserved : goal.events-preserved
 events-preserved g c =
     let at = c.events in
-    let t = c.in-Ok.turn in
+    let t = c.in-Ok.staged.0 in
+    let looked : c.in-Ok.staged.1 ≡ answer_looks t = c.in-Ok.ensures.looks in
     let out : c.given_out.result ≡ min (answer_bytes t) greatest =
     c.given_out.ensures ∙ ap (λ (l : List Output). min (sum_by (λ o. length o.bytes) l) greatest) c.outputs.ensures.value in
     let many : c.len-in-events.result ≡ length at.turns.items = c.len-in-events.ensures ∙ omega arith in
@@ -80,14 +81,15 @@ events-preserved g c =
     let ended : t.ended ≡ c.ended-has_ended.result = sym c.ended-has_ended.ensures in
     record {
       staged = subst (λ (l : List Answer). IsStagedTo g.row.D.Denot c.args.begin c.args.core.now (reverse c.args.left.now.items) l c.stage_one.new.core
-          c.stage_one.new.group c.pop.new.self.items c.saturating_add-bytes.result c.ended-has_ended.result) (sym c.push_reserved.ensures.items)
+          c.stage_one.new.group c.pop.new.self.items c.saturating_add-bytes.result c.saturating_add-looks.result c.ended-has_ended.result) (sym c.push_reserved.ensures.items)
           (subst (λ (b : Bool). IsStagedTo g.row.D.Denot c.args.begin c.args.core.now (reverse c.args.left.now.items) (at.turns.items ++ t ∷ [])
-          c.stage_one.new.core c.stage_one.new.group c.pop.new.self.items c.saturating_add-bytes.result b) ended
+          c.stage_one.new.core c.stage_one.new.group c.pop.new.self.items c.saturating_add-bytes.result c.saturating_add-looks.result b) ended
           (stage_on g.row.D.Denot c.args.begin c.args.core.now (reverse c.args.left.now.items) at.turns.items at.core at.group at.left.items
-          at.bytes at.has_ended (begins_with c.args.begin c.requires.numbers c.requires.due) at.invariant.staged c.may_go_on.result (asked_is c.args.begin at.turns.items at.group at.bytes at.has_ended c.may_go_on.result c.len.result
+          at.bytes at.looks at.has_ended (begins_with c.args.begin c.requires.numbers c.requires.due) at.invariant.staged c.may_go_on.result (asked_is c.args.begin at.turns.items at.group at.bytes at.looks at.has_ended c.may_go_on.result c.len.result
           (c.len.ensures ∙ omega arith) c.may_go_on.ensures) c.events-test.true c.pop.new.self.items
-          c.in-Some.event t c.stage_one.new.core c.stage_one.new.group c.saturating_add-bytes.result c.in-Some.ensures.items
-          (rw many at c.in-Ok.ensures.answer) c.in-Ok.ensures.added (omega (arith, c.saturating_add-bytes.ensures, out))));
+          c.in-Some.event t c.stage_one.new.core c.stage_one.new.group c.saturating_add-bytes.result c.saturating_add-looks.result c.in-Some.ensures.items
+          (rw many at c.in-Ok.ensures.answer) c.in-Ok.ensures.added (omega (arith, c.saturating_add-bytes.ensures, out))
+          (omega (arith, c.saturating_add-looks.ensures, looked))));
       places = omega (
         arith,
         at.invariant.places,
@@ -107,7 +109,7 @@ pub returns-in-Err-clause-taken : goal.returns-in-Err-clause-taken
 returns-in-Err-clause-taken g c =
     let at = c.events in
     rw c.in-Err.ensures.err.1 (ends_refused g.row.D.Denot c.args.begin c.args.core.now (reverse c.args.left.now.items) at.turns.items at.core at.group
-    at.left.items at.bytes at.has_ended at.invariant.staged c.may_go_on.result (asked_is c.args.begin at.turns.items at.group at.bytes at.has_ended c.may_go_on.result c.len.result
+    at.left.items at.bytes at.looks at.has_ended at.invariant.staged c.may_go_on.result (asked_is c.args.begin at.turns.items at.group at.bytes at.looks at.has_ended c.may_go_on.result c.len.result
     (c.len.ensures ∙ omega arith) c.may_go_on.ensures) c.events-test.true c.pop.new.self.items c.in-Some.event
     c.in-Some.ensures.items)
 
@@ -121,7 +123,7 @@ pub returns-clause-taken : goal.returns-clause-taken
 returns-clause-taken g c =
     let at = c.events in
     ends_full g.row.D.Denot c.args.begin c.args.core.now (reverse c.args.left.now.items) at.turns.items at.core at.group at.left.items at.bytes
-    at.has_ended at.invariant.staged c.may_go_on.result (asked_is c.args.begin at.turns.items at.group at.bytes at.has_ended c.may_go_on.result c.len.result
+    at.looks at.has_ended at.invariant.staged c.may_go_on.result (asked_is c.args.begin at.turns.items at.group at.bytes at.looks at.has_ended c.may_go_on.result c.len.result
     (c.len.ensures ∙ omega arith) c.may_go_on.ensures) c.events-test.false
 
 pub returns-clause-capacity : goal.returns-clause-capacity

@@ -1,13 +1,12 @@
 // What is found, gathered where it can't be written at once: to be sorted, or for the numbers of its rows.
-ghost use Rattle.std.specs.Prelude.{◌≡◌, ◌≤◌, ◌∷◌, ◌++◌, [], length, map, slice_get, None, IfOk, IsTrue, OnOk, option_to_list};
+ghost use Rattle.std.specs.Prelude.{◌≡◌, ◌≤◌, ◌++◌, length, map, slice_get, None, IfOk, OnOk, option_to_list};
 ghost use Rattle.std.specs.List.{filter_map};
 ghost use Rattle.song_db.specs.Limits.{MAX_ROWS};
-ghost use Rattle.song_db.specs.Query.{distinct_of, values_of, with_texts};
+ghost use Rattle.song_db.specs.Query.{values_of};
 ghost use Rattle.song_db.specs.Replaced.{IsRising};
 ghost use Rattle.song_db.specs.Row.{row_uri};
 ghost use Rattle.filter_expr.specs.declared.case.Case.TheVariants.{Exact};
 ghost use Rattle.filter_expr.specs.Order.{is_before, sorted};
-ghost use Rattle.wave_pcm.specs.Tag.{text_of};
 ghost use Rattle.machine_core.specs.Finding.{found, matching, numbers_in, part_of};
 
 use super::part::Part;
@@ -15,7 +14,7 @@ use super::windowed;
 use crate::named::push_number;
 use command_text::{NoMemory, Search};
 use filter_expr::{Case, Filter, SortOrder, sort_rows};
-use song_db::{SongDb, SongRow, Texts};
+use song_db::{SongDb, SongRow, Texts, values_among};
 use std::alloc::Global;
 use wave_pcm::Tag;
 
@@ -91,52 +90,7 @@ pub(super) fn matching_values<'a>(
     ensures { IfOk result (λ values. values ≡ values_of (matching Exact filter.now songs.now) tag) }
 {
     let found = matching_rows(alloc, songs, Case::Exact, filter)?;
-    values_among(alloc, &found, tag)
-}
-
-// The values of a tag among these rows, which are sorted once.
-fn values_among<'a>(alloc: Global, rows: &[&'a SongRow], tag: Tag) -> Result<Texts<'a>, NoMemory>
-    ensures { IfOk result (λ values. values ≡ values_of (map (λ row. row.now) rows.now) tag) }
-{
-    let texts = texts_among(alloc, rows, tag)?;
-    Ok(Texts::of(alloc, texts)?)
-}
-
-// The texts of a tag row by row, without one that the row before has, too.
-fn texts_among<'a>(alloc: Global, rows: &[&'a SongRow], tag: Tag) -> Result<Vec<&'a str>, NoMemory>
-    ensures { IfOk result (λ texts. distinct_of (map (λ text. text.now) texts.items) ≡ values_of (map (λ row. row.now) rows.now) tag) }
-{
-    let mut texts = Vec::new(alloc);
-    for row in rows {
-        push_text(&mut texts, *row, tag)?;
-    }
-    Ok(texts)
-}
-
-// Takes a row's text of a tag, if it has one, and it isn't the last one taken.
-fn push_text<'a>(texts: &mut Vec<&'a str>, row: &'a SongRow, tag: Tag) -> Result<(), NoMemory>
-    ensures { OnOk result (distinct_of (map (λ text. text.now) texts.new.items)
-        ≡ with_texts (distinct_of (map (λ text. text.now) texts.old.items)) (option_to_list (text_of row.now.tags tag))) }
-{
-    let Some(text) = row.tag(tag) else {
-        return Ok(());
-    };
-    if ends_with(texts, text) {
-        return Ok(());
-    }
-    texts.push(text)?;
-    Ok(())
-}
-
-// Whether a text is the last one, so that taking it once more changes nothing.
-fn ends_with(texts: &[&str], text: &str) -> bool
-    ensures { IsTrue result → (with_texts (distinct_of (map (λ t. t.now) texts.now)) (text.now
-        ∷ []) ≡ distinct_of (map (λ t. t.now) texts.now)) }
-{
-    match texts.last() {
-        None => false,
-        Some(last) => *last == text,
-    }
+    Ok(values_among(alloc, &found, tag)?)
 }
 
 // The numbers of all rows that match.

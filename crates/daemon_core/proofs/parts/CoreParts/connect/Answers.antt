@@ -26,4 +26,4 @@ returns-clause-ok c =
     let watch : q.watch ≡ joined p.watch c.args.client = not_err c.join.result (sym c.if-is_err.ensures.value) c.join.ensures.ok in
     subst (λ (o : Option Watched). Does (connects_client c.args.client (state_of p) o) q h) (sym absent)
     (does_but (connects_client c.args.client (state_of p) None) q h but (λ i. record { machine = p.machine; clients = watch i })
-    refl refl refl refl (joined_ready p q c.args.client c.take.new.self fits watch refl))
+    refl refl refl refl refl (joined_ready p q c.args.client c.take.new.self fits watch refl))

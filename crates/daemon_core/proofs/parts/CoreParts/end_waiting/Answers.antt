@@ -22,7 +22,7 @@ returns-else-is_err-clause-ok c =
     so_ok c.cancel.result (c.cancel.ensures.found.1 c.requires.known) c.cancel.ensures.ok in
     subst (λ (b : Bool). Does (waits_no_more b c.args.client (state_of p)) q h) (sym c.if-is_noidle.true)
     (does_but (waits_no_more true c.args.client (state_of p)) q h but (λ i. record { machine = p.machine; clients = watch i })
-    refl refl refl refl (waiting_ready p q c.args.client None c.requires.ready watch refl))
+    refl refl refl refl refl (waiting_ready p q c.args.client None c.requires.ready watch refl))
 
 pub returns-else-is_noidle-clause-ok : goal.returns-else-is_noidle-clause-ok
 returns-else-is_noidle-clause-ok c =
@@ -32,7 +32,7 @@ returns-else-is_noidle-clause-ok c =
     subst (λ (b : Bool). Does (waits_no_more b c.args.client (state_of p)) q c.closing.result) (sym c.if-is_noidle.false)
     (does_but (waits_no_more false c.args.client (state_of p)) q c.closing.result c.closing.ensures
     (λ i. record { machine = left.machine i; clients = left.watch i })
-    refl refl refl refl (ready_left p q c.args.client c.requires.ready left.watch
+    refl refl refl refl refl (ready_left p q c.args.client c.requires.ready left.watch
     (subst (λ (r : Room). KeepsRoom p.room r) (sym left.room) c.give_closes-closes.ensures.kept)))
 
 pub closing-requires-clause-room : goal.closing-requires-clause-room

@@ -1,8 +1,0 @@
-use Rattle.std.proofs.Common.{◌≡◌, take}
-use Rattle.std.specs.Option.{option_copied}
-use Rattle.song_db.specs.Change.{after_batch}
-use Rattle.song_db.specs.Row.{row_at}
-use Rattle.machine_core.proofs.scanning.rows.row_behind.Given as goal
-
-abbrev pub invariant-loop-change : goal.invariant-loop-change
-invariant-loop-change l = option_copied l.row ≡ row_at (after_batch l.songs (take l.change-index l.told)) l.uri
