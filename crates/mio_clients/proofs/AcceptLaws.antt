@@ -1,16 +1,11 @@
 -- Clients that connect, in several steps.
-use Rattle.std.proofs.Common.{◌≡◌, ◌⊎◌, ℕ, ◌+◌, zero, suc, List, [], Bool, Result, Ok, Err, IfErr, inl, inr, ◌∷◌, ◌++◌, refl, sym, subst, ◌∙◌, ap, append_assoc, arith}
-use Rattle.std.proofs.lemmas.List.{append-nil}
-use Rattle.mio_clients.specs.declared.event.ClientEvent.TheVariants as events
-use Rattle.mio_clients.specs.Events.{connects}
-use Rattle.slab.specs.Slab.{get}
-use Rattle.mio_clients.specs.Connections.{ConnectionsState, IsAdmitted, IsFull}
+use Rattle.std.proofs.Common.{◌≡◌, ◌⊎◌, List, [], ◌∷◌, ◌++◌, ◌||◌, Bool, true, false, Result, Ok, Err, IfErr, inl, inr, refl, sym, subst, ◌∙◌, ap}
+use Rattle.mio_clients.specs.Connections.{ConnectionsState, IsFull}
 use Rattle.mio_clients.specs.declared.refusal.ClientsError.{ClientsError}
 use Rattle.mio_clients.specs.declared.refusal.ClientsError.TheVariants.{NoMemory, TooManyClients}
-use Rattle.mio_clients.specs.Later.{Accepts}
 use Rattle.mio_clients.specs.declared.clients.Admission.{Admission}
 use Rattle.mio_clients.specs.declared.clients.Admission.TheVariants.{Taken, Unwatched, Refused}
-use Rattle.mio_clients.specs.Yielding.{ComesTo, Replaces, AcceptsAll}
+use Rattle.mio_clients.specs.Yielding.{AcceptsAll, Arrival, ComesTo, MakesRoom, TellsOf, has_refused, was_refused}
 
 -- the refusals of which one at most was met
 pub refused_is : (result : Result (Unit {0}) ClientsError) (P : Type 0) → (result ≡ Ok tt) ⊎ ((result ≡ Err TooManyClients) × P)
@@ -19,98 +14,85 @@ refused_is (Ok u) P h = tt
 refused_is (Err e) P (inl ok) = absurd (cc (ok))
 refused_is (Err e) P (inr full) = inr (cc (full.0))
 
-connects_from : (last n m : ℕ) → connects last (n + m) ≡ connects last n ++ connects (last + n) m
-connects_from last zero m =
-    let none : 0 + m ≡ m = omega arith in
-    let same : last ≡ last + 0 = omega arith in
-    ap (connects last) none ∙ ap (λ (t : ℕ). connects t m) same
-connects_from last (suc n) m =
-    let one : suc n + m ≡ suc (n + m) = omega arith in
-    let same : last + 1 + n ≡ last + suc n = omega arith in
-    ap (connects last) one ∙ ap (λ t. events.Connect (last + 1) ∷ t) (connects_from (last + 1) n m
-    ∙ ap (λ (t : ℕ). connects (last + 1) n ++ connects t m) same)
+or_true : (x y : Bool) → y ≡ true → (x || y) ≡ true
+or_true true y is = refl
+or_true false y is = is
+
+or_false : (x y : Bool) → y ≡ false → (x || y) ≡ x
+or_false true y is = refl
+or_false false y is = is
+
+or_twice : (x y z : Bool) → (x || (y || z)) ≡ ((x || y) || z)
+or_twice true y z = refl
+or_twice false y z = refl
+
+pub is_admission : (came : Admission) → was_refused came ≡ true → came ≡ Refused
+is_admission Taken is = absurd (cc is)
+is_admission Unwatched is = absurd (cc is)
+is_admission Refused is = refl
 
 module _ {S : Type 0} where
-  pub accepts_twice : (a b c : ConnectionsState S) → Accepts a b → Accepts b c → Accepts a c
-  accepts_twice a b c p q = record {
-    count = p.count + q.count;
-    last_id = omega (arith, p.last_id, q.last_id);
-    time = q.time ∙ p.time;
-    gathered = q.gathered ∙ (ap (λ (t : ℕ). b.events ++ connects t q.count) p.last_id
-        ∙ (ap (λ t. t ++ connects (a.last_id + p.count) q.count) p.gathered
-        ∙ (append_assoc a.events (connects a.last_id p.count) (connects (a.last_id + p.count) q.count)
-        ∙ ap (λ t. a.events ++ t) (sym (connects_from a.last_id p.count q.count)))));
-    stay = λ key client there. q.stay key client (p.stay key client there);
-  }
-
-  -- nobody connects while room is made
-  pub accepts_room : (a b : ConnectionsState S) → b ≡ record a { room = b.room; places = b.places } → Accepts a b
-  accepts_room a b same =
-      subst (λ (s : ConnectionsState S). Accepts a s) (sym same) (record {
-        count = 0;
-        last_id = omega arith;
-        time = refl;
-        gathered = sym (append-nil a.events);
-        stay = λ key client there. there;
-      })
-
-  pub accepts_roomy : (a b m c : ConnectionsState S) → m ≡ record b { room = m.room; places = m.places } → Accepts a b → Accepts m c → Accepts a c
-  accepts_roomy a b m c same p q = accepts_twice a m c (accepts_twice a b m p (accepts_room b m same)) q
-
-  pub full_room : (a b : ConnectionsState S) → b ≡ record a { room = b.room; places = b.places } → IsFull a → IsFull b
+  pub full_room : (a b : ConnectionsState S) → MakesRoom a b → IsFull a → IsFull b
   full_room a b same full = subst (λ (s : ConnectionsState S). IsFull s) (sym same) full
 
-  accepts_still : (a : ConnectionsState S) → Accepts a a
-  accepts_still a = record {
-    count = 0;
-    last_id = omega arith;
-    time = refl;
-    gathered = sym (append-nil a.events);
-    stay = λ key client there. there;
-  }
+  makes_twice : (a b c : ConnectionsState S) → MakesRoom a b → MakesRoom b c → MakesRoom a c
+  makes_twice a b c p q = q ∙ ap (λ (s : ConnectionsState S). record s { room = c.room; places = c.places }) p
 
-  accepts_admitted : (stream : S) (a b : ConnectionsState S) → IsAdmitted stream a b → Accepts a b
-  accepts_admitted stream a b ad = record {
-    count = 1;
-    last_id = ad.last_id;
-    time = ad.time;
-    gathered = ad.gathered;
-    stay = λ key client there. ad.there.others key (λ e. absurd (cc (ad.vacant, there, ap (get a.clients) e))) ∙ there;
-  }
+  has_end : (arrivals : List (Arrival S)) (one : Arrival S) → has_refused (arrivals ++ one ∷ []) ≡ (has_refused arrivals || was_refused one.came)
+  has_end [] one = or_false (was_refused one.came) false refl
+  has_end (first ∷ others) one =
+      ap (λ (t : Bool). was_refused first.came || t) (has_end others one)
+      ∙ or_twice (was_refused first.came) (has_refused others) (was_refused one.came)
 
 module _ {S : Type 0} (remote : S → Bool) where
-  -- one that connects
-  pub accepts_one : (came : Admission) (stream : S) (a b : ConnectionsState S) → ComesTo remote stream came a b
-      → Accepts a b ⊎ Replaces remote stream a b
-  accepts_one Taken stream a b (inl p) = inl (accepts_admitted p.0 a b p.1)
-  accepts_one Taken stream a b (inr p) = inr p
-  accepts_one Unwatched stream a b same = inl (subst (λ (s : ConnectionsState S). Accepts a s) (sym same) (accepts_still a))
-  accepts_one Refused stream a b p = inl (subst (λ (s : ConnectionsState S). Accepts a s) (sym p.2) (accepts_still a))
+  -- room was made behind all others
+  pub all_made : (arrivals : List (Arrival S)) (a b m : ConnectionsState S) → AcceptsAll remote arrivals a b → MakesRoom b m
+      → AcceptsAll remote arrivals a m
+  all_made [] a b m p room = makes_twice a b m p room
+  all_made (one ∷ others) a b m p room = (p.0, p.1, all_made others one.after b m p.2 room)
 
-  all_then : (ways : List (S × ConnectionsState S × ConnectionsState S)) (a b c : ConnectionsState S) → AcceptsAll remote ways a b → Accepts b c
-      → AcceptsAll remote ways a c
-  all_then [] a b c p q = accepts_twice a b c p q
-  all_then (way ∷ ways) a b c p q = (p.0, p.1, all_then ways way.2 b c p.2 q)
+  -- one more connected
+  pub all_more : (arrivals : List (Arrival S)) (stream : S) (came : Admission) (a b m c : ConnectionsState S) → AcceptsAll remote arrivals a b
+      → MakesRoom b m → ComesTo remote stream came m c
+      → AcceptsAll remote (arrivals ++ (record { stream = stream; came = came; before = m; after = c }) ∷ []) a c
+  all_more [] stream came a b m c p room comes = (makes_twice a b m p room, comes, refl)
+  all_more (one ∷ others) stream came a b m c p room comes = (p.0, p.1, all_more others stream came one.after b m c p.2 room comes)
 
-  all_way : (ways : List (S × ConnectionsState S × ConnectionsState S)) (stream : S) (a b c : ConnectionsState S) → AcceptsAll remote ways a b
-      → Replaces remote stream b c → AcceptsAll remote (ways ++ (stream, b, c) ∷ []) a c
-  all_way [] stream a b c p q = (p, q, accepts_still c)
-  all_way (way ∷ ways) stream a b c p q = (p.0, p.1, all_way ways stream way.2 b c p.2 q)
+  -- one more connected, and was closed since none gave way to it
+  pub next_refused : (result : Result (Unit {0}) ClientsError) (arrivals : List (Arrival S)) (stream : S) (came : Admission)
+      (a b m c : ConnectionsState S) → AcceptsAll remote arrivals a b → MakesRoom b m → ComesTo remote stream came m c
+      → result ≡ Err TooManyClients → was_refused came ≡ true
+      → (more : List (Arrival S)) × AcceptsAll remote more a c × TellsOf result (has_refused more)
+  next_refused result arrivals stream came a b m c p room comes is refused =
+      let one : Arrival S = record { stream = stream; came = came; before = m; after = c } in (
+        arrivals ++ one ∷ [],
+        all_more arrivals stream came a b m c p room comes,
+        subst (λ (r : Result (Unit {0}) ClientsError). TellsOf r (has_refused (arrivals ++ one ∷ []))) (sym is)
+            (has_end arrivals one ∙ or_true (has_refused arrivals) (was_refused came) refused),
+      )
 
-  -- room was made, and then one more was accepted, or given way to
-  pub accepts_next : (ways : List (S × ConnectionsState S × ConnectionsState S)) (stream : S) (a b m c : ConnectionsState S)
-      → AcceptsAll remote ways a b → m ≡ record b { room = m.room; places = m.places } → Accepts m c ⊎ Replaces remote stream m c
-      → (more : List (S × ConnectionsState S × ConnectionsState S)) × AcceptsAll remote more a c
-  accepts_next ways stream a b m c p room next =
-      let roomy = all_then ways a b m p (accepts_room b m room) in
-      elim next [
-        | inl taken ↦ (ways, all_then ways a m c roomy taken)
-        | inr instead ↦ (ways ++ (stream, m, c) ∷ [], all_way ways stream a m c roomy instead)
-      ]
+  -- one more connected, and was not
+  pub next_other : (before result : Result (Unit {0}) ClientsError) (arrivals : List (Arrival S)) (stream : S) (came : Admission)
+      (a b m c : ConnectionsState S) → AcceptsAll remote arrivals a b → MakesRoom b m → ComesTo remote stream came m c
+      → result ≡ before → was_refused came ≡ false → TellsOf before (has_refused arrivals)
+      → (more : List (Arrival S)) × AcceptsAll remote more a c × TellsOf result (has_refused more)
+  next_other before result arrivals stream came a b m c p room comes is taken tells =
+      let one : Arrival S = record { stream = stream; came = came; before = m; after = c } in (
+        arrivals ++ one ∷ [],
+        all_more arrivals stream came a b m c p room comes,
+        subst (λ (r : Result (Unit {0}) ClientsError). TellsOf r (has_refused (arrivals ++ one ∷ []))) (sym is)
+            (subst (λ (t : Bool). TellsOf before t) (sym (has_end arrivals one ∙ or_false (has_refused arrivals) (was_refused came) taken)) tells),
+      )
 
-  pub accepts_made : (ways : List (S × ConnectionsState S × ConnectionsState S)) (a b m : ConnectionsState S) → AcceptsAll remote ways a b
-      → m ≡ record b { room = m.room; places = m.places } → (more : List (S × ConnectionsState S × ConnectionsState S)) × AcceptsAll remote more a m
-  accepts_made ways a b m p room = (ways, all_then ways a b m p (accepts_room b m room))
+  -- none did
+  pub next_none : (before result : Result (Unit {0}) ClientsError) (arrivals : List (Arrival S)) (a b m : ConnectionsState S)
+      → AcceptsAll remote arrivals a b → MakesRoom b m → result ≡ before → TellsOf before (has_refused arrivals)
+      → (more : List (Arrival S)) × AcceptsAll remote more a m × TellsOf result (has_refused more)
+  next_none before result arrivals a b m p room is tells = (
+    arrivals,
+    all_made arrivals a b m p room,
+    subst (λ (r : Result (Unit {0}) ClientsError). TellsOf r (has_refused arrivals)) (sym is) tells,
+  )
 
-  pub accepts_begun : (a : ConnectionsState S) → (ways : List (S × ConnectionsState S × ConnectionsState S)) × AcceptsAll remote ways a a
-  accepts_begun a = ([], accepts_still a)
+  pub none_yet : (a : ConnectionsState S) → (arrivals : List (Arrival S)) × AcceptsAll remote arrivals a a × TellsOf (Ok tt) (has_refused arrivals)
+  none_yet a = ([], refl, refl)

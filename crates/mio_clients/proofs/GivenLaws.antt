@@ -207,7 +207,7 @@ module _ {S : Type 0} (remaining contents : S → Option (List ℕ)) where
     unrefused = refl;
   })
 
-  pub moves_waiting : (a b : Client S) → b ≡ record a { is_waiting = true } → Moves remaining contents [] [] a b
+  pub moves_waiting : (a b : Client S) → b ≡ record a { is_waiting = true; was_served = true } → Moves remaining contents [] [] a b
   moves_waiting a b is = subst (Moves remaining contents [] [] a) (sym is) (record {
     same = refl;
     grows = grows_by_none (given contents a) (given contents a) (keeps_itself (given contents a));

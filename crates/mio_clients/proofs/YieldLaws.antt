@@ -1,4 +1,4 @@
--- Who was active when, and who was silent for longest.
+-- Who was active when, and who gives way first.
 use Rattle.std.proofs.Common.{◌≡◌, ◌≢◌, ◌⊎◌, inl, inr, ℕ, ◌+◌, ◌<◌, ◌≤◌, ◌==◌, List, [], ◌∷◌, Option, None, Some, Bool, true, false}
 use Rattle.std.proofs.Common.{refl, sym, subst, ◌∙◌, ap, length, arith}
 use Rattle.std.specs.Prelude.{MatchOption, IsSome, IsSomeAnd}
@@ -9,7 +9,7 @@ use Rattle.slab.proofs.SlabLemmas.{ContainsKey-within}
 use Rattle.mio_clients.specs.declared.client.Client.{Client}
 use Rattle.client_session.proofs.ByteLaws.{keeps_itself}
 use Rattle.mio_clients.specs.Connections.{ConnectionsState, IsVacant, IsAt, IsAlone, IsMovedAt}
-use Rattle.mio_clients.specs.Yielding.{IsHeard, MayYield, IsLongestBelow, IsFoundBelow, IsFound, NowWaits, WasGiven, active_at, still_waits}
+use Rattle.mio_clients.specs.Yielding.{IsHeard, MayYield, IsFirstBelow, IsFoundBelow, IsFound, NowWaits, WasGiven, active_at, still_waits, StaysServed, keeps_until}
 
 below_or_at : (k key : ℕ) (t : Bool) → (k == key) ≡ t → k < key + 1 → (k ≡ key) ⊎ (k < key)
 below_or_at k key true e within = inl (eqb-true k key e)
@@ -38,13 +38,13 @@ module _ {S : Type 0} where
   active_before now bytes x none = ap (λ (l : List ℕ). active_at now l x) none
 
   waits_at : (x y : Option (Client S)) (client : Client S)
-      → MatchOption x (y ≡ None) (λ u. IsSomeAnd y (λ v. v ≡ record u { is_waiting = true })) → x ≡ Some client
-      → y ≡ Some (record client { is_waiting = true })
+      → MatchOption x (y ≡ None) (λ u. IsSomeAnd y (λ v. v ≡ record u { is_waiting = true; was_served = true })) → x ≡ Some client
+      → y ≡ Some (record client { is_waiting = true; was_served = true })
   waits_at None y client moved there = absurd (cc there)
   waits_at (Some x) None client moved there = absurd moved
   waits_at (Some x) (Some y) client moved there =
       let same : x ≡ client = cc there in
-      ap Some moved ∙ ap (λ (t : Client S). Some (record t { is_waiting = true })) same
+      ap Some moved ∙ ap (λ (t : Client S). Some (record t { is_waiting = true; was_served = true })) same
 
   number_at : (id : ℕ) (slot : Option (Client S)) (client : Client S) → IsSomeAnd slot (λ x. x.id ≡ id) → slot ≡ Some client → client.id ≡ id
   number_at id None client at there = absurd at
@@ -58,7 +58,7 @@ module _ {S : Type 0} where
 
   -- the client of this number, at this key, waits
   pub now_waits : (a b : ConnectionsState S) (id key : ℕ) → b ≡ record a { clients = b.clients } → IsAt a id key → IsAlone a id key
-      → IsMovedAt (λ x y. y ≡ record x { is_waiting = true }) key a.clients b.clients
+      → IsMovedAt (λ x y. y ≡ record x { is_waiting = true; was_served = true }) key a.clients b.clients
       → ((other : ℕ) → other ≢ key → get b.clients other ≡ get a.clients other) → NowWaits id a b
   now_waits a b id key same at alone moved others = record {
     same = same;
@@ -75,6 +75,16 @@ module _ {S : Type 0} where
     waits = λ k client there is. absurd (vacant k client there is);
     others = λ k client there ne. there;
   }
+
+  -- a client that was read
+  pub served_moved : (u v : Option (Client S)) (x y : Client S) → MatchOption u (v ≡ None) (λ s. IsSomeAnd v (λ t. StaysServed s t))
+      → u ≡ Some x → v ≡ Some y → StaysServed x y
+  served_moved None v x y moved was is = absurd (cc was)
+  served_moved (Some s) None x y moved was is = absurd moved
+  served_moved (Some s) (Some t) x y moved was is =
+      let p : s ≡ x = cc was in
+      let q : t ≡ y = cc is in
+      subst (λ (c : Client S). StaysServed x c) q (subst (λ (c : Client S). StaysServed c t) p moved)
 
   given_moved : (bytes : List ℕ) (now : ℕ) (u v : Option (Client S)) (x y : Client S)
       → MatchOption u (v ≡ None) (λ s. IsSomeAnd v (λ t. t ≡ record s {
@@ -156,11 +166,17 @@ is_there : {X : Type 0} (o : Option X) (x : X) → o ≡ Some x → IsSome o
 is_there None x is = absurd (cc is)
 is_there (Some y) x is = refl
 
-module _ {S : Type 0} (remote : S → Bool) (a : ConnectionsState S) where
+at_most_itself : (n : ℕ) → n ≤ n
+at_most_itself n = omega arith
+
+pub at_most_both : (x y z : ℕ) → x ≤ y → y ≤ z → x ≤ z
+at_most_both x y z low high = omega (arith, low, high)
+
+module _ {S : Type 0} (remote : S → Bool) (to_remote : Bool) (a : ConnectionsState S) where
   -- none that may give way stands at this key
   pub found_still : (key : ℕ) (found : Option ℕ)
-      → ((client : Client S) → get a.clients key ≡ Some client → MayYield remote a client → ⊥)
-      → IsFoundBelow remote a key found → IsFoundBelow remote a (key + 1) found
+      → ((client : Client S) → get a.clients key ≡ Some client → MayYield remote to_remote a client → ⊥)
+      → IsFoundBelow remote to_remote a key found → IsFoundBelow remote to_remote a (key + 1) found
   found_still key None none p = λ k client within there may.
       elim (below_or_at k key (k == key) refl within) [
         | inl here ↦ none client (sym (ap (get a.clients) here) ∙ there) may
@@ -170,42 +186,43 @@ module _ {S : Type 0} (remote : S → Bool) (a : ConnectionsState S) where
     client = p.client;
     there = p.there;
     may = p.may;
-    longest = λ k other within there may.
+    first = λ k other within there may.
         elim (below_or_at k key (k == key) refl within) [
           | inl here ↦ absurd (none other (sym (ap (get a.clients) here) ∙ there) may)
-          | inr before ↦ p.longest k other before there may
+          | inr before ↦ p.first k other before there may
         ];
   }
 
-  -- the one that was found has sent nothing for as long
-  pub found_before : (key at : ℕ) (client : Client S) → get a.clients key ≡ Some client → (p : IsLongestBelow remote a key at)
-      → p.client.last_active ≤ client.last_active → IsLongestBelow remote a (key + 1) at
+  -- the time of the one that was found is over as soon
+  pub found_before : (key at : ℕ) (client : Client S) → get a.clients key ≡ Some client → (p : IsFirstBelow remote to_remote a key at)
+      → keeps_until a p.client ≤ keeps_until a client → IsFirstBelow remote to_remote a (key + 1) at
   found_before key at client there p less =
       record {
         client = p.client;
         there = p.there;
         may = p.may;
-        longest = λ k other within stands may.
+        first = λ k other within stands may.
             elim (below_or_at k key (k == key) refl within) [
               | inl here ↦ (let both : client ≡ other = cc (there, ap (get a.clients) here, stands) in
-                  (let y = ap (λ (t : Client S). t.last_active) both in omega (arith, less, y)))
-              | inr earlier ↦ p.longest k other earlier stands may
+                  subst (λ (t : Client S). keeps_until a p.client ≤ keeps_until a t) both less)
+              | inr earlier ↦ p.first k other earlier stands may
             ];
       }
 
-  -- the one at this key has sent nothing for longer, or is the first
-  pub found_here : (key : ℕ) (client : Client S) → get a.clients key ≡ Some client → MayYield remote a client
-      → ((k : ℕ) (other : Client S) → k < key → get a.clients k ≡ Some other → MayYield remote a other → client.last_active ≤ other.last_active)
-      → IsLongestBelow remote a (key + 1) key
-  found_here key client there may longest = record {
+  -- the time of the one at this key is over sooner, or it is the first
+  pub found_here : (key : ℕ) (client : Client S) → get a.clients key ≡ Some client → MayYield remote to_remote a client
+      → ((k : ℕ) (other : Client S) → k < key → get a.clients k ≡ Some other → MayYield remote to_remote a other
+      → keeps_until a client ≤ keeps_until a other)
+      → IsFirstBelow remote to_remote a (key + 1) key
+  found_here key client there may first = record {
     client = client;
     there = there;
     may = may;
-    longest = λ k other within stands yields.
+    first = λ k other within stands yields.
         elim (below_or_at k key (k == key) refl within) [
           | inl here ↦ (let both : client ≡ other = cc (there, ap (get a.clients) here, stands) in
-              (let y = ap (λ (t : Client S). t.last_active) both in omega (arith, y)))
-          | inr earlier ↦ longest k other earlier stands yields
+              subst (λ (t : Client S). keeps_until a client ≤ keeps_until a t) both (at_most_itself (keeps_until a client)))
+          | inr earlier ↦ first k other earlier stands yields
         ];
   }
 
@@ -214,12 +231,12 @@ module _ {S : Type 0} (remote : S → Bool) (a : ConnectionsState S) where
       let low = ContainsKey-within a.clients k (is_there (get a.clients k) client there) in
       omega (arith, low, fits)
 
-  pub found_all : (capacity : ℕ) (found : Option ℕ) → length a.clients.slots ≤ capacity → IsFoundBelow remote a capacity found
-      → IsFound remote a found
+  pub found_all : (capacity : ℕ) (found : Option ℕ) → length a.clients.slots ≤ capacity → IsFoundBelow remote to_remote a capacity found
+      → IsFound remote to_remote a found
   found_all capacity None fits p = λ k client there may. p k client (within_slots capacity k client fits there) there may
   found_all capacity (Some at) fits p = record {
     client = p.client;
     there = p.there;
     may = p.may;
-    longest = λ k other there may. p.longest k other (within_slots capacity k other fits there) there may;
+    first = λ k other there may. p.first k other (within_slots capacity k other fits there) there may;
   }

@@ -112,6 +112,7 @@ pub record IsAdmitted {S : Type 0} (stream : S) (old new : ConnectionsState S) :
   pub accepted : client.stream ≡ stream
   pub session : client.session ≡ fresh
   pub active : client.last_active ≡ old.time
+  pub unserved : client.was_served ≡ false
   pub gathered : new.events ≡ old.events ++ events.Connect (old.last_id + 1) ∷ []
 
 -- nothing has changed but what stands at this key

@@ -1,5 +1,5 @@
 -- What clients did, gathered until it is served.
-use Rattle.std.specs.Prelude.{ℕ, zero, suc, ◌+◌, ◌==◌, List, [], ◌∷◌, ◌++◌, map, Bool, false, Option, None, Some, ◌||◌, if◌then◌else◌}
+use Rattle.std.specs.Prelude.{ℕ, ◌==◌, List, [], ◌∷◌, ◌++◌, map, Bool, false, Option, None, Some, ◌||◌, if◌then◌else◌}
 use Rattle.command_text.specs.declared.request.Request.{Request}
 use Rattle.command_text.specs.declared.request.Request.TheVariants.{Single, OkList, Noidle}
 use Rattle.command_text.specs.declared.request.Request.TheVariants as requests
@@ -51,8 +51,3 @@ AsksNothing (events.Gone client) = Unit {0}
 -- these requests of a client, as events
 abbrev pub asked_by : ℕ → List Request → List ClientEvent
 asked_by c requests = map (λ r. events.Request c r) requests
-
--- clients connect one after the other, by rising numbers from the one behind this
-abbrev pub connects : ℕ → ℕ → List ClientEvent
-connects last zero = []
-connects last (suc n) = events.Connect (last + 1) ∷ connects (last + 1) n

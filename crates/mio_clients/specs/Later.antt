@@ -7,7 +7,7 @@ use Rattle.client_session.specs.Session.{fresh}
 use Rattle.mio_clients.specs.declared.client.Client.{Client}
 use Rattle.mio_clients.specs.declared.refusal.ClientsError.{ClientsError}
 use Rattle.mio_clients.specs.declared.refusal.ClientsError.TheVariants.{NetFault}
-use Rattle.mio_clients.specs.Events.{asked_in, connects}
+use Rattle.mio_clients.specs.Events.{asked_in}
 use Rattle.mio_clients.specs.Given.{Moves}
 use Rattle.mio_clients.specs.Connections.{ConnectionsState, IsToldGone, IsFailedAt}
 
@@ -76,11 +76,3 @@ pub record IsFault {S : Type 0} (remaining contents : S → Option (List ℕ)) (
   pub fails : IsFailedAt remaining contents failed key old between
   pub number : error ≡ NetFault fails.last.id
   pub loses : Loses key between new
-
--- Clients have connected, one after the other, and all others stay as they are.
-pub record Accepts {S : Type 0} (old new : ConnectionsState S) : Type 0 where
-  pub count : ℕ
-  pub last_id : new.last_id ≡ old.last_id + count
-  pub time : new.time ≡ old.time
-  pub gathered : new.events ≡ old.events ++ connects old.last_id count
-  pub stay : (key : ℕ) (client : Client S) → get old.clients key ≡ Some client → get new.clients key ≡ Some client

@@ -1,17 +1,25 @@
 -- Which client gives way to another, and how clients are accepted.
-use Rattle.std.specs.Prelude.{◌≡◌, ◌≢◌, ◌⊎◌, ℕ, ◌+◌, ◌^◌, ◌-◌, ◌<◌, ◌≤◌, List, [], ◌∷◌, Option, None, Some, Bool, true, false}
+use Rattle.std.specs.Prelude.{◌≡◌, ◌≢◌, ◌⊎◌, ℕ, ◌+◌, ◌^◌, ◌-◌, ◌<◌, ◌≤◌, List, [], ◌∷◌, length, Option, None, Some, Result, Ok, Err}
+use Rattle.std.specs.Prelude.{Bool, true, false, ◌||◌, nat_lt, if◌then◌else◌}
 use Rattle.std.specs.Io.KnownBytes.{Keeps}
 use Rattle.slab.specs.Slab.{get}
 use Rattle.mio_clients.specs.declared.client.Client.{Client}
+use Rattle.mio_clients.specs.declared.event.ClientEvent.{ClientEvent}
 use Rattle.mio_clients.specs.declared.clients.Admission.{Admission}
 use Rattle.mio_clients.specs.declared.clients.Admission.TheVariants.{Taken, Unwatched, Refused}
 use Rattle.mio_clients.specs.Connections.{ConnectionsState, IsFull, IsAdmitted}
 use Rattle.mio_clients.specs.Events.{has_request_of}
-use Rattle.mio_clients.specs.Later.{Loses, Accepts}
+use Rattle.mio_clients.specs.declared.refusal.ClientsError.{ClientsError}
+use Rattle.mio_clients.specs.declared.refusal.ClientsError.TheVariants.{NoMemory, NetFault, TooManyClients}
+use Rattle.mio_clients.specs.Later.{Loses}
 
--- for how many milliseconds a client that gives way was silent at least: an hour
+-- for how many milliseconds a client keeps its place in silence: an hour
 abbrev pub yield_after : ℕ
 yield_after = 3600000
+
+-- the same of one of which no request was served: ten seconds
+abbrev pub yield_unserved_after : ℕ
+yield_unserved_after = 10000
 
 -- whether a client that is given these bytes still waits in idle
 abbrev pub still_waits : {S : Type 0} → List ℕ → Client S → Bool
@@ -28,16 +36,21 @@ abbrev pub IsHeard : {S : Type 0} → (S → Option (List ℕ)) → ℕ → Clie
 IsHeard remaining now old new =
     (new.last_active ≡ now) ⊎ ((new.last_active ≡ old.last_active) × Keeps (remaining old.stream) (remaining new.stream))
 
--- the same of the client at this key, if it was not let go of; the others stay as they are
+-- it waits in idle if it did, and a request of it was served if one was
+abbrev pub StaysServed : {S : Type 0} → Client S → Client S → Type 0
+StaysServed old new = (new.is_waiting ≡ old.is_waiting) × (new.was_served ≡ old.was_served)
+
+-- The client at this key was read, if it was not let go of, and no request of it served; the others stay as they are.
 pub record IsHeardAt {S : Type 0} (remaining : S → Option (List ℕ)) (key : ℕ) (old new : ConnectionsState S) : Type 0 where
   pub heard : (x y : Client S) → get old.clients key ≡ Some x → get new.clients key ≡ Some y → IsHeard remaining old.time x y
+  pub served : (x y : Client S) → get old.clients key ≡ Some x → get new.clients key ≡ Some y → StaysServed x y
   pub others : (other : ℕ) → other ≢ key → get new.clients other ≡ get old.clients other
 
--- A request of the client of this number is served: it waits until it is given something. All else stays as it is.
+-- A request of the client of this number is served, and it waits until it is given something. All else stays as it is.
 pub record NowWaits {S : Type 0} (id : ℕ) (old new : ConnectionsState S) : Type 0 where
   pub same : new ≡ record old { clients = new.clients }
   pub waits : (key : ℕ) (client : Client S) → get old.clients key ≡ Some client → client.id ≡ id
-      → get new.clients key ≡ Some (record client { is_waiting = true })
+      → get new.clients key ≡ Some (record client { is_waiting = true; was_served = true })
   pub others : (key : ℕ) (client : Client S) → get old.clients key ≡ Some client → client.id ≢ id → get new.clients key ≡ Some client
 
 -- the client of this number, if it was not let go of, was given these bytes; the others stay as they are
@@ -46,77 +59,117 @@ pub record WasGiven {S : Type 0} (id : ℕ) (bytes : List ℕ) (old new : Connec
       → y ≡ record x { session = y.session; is_waiting = still_waits bytes x; last_active = active_at old.time bytes x }
   pub others : (key : ℕ) (x : Client S) → get old.clients key ≡ Some x → x.id ≢ id → get new.clients key ≡ Some x
 
--- It came over a network, waits in no idle, was sent all that it was given, and for an hour nothing came of it and it was given nothing.
-pub record IsSilent {S : Type 0} (remote : S → Bool) (now : ℕ) (client : Client S) : Type 0 where
+-- for how many milliseconds a client keeps its place in silence
+abbrev pub keeps_for : {S : Type 0} → Client S → ℕ
+keeps_for client = if client.was_served then yield_after else yield_unserved_after
+
+-- whether a client waits in idle, was not sent all that it was given, or has a request that waits to be served
+abbrev pub is_busy : {S : Type 0} → List ClientEvent → Client S → Bool
+is_busy events client = client.is_waiting || nat_lt 0 (length client.session.queued) || has_request_of client.id events
+
+-- when something last came of a client or was given to it, where one that is busy is active now
+abbrev pub active_until : {S : Type 0} → ConnectionsState S → Client S → ℕ
+active_until connections client = if is_busy connections.events client then connections.time else client.last_active
+
+-- until when a client keeps its place against one over a network
+abbrev pub keeps_until : {S : Type 0} → ConnectionsState S → Client S → ℕ
+keeps_until connections client = active_until connections client + keeps_for client
+
+-- A client that may give way to another, which comes over a network or not: it came over one itself, and to one over a network it gives
+-- way only where its time is over.
+pub record MayYield {S : Type 0} (remote : S → Bool) (to_remote : Bool) (connections : ConnectionsState S)
+    (client : Client S) : Type 0 where
   pub over_network : remote client.stream ≡ true
-  pub answered : client.is_waiting ≡ false
-  pub sent : client.session.queued ≡ []
-  pub long : client.last_active + yield_after ≤ now
+  pub over : to_remote ≡ true → keeps_until connections client ≤ connections.time
 
--- a client that may give way: it is silent, and no request of it waits to be served
-pub record MayYield {S : Type 0} (remote : S → Bool) (connections : ConnectionsState S) (client : Client S) : Type 0 where
-  pub silent : IsSilent remote connections.time client
-  pub served : has_request_of client.id connections.events ≡ false
+abbrev pub NoneYields : {S : Type 0} → (S → Bool) → Bool → ConnectionsState S → Type 0
+NoneYields {S} remote to_remote connections = (key : ℕ) (client : Client S) → get connections.clients key ≡ Some client
+    → MayYield remote to_remote connections client → ⊥
 
-abbrev pub NoneYields : {S : Type 0} → (S → Bool) → ConnectionsState S → Type 0
-NoneYields {S} remote connections = (key : ℕ) (client : Client S) → get connections.clients key ≡ Some client
-    → MayYield remote connections client → ⊥
-
--- the client at this key may give way, and none that may was silent for longer
-pub record IsLongestSilent {S : Type 0} (remote : S → Bool) (connections : ConnectionsState S) (key : ℕ) : Type 0 where
+-- the client at this key may give way, and of none that may the time is over sooner
+pub record IsFirstToYield {S : Type 0} (remote : S → Bool) (to_remote : Bool) (connections : ConnectionsState S) (key : ℕ) : Type 0 where
   pub client : Client S
   pub there : get connections.clients key ≡ Some client
-  pub may : MayYield remote connections client
-  pub longest : (k : ℕ) (other : Client S) → get connections.clients k ≡ Some other → MayYield remote connections other
-      → client.last_active ≤ other.last_active
+  pub may : MayYield remote to_remote connections client
+  pub first : (k : ℕ) (other : Client S) → get connections.clients k ≡ Some other → MayYield remote to_remote connections other
+      → keeps_until connections client ≤ keeps_until connections other
 
 -- the same of the keys below this
-pub record IsLongestBelow {S : Type 0} (remote : S → Bool) (connections : ConnectionsState S) (below key : ℕ) : Type 0 where
+pub record IsFirstBelow {S : Type 0} (remote : S → Bool) (to_remote : Bool) (connections : ConnectionsState S)
+    (below key : ℕ) : Type 0 where
   pub client : Client S
   pub there : get connections.clients key ≡ Some client
-  pub may : MayYield remote connections client
-  pub longest : (k : ℕ) (other : Client S) → k < below → get connections.clients k ≡ Some other → MayYield remote connections other
-      → client.last_active ≤ other.last_active
+  pub may : MayYield remote to_remote connections client
+  pub first : (k : ℕ) (other : Client S) → k < below → get connections.clients k ≡ Some other → MayYield remote to_remote connections other
+      → keeps_until connections client ≤ keeps_until connections other
 
-abbrev pub NoneBelow : {S : Type 0} → (S → Bool) → ConnectionsState S → ℕ → Type 0
-NoneBelow {S} remote connections below = (key : ℕ) (client : Client S) → key < below → get connections.clients key ≡ Some client
-    → MayYield remote connections client → ⊥
+abbrev pub NoneBelow : {S : Type 0} → (S → Bool) → Bool → ConnectionsState S → ℕ → Type 0
+NoneBelow {S} remote to_remote connections below = (key : ℕ) (client : Client S) → key < below → get connections.clients key ≡ Some client
+    → MayYield remote to_remote connections client → ⊥
 
 -- what was found of the keys below this
-abbrev pub IsFoundBelow : {S : Type 0} → (S → Bool) → ConnectionsState S → ℕ → Option ℕ → Type 0
-IsFoundBelow remote connections below None = NoneBelow remote connections below
-IsFoundBelow remote connections below (Some key) = IsLongestBelow remote connections below key
+abbrev pub IsFoundBelow : {S : Type 0} → (S → Bool) → Bool → ConnectionsState S → ℕ → Option ℕ → Type 0
+IsFoundBelow remote to_remote connections below None = NoneBelow remote to_remote connections below
+IsFoundBelow remote to_remote connections below (Some key) = IsFirstBelow remote to_remote connections below key
 
-abbrev pub IsFound : {S : Type 0} → (S → Bool) → ConnectionsState S → Option ℕ → Type 0
-IsFound remote connections None = NoneYields remote connections
-IsFound remote connections (Some key) = IsLongestSilent remote connections key
+abbrev pub IsFound : {S : Type 0} → (S → Bool) → Bool → ConnectionsState S → Option ℕ → Type 0
+IsFound remote to_remote connections None = NoneYields remote to_remote connections
+IsFound remote to_remote connections (Some key) = IsFirstToYield remote to_remote connections key
 
--- No further client may connect, and the longest silent one gives way to one that comes over a network, and is taken in as its stream is
--- registered.
+-- No further client may connect, and the one whose time is over first, of those that may, gives way to one that connects, which is taken in
+-- as its stream is registered.
 pub record Replaces {S : Type 0} (remote : S → Bool) (stream : S) (old new : ConnectionsState S) : Type 0 where
   pub full : IsFull old
-  pub over_network : remote stream ≡ true
   pub key : ℕ
-  pub silent : IsLongestSilent remote old key
+  pub first : IsFirstToYield remote (remote stream) old key
   pub between : ConnectionsState S
   pub loses : Loses key old between
   pub registered : S
   pub admitted : IsAdmitted registered between new
 
--- nobody gives way to this client: it came over no network, or nobody may, or the numbers of clients are spent
+-- Nobody gives way to this client: nobody may, or the numbers of clients are spent. To one over no network nobody may only where all came
+-- over none.
 abbrev pub NoneGivesWay : {S : Type 0} → (S → Bool) → S → ConnectionsState S → Type 0
-NoneGivesWay remote stream connections =
-    (remote stream ≡ false) ⊎ NoneYields remote connections ⊎ (connections.last_id ≡ 2 ^ 64 - 1)
+NoneGivesWay remote stream connections = NoneYields remote (remote stream) connections ⊎ (connections.last_id ≡ 2 ^ 64 - 1)
 
 -- What came of a client that connects: it was taken in, as its stream is registered, in the place of another where there are too many; or
 -- it was closed, and nothing else was done.
 abbrev pub ComesTo : {S : Type 0} → (S → Bool) → S → Admission → ConnectionsState S → ConnectionsState S → Type 0
-ComesTo {S} remote stream Taken old new = ((registered : S) × IsAdmitted registered old new) ⊎ Replaces remote stream old new
+ComesTo {S} remote stream Taken old new =
+    ((IsFull old → ⊥) × (registered : S) × IsAdmitted registered old new) ⊎ Replaces remote stream old new
 ComesTo remote stream Unwatched old new = new ≡ old
 ComesTo remote stream Refused old new = IsFull old × NoneGivesWay remote stream old × (new ≡ old)
 
--- Clients were accepted, one after the other: in between these gave way to others.
-abbrev pub AcceptsAll : {S : Type 0} → (S → Bool) → List (S × ConnectionsState S × ConnectionsState S) → ConnectionsState S
-    → ConnectionsState S → Type 0
-AcceptsAll remote [] old new = Accepts old new
-AcceptsAll remote (way ∷ ways) old new = Accepts old way.1 × Replaces remote way.0 way.1 way.2 × AcceptsAll remote ways way.2 new
+-- a client that connected: its stream, what came of it, and the clients right before that and behind it
+pub record Arrival (S : Type 0) : Type 0 where
+  pub stream : S
+  pub came : Admission
+  pub before : ConnectionsState S
+  pub after : ConnectionsState S
+
+-- room was made for one more, and nothing else was done
+abbrev pub MakesRoom : {S : Type 0} → ConnectionsState S → ConnectionsState S → Type 0
+MakesRoom old new = new ≡ record old { room = new.room; places = new.places }
+
+-- These clients connected, one after the other.
+abbrev pub AcceptsAll : {S : Type 0} → (S → Bool) → List (Arrival S) → ConnectionsState S → ConnectionsState S → Type 0
+AcceptsAll remote [] old new = MakesRoom old new
+AcceptsAll remote (one ∷ others) old new =
+    MakesRoom old one.before × ComesTo remote one.stream one.came one.before one.after × AcceptsAll remote others one.after new
+
+abbrev pub was_refused : Admission → Bool
+was_refused Taken = false
+was_refused Unwatched = false
+was_refused Refused = true
+
+-- whether one of these was closed since none gave way to it
+abbrev pub has_refused : {S : Type 0} → List (Arrival S) → Bool
+has_refused [] = false
+has_refused (one ∷ others) = was_refused one.came || has_refused others
+
+-- What is answered where one was closed so, or none: want of memory comes before either.
+abbrev pub TellsOf : Result (Unit {0}) ClientsError → Bool → Type 0
+TellsOf (Ok done) refused = refused ≡ false
+TellsOf (Err NoMemory) refused = Unit {0}
+TellsOf (Err TooManyClients) refused = refused ≡ true
+TellsOf (Err (NetFault client)) refused = ⊥

@@ -1,16 +1,16 @@
 // One client: how it is read, and how it is written.
-ghost use Rattle.std.specs.Prelude.{◌≡◌, ◌≢◌, ◌⊎◌, ◌↔◌, ◌++◌, [], None, OnOk, IfErr, OnErr, IsTrue, true};
+ghost use Rattle.std.specs.Prelude.{◌≡◌, ◌≢◌, ◌⊎◌, ◌↔◌, ◌++◌, [], None, OnOk, IfErr, OnErr, IsTrue, false, true};
 ghost use Rattle.client_session.specs.Requests.{brought, left_by};
 ghost use Rattle.client_session.specs.Session.{fresh};
 ghost use Rattle.mio_clients.specs.Events.{asked_by};
 ghost use Rattle.mio_clients.specs.Given.{Moves};
-ghost use Rattle.mio_clients.specs.Yielding.{active_at, still_waits, IsHeard, IsSilent};
+ghost use Rattle.mio_clients.specs.Yielding.{active_at, keeps_for, still_waits, IsHeard};
 ghost use Rattle.mio_clients.specs.Connections.{Reads, ReadsInPart, IsTaken, IsReading};
 
 use crate::queue::EventQueue;
 use crate::ready::Interest;
 use crate::stream::Stream;
-use crate::{CALL_LIMIT, YIELD_AFTER};
+use crate::{CALL_LIMIT, YIELD_AFTER, YIELD_UNSERVED_AFTER};
 use client_session::{Session, SessionError};
 use std::alloc::Global;
 use std::io::ErrorKind;
@@ -34,6 +34,8 @@ pub struct Client<S> {
     pub last_active: u64,
     /// A request of it other than `noidle` was served, and it was given nothing since: it waits in `idle`.
     pub is_waiting: bool,
+    /// A request of it other than `noidle` was served.
+    pub was_served: bool,
 }
 
 /// What a round of writing came to.
@@ -107,6 +109,7 @@ impl<S: Stream> Client<S> {
         ensures stream { result.stream ≡ stream }
         ensures session { result.session ≡ fresh }
         ensures last_active { result.last_active ≡ now }
+        ensures unserved { result.was_served ≡ false }
     {
         Client {
             id,
@@ -118,19 +121,19 @@ impl<S: Stream> Client<S> {
             has_more: false,
             last_active: now,
             is_waiting: false,
+            was_served: false,
         }
     }
 
-    /// Whether it came over a network, waits in no `idle`, was sent all that it was given, and for an hour nothing came of it and it was
-    /// given nothing.
-    pub(crate) fn is_silent(&self, now: u64) -> bool
-        ensures { IsTrue result ↔ IsSilent S.remote now self.now }
+    /// For how many milliseconds it keeps its place in silence.
+    pub(crate) fn keeps_for(&self) -> u64
+        ensures { result ≡ keeps_for self.now }
     {
-        self.stream.is_remote()
-            && !self.is_waiting
-            && self.session.queued_len() == 0
-            && now >= YIELD_AFTER
-            && self.last_active <= now - YIELD_AFTER
+        if self.was_served {
+            YIELD_AFTER
+        } else {
+            YIELD_UNSERVED_AFTER
+        }
     }
 
     /// Queues bytes for it. Where that is refused, it is not to be used any more.

@@ -8,7 +8,7 @@ ghost use Rattle.mio_clients.specs.Waiting.{StaysQuiet};
 ghost use Rattle.mio_clients.specs.Connections.{ConnectionsState, IsFull, IsVacant};
 ghost use Rattle.mio_clients.specs.Later.{no_bytes, no_requests, bytes_for, IsFault, Loses};
 ghost use Rattle.mio_clients.specs.Leaving.{AllFollow, IsFollowed};
-ghost use Rattle.mio_clients.specs.Yielding.{AcceptsAll, ComesTo, NowWaits};
+ghost use Rattle.mio_clients.specs.Yielding.{AcceptsAll, Arrival, ComesTo, NowWaits, TellsOf, has_refused, was_refused};
 
 use crate::client::{Reading, Writing};
 use crate::connections::Connections;
@@ -47,7 +47,7 @@ pub(crate) enum Admission {
 
 impl Admission {
     pub(crate) fn is_refused(self) -> bool
-        ensures { IsTrue result ↔ (self ≡ Admission.Refused) }
+        ensures { result ≡ was_refused self }
     {
         matches!(self, Admission::Refused)
     }
@@ -137,12 +137,15 @@ impl<S: Stream, L: Listener<S>, P: Ready<S>> Clients<S, L, P> {
     /// Accepts clients until none waits, or for 65,536 calls, and gathers their connects, by rising numbers. A failed `accept` is tried
     /// again in the next turn of the loop.
     ///
-    /// Where no place is left, the client over a network that was silent for longest, for an hour at least, gives way to one that comes
-    /// over a network: it is let go of, and the listener is told. `TooManyClients` says that a client was closed without a byte, to which
-    /// none gave way. `NoMemory` leaves the others waiting.
+    /// Where no place is left, the client over a network whose time is over first gives way: to one over a network only once it is over, to
+    /// any other in any case. It is let go of, and the listener is told. Its time is an hour of silence, or ten seconds if no request of it
+    /// was served; while it waits in `idle`, was not sent all, or a request of it waits, it is as one that is active now. `TooManyClients`
+    /// says that a client was closed without a byte, to which none gave way. `NoMemory` leaves the others waiting.
     pub fn accept_all(&mut self, alloc: Global) -> Result<(), ClientsError>
         ensures later { IsFollowed S.remaining S.contents no_bytes no_requests self.old self.new }
-        ensures accepted { (ways : List (S × ConnectionsState S × ConnectionsState S)) × AcceptsAll S.remote ways self.old self.new }
+        // Who came, and what came of each: one is closed only where none may give way to it.
+        ensures accepted { (arrivals : List (Arrival S)) × AcceptsAll S.remote arrivals self.old self.new
+            × TellsOf result (has_refused arrivals) }
         ensures too_many { IsErrOf result ClientsError.TooManyClients → IsFull self.new }
         ensures neither { IfErr result (λ e. (e ≡ ClientsError.NoMemory) ⊎ (e ≡ ClientsError.TooManyClients)) }
     {
@@ -191,7 +194,7 @@ impl<S: Stream, L: Listener<S>, P: Ready<S>> Clients<S, L, P> {
         }
     }
 
-    // Takes a client in that comes over a network, in the place of the one that was silent for longest, if one may give way.
+    // Takes a client in, in the place of one that gives way to it, if one does.
     fn admit_instead(&mut self, alloc: Global, stream: S) -> Admission
         requires room { slab_len self.old.clients + 2 ≤ self.old.room }
         requires places { slab_len self.old.clients + 1 ≤ self.old.places }
@@ -200,13 +203,10 @@ impl<S: Stream, L: Listener<S>, P: Ready<S>> Clients<S, L, P> {
         ensures full { IsFull self.new }
         ensures comes_to { ComesTo S.remote stream result self.old self.new }
     {
-        if !stream.is_remote() {
-            return Admission::Refused;
-        }
         if self.connections.is_spent() {
             return Admission::Refused;
         }
-        let Some(key) = self.connections.longest_silent() else {
+        let Some(key) = self.connections.first_to_yield(stream.is_remote()) else {
             return Admission::Refused;
         };
         let mut stream = stream;

@@ -9,6 +9,7 @@ ghost use Rattle.mio_clients.specs.Waiting.{StaysQuiet};
 ghost use Rattle.mio_clients.specs.Later.{no_bytes, no_requests, bytes_for, Loses};
 ghost use Rattle.mio_clients.specs.Leaving.{AllFollow, IsFollowed};
 ghost use Rattle.mio_clients.specs.Yielding.{IsFound, IsFoundBelow, IsHeardAt, MayYield, NowWaits, WasGiven};
+ghost use Rattle.mio_clients.specs.Yielding.{active_until, is_busy, keeps_until};
 
 use crate::CLIENT_LIMIT;
 use crate::client::{Client, Reading, Writing};
@@ -126,43 +127,91 @@ impl<S: Stream> Connections<S> {
         self.time.saturating_sub(self.last_active_at(key))
     }
 
-    // Whether a client may give way to another.
-    fn may_yield(&self, client: &Client<S>) -> bool
-        ensures { IsTrue result ↔ MayYield S.remote self.now client.now }
+    // Whether a client waits in `idle`, was not sent all that it was given, or has a request that waits to be served.
+    fn is_busy(&self, client: &Client<S>) -> bool
+        ensures { result ≡ is_busy self.now.events client.now }
     {
-        client.is_silent(self.time) && !self.queue.has_request_of(client.id)
+        client.is_waiting || client.session.queued_len() > 0 || self.queue.has_request_of(client.id)
     }
 
-    /// The client that was silent for longest, of those that may give way to another.
-    pub(crate) fn longest_silent(&self) -> Option<usize>
-        ensures { IsFound S.remote self.now result }
+    // When a client was active last, where one that is busy is active now. Of one that is active now this makes no difference, and to find
+    // it out may take all events that wait.
+    fn active_until(&self, client: &Client<S>) -> u64
+        ensures { result ≡ active_until self.now client.now }
+    {
+        if client.last_active == self.time {
+            return self.time;
+        }
+        if self.is_busy(client) {
+            self.time
+        } else {
+            client.last_active
+        }
+    }
+
+    // Until when a client keeps its place against one over a network.
+    fn keeps_until(&self, client: &Client<S>) -> u128
+        ensures { result ≡ keeps_until self.now client.now }
+    {
+        u128::from(self.active_until(client)) + u128::from(client.keeps_for())
+    }
+
+    // The same of the client at a key.
+    fn keeps_until_at(&self, key: usize) -> u128
+        ensures { IfSome (get self.now.clients key) (λ client. result ≡ keeps_until self.now client) }
+    {
+        match self.clients.get(key) {
+            Some(client) => self.keeps_until(client),
+            None => 0,
+        }
+    }
+
+    // Whether a client's time is over.
+    fn is_overdue(&self, client: &Client<S>) -> bool
+        ensures { IsTrue result ↔ (keeps_until self.now client.now ≤ self.now.time) }
+    {
+        let silent_until = u128::from(client.last_active) + u128::from(client.keeps_for());
+        if u128::from(self.time) < silent_until {
+            return false;
+        }
+        !self.is_busy(client)
+    }
+
+    // Whether a client may give way to another, over a network or not.
+    fn may_yield(&self, client: &Client<S>, to_remote: bool) -> bool
+        ensures { IsTrue result ↔ MayYield S.remote to_remote self.now client.now }
+    {
+        client.stream.is_remote() && (!to_remote || self.is_overdue(client))
+    }
+
+    /// The client that gives way to another, over a network or not.
+    pub(crate) fn first_to_yield(&self, to_remote: bool) -> Option<usize>
+        ensures { IsFound S.remote to_remote self.now result }
     {
         let mut found = None;
         for key in 0..self.clients.capacity() {
-            found = self.longest_of(found, key);
+            found = self.sooner_of(found, key, to_remote);
         }
         found
     }
 
-    // The longer silent one of what was found at the keys before and the client at this key.
-    fn longest_of(&self, found: Option<usize>, key: usize) -> Option<usize>
-        requires { IsFoundBelow S.remote self.now key found }
-        ensures { IsFoundBelow S.remote self.now (key + 1) result }
+    // What was found at the keys before, or the client at this key, if it gives way sooner.
+    fn sooner_of(&self, found: Option<usize>, key: usize, to_remote: bool) -> Option<usize>
+        requires { IsFoundBelow S.remote to_remote self.now key found }
+        ensures { IsFoundBelow S.remote to_remote self.now (key + 1) result }
     {
         let Some(client) = self.clients.get(key) else {
             return found;
         };
-        if !self.may_yield(client) {
+        if !self.may_yield(client, to_remote) {
             return found;
         }
         let Some(other) = found else {
             return Some(key);
         };
-        if self.last_active_at(other) <= client.last_active {
-            found
-        } else {
-            Some(key)
-        }
+        let before = self.keeps_until_at(other);
+        let here = self.keeps_until(client);
+        if before <= here { found } else { Some(key) }
     }
 
     /// How many events wait.

@@ -37,8 +37,11 @@ const CALL_LIMIT: u32 = 65_536;
 /// How many events are served together, at most.
 const GROUP_LIMIT: usize = 64;
 
-/// For how many milliseconds a client that gives way to another was silent at least: an hour.
+/// For how many milliseconds a client keeps its place in silence: an hour.
 pub const YIELD_AFTER: u64 = 3_600_000;
+
+/// The same of one of which no request was served yet: ten seconds. Who connects to ask for something asks at once.
+pub const YIELD_UNSERVED_AFTER: u64 = 10_000;
 
 /// How many bytes are read at once, at most.
 const READ_SIZE: usize = 1_024;

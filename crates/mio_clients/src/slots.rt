@@ -4,7 +4,7 @@ ghost use Rattle.std.specs.Prelude.{IsTrue, IsSome, IfSome, IfNone, IsSomeAnd};
 ghost use Rattle.std.specs.Option.{option_to_list};
 ghost use Rattle.slab.specs.Slab.{get, slab_len};
 ghost use Rattle.mio_clients.specs.Given.{Moves};
-ghost use Rattle.mio_clients.specs.Yielding.{active_at, still_waits, IsHeard};
+ghost use Rattle.mio_clients.specs.Yielding.{active_at, still_waits, IsHeard, StaysServed};
 ghost use Rattle.mio_clients.specs.Connections.{ReadsInPart, IsSameElsewhere, IsMovedAt, IsReadAt, IsToldGone};
 
 use crate::client::{Client, Reading, Writing};
@@ -49,6 +49,7 @@ pub(crate) fn read_slot<S: Stream>(
         → IsReadAt S.remaining S.contents key clients.old clients.new queue.old.events queue.new.events) }
     ensures there { IfSome result (λ _. IsSome (get clients.old key)) }
     ensures heard { IsMovedAt (IsHeard S.remaining now) key clients.old clients.new }
+    ensures served { IsMovedAt StaysServed key clients.old clients.new }
     ensures failed { result ≡ Some Reading.Failed → IsSomeAnd (get clients.new key) (λ client. S.failed client.stream ≡ true) }
     ensures refused { result ≡ Some Reading.Refused
         → IsMovedAt (λ x y. ReadsInPart S.remaining S.contents x y queue.old.events queue.new.events) key clients.old clients.new }
@@ -97,10 +98,11 @@ pub(crate) fn queue_slot<S: Stream>(
 #[tactic(auto, using(crate::proofs::ConnectionLaws::len_with_value))]
 pub(crate) fn wait_slot<S: Stream>(clients: &mut Slab<Client<S>>, key: usize)
     ensures elsewhere { IsSameElsewhere key clients.old clients.new }
-    ensures moved { IsMovedAt (λ x y. y ≡ record x { is_waiting = true }) key clients.old clients.new }
+    ensures moved { IsMovedAt (λ x y. y ≡ record x { is_waiting = true; was_served = true }) key clients.old clients.new }
 {
     if let Some(client) = clients.get_mut(key) {
         client.is_waiting = true;
+        client.was_served = true;
     }
 }
 

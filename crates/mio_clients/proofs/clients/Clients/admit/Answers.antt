@@ -1,5 +1,5 @@
-use Rattle.std.proofs.Common.{inl, subst}
-use Rattle.mio_clients.specs.Connections.{ConnectionsState, IsAdmitted}
+use Rattle.std.proofs.Common.{inl, sym, subst}
+use Rattle.mio_clients.specs.Connections.{ConnectionsState, IsAdmitted, IsFull}
 use Rattle.mio_clients.specs.Later.{no_bytes, no_requests}
 use Rattle.mio_clients.specs.Leaving.{IsFollowed}
 use Rattle.mio_clients.proofs.FollowLaws.{later_itself}
@@ -22,4 +22,8 @@ returns-else-is_ok-clause-later g c =
 
 pub returns-then-is_ok-clause-comes_to : goal.returns-then-is_ok-clause-comes_to
 returns-then-is_ok-clause-comes_to g c =
-    inl (c.register.new.stream, subst (λ (s : ConnectionsState g.row.S.Denot). IsAdmitted c.register.new.stream s c.admit.new.self) c.self.view_is c.admit.ensures.admitted)
+    inl (
+      λ full. absurd (cc (c.is_full.ensures.1 (subst (λ (s : ConnectionsState g.row.S.Denot). IsFull s) (sym c.self.view_is) full), c.if-is_full.false)),
+      c.register.new.stream,
+      subst (λ (s : ConnectionsState g.row.S.Denot). IsAdmitted c.register.new.stream s c.admit.new.self) c.self.view_is c.admit.ensures.admitted,
+    )

@@ -1,17 +1,10 @@
-use Rattle.std.proofs.Common.{inl, inr, refl, sym, subst, ◌∙◌}
+use Rattle.std.proofs.Common.{Bool, inl, inr, refl, sym, subst}
 use Rattle.mio_clients.specs.Connections.{ConnectionsState, IsFull}
 use Rattle.mio_clients.specs.Later.{no_bytes, no_requests}
 use Rattle.mio_clients.specs.Leaving.{IsFollowed}
-use Rattle.mio_clients.specs.Yielding.{Replaces}
+use Rattle.mio_clients.specs.Yielding.{IsFirstToYield, NoneYields, Replaces}
 use Rattle.mio_clients.proofs.FollowLaws.{later_itself}
 use Rattle.mio_clients.proofs.clients.Clients.admit_instead.Goals as goal
-
-pub returns-then-not-is_remote : goal.returns-then-not-is_remote
-returns-then-not-is_remote g c = record {
-  later = later_itself g.S.Stream.remaining g.S.Stream.contents c.args.self.now;
-  full = c.requires.full;
-  comes_to = (c.requires.full, inl (sym c.is_remote.ensures ∙ c.if-not-is_remote.true), refl);
-}
 
 pub returns-then-is_spent-clause-later : goal.returns-then-is_spent-clause-later
 returns-then-is_spent-clause-later g c = later_itself g.S.Stream.remaining g.S.Stream.contents c.args.self.now
@@ -19,13 +12,20 @@ returns-then-is_spent-clause-later g c = later_itself g.S.Stream.remaining g.S.S
 pub returns-in_default-clause-later : goal.returns-in_default-clause-later
 returns-in_default-clause-later g c = later_itself g.S.Stream.remaining g.S.Stream.contents c.args.self.now
 
+pub returns-in_default-clause-comes_to : goal.returns-in_default-clause-comes_to
+returns-in_default-clause-comes_to g c = (
+  c.requires.full,
+  inl (subst (λ (t : Bool). NoneYields g.S.Stream.remote t c.args.self.now) c.is_remote.ensures
+      (subst (λ (s : ConnectionsState g.row.S.Denot). NoneYields g.S.Stream.remote c.is_remote.result s) c.self.view_is c.in_default.ensures)),
+  refl,
+)
+
 pub returns-then-is_ok-clause-comes_to : goal.returns-then-is_ok-clause-comes_to
 returns-then-is_ok-clause-comes_to g c =
     inr (subst (λ (s : ConnectionsState g.row.S.Denot). Replaces g.S.Stream.remote c.args.stream s c.replace.new.self) c.self.view_is (record {
       full = subst (λ (s : ConnectionsState g.row.S.Denot). IsFull s) (sym c.self.view_is) c.requires.full;
-      over_network = sym c.is_remote.ensures ∙ c.if-not-is_remote.false;
       key = c.in-Some.key;
-      silent = c.in-Some.ensures;
+      first = subst (λ (t : Bool). IsFirstToYield g.S.Stream.remote t c.self.inside.connections c.in-Some.key) c.is_remote.ensures c.in-Some.ensures;
       between = c.replace.ensures.replaced.0;
       loses = c.replace.ensures.replaced.1;
       registered = c.register.new.stream;

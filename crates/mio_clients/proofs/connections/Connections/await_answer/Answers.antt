@@ -42,7 +42,7 @@ returns-in-Some-clause-waits g c =
     now_waits c.args.self.now b c.args.id c.in-Some.key
     (subst (λ (s : ConnectionsState g.row.S.Denot). b ≡ record s { clients = b.clients }) c.self.view_is refl)
     c.in-Some.ensures.found c.in-Some.ensures.alone
-    (subst (λ (s : ConnectionsState g.row.S.Denot). IsMovedAt (λ x y. y ≡ record x { is_waiting = true }) c.in-Some.key s.clients b.clients) c.self.view_is e.moved)
+    (subst (λ (s : ConnectionsState g.row.S.Denot). IsMovedAt (λ x y. y ≡ record x { is_waiting = true; was_served = true }) c.in-Some.key s.clients b.clients) c.self.view_is e.moved)
     (subst (λ (s : ConnectionsState g.row.S.Denot). (other : ℕ) → other ≢ c.in-Some.key → get b.clients other ≡ get s.clients other) c.self.view_is e.elsewhere.others)
 
 pub returns-in_default-clause-waits : goal.returns-in_default-clause-waits

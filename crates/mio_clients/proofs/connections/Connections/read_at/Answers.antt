@@ -9,7 +9,7 @@ use Rattle.mio_clients.specs.Leaving.{AllFollow}
 use Rattle.mio_clients.proofs.LaterLaws.{are_after, none_moved, none_added, told_quiet, some_is, read_some, read_quiet, failed_at}
 use Rattle.mio_clients.proofs.FollowLaws.{all_moved, all_lost, moved_there}
 use Rattle.mio_clients.specs.Yielding.{IsHeardAt}
-use Rattle.mio_clients.proofs.YieldLaws.{heard_moved}
+use Rattle.mio_clients.proofs.YieldLaws.{heard_moved, served_moved}
 use Rattle.mio_clients.proofs.connections.Connections.read_at.Goals as goal
 
 pub invariant_of-self : goal.invariant_of-self
@@ -68,6 +68,7 @@ returns-then-is_refused g c =
       heard = subst (λ (s : ConnectionsState g.row.S.Denot). IsHeardAt rem c.args.key s b) c.self.view_is
           (record {
             heard = λ x y was is. absurd (cc (e.gone, is));
+            served = λ x y was is. absurd (cc (e.gone, is));
             others = λ other ne. e.others other ne ∙ r.elsewhere.others other ne;
           });
       failed = λ is. absurd (cc (is, refused));
@@ -89,6 +90,7 @@ returns-else-is_refused g c =
       heard = subst (λ (s : ConnectionsState g.row.S.Denot). IsHeardAt rem c.args.key s b) c.self.view_is
           (record {
             heard = λ x y was is. heard_moved rem c.self.inside.time (get a.clients c.args.key) (get b.clients c.args.key) x y r.heard was is;
+            served = λ x y was is. served_moved (get a.clients c.args.key) (get b.clients c.args.key) x y r.served was is;
             others = r.elsewhere.others;
           });
       failed = λ is. subst (λ (s : ConnectionsState g.row.S.Denot). IsFailedAt rem con g.S.Stream.failed c.args.key s b) c.self.view_is
