@@ -70,6 +70,7 @@ class Lines:
         count = draw.choice(["0", "1", "0:2", "1:", "99", "x", "-1"])
         kinds = [["status"], ["currentsong"], ["playlistinfo"], ["playlistinfo", count], ["playlistid"], ["playlistid", count], ["ping"]]
         kinds += [["plchanges", "0"], ["plchangesposid", "0"], ["lsinfo"], ["lsinfo", draw.choice(["", "/", "d", "a.wav", "zzz", "d/"])]]
+        kinds += [[it, draw.choice(["", "/", "d", "a.wav", "d/c.wav", "zzz", "d/"])] for it in ("listall", "listallinfo")]
         kinds += [["listall"], ["listallinfo"], ["stats"], ["commands"], ["notcommands"], ["delete", count], ["swap", "0", count]]
         kinds += [["addid", draw.choice(["a.wav", "d/é é.wav", "zzz"])]]
         kinds += [["listplaylists"], ["listplaylistinfo", draw.choice(["old", "gone", "a/b"])]]
@@ -144,11 +145,11 @@ class Lines:
         return words
 
     def listing(self):
-        tag = any_tag(self.draw)
+        tag = any_tag(self.draw) if self.draw.random() < 0.85 else cased(self.draw, self.draw.choice(["file", "filename"]))
         more = self.draw.choice([[], [], self.filter(), self.filter(), ["One"]])
         if self.draw.random() < 0.4:
             return self.grouped(tag, more)
-        return ["list", tag, *more]
+        return ["list", tag, *more, *(["sort", "Title"] if more and self.draw.random() < 0.1 else [])]
 
     def grouped(self, tag, front):
         draw = self.draw

@@ -12,8 +12,8 @@ from scripts import Failure
 from translator import BEGINS, END, NATIVE, Translator, Unreadable, words_of
 
 # The commands that stand in the place of others.
-PLACED = set("""ping status setvol playlistinfo lsinfo listplaylists list count find search findadd searchadd searchaddpl playlistfind
-playlistsearch""".split())
+PLACED = set("""ping status setvol playlistinfo lsinfo listall listplaylists list count find search findadd searchadd searchaddpl
+playlistfind playlistsearch""".split())
 FILTERED = {"list", "count", "find", "search", "findadd", "searchadd", "searchaddpl", "playlistfind", "playlistsearch"}
 VOLUMES = [[str(it)] for it in range(101)]
 # So many bytes a line of the daemon's may have, and one that it is asked; and the number of its refusal.

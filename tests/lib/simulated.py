@@ -31,7 +31,8 @@ STOCK = (0, 0.5)
 FOREIGN = """outputs|decoders|channels|urlhandlers|listmounts|listpartitions|replay_gain_status|binarylimit 64|readcomments a.wav
 readpicture a.wav 0|albumart a.wav 0|sendmessage a b|listneighbors|password x|crossfade 0|crossfade 2|mixrampdb 0|mixrampdelay 2
 partition default|enableoutput 0|enableoutput 1|disableoutput 0|toggleoutput 7|outputset 0 a b|outputs x|getvol|playlist|status|stats
-commands|lsinfo|lsinfo /|tagtypes|tagtypes clear|tagtypes all|tagtypes disable Title|tagtypes enable title|tagtypes foo|list AlbumArtist
+commands|lsinfo|lsinfo /|listall d|listallinfo d/e|listall d/c.wav|listplaylists|list file|list filename base d
+tagtypes|tagtypes clear|tagtypes all|tagtypes disable Title|tagtypes enable title|tagtypes foo|list AlbumArtist
 list Disc|find Composer ""|find AlbumArtist ""|search filename WAV|playlistfind albumsort ""|playlistinfo|currentsong""".replace("\n", "|")
 
 

@@ -58,6 +58,7 @@ A |= {"comment": "a note", "time": "2", "duration": "2.000"}
 C = {"file": "d/c.wav", "format": "8000:16:1", "artist": "One", "album": "Second", "time": "2", "duration": "2.000"}
 NAKED = {"file": "a.wav", "format": "8000:16:1", "time": "2", "duration": "2.000", "pos": "0", "id": "1"}
 ALBUMS = [{"artist": "", "album": ""}, {"artist": "One", "album": ["First", "Second"]}, {"artist": "Two", "album": "First"}]
+OLD = {"playlist": "old", "last-modified": "1970-01-01T00:00:00Z"}
 ALWAYS_ON = "![2@0] {%s} the only output is always on"
 UNKNOWN = '![5@0] {} unknown command "%s"'
 # Calls of python-mpd2 with their words, and what they give.
@@ -70,8 +71,10 @@ PYTHON_MPD = [
     ("tagtypes all", []),
     ("currentsong", {**A, "pos": "0", "id": "1"}),
     ("playlist", [f"file: {it}" for it in ("a.wav", "b.wav", "d/c.wav", "d/e.wav", "d/é é.wav")]),
-    ("lsinfo", [{"directory": "d"}, A, {"file": "b.wav", "format": "8000:16:1", "time": "2", "duration": "2.000"}, {"playlist": "old"}]),
-    ("listplaylists", [{"playlist": "old"}]),
+    ("lsinfo", [{"directory": "d"}, A, {"file": "b.wav", "format": "8000:16:1", "time": "2", "duration": "2.000"}, OLD]),
+    ("listplaylists", [OLD]),
+    ("listall d", [{"directory": "d"}, *({"file": f"d/{it}.wav"} for it in ("c", "e", "é é"))]),
+    ("list file albumartist One", [{"file": "a.wav"}, {"file": "d/c.wav"}]),
     ("list album group artist", ALBUMS),
     ("list album artist One", [{"album": "First"}, {"album": "Second"}]),
     ("list album One", [{"album": "First"}, {"album": "Second"}]),

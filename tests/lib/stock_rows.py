@@ -9,7 +9,11 @@ C = "file: d/c.wav|Format: 8000:16:1|Artist: One|Album: Second|Time: 2|duration:
 E = 'file: d/e.wav|Format: 8000:16:1|Title: say "x"|Artist: Two|Album: First|Comment: Title: no|Time: 2|duration: 2.000'
 Z = "file: d/é é.wav|Format: 8000:16:1|Title: Zoë|Genre: Folk|Time: 2|duration: 2.000"
 A, B, C, E, Z = (it.split("|") for it in (A, B, C, E, Z))
-ROOT = ["directory: d", *A, *B, "playlist: old"]
+# Behind each playlist.
+NO_TIME = "Last-Modified: 1970-01-01T00:00:00Z"
+ROOT = ["directory: d", *A, *B, "playlist: old", NO_TIME]
+FILES = [it[0] for it in (A, B, C, E, Z)]
+BELOW = ["directory: d", *FILES[2:]]
 QUEUE = [[*song, f"Pos: {place}", f"Id: {place + 1}"] for place, song in enumerate((A, B, C, E, Z))]
 STATUS = """volume: 100|repeat: 0|random: 0|single: 0|consume: 0|playlist: 2|playlistlength: 5|state: stop|song: 0|songid: 1|nextsong: 1
 nextsongid: 2|partition: default|mixrampdb: 0""".replace("\n", "|").split("|")
@@ -96,6 +100,24 @@ ROWS = [
     ("lsinfo d", [*C, *E, *Z]),
     ("lsinfo zzz", "50 No such file or directory"),
     ('lsinfo "" x', '2 wrong number of arguments for "lsinfo"'),
+    ("listplaylists", ["playlist: old", NO_TIME]),
+    ("listplaylists x", '2 wrong number of arguments for "listplaylists"'),
+    # What is below a folder, which is told first.
+    ("listall", [*FILES[:2], *BELOW]),
+    ('listall ""', [*FILES[:2], *BELOW]),
+    ("listall /", [*FILES[:2], *BELOW]),
+    ("listall d", BELOW),
+    ('"listall"\t"d"', BELOW),
+    ("listall d/c.wav", FILES[2:3]),
+    ('listall "d/é é.wav"', FILES[4:]),
+    ("listall d/", "50 No such file or directory"),
+    ("listall zzz", "50 No such file or directory"),
+    ("listall d x", '2 wrong number of arguments for "listall"'),
+    ("listallinfo /", [*A, *B, "directory: d", *C, *E, *Z]),
+    ("listallinfo d", ["directory: d", *C, *E, *Z]),
+    ("listallinfo a.wav", A),
+    ("listallinfo d/c.wav", C),
+    ("listallinfo zzz", "50 No such file or directory"),
     # Values of tags.
     ("list AlbumArtist", ["AlbumArtist: ", "AlbumArtist: One", "AlbumArtist: Two"]),
     ("list artist", ["Artist: ", "Artist: One", "Artist: Two"]),
@@ -117,9 +139,23 @@ ROWS = [
     (f"list artist \"{'(' * 31}base ''{')' * 31}\"", ["Artist: ", "Artist: One", "Artist: Two"]),
     (f"list artist \"{'(' * 32}base ''{')' * 32}\"", ["Artist: One", "Artist: Two"]),
     (f"list artist \"{'(' * 33}base ''{')' * 33}\"", "2 filter too deep"),
-    ("list file", '2 unknown tag "file"'),
     ("list base", '2 unknown tag "base"'),
-    ("list filename", '2 unknown tag "filename"'),
+    # The files of songs.
+    ("list file", FILES),
+    ("list FileName", FILES),
+    ("list FILE artist One", [FILES[0], FILES[2]]),
+    ('list filename "(AlbumArtist == \'One\')"', [FILES[0], FILES[2]]),
+    ("list file base d filename d/e.wav", [FILES[3]]),
+    ('list file Composer ""', FILES),
+    ("list file Composer x", []),
+    ("list file x", '2 wrong number of arguments for "list"'),
+    ("list file \"(Album == 'First')\" x", '2 wrong number of arguments for "list"'),
+    ("list file \"(Album == 'First'\"", "2 bad filter"),
+    ("list file foo x", '2 unknown tag "foo"'),
+    ("list file artist One sort title", '2 unknown tag "sort"'),
+    ("list file artist One window 0:1", '2 unknown tag "window"'),
+    ("list file group artist", '2 unknown tag "group"'),
+    ("list file artist One group artist", '2 unknown tag "group"'),
     ("list albumartistsort album Second", ["AlbumArtistSort: One"]),
     ('list ARTISTSORT "(AlbumSort == \'First\')"', ["ArtistSort: One", "ArtistSort: Two"]),
     ("list AlbumSort ArtistSort Two", ["AlbumSort: First"]),

@@ -111,7 +111,7 @@ class Part(typing.NamedTuple):
     # The client's name of the command, in the braces of a refusal; the daemon's own where it is None.
     name: str | None = None
     has_songs: bool = False
-    # What becomes of a line that is the N-th of the answer; None where it is left out.
+    # What becomes of a line, behind so many of the answer that name a song or a folder; None where it is left out.
     told: typing.Callable = lambda line, number: line
     # What is told behind them to one who wants to see these tags, and what it wants to see from then on.
     more: typing.Callable = lambda mask: []
@@ -155,7 +155,11 @@ def by_words(line, alone, name, given):
     if name == "commands":
         return Part([line], name, more=lambda mask: [f"command: {it}" for it in FOREIGN])
     if name == "lsinfo" and given in ([], [""], ["/"]):
-        return Part([b"lsinfo", b"listplaylists"], name, has_songs=True)
+        return Part([b"lsinfo", b"listplaylists"], name, has_songs=True, told=dated)
+    if name == "listplaylists":
+        return Part([line], name, has_songs=True, told=dated)
+    if name in ("listall", "listallinfo") and len(given) == 1 and given[0] not in ("", "/"):
+        return Part([line], name, has_songs=True, told=below(given[0].encode()))
     if name == "stats":
         return Part([line], name, more=lambda mask: ["uptime", "db_update"])
     if given[-2:-1] == ["group"] and name == "count":
@@ -184,6 +188,30 @@ def foreign(name, given):
     if name == "getvol":
         return Part([b"status"], name, told=lambda line, number: line if line.startswith(b"volume: ") else None)
     return Part([b"playlistinfo"], name, told=lambda line, number: b"%d:%s" % (number, line) if line.startswith(b"file: ") else None)
+
+
+def dated(line, number):
+    """No time is known of a playlist."""
+    return line + b"\nLast-Modified: 1970-01-01T00:00:00Z" if line.startswith(b"playlist: ") else line
+
+
+def below(folder):
+    """The folder is told before the first song or folder in it; a song isn't told twice."""
+
+    def told(line, number):
+        key, _, path = line.partition(b": ")
+        if number or key not in (b"file", b"directory") or len(path) <= len(folder):
+            return line
+        return b"directory: " + path[: len(folder)] + b"\n" + line
+
+    return told
+
+
+def files_of(given):
+    """`list file ..`: what finds songs takes more behind a filter, which what counts them refuses."""
+    found = filter_of(given, ()) if given else None
+    natives = [b"listall"] if found is None else [line_of("count", *found), line_of("find", *found)]
+    return Part(natives, "list", told=lambda line, number: line if line.startswith(b"file: ") else None)
 
 
 def volume(alone, given):
@@ -272,6 +300,8 @@ def tag_types(given):
 def list_of(tag, *given):
     """`list TAG ..`: how many songs lack it is asked before its values, where that can be asked."""
     given, kind = list(given), tag.lower()
+    if kind in ("file", "filename"):
+        return files_of(given)
     if kind not in ALL:
         return None
     if kind == "album" and len(given) == 1 and not given[0].startswith("("):
@@ -552,7 +582,7 @@ class Translator:
             return [*self.finish(now), *([line] if now.is_separated else [])]
         part = now.parts[now.done]
         found = None if part.has_songs and self.is_hidden(line) else part.told(line, now.number)
-        now.number += found is not None
+        now.number += line.startswith((b"file: ", b"directory: "))
         return [] if found is None else [found]
 
     def resume(self):

@@ -5,3 +5,4 @@ pub mod HeardLaws
 pub mod PieceLaws
 pub mod AskedSteps
 pub mod CountLaws
+pub mod FolderLaws

@@ -1,6 +1,6 @@
 -- What becomes of each line of the daemon's answers.
-use Rattle.std.specs.Prelude.{◌≡◌, ℕ, ◌+◌, ◌-◌, nat_eq, ◌==◌, Bool, true, false, ◌&&◌, List, [], ◌∷◌, ◌++◌, length, min, not, codes}
-use Rattle.std.specs.Prelude.{Option, Some, None, if◌then◌else◌}
+use Rattle.std.specs.Prelude.{◌≡◌, ℕ, ◌+◌, ◌-◌, nat_eq, nat_lt, ◌==◌, Bool, true, false, ◌&&◌, ◌||◌, List, [], ◌∷◌, ◌++◌, length}
+use Rattle.std.specs.Prelude.{take, drop, min, not, codes, Option, Some, None, if◌then◌else◌}
 use Rattle.std.specs.List.{starts_with}
 use Rattle.std.specs.Fmt.{decimal}
 use Rattle.client_session.specs.Lines.{newline, ended}
@@ -10,7 +10,7 @@ use Rattle.stock_requests.specs.declared.mask.TagSet.{TagSet}
 use Rattle.stock_requests.specs.Texts.{text_of}
 use Rattle.stock_requests.specs.declared.change.Change.{Change}
 use Rattle.stock_requests.specs.declared.change.LineChange.{LineChange}
-use Rattle.stock_requests.specs.declared.change.LineChange.TheVariants.{Kept, Masked, OnlyVolume, Values, Numbered}
+use Rattle.stock_requests.specs.declared.change.LineChange.TheVariants.{Kept, Masked, OnlyVolume, Values, Numbered, OnlyFiles, Dated, Below}
 use Rattle.stock_requests.specs.declared.change.Ending.{Ending}
 use Rattle.stock_requests.specs.declared.change.Ending.TheVariants.{Nothing, Text, Times, Tags, Masks}
 use Rattle.stock_requests.specs.declared.steps.Steps.{Steps}
@@ -30,7 +30,7 @@ use Rattle.stock_clients.specs.declared.next.Next.TheVariants.{Stays, Asks, Resu
 use Rattle.stock_clients.specs.declared.times.DaemonTimes.{DaemonTimes}
 use Rattle.stock_clients.specs.Asked.{asked_all, lines_text}
 use Rattle.command_text.specs.declared.request.Request.{Request}
-use Rattle.command_text.specs.Answer.{number_pair}
+use Rattle.command_text.specs.Answer.{number_pair, pair}
 
 -- a line of a song, where its tag is one that the client wants
 abbrev pub shown_line : TagSet → List ℕ → List ℕ
@@ -40,21 +40,48 @@ shown_line shown line = if is_shown shown line then ended line else []
 abbrev pub is_file : List ℕ → Bool
 is_file line = starts_with nat_eq line (codes "file: ")
 
--- what is given for a line that tells something, behind so many that named a song
+-- whether a line names a folder, or one of both
+abbrev pub is_folder : List ℕ → Bool
+is_folder line = starts_with nat_eq line (codes "directory: ")
+
+abbrev pub names_path : List ℕ → Bool
+names_path line = is_file line || is_folder line
+
+-- the path that such a line has
+abbrev pub path_in : List ℕ → List ℕ
+path_in line = if is_file line then drop 6 line else drop 11 line
+
+-- the folder whose path is the first so many bytes of another one; nothing where that has no more
+abbrev pub folder_before : ℕ → List ℕ → List ℕ
+folder_before size path = if nat_lt size (length path) then pair (codes "directory") (take size path) else []
+
+-- the folder whose path has so many bytes, before the first song or folder in it
+abbrev pub folder_told : ℕ → ℕ → List ℕ → List ℕ
+folder_told size told line = if told == 0 && names_path line then folder_before size (path_in line) else []
+
+-- what stands behind the line of a playlist: clients take the beginning of 1970 for a time that isn't known
+abbrev pub time_told : List ℕ → List ℕ
+time_told line =
+    if starts_with nat_eq line (codes "playlist: ") then pair (codes "Last-Modified") (codes "1970-01-01T00:00:00Z") else []
+
+-- what is given for a line that tells something, behind so many that named a song or a folder
 abbrev pub changed_line : LineChange → TagSet → ℕ → List ℕ → List ℕ
 changed_line Kept shown told line = ended line
 changed_line Masked shown told line = shown_line shown line
 changed_line OnlyVolume shown told line = if starts_with nat_eq line (codes "volume: ") then ended line else []
 changed_line (Values tag) shown told line = told_value tag line
 changed_line Numbered shown told line = if is_file line then decimal told ++ codes ":" ++ ended line else []
+changed_line OnlyFiles shown told line = if is_file line then ended line else []
+changed_line Dated shown told line = shown_line shown line ++ time_told line
+changed_line (Below size) shown told line = folder_told size told line ++ shown_line shown line
 
 -- how many such lines are counted
 abbrev pub most_told : ℕ
 most_told = 4294967295
 
--- how many lines have named a song then
+-- how many lines have named a song or a folder then
 abbrev pub told_then : ℕ → List ℕ → ℕ
-told_then told line = if is_file line then min (told + 1) most_told else told
+told_then told line = if names_path line then min (told + 1) most_told else told
 
 -- the tags that the client wants behind an answer
 abbrev pub shown_behind : Ending → TagSet → TagSet

@@ -11,7 +11,7 @@ pub struct Several {
     pub count: usize,
     /// The first of two native commands of the part at work is answered.
     pub has_first: bool,
-    /// How many lines `file: ..` the part at work has told.
+    /// How many lines of the part at work have named a song or a folder.
     pub told: u32,
     /// The commands that are not answered, the one at work first.
     pub parts: Parts,
@@ -24,7 +24,7 @@ pub enum Awaited {
     Passing,
     /// The same, but for the tags of songs that `tagtypes` has taken away.
     Songs,
-    /// The answer is changed; so many lines `file: ..` it has told.
+    /// The answer is changed; so many of its lines have named a song or a folder.
     One { change: Change, told: u32 },
     /// It is one of a list, or of two native commands.
     Several(Several),

@@ -3,6 +3,7 @@ ghost use Rattle.std.specs.Prelude.{◌≡◌, ◌∷◌, ◌++◌, codes, Some,
 ghost use Rattle.client_session.specs.Lines.{ended};
 ghost use Rattle.command_text.specs.Answer.{number_pair};
 ghost use Rattle.stock_clients.specs.Heard.{answered_one, answered_several, answered_passing, answered_songs, changed_line, done, ended_part};
+ghost use Rattle.stock_clients.specs.Heard.{folder_before, folder_told, is_folder, names_path, path_in, time_told};
 ghost use Rattle.stock_clients.specs.Heard.{heard, heard_end, heard_first, heard_step, heard_steps, is_file, part_end, part_line};
 ghost use Rattle.stock_clients.specs.Heard.{part_refusal, shown_behind, shown_line, told_at_end, told_then, unheard};
 ghost use Rattle.stock_clients.specs.Heard.{waiting, IsAnswered};
@@ -15,9 +16,9 @@ use crate::awaited::{Awaited, Several};
 use crate::kinds::LineKind;
 use crate::next::Next;
 use crate::parts::{Part, Queue};
-use crate::refusing::{write_refusal_at, write_refusal_of};
+use crate::refusing::{behind_of, write_refusal_at, write_refusal_of};
 use crate::times::DaemonTimes;
-use command_text::write_number;
+use command_text::{write_number, write_pair};
 use itoa::Buffer;
 use no_memory::NoMemory;
 use std::alloc::Global;
@@ -37,6 +38,61 @@ fn is_file(line: &[u8]) -> bool
     ensures { result ≡ is_file line.now }
 {
     line.starts_with(b"file: ")
+}
+
+// Whether a line names a folder.
+fn is_folder(line: &[u8]) -> bool
+    ensures { result ≡ is_folder line.now }
+{
+    line.starts_with(b"directory: ")
+}
+
+// Whether a line names a song or a folder.
+fn names_path(line: &[u8]) -> bool
+    ensures { result ≡ names_path line.now }
+{
+    is_file(line) || is_folder(line)
+}
+
+// The path that such a line has.
+fn path_in(line: &[u8]) -> &[u8]
+    ensures { result.now ≡ path_in line.now }
+{
+    if is_file(line) {
+        behind_of(6, line)
+    } else {
+        behind_of(11, line)
+    }
+}
+
+// Adds the folder whose path is the first so many bytes of another one; nothing where that has no more.
+fn write_folder_before(out: &mut Vec<u8>, size: usize, path: &[u8]) -> Result<(), NoMemory>
+    ensures { OnOk result (out.new.items ≡ out.old.items ++ folder_before size path.now) }
+{
+    if size < path.len() {
+        write_pair(out, "directory", &path[..size])?;
+    }
+    Ok(())
+}
+
+// Adds the folder whose path has so many bytes, before the first song or folder in it.
+fn write_folder(out: &mut Vec<u8>, size: usize, told: u32, line: &[u8]) -> Result<(), NoMemory>
+    ensures { OnOk result (out.new.items ≡ out.old.items ++ folder_told size told line.now) }
+{
+    if told == 0 && names_path(line) {
+        return write_folder_before(out, size, path_in(line));
+    }
+    Ok(())
+}
+
+// Adds what stands behind the line of a playlist, of whose times nothing is known.
+fn write_time(out: &mut Vec<u8>, line: &[u8]) -> Result<(), NoMemory>
+    ensures { OnOk result (out.new.items ≡ out.old.items ++ time_told line.now) }
+{
+    if line.starts_with(b"playlist: ") {
+        write_pair(out, "Last-Modified", b"1970-01-01T00:00:00Z")?;
+    }
+    Ok(())
 }
 
 // Adds the line of a song, where its tag is one that the client wants.
@@ -72,14 +128,24 @@ fn write_changed(
             write_line(out, line)
         }
         LineChange::Numbered => Ok(()),
+        LineChange::OnlyFiles if is_file(line) => write_line(out, line),
+        LineChange::OnlyFiles => Ok(()),
+        LineChange::Dated => {
+            write_shown(out, shown, line)?;
+            write_time(out, line)
+        }
+        LineChange::Below(size) => {
+            write_folder(out, size, told, line)?;
+            write_shown(out, shown, line)
+        }
     }
 }
 
-// How many lines have named a song then.
+// How many lines have named a song or a folder then.
 fn told_then(told: u32, line: &[u8]) -> u32
     ensures { result ≡ told_then told line.now }
 {
-    if is_file(line) {
+    if names_path(line) {
         told.saturating_add(1)
     } else {
         told

@@ -38,8 +38,8 @@ fn behind(byte: u8, bytes: &[u8]) -> &[u8]
     rest
 }
 
-// The bytes behind so many; none where there are no more.
-fn behind_of(count: usize, bytes: &[u8]) -> &[u8]
+/// The bytes behind so many; none where there are no more.
+pub(crate) fn behind_of(count: usize, bytes: &[u8]) -> &[u8]
     ensures { result.now ≡ drop count bytes.now }
 {
     &bytes[count.min(bytes.len())..]

@@ -6,6 +6,7 @@ use Rattle.std.specs.Str.{bytes_eq}
 use Rattle.command_text.specs.declared.name.CommandName.{CommandName}
 use Rattle.command_text.specs.declared.name.CommandName.TheVariants as names
 use Rattle.command_text.specs.Counts.{Word}
+use Rattle.command_text.specs.Finding.{has_filter_count}
 use Rattle.command_text.specs.Names.{name_text, named}
 use Rattle.command_text.specs.Reading.{line_words}
 use Rattle.stock_requests.specs.declared.change.Change.{Change}
@@ -45,6 +46,7 @@ use Rattle.stock_requests.specs.Foreign.{by_reply, foreign_translation, louder, 
 use Rattle.stock_requests.specs.Names.{foreign_named}
 use Rattle.stock_requests.specs.Native.{adding_to_playlist, answered, as_it_is, by_handling, by_line, by_natives, by_one, counting, filtered}
 use Rattle.stock_requests.specs.Native.{by_steps, grouped_count, grouped_count_of, grouped_list, grouped_list_of, grouping}
+use Rattle.stock_requests.specs.Native.{files_change, files_natives, is_file_name, list_all, listing_files}
 use Rattle.stock_requests.specs.Native.{handling_of, list_info, listing, listing_by, listing_change, listing_empty, listing_of, listing_values}
 use Rattle.stock_requests.specs.Native.{listing_words, filter_or_all, has_list_count, is_root, mask_alone, mask_by, mask_change, mask_of}
 use Rattle.stock_requests.specs.Native.{mask_refused, refused, root, songs_lines, tag_types, telling, with_named}
@@ -187,12 +189,20 @@ grouped_list_fits is_alone None words = same_holds
 grouped_list_fits false (Some tag) words = refusal_fits (group_name false) refusals.NotInList
 grouped_list_fits true (Some tag) words = parted_list_fits tag (part_ends most_ends (only_tag tag) words)
 
+files_fit : (words : List Word) → Holds (listing_files words)
+unfolding listing_files
+files_fit [] = one_holds (codes "listall") files_change (omega arith)
+files_fit (word ∷ words) =
+    choice (has_filter_count (word ∷ words)) _ Same
+    (by_natives_fits (files_natives (native_filter false (word ∷ words))) files_change) same_holds
+
 list_fits : (is_alone : Bool) (words : List Word) → Holds (listing is_alone words)
 unfolding listing
 list_fits is_alone [] = same_holds
 list_fits is_alone (name ∷ words) =
-    choice (is_grouped words) (grouped_list is_alone (tag_named name) words) _ (grouped_list_fits is_alone (tag_named name) words)
-    (tag_fits (tag_named name) words)
+    choice (is_file_name name) (listing_files words) _ (files_fit words)
+    (choice (is_grouped words) (grouped_list is_alone (tag_named name) words) _ (grouped_list_fits is_alone (tag_named name) words)
+    (tag_fits (tag_named name) words))
 
 root_fits : Holds root
 unfolding Holds
@@ -203,6 +213,14 @@ unfolding list_info
 info_fits [] = root_fits
 info_fits (place ∷ []) = choice (is_root place) root Songs root_fits songs_hold
 info_fits (place ∷ other ∷ words) = songs_hold
+
+all_fits : (name : CommandName) (songs : Bool) (words : List Word) → Holds (list_all name songs words)
+unfolding list_all
+all_fits name songs [] = itself_fits songs
+all_fits name songs (place ∷ []) =
+    choice (is_root place) (as_it_is songs) _ (itself_fits songs)
+    (changed_holds (telling (Native name) (lines.Below (length place)) endings.Nothing))
+all_fits name songs (place ∷ other ∷ words) = itself_fits songs
 
 alone_fits : (change : MaskChange) (words : List Word) → Holds (mask_alone change words)
 alone_fits change [] = answer_fits (Native names.TagTypes) (endings.Masks change)
@@ -237,6 +255,8 @@ handled_fits is_alone handlings.AddsToPlaylist name words = playlist_fits words
 handled_fits is_alone handlings.Counts name words = count_fits is_alone words
 handled_fits is_alone handlings.ListsValues name words = list_fits is_alone words
 handled_fits is_alone handlings.ListsFolder name words = info_fits words
+handled_fits is_alone (handlings.ListsAll songs) name words = all_fits name songs words
+handled_fits is_alone handlings.ListsPlaylists name words = changed_holds (telling (Native name) lines.Dated endings.Nothing)
 handled_fits is_alone handlings.Masks name words = masks_fit words
 
 louder_fits : (is_alone : Bool) (name : ForeignName) (step : VolumeStep) → Holds (louder is_alone name step)

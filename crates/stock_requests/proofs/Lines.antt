@@ -6,10 +6,11 @@ use Rattle.command_text.specs.Counts.{Word}
 use Rattle.command_text.specs.Reading.{first_name, line_words, name_of_line}
 use Rattle.stock_requests.specs.declared.change.Ending.TheVariants.{Text, Times}
 use Rattle.stock_requests.specs.declared.change.FixedText.{FixedText}
+use Rattle.stock_requests.specs.declared.change.LineChange.TheVariants.{Dated}
 use Rattle.stock_requests.specs.declared.change.Translation.TheVariants.{Same, Songs}
 use Rattle.stock_requests.specs.declared.native.Handling.{Handling}
-use Rattle.stock_requests.specs.declared.native.Handling.TheVariants.{Untouched, TellsSongs, Adds, AddsTimes}
-use Rattle.stock_requests.specs.Native.{adding, by_first, handling_of}
+use Rattle.stock_requests.specs.declared.native.Handling.TheVariants.{Untouched, TellsSongs, Adds, AddsTimes, ListsPlaylists}
+use Rattle.stock_requests.specs.Native.{adding, by_first, changing, handling_of}
 use Rattle.stock_requests.specs.Translation as specs
 use Rattle.stock_requests.specs.Translation.{of_name, of_unnamed, of_words, words_or_none}
 
@@ -69,3 +70,7 @@ adds is_alone handling text line name h e = let found = has_words line name h in
 pub adds_times : (is_alone : Bool) (handling : Handling) (line : List ℕ) (name : CommandName) → name_of_line line ≡ Some name
     → handling ≡ AddsTimes → adding name Times ≡ by_first is_alone handling name (words_or_none (line_words line))
 adds_times is_alone handling line name h e = let found = has_words line name h in rw (e, found.2) refl
+
+pub lists_playlists : (is_alone : Bool) (handling : Handling) (line : List ℕ) (name : CommandName) → name_of_line line ≡ Some name
+    → handling ≡ ListsPlaylists → changing name Dated ≡ by_first is_alone handling name (words_or_none (line_words line))
+lists_playlists is_alone handling line name h e = let found = has_words line name h in rw (e, found.2) refl

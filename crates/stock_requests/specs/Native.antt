@@ -1,7 +1,7 @@
 -- What becomes of the daemon's own commands where MPD's do more.
 use Rattle.std.specs.Prelude.{ℕ, List, [], ◌∷◌, ◌++◌, ◌||◌, not, nat_le, length, Bool, true, false, Option, Some, None, option_and_then, codes}
 use Rattle.std.specs.Prelude.{if◌then◌else◌, Result, Ok, Err}
-use Rattle.std.specs.Str.{bytes_eq}
+use Rattle.std.specs.Str.{bytes_eq, str_eq_ignore_ascii_case}
 use Rattle.wave_pcm.specs.declared.tags.Tag.{Tag}
 use Rattle.wave_pcm.specs.declared.tags.Tag.TheVariants as native
 use Rattle.command_text.specs.declared.name.CommandName.{CommandName}
@@ -29,7 +29,7 @@ use Rattle.stock_requests.specs.declared.name.ForeignName.{ForeignName}
 use Rattle.stock_requests.specs.declared.name.ForeignName.TheVariants.{Native}
 use Rattle.stock_requests.specs.declared.native.Handling.{Handling}
 use Rattle.stock_requests.specs.declared.native.Handling.TheVariants.{Untouched, TellsSongs, Adds, AddsTimes, Filters, AddsToPlaylist}
-use Rattle.stock_requests.specs.declared.native.Handling.TheVariants.{Counts, ListsValues, ListsFolder, Masks}
+use Rattle.stock_requests.specs.declared.native.Handling.TheVariants.{Counts, ListsValues, ListsFolder, ListsAll, ListsPlaylists, Masks}
 use Rattle.stock_requests.specs.declared.tag.ForeignTag.{ForeignTag}
 use Rattle.stock_requests.specs.declared.tag.Standing.{Standing}
 use Rattle.stock_requests.specs.declared.tag.Standing.TheVariants as standings
@@ -37,7 +37,7 @@ use Rattle.stock_requests.specs.declared.steps.Steps as declared
 use Rattle.stock_requests.specs.declared.steps.Steps.TheVariants.{Group}
 use Rattle.stock_requests.specs.Filters.{native_filter}
 use Rattle.stock_requests.specs.Grouped.{begun_group, is_grouped, most_ends, part_ends, Parted}
-use Rattle.stock_requests.specs.Groups.{count_line, counts_in, fits}
+use Rattle.stock_requests.specs.Groups.{count_line, counts_in, fits, two_natives}
 use Rattle.stock_requests.specs.Listed.{listing_natives}
 use Rattle.stock_requests.specs.Masks.{empty_set, only_tag, with_tags}
 use Rattle.stock_requests.specs.Spelling.{line_limit, spelled_line, spelled_words, words_eq}
@@ -163,22 +163,52 @@ grouped_list is_alone None words = Same
 grouped_list false (Some tag) words = refused (group_name false) refusals.NotInList
 grouped_list true (Some tag) words = grouped_list_of tag (part_ends most_ends (only_tag tag) words)
 
+-- a song's file, as clients call it
+abbrev pub is_file_name : Word → Bool
+is_file_name word = str_eq_ignore_ascii_case word (codes "file") || str_eq_ignore_ascii_case word (codes "filename")
+
+-- an answer of which the files of songs are told
+abbrev pub files_change : Change
+files_change = telling (Native names.ListTag) lines.OnlyFiles endings.Nothing
+
+-- The songs of a filter. They are counted first: that is refused where what `find` takes stands behind the filter.
+abbrev pub files_natives : List Word → Natives
+files_natives words = two_natives (spelled_line (codes "count") words) (spelled_line (codes "find") words)
+
+-- the files of all songs, or of those of a filter
+unfoldable pub listing_files : List Word → Translation
+listing_files [] = by_one (codes "listall") files_change
+listing_files (word ∷ words) =
+    if has_filter_count (word ∷ words) then by_natives (files_natives (native_filter false (word ∷ words))) files_change else Same
+
 unfoldable pub listing : Bool → List Word → Translation
 listing is_alone [] = Same
 listing is_alone (name ∷ words) =
-    if is_grouped words then grouped_list is_alone (tag_named name) words else listing_of (tag_named name) words
+    if is_file_name name then listing_files words
+    else (if is_grouped words then grouped_list is_alone (tag_named name) words
+    else listing_of (tag_named name) words)
 
 abbrev pub is_root : Word → Bool
 is_root place = bytes_eq place [] || bytes_eq place (codes "/")
 
 -- the root's folders and songs, and the playlists behind them
 abbrev pub root : Translation
-root = by_two (codes "lsinfo") (codes "listplaylists") (telling (Native names.ListInfo) lines.Masked endings.Nothing)
+root = by_two (codes "lsinfo") (codes "listplaylists") (telling (Native names.ListInfo) lines.Dated endings.Nothing)
 
 unfoldable pub list_info : List Word → Translation
 list_info [] = root
 list_info (place ∷ []) = if is_root place then root else Songs
 list_info (place ∷ other ∷ words) = Songs
+
+-- a command that goes on as it is, of whose answer these lines are told
+abbrev pub changing : CommandName → LineChange → Translation
+changing name told = Changed (telling (Native name) told endings.Nothing)
+
+-- a song, or all that is below a folder, which is told first; the root isn't
+unfoldable pub list_all : CommandName → Bool → List Word → Translation
+list_all name songs [] = as_it_is songs
+list_all name songs (place ∷ []) = if is_root place then as_it_is songs else changing name (lines.Below (length place))
+list_all name songs (place ∷ other ∷ words) = as_it_is songs
 
 abbrev pub masked : MaskChange → Translation
 masked change = answered (Native names.TagTypes) (endings.Masks change)
@@ -226,8 +256,10 @@ handling_of names.CurrentSong = TellsSongs
 handling_of names.Find = Filters true true
 handling_of names.FindAdd = Filters false true
 handling_of names.ListTag = ListsValues
-handling_of names.ListAllInfo = TellsSongs
+handling_of names.ListAll = ListsAll false
+handling_of names.ListAllInfo = ListsAll true
 handling_of names.ListPlaylistInfo = TellsSongs
+handling_of names.ListPlaylists = ListsPlaylists
 handling_of names.ListInfo = ListsFolder
 handling_of names.QueueFind = Filters true false
 handling_of names.QueueId = TellsSongs
@@ -248,6 +280,7 @@ needs_words Untouched = false
 needs_words TellsSongs = false
 needs_words (Adds text) = false
 needs_words AddsTimes = false
+needs_words ListsPlaylists = false
 needs_words handling = true
 
 abbrev pub adding : CommandName → Ending → Translation
@@ -263,6 +296,8 @@ by_handling is_alone AddsToPlaylist name words = adding_to_playlist words
 by_handling is_alone Counts name words = counting is_alone words
 by_handling is_alone ListsValues name words = listing is_alone words
 by_handling is_alone ListsFolder name words = list_info words
+by_handling is_alone (ListsAll songs) name words = list_all name songs words
+by_handling is_alone ListsPlaylists name words = changing name lines.Dated
 by_handling is_alone Masks name words = tag_types words
 
 -- the same of the words of its line, of which the first is its name

@@ -52,6 +52,12 @@ pub enum LineChange {
     Values(ForeignTag),
     /// Only lines of files are told, each behind its number, from 0 on.
     Numbered,
+    /// Only lines of files are told.
+    OnlyFiles,
+    /// As masked; behind each playlist stands the time that clients take for one that isn't known.
+    Dated,
+    /// As masked; the folder whose path has so many bytes is told before the first song or folder in it.
+    Below(usize),
 }
 
 /// What is told behind these lines, before the answer's end.

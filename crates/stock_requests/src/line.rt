@@ -4,10 +4,10 @@ ghost use Rattle.command_text.specs.Reading.{line_words, name_of_line};
 ghost use Rattle.stock_requests.specs.Native.{by_first, needs_words};
 ghost use Rattle.stock_requests.specs.Translation.{may_want_memory, of_unnamed, translation, words_or_none};
 
-use crate::change::{Ending, Translation};
+use crate::change::{Ending, LineChange, Translation};
 use crate::foreign::foreign_translation;
 use crate::name::ForeignCommand;
-use crate::native::{Handling, adding, by_handling, handling_of};
+use crate::native::{Handling, adding, by_handling, changing, handling_of};
 use command_text::{CommandName, ReadError, Refusal, read_words, want_of_memory};
 use filter_expr::LineWord;
 use no_memory::NoMemory;
@@ -91,7 +91,7 @@ fn by_words(
 }
 
 /// What becomes of a line that begins with a command which is handled so.
-#[tactic(auto, using(crate::proofs::Lines::untouched, crate::proofs::Lines::tells_songs, crate::proofs::Lines::adds, crate::proofs::Lines::adds_times))]
+#[tactic(auto, using(crate::proofs::Lines::untouched, crate::proofs::Lines::tells_songs, crate::proofs::Lines::adds, crate::proofs::Lines::adds_times, crate::proofs::Lines::lists_playlists))]
 fn of_native(
     alloc: Global,
     is_alone: bool,
@@ -108,11 +108,13 @@ fn of_native(
         Handling::TellsSongs => Ok(Translation::Songs),
         Handling::Adds(text) => Ok(adding(name, Ending::Text(text))),
         Handling::AddsTimes => Ok(adding(name, Ending::Times)),
+        Handling::ListsPlaylists => Ok(changing(name, LineChange::Dated)),
         Handling::Filters(_, _)
         | Handling::AddsToPlaylist
         | Handling::Counts
         | Handling::ListsValues
         | Handling::ListsFolder
+        | Handling::ListsAll(_)
         | Handling::Masks => by_words(alloc, is_alone, handling, name, line),
     }
 }

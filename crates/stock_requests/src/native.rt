@@ -4,6 +4,7 @@ ghost use Rattle.command_text.specs.Finding.{has_filter_count};
 ghost use Rattle.stock_requests.specs.Native.{adding, answered, as_it_is, by_handling, by_line, by_natives, by_one, by_two, filtered};
 ghost use Rattle.stock_requests.specs.Native.{handling_of, is_artist_alone, listing_change, listing_words, refused};
 ghost use Rattle.stock_requests.specs.Native.{adding_to_playlist, counting, has_list_count, is_root, list_info, listing};
+ghost use Rattle.stock_requests.specs.Native.{changing, files_change, files_natives, is_file_name, list_all, listing_files};
 ghost use Rattle.stock_requests.specs.Native.{by_steps, grouped_count, grouped_list, grouping};
 ghost use Rattle.stock_requests.specs.Native.{filter_or_all, listing_empty, listing_values, mask_of, tag_types};
 ghost use Rattle.stock_requests.specs.Native.{mask_alone, mask_refused, masked, songs_lines, telling, with_named};
@@ -13,7 +14,7 @@ use crate::change::{
     Change, Ending, FixedText, ForeignRefusal, LineChange, Natives, RefusalChange, Translation,
 };
 use crate::filter::{begins_so, is_word, native_filter, with_words};
-use crate::group::{count_line, counts_in, fits};
+use crate::group::{count_line, counts_in, fits, two_natives};
 use crate::grouped::{MOST_ENDS, begun_group, is_expression, is_grouped, part_ends};
 use crate::listed::listing_natives;
 use crate::mask::{MaskChange, TagSet};
@@ -43,6 +44,10 @@ pub(crate) enum Handling {
     Counts,
     ListsValues,
     ListsFolder,
+    /// It tells what is below a folder: whether with the tags of songs.
+    ListsAll(bool),
+    /// Its answer tells playlists.
+    ListsPlaylists,
     Masks,
 }
 
@@ -54,7 +59,6 @@ pub(crate) fn handling_of(name: CommandName) -> Handling
         CommandName::Commands => Handling::Adds(FixedText::Commands),
         CommandName::Count => Handling::Counts,
         CommandName::CurrentSong
-        | CommandName::ListAllInfo
         | CommandName::ListPlaylistInfo
         | CommandName::QueueChanges
         | CommandName::QueueId
@@ -64,6 +68,9 @@ pub(crate) fn handling_of(name: CommandName) -> Handling
         CommandName::QueueFind | CommandName::QueueSearch => Handling::Filters(true, false),
         CommandName::ListTag => Handling::ListsValues,
         CommandName::ListInfo => Handling::ListsFolder,
+        CommandName::ListAll => Handling::ListsAll(false),
+        CommandName::ListAllInfo => Handling::ListsAll(true),
+        CommandName::ListPlaylists => Handling::ListsPlaylists,
         CommandName::SearchAddPlaylist => Handling::AddsToPlaylist,
         CommandName::Stats => Handling::AddsTimes,
         CommandName::Status => Handling::Adds(FixedText::Status),
@@ -423,6 +430,49 @@ fn grouped_list(
     }
 }
 
+/// Whether it is the name of a song's file, as clients call it.
+fn is_file_name(word: &[u8]) -> bool
+    ensures { result ≡ is_file_name word.now }
+{
+    word.eq_ignore_ascii_case(b"file") || word.eq_ignore_ascii_case(b"filename")
+}
+
+/// An answer of which the files of songs are told.
+fn files_change() -> Change
+    ensures { result ≡ files_change }
+{
+    telling(
+        ForeignName::Native(CommandName::ListTag),
+        LineChange::OnlyFiles,
+        Ending::Nothing,
+    )
+}
+
+/// What asks for the songs of a filter. They are counted first: that is refused where what `find` takes stands behind the filter.
+fn files_natives(alloc: Global, words: &[LineWord<'_>]) -> Result<Natives, AllocError>
+    ensures { IfOk result (λ natives. natives ≡ files_natives words.now) }
+{
+    let counted = line_of(alloc, "count", &[], words)?;
+    let found = line_of(alloc, "find", &[], words)?;
+    two_natives(alloc, counted.as_slice(), found.as_slice())
+}
+
+/// The files of all songs, or of those of a filter.
+#[tactic(auto, unfolding(crate::specs::Native::listing_files))]
+fn listing_files(alloc: Global, words: &[LineWord<'_>]) -> Result<Translation, AllocError>
+    ensures { IfOk result (λ t. t ≡ listing_files words.now) }
+{
+    if words.is_empty() {
+        return by_one(alloc, b"listall", files_change());
+    }
+    if !has_filter_count(words) {
+        return Ok(Translation::Same);
+    }
+    let new = native_filter(alloc, false, words)?;
+    let natives = files_natives(alloc, new.as_slice())?;
+    Ok(by_natives(natives, files_change()))
+}
+
 #[tactic(auto, unfolding(crate::specs::Native::listing))]
 fn listing(alloc: Global, is_alone: bool, words: &[LineWord<'_>]) -> Result<Translation, AllocError>
     ensures { IfOk result (λ t. t ≡ listing is_alone words.now) }
@@ -431,6 +481,9 @@ fn listing(alloc: Global, is_alone: bool, words: &[LineWord<'_>]) -> Result<Tran
         return Ok(Translation::Same);
     }
     let (name, words) = words.split_at(1);
+    if is_file_name(name[0].bytes()) {
+        return listing_files(alloc, words);
+    }
     match ForeignTag::named(name[0].bytes()) {
         None => Ok(Translation::Same),
         Some(tag) if is_grouped(words) => grouped_list(alloc, is_alone, tag, words),
@@ -464,10 +517,21 @@ fn list_info(alloc: Global, words: &[LineWord<'_>]) -> Result<Translation, Alloc
     }
     let change = telling(
         ForeignName::Native(CommandName::ListInfo),
-        LineChange::Masked,
+        LineChange::Dated,
         Ending::Nothing,
     );
     by_two(alloc, b"lsinfo", b"listplaylists", change)
+}
+
+/// A song, or all that is below a folder, which is told first; the root isn't.
+#[tactic(auto, unfolding(crate::specs::Native::list_all))]
+fn list_all(name: CommandName, songs: bool, words: &[LineWord<'_>]) -> Translation
+    ensures { result ≡ list_all name songs words.now }
+{
+    if words.len() != 1 || is_root(words[0].bytes()) {
+        return as_it_is(songs);
+    }
+    changing(name, LineChange::Below(words[0].bytes().len()))
 }
 
 fn masked(alloc: Global, change: MaskChange) -> Result<Translation, AllocError>
@@ -568,8 +632,18 @@ pub(crate) fn by_handling(
         Handling::Counts => counting(alloc, is_alone, words),
         Handling::ListsValues => listing(alloc, is_alone, words),
         Handling::ListsFolder => list_info(alloc, words),
+        Handling::ListsAll(songs) => Ok(list_all(name, songs, words)),
+        Handling::ListsPlaylists => Ok(changing(name, LineChange::Dated)),
         Handling::Masks => tag_types(alloc, words),
     }
+}
+
+/// A command that goes on as it is, of whose answer these lines are told.
+pub(crate) fn changing(name: CommandName, lines: LineChange) -> Translation
+    ensures { result ≡ changing name lines }
+{
+    let name = ForeignName::Native(name);
+    Translation::Changed(telling(name, lines, Ending::Nothing))
 }
 
 /// A command that goes on as it is, behind whose lines these are told.
