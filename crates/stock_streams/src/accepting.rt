@@ -1,4 +1,6 @@
 // Where such clients connect, and what tells of them.
+ghost use Rattle.std.specs.Prelude.{◌≡◌, is_some, IfOk};
+
 use crate::stream::StockStream;
 use crate::telling::TellsTimes;
 use mio_clients::{Interest, Listener, Ready, Stream, Token};
@@ -17,7 +19,9 @@ pub struct StockListener<L, C> {
 
 impl<L, C> StockListener<L, C> {
     /// Clients of this listener, whose conversations are translated or not; this tells what a clock knows of the daemon.
-    pub fn new(alloc: Global, listener: L, translates: bool, clock: C) -> Self {
+    pub fn new(alloc: Global, listener: L, translates: bool, clock: C) -> Self
+        ensures translates { result.translates ≡ translates }
+    {
         StockListener {
             alloc,
             listener,
@@ -29,7 +33,10 @@ impl<L, C> StockListener<L, C> {
 
 impl<S: Stream, L: Listener<S>, C: TellsTimes + Copy> Listener<StockStream<S, C>>
     for StockListener<L, C> {
-    fn accept(&mut self) -> io::Result<StockStream<S, C>> {
+    fn accept(&mut self) -> io::Result<StockStream<S, C>>
+        ensures kind { IfOk result (λ s. is_some s.translated ≡ self.old.translates) }
+        ensures same { self.new.translates ≡ self.old.translates }
+    {
         let stream = self.listener.accept()?;
         if self.translates {
             return Ok(StockStream::translated(self.alloc, stream, self.clock));

@@ -1,5 +1,11 @@
 // A client's stream, with a conversation or without.
-ghost use Rattle.std.specs.Prelude.{◌≡◌, ◌≢◌, true};
+ghost use Rattle.std.specs.Prelude.{◌≡◌, ◌≢◌, [], None, is_some, false, true, Ok, IfOk, IfErr, IfSome, OnErr};
+ghost use Rattle.std.specs.Io.{ReadsAtMost};
+ghost use Rattle.std.specs.Io.KnownBytes.{Keeps, ReadConsumes, append_known};
+ghost use Rattle.std.specs.IoError.{error_kind};
+ghost use Rattle.stock_streams.specs.Plain.{known_where_plain};
+ghost use Rattle.stock_streams.specs.Reading.{EndsWithClient, GoesOn, HandsOver};
+ghost use Rattle.stock_streams.specs.Taken.{IsTaken};
 
 use crate::telling::TellsTimes;
 use crate::translated::Translated;
@@ -17,9 +23,15 @@ pub struct StockStream<S, C> {
     has_failed: bool,
 }
 
-impl<S, C> StockStream<S, C> {
+impl<S: Stream, C: TellsTimes> StockStream<S, C> {
     /// The daemon's own protocol.
-    pub fn plain(stream: S) -> Self {
+    pub fn plain(stream: S) -> Self
+        ensures remaining { ⟦<StockStream<S, C> as Stream>⟧.remaining result ≡ S.remaining stream }
+        ensures contents { ⟦<StockStream<S, C> as Stream>⟧.contents result ≡ S.contents stream }
+        ensures remote { ⟦<StockStream<S, C> as Stream>⟧.remote result ≡ S.remote stream }
+        ensures unfailed { ⟦<StockStream<S, C> as Stream>⟧.failed result ≡ false }
+        ensures plain { result.translated ≡ None }
+    {
         StockStream {
             stream,
             translated: None,
@@ -28,7 +40,11 @@ impl<S, C> StockStream<S, C> {
     }
 
     /// A conversation that has not begun; this tells what a clock knows of the daemon.
-    pub fn translated(alloc: Global, stream: S, clock: C) -> Self {
+    pub fn translated(alloc: Global, stream: S, clock: C) -> Self
+        ensures remote { ⟦<StockStream<S, C> as Stream>⟧.remote result ≡ S.remote stream }
+        ensures unfailed { ⟦<StockStream<S, C> as Stream>⟧.failed result ≡ false }
+        ensures translated { is_some result.translated ≡ true }
+    {
         StockStream {
             stream,
             translated: Some(Translated::new(alloc, clock)),
@@ -36,6 +52,26 @@ impl<S, C> StockStream<S, C> {
         }
     }
 
+    // Reads of the stream, or of the conversation over it.
+    fn read_through(&mut self, buf: &mut [u8]) -> io::Result<usize>
+        ensures bound { ReadsAtMost result buf.new }
+        ensures bytes { ReadConsumes (known_where_plain self.old.translated (S.remaining self.old.stream))
+            (known_where_plain self.new.translated (S.remaining self.new.stream)) result buf.new }
+        ensures handed { GoesOn (λ before after. HandsOver (S.remaining self.old.stream) (S.remaining self.new.stream) result buf.new
+            before.talk after.talk) self.old.translated self.new.translated }
+        ensures ends { IfSome self.new.translated (λ translated. EndsWithClient result buf.new translated.talk.has_ended) }
+        ensures unwritten { Keeps (known_where_plain self.old.translated (S.contents self.old.stream))
+            (known_where_plain self.new.translated (S.contents self.new.stream)) }
+        ensures below { Keeps (S.contents self.old.stream) (S.contents self.new.stream) }
+    {
+        match &mut self.translated {
+            None => self.stream.read(buf),
+            Some(translated) => translated.read(&mut self.stream, buf),
+        }
+    }
+}
+
+impl<S, C> StockStream<S, C> {
     /// Whether there may be something to be read without the client's sending anything more.
     pub(crate) fn has_more(&self) -> bool {
         match &self.translated {
@@ -53,6 +89,12 @@ fn is_fault(kind: ErrorKind) -> bool
 }
 
 impl<S: Stream, C: TellsTimes> Stream for StockStream<S, C> {
+    ghost use Rattle.stock_streams.specs.Plain.{known_where_plain};
+
+    ghost remaining = { λ s. known_where_plain s.translated (S.remaining s.stream) };
+
+    ghost contents = { λ s. known_where_plain s.translated (S.contents s.stream) };
+
     ghost failed = { λ s. s.has_failed };
 
     ghost remote = { λ s. S.remote s.stream };
@@ -61,12 +103,21 @@ impl<S: Stream, C: TellsTimes> Stream for StockStream<S, C> {
         self.stream.is_remote()
     }
 
-    fn read(&mut self, buf: &mut [u8]) -> io::Result<usize> {
-        let read = match &mut self.translated {
-            None => self.stream.read(buf),
-            Some(translated) => translated.read(&mut self.stream, buf),
-        };
-        match read {
+    /// Where a conversation is held, it is handed what is read below, and what it asks of the daemon is given.
+    fn read(&mut self, buf: &mut [u8]) -> io::Result<usize>
+        ensures bound { ReadsAtMost result buf.new }
+        ensures bytes { ReadConsumes (known_where_plain self.old.translated (S.remaining self.old.stream))
+            (known_where_plain self.new.translated (S.remaining self.new.stream)) result buf.new }
+        ensures handed { GoesOn (λ before after. HandsOver (S.remaining self.old.stream) (S.remaining self.new.stream) result buf.new
+            before.talk after.talk) self.old.translated self.new.translated }
+        ensures ends { IfSome self.new.translated (λ translated. EndsWithClient result buf.new translated.talk.has_ended) }
+        ensures unwritten { Keeps (known_where_plain self.old.translated (S.contents self.old.stream))
+            (known_where_plain self.new.translated (S.contents self.new.stream)) }
+        ensures below { Keeps (S.contents self.old.stream) (S.contents self.new.stream) }
+        ensures fault { IfErr result (λ e. error_kind e ≢ ErrorKind.WouldBlock → error_kind e ≢ ErrorKind.Interrupted →
+            self.new.has_failed ≡ true) }
+    {
+        match self.read_through(buf) {
             Ok(count) => Ok(count),
             Err(error) => {
                 self.has_failed = is_fault(error.kind());
@@ -75,7 +126,19 @@ impl<S: Stream, C: TellsTimes> Stream for StockStream<S, C> {
         }
     }
 
-    fn send(&mut self, session: &mut Session) -> io::Result<usize> {
+    fn send(&mut self, session: &mut Session) -> io::Result<usize>
+        ensures in_order { Keeps
+            (append_known (known_where_plain self.old.translated (S.contents self.old.stream)) session.old.queued)
+            (append_known (known_where_plain self.new.translated (S.contents self.new.stream)) session.new.queued) }
+        ensures sent { IfOk result (λ n. IsTaken n session.old session.new) }
+        ensures nothing { session.old.queued ≡ [] → result ≡ Ok 0 }
+        ensures err { OnErr result (session.new ≡ session.old) }
+        ensures unread { Keeps (known_where_plain self.old.translated (S.remaining self.old.stream))
+            (known_where_plain self.new.translated (S.remaining self.new.stream)) }
+        ensures below { Keeps (S.remaining self.old.stream) (S.remaining self.new.stream) }
+        ensures fault { IfErr result (λ e. error_kind e ≢ ErrorKind.WouldBlock → error_kind e ≢ ErrorKind.Interrupted →
+            self.new.has_failed ≡ true) }
+    {
         let sent = match &mut self.translated {
             None => self.stream.send(session),
             Some(translated) => translated.send(&mut self.stream, session),

@@ -1,5 +1,6 @@
 // A client's conversation, with what it is to be sent and what a clock tells.
-ghost use Rattle.std.specs.Prelude.{◌≤◌, length};
+ghost use Rattle.std.specs.Prelude.{◌≡◌, ◌≤◌, ◌==◌, ◌&&◌, not, length, Ok};
+ghost use Rattle.stock_streams.specs.Reading.{IsGiven, IsHanded, TakesPiece};
 
 use crate::telling::TellsTimes;
 use client_session::Session;
@@ -34,7 +35,9 @@ impl<C> Talk<C> {
     }
 
     /// Whether the daemon is to be asked something.
-    pub(crate) fn has_native(&self) -> bool {
+    pub(crate) fn has_native(&self) -> bool
+        ensures { result ≡ not (length self.now.conversation.native == 0) }
+    {
         !self.conversation.native().is_empty()
     }
 
@@ -44,18 +47,27 @@ impl<C> Talk<C> {
     }
 
     /// Whether the daemon is asked nothing until the client has sent more.
-    pub(crate) fn wants_more(&self) -> bool {
+    pub(crate) fn wants_more(&self) -> bool
+        ensures { result ≡ (length self.now.conversation.native == 0) && not self.now.has_ended }
+    {
         !self.has_native() && !self.has_ended
     }
 
+    // Hands over what the client sends, and looks whether it is too long.
+    fn hand_over(&mut self, piece: &[u8]) -> Result<(), ConversationError>
+        ensures handed { IsHanded result piece.now self.old.conversation self.new.conversation }
+        ensures same { self.new ≡ record self.old { conversation = self.new.conversation } }
+    {
+        self.conversation.ask(self.alloc, piece)?;
+        self.conversation.ask(self.alloc, &[])
+    }
+
     /// Takes what the client sends, nothing where that has ended, and looks whether it is too long.
-    pub(crate) fn take(&mut self, piece: &[u8]) -> io::Result<()> {
+    pub(crate) fn take(&mut self, piece: &[u8]) -> io::Result<()>
+        ensures { TakesPiece piece.now self.old self.new }
+    {
         self.has_ended = piece.is_empty();
-        let mut asked = self.conversation.ask(self.alloc, piece);
-        if asked.is_ok() {
-            asked = self.conversation.ask(self.alloc, &[]);
-        }
-        match asked {
+        match self.hand_over(piece) {
             Ok(()) => Ok(()),
             Err(ConversationError::LineTooLong | ConversationError::ListTooLong) => {
                 self.has_ended = true;
@@ -67,7 +79,8 @@ impl<C> Talk<C> {
 
     /// Gives what the daemon is to be asked.
     pub(crate) fn give(&mut self, buf: &mut [u8]) -> usize
-        ensures { result ≤ length buf.new }
+        ensures bound { result ≤ length buf.new }
+        ensures given { IsGiven {E = ⊥} (Ok result) buf.new self.old self.new }
     {
         let mut native = self.conversation.native();
         let count = native.len().min(buf.len());

@@ -1,6 +1,8 @@
 // The translation between a client's stream and the daemon's session.
 ghost use Rattle.std.specs.Prelude.{◌≡◌, [], Ok, IfOk, OnErr};
 ghost use Rattle.std.specs.Io.{ReadsAtMost};
+ghost use Rattle.std.specs.Io.KnownBytes.{Keeps, append_known};
+ghost use Rattle.stock_streams.specs.Reading.{EndsWithClient, HandsOver, IsFetched};
 ghost use Rattle.stock_streams.specs.Taken.{IsTaken};
 
 use crate::talk::{PIECE, Talk};
@@ -67,21 +69,34 @@ impl<C> Translated<C> {
 }
 
 impl<C: TellsTimes> Translated<C> {
+    // Reads of the client, unless something waits for the daemon.
+    fn fetch<S: Stream>(&mut self, stream: &mut S) -> io::Result<()>
+        ensures fetched { IsFetched (S.remaining stream.old) (S.remaining stream.new) self.old.talk self.new.talk }
+        ensures unwritten { Keeps (S.contents stream.old) (S.contents stream.new) }
+    {
+        if !self.talk.wants_more() {
+            return Ok(());
+        }
+        let mut piece = [0; PIECE];
+        let count = stream.read(&mut piece)?;
+        self.talk.take(&piece[..count])
+    }
+
     /// Reads what the daemon is to be asked. The client is not read as long as a command of it is asked step by step. Where what the client
     /// sent ends no line, the caller reads again.
     pub(crate) fn read<S: Stream>(&mut self, stream: &mut S, buf: &mut [u8]) -> io::Result<usize>
-        ensures { ReadsAtMost result buf.new }
+        ensures bound { ReadsAtMost result buf.new }
+        ensures handed { HandsOver (S.remaining stream.old) (S.remaining stream.new) result buf.new
+            self.old.talk self.new.talk }
+        ensures ends { EndsWithClient result buf.new self.new.talk.has_ended }
+        ensures unwritten { Keeps (S.contents stream.old) (S.contents stream.new) }
     {
         self.is_put_off = false;
         if !self.talk.has_native() && self.talk.is_stepping() {
             self.is_put_off = true;
             return Err(io::Error::from(ErrorKind::WouldBlock));
         }
-        if self.talk.wants_more() {
-            let mut piece = [0; PIECE];
-            let count = stream.read(&mut piece)?;
-            self.talk.take(&piece[..count])?;
-        }
+        self.fetch(stream)?;
         if self.talk.wants_more() {
             return Err(io::Error::from(ErrorKind::Interrupted));
         }
@@ -89,7 +104,11 @@ impl<C: TellsTimes> Translated<C> {
     }
 
     // Sends what waits for the client; false where the stream takes no byte.
-    fn flush<S: Stream>(&mut self, stream: &mut S) -> io::Result<bool> {
+    fn flush<S: Stream>(&mut self, stream: &mut S) -> io::Result<bool>
+        ensures in_order { Keeps (append_known (S.contents stream.old) self.old.talk.giving.queued)
+            (append_known (S.contents stream.new) self.new.talk.giving.queued) }
+        ensures unread { Keeps (S.remaining stream.old) (S.remaining stream.new) }
+    {
         while self.talk.giving.queued_len() > 0 {
             if stream.send(&mut self.talk.giving)? == 0 {
                 return Ok(false);
@@ -115,6 +134,7 @@ impl<C: TellsTimes> Translated<C> {
         ensures sent { IfOk result (λ n. IsTaken n session.old session.new) }
         ensures nothing { session.old.queued ≡ [] → result ≡ Ok 0 }
         ensures err { OnErr result (session.new ≡ session.old) }
+        ensures unread { Keeps (S.remaining stream.old) (S.remaining stream.new) }
     {
         if session.queued_len() == 0 || !self.flush(stream)? {
             return Ok(0);
