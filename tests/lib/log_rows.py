@@ -12,8 +12,12 @@ from daemons import Daemon, check, put_song, update, wait_for
 RAMP = list(range(0, 4_000, 4))
 # A web of folders, each with so many links to the next: there are more ways through it than any job could go.
 FOLDERS, LINKS = 8, 16
-# So many folders a job reads at most.
+# So many folders a job reads at most, and so many songs there may be.
 MOST = 65_536
+# So many lines about what can't be read there are within a minute.
+MOST_LINES = 100
+# What a job says that left out no file.
+NONE = "0 not WAVE, 0 of another format, 0 broken"
 # Records of seven bytes, of which a journal has more bytes than one that is opened without a line.
 MANY = 2_400_000
 
@@ -87,14 +91,14 @@ def job_in_the_log(program, folder):
         client.do("update d")
         wait_for("the end of the job", lambda: client.value("status", "updating_db") is None)
         daemon.kill(signal.SIGTERM)
-        left = "1 not WAVE, 1 of another format, 1 broken"
-        none = "0 not WAVE, 0 of another format, 0 broken"
+        left = "1 not WAVE, 1 of another format, 1 broken (debug = true names them)"
         wanted = [
             f"update 1: 4 songs, 4 of them new, 0 changed, 0 gone; left out: {left}; not read: 0 folders, 0 files",
-            # The link that leads nowhere may be a folder or a file; the one upwards isn't read, and what was known below it is kept.
-            f"update 2: 4 songs, 2 of them new, 1 changed, 1 gone; left out: {left}; not read: 2 folders, 1 files",
-            f"update 3: 1 songs, 0 of them new, 0 changed, 0 gone; left out: {none}; not read: 0 folders, 0 files",
-            f"update 4: 0 songs, 0 of them new, 0 changed, 1 gone; left out: {none}; not read: 1 folders, 0 files",
+            # The link that leads nowhere may be a folder or a file, and is counted once; the one upwards isn't read, and what was known
+            # below it is kept.
+            f"update 2: 4 songs, 2 of them new, 1 changed, 1 gone; left out: {left}; not read: 2 folders, 0 files",
+            f"update 3: 1 songs, 0 of them new, 0 changed, 0 gone; left out: {NONE}; not read: 0 folders, 0 files",
+            f"update 4: 0 songs, 0 of them new, 0 changed, 1 gone; left out: {NONE}; not read: 1 folders, 0 files",
         ]
         check("the log", told(daemon, "update ", "left out"), wanted)
 
@@ -104,17 +108,73 @@ def files_left_out(program, folder):
     with Daemon(program, folder, **{"debug:": "true"}).create().start() as daemon, daemon.client() as client:
         put_song(daemon, "a.wav", RAMP)
         put_song(daemon, "d/four.wav", RAMP, channels=4)
+        put_song(daemon, "fast.wav", RAMP, rate=192_001)
         for name, content in (("text.wav", b"no song"), ("cut.wav", b"RIFF\0\0\0\0WAVE"), ("note.txt", b"")):
             with open(f"{folder}/music/{name}", "wb") as file:
                 file.write(content)
         update(client)
+        wait_for("its line", lambda: told(daemon, "update 1: "))
         daemon.kill(signal.SIGTERM)
         wanted = [
             "left out: cut.wav: no readable format before the samples",
             "left out: d/four.wav: format tag 1 with 16 bits and 4 channels is not supported",
+            "left out: fast.wav: format tag 1 with 16 bits and 1 channels is not supported at its rate, or with its length of frames",
             "left out: text.wav: not a WAVE file",
         ]
         check("the log", told(daemon, "left out"), wanted)
+        tally = "1 songs, 1 of them new, 0 changed, 0 gone; left out: 1 not WAVE, 2 of another format, 1 broken"
+        check("the tally", told(daemon, "update "), [f"update 1: {tally}; not read: 0 folders, 0 files"])
+
+
+def many_unreadable(program, folder):
+    """Of many links that lead nowhere some hundred have a line, each once, and one more line says that there are others. Jobs that come one
+    right behind the other have ten lines within ten seconds; the next one says how many were left out."""
+    daemon = Daemon(program, folder).create()
+    for number in range(150):
+        os.symlink("nowhere", f"{folder}/music/{number:03}.wav")
+    begun = time.monotonic()
+    with daemon.start(), daemon.client() as client:
+        for _ in range(40):
+            update(client)
+        last = time.monotonic()
+        wait_for("ten seconds", lambda: time.monotonic() - last > 10.5)
+        update(client)
+        wait_for("the last line", lambda: told(daemon, "update 41: 0 songs"))
+        daemon.kill(signal.SIGTERM)
+    seconds = int(time.monotonic() - begun)
+    error = "can't be read: No such file or directory (os error 2); the songs known there are kept"
+    wanted = [f"music: music/{it:03}.wav: {error}" for it in range(MOST_LINES)]
+    wanted.append("music: what else can't be read within this minute is not told; an update counts it")
+    found = [it for it in daemon.lines if it.startswith("music: ")]
+    check("the links", found if seconds < 60 else found[: len(wanted)], wanted)
+    left = [int(it.split()[2]) for it in told(daemon, "update ") if "have no line" in it]
+    jobs = [it for it in told(daemon, "update ") if "have no line" not in it]
+    check("jobs that were told, and others", len(jobs) + sum(left), 41)
+    check("few of them", len(jobs) <= 10 * (seconds // 10 + 1), True)
+    counted = f"0 songs, 0 of them new, 0 changed, 0 gone; left out: {NONE}; not read: 150 folders, 0 files"
+    check("each of them", {it.partition(": ")[2] for it in jobs}, {counted})
+
+
+def more_songs_than_fit(program, folder):
+    """Songs for which there is no room are no new ones."""
+    daemon = Daemon(program, folder).create()
+    put_song(daemon, "z/known.wav", [1])
+    with daemon.start(), daemon.client() as client:
+        update(client)
+        # A file has no more than some 65,000 names.
+        put_song(daemon, "a/0.wav", [1])
+        for number in range(1, MOST + 3):
+            os.link(f"{folder}/music/{'a/0' if number % 2 else 'z/known'}.wav", f"{folder}/music/a/{number}.wav")
+        update(client)
+        check("songs", client.value("stats", "songs"), str(MOST))
+        wait_for("the last line", lambda: told(daemon, "update 2: 65536 "))
+        daemon.kill(signal.SIGTERM)
+    wanted = [
+        f"update 1: 1 songs, 1 of them new, 0 changed, 0 gone; left out: {NONE}; not read: 0 folders, 0 files",
+        f"update 2: {MOST + 4} songs, {MOST - 1} of them new, 0 changed, 0 gone; left out: {NONE}; not read: 0 folders, 0 files",
+        f"update 2: {MOST} songs are known at most; 4 that were found are not",
+    ]
+    check("the log", told(daemon, "update "), wanted)
 
 
 def large_journal(program, folder):
@@ -153,4 +213,4 @@ def kill_where_a_folder_hangs(program, folder):
         update(client)
 
 
-ROWS = [web_of_links, job_in_the_log, files_left_out, large_journal, kill_where_a_folder_hangs]
+ROWS = [web_of_links, job_in_the_log, files_left_out, many_unreadable, more_songs_than_fit, large_journal, kill_where_a_folder_hangs]

@@ -4,19 +4,20 @@
 mod standard_streams;
 
 use mpd_program::{run_command_line, takes_line};
-use standard_streams::take_standard_stream;
+use standard_streams::take_standard_streams;
 use std::process::ExitCode;
 
 /// The status where `/dev/null` can't be opened: it was started wrongly.
 const NO_STREAMS: u8 = 1;
 
 fn main(rt: HostRuntime) -> ExitCode {
-    let (Ok(_first), Ok(_second), Ok(_third)) = (
-        take_standard_stream(&rt),
-        take_standard_stream(&rt),
-        take_standard_stream(&rt),
-    ) else {
-        return ExitCode::from(NO_STREAMS);
+    let _streams = match take_standard_streams(&rt) {
+        Ok(streams) => streams,
+        Err(error) => {
+            // Nothing is open yet but what it was started with, so that this goes to standard error or nowhere.
+            let _printed = eprintln!(rt; "/dev/null: {error}");
+            return ExitCode::from(NO_STREAMS);
+        }
     };
     let exit = run_command_line(&rt, &rt);
     if !exit.is_silent() && takes_line(&rt) {

@@ -53,6 +53,15 @@ text_if_there (Some value) = option_map Some (as_str value)
 abbrev pub optional_text_at : List ℕ → Members → Option (Option (List ℕ))
 optional_text_at key members = text_if_there (get_member key members)
 
+-- the path at a key that may be missing; none is empty
+abbrev pub if_no_empty_path : Option (List ℕ) → Option (Option (List ℕ))
+if_no_empty_path None = Some None
+if_no_empty_path (Some []) = None
+if_no_empty_path (Some (byte ∷ bytes)) = Some (Some (byte ∷ bytes))
+
+abbrev pub optional_path_at : List ℕ → Members → Option (Option (List ℕ))
+optional_path_at key members = option_and_then if_no_empty_path (optional_text_at key members)
+
 -- the form that a text names
 abbrev pub form_of : List ℕ → Option Form
 form_of text =
@@ -100,7 +109,7 @@ settings_of table = do
   journal_b ← text_at (codes "journal_b") members
   key ← key_at (codes "key") members
   tcp ← optional_text_at (codes "tcp") members
-  unix ← optional_text_at (codes "unix") members
+  unix ← optional_path_at (codes "unix") members
   output ← optional_text_at (codes "output") members
   form ← form_at (codes "form") members
   stock_clients ← switch_at (codes "stock_clients") members

@@ -3,7 +3,7 @@ ghost use Rattle.std.specs.Prelude.{◌≡◌, ℕ, None, Some, IfOk, OnErr, IsE
 ghost use Rattle.std.specs.Option.{option_and_then};
 ghost use Rattle.toml.specs.Data.{get_member};
 ghost use Rattle.toml.specs.View.{table_view};
-ghost use Rattle.mpd_program.specs.Configuration.{is_known, all_known, settings_of, text_at, optional_text_at, key_at, configuration};
+ghost use Rattle.mpd_program.specs.Configuration.{is_known, all_known, settings_of, text_at, optional_text_at, optional_path_at, key_at, configuration};
 ghost use Rattle.mpd_program.specs.Configuration.{form_at, form_of, switch_at};
 ghost use Rattle.mpd_program.specs.declared.config.ConfigError.TheVariants as errors;
 
@@ -104,7 +104,7 @@ impl Config {
         let journal_b = text(alloc, table, "journal_b")?;
         let key = key(table, "key")?;
         let tcp = optional_text(alloc, table, "tcp")?;
-        let unix = optional_text(alloc, table, "unix")?;
+        let unix = optional_path(alloc, table, "unix")?;
         let output = optional_text(alloc, table, "output")?;
         let form = form(table, "form")?;
         let stock_clients = switch(table, "stock_clients")?;
@@ -141,6 +141,17 @@ fn is_known_key(key: &str) -> bool
         || key == "form"
         || key == "stock_clients"
         || key == "debug"
+}
+
+/// A key of this text that no configuration may have, if it has one.
+pub(crate) fn unknown_key(alloc: Global, text: &str) -> Option<String> {
+    let table = toml::table_from_str(alloc, text).ok()?;
+    for name in table.keys() {
+        if !is_known_key(name.as_str()) {
+            return String::from_str(alloc, name.as_str()).ok();
+        }
+    }
+    None
 }
 
 // Whether a configuration may have each key of the table.
@@ -187,6 +198,17 @@ fn optional_text(alloc: Global, table: &Table, key: &str) -> Result<Option<Strin
     match value.as_str() {
         Some(text) => Ok(Some(String::from_str(alloc, text)?)),
         None => Err(ConfigError::Bad),
+    }
+}
+
+// The path at a key that may be missing. None is empty.
+fn optional_path(alloc: Global, table: &Table, key: &str) -> Result<Option<String>, ConfigError>
+    ensures ok { IfOk result (λ s. optional_path_at key.now (table_view table.now) ≡ Some (option_map string_bytes s)) }
+    ensures bad { IsErrOf result ConfigError.Bad → optional_path_at key.now (table_view table.now) ≡ None }
+{
+    match optional_text(alloc, table, key)? {
+        Some(path) if path.is_empty() => Err(ConfigError::Bad),
+        path => Ok(path),
     }
 }
 

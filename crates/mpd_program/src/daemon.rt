@@ -6,7 +6,7 @@ use crate::clocked_folder::ClockedFolder;
 use crate::config::Config;
 use crate::console::Status;
 use crate::daemon_clock::DaemonClock;
-use crate::error_lines::{ErrorLines, LoopLog};
+use crate::error_lines::{ErrorLines, LoopLog, say};
 use crate::exit::Exit;
 use crate::listening::{listen_on_address, listen_on_path};
 use crate::music::Music;
@@ -65,8 +65,9 @@ fn address_of(rt: &HostRuntime, tcp: &Option<String>) -> Result<Option<SocketAdd
         Some(text) => match text.as_str().parse::<SocketAddr>() {
             Ok(address) => Ok(Some(address)),
             Err(_) => {
-                let _printed = eprintln!(rt;
-                    "{text}: an address and port is wanted, as 127.0.0.1:6600"
+                say(
+                    rt,
+                    format_args!("{text}: an address and port is wanted, as 127.0.0.1:6600"),
                 );
                 Err(Exit::BadConfiguration)
             }
@@ -139,8 +140,11 @@ fn open_output<'a>(rt: &'a HostRuntime, path: &str, stop: &StopFlag) -> Result<O
     match Output::open(rt, path, stop.again()?) {
         Ok(output) => Ok(output),
         Err(error) if error.kind() == ErrorKind::WouldBlock => {
-            let _printed = eprintln!(rt;
-                "{path}: in use already, as the output or a journal file of another daemon"
+            say(
+                rt,
+                format_args!(
+                    "{path}: in use already, as the output or a journal file of another daemon"
+                ),
             );
             Err(Exit::BadConfiguration)
         }
@@ -269,8 +273,9 @@ pub fn serve<R: Threads + Wait + Clock + Log + Sync>(
     config: Config,
 ) -> Result<(), Exit> {
     let Some(config) = ServeConfig::of(config) else {
-        let _printed = eprintln!(rt;
-            "serve wants an output, which is no file of the journal, and a tcp address or a unix path to listen on"
+        say(
+            rt,
+            "serve wants an output, which is no file of the journal, and a tcp address or a unix path to listen on",
         );
         return Err(Exit::BadConfiguration);
     };

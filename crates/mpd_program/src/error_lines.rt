@@ -59,6 +59,14 @@ pub fn takes_line(rt: &HostRuntime) -> bool {
     Watch::new(rt).takes_line(PATIENCE)
 }
 
+/// Writes a line of a start on standard error, unless nobody takes it within a second. Where the system can't tell that, as without a free
+/// descriptor, it is written all the same: why nothing is begun is to be known.
+pub(crate) fn say<D: Display + Drop>(rt: &HostRuntime, line: D) {
+    if Watch::new(rt).answer(PATIENCE).unwrap_or(true) {
+        let _printed = eprintln!(rt; "{line}");
+    }
+}
+
 /// Lines of the loop's thread that are told also where descriptors are used up: what watches standard error was made before that.
 #[derive(Drop)]
 pub struct WatchedLines {

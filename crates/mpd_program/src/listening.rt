@@ -1,9 +1,18 @@
 // The sockets that clients connect to.
+use crate::file_lock::lock;
 use mio::net::{TcpListener, UnixListener, UnixStream};
-use std::fs;
+use std::fs::{self, File};
 use std::io::{self, ErrorKind};
 use std::net::SocketAddr;
 use std::os::unix::fs::FileTypeExt;
+use std::path::Path;
+use std::thread;
+use std::time::Duration;
+
+/// How often a lock that another program has is tried, and how many milliseconds lie between.
+const TRIES: u32 = 100;
+
+const PAUSE: u64 = 10;
 
 /// Listens on an address and port, such as `127.0.0.1:6600` or `[::1]:6600`.
 pub fn listen_on_address(rt: &HostRuntime, address: SocketAddr) -> io::Result<TcpListener> {
@@ -11,7 +20,10 @@ pub fn listen_on_address(rt: &HostRuntime, address: SocketAddr) -> io::Result<Tc
 }
 
 /// Listens on a socket at this path, with the mode that the process's umask leaves. A socket there that nobody listens on is replaced.
+///
+/// Its folder is locked meanwhile, so that of two daemons that begin at once neither removes the other's socket.
 pub fn listen_on_path(rt: &HostRuntime, path: &str) -> io::Result<UnixListener> {
+    let _locked = lock_folder(rt, path)?;
     match UnixListener::bind(rt, path) {
         Err(error) if error.kind() == ErrorKind::AddrInUse && is_stale(rt, path) => {
             fs::remove_file(rt, path)?;
@@ -19,6 +31,25 @@ pub fn listen_on_path(rt: &HostRuntime, path: &str) -> io::Result<UnixListener> 
         }
         bound => bound,
     }
+}
+
+// The folder in which a path stands, locked as long as the value lives. It fails where another program has it locked for a second. Nothing
+// is locked where the folder can't be opened, or the file system knows no locks.
+fn lock_folder(rt: &HostRuntime, path: &str) -> io::Result<Option<File>> {
+    let folder = match Path::new(path).parent() {
+        Some(parent) if !parent.as_str().is_empty() => parent.as_str(),
+        _ => ".",
+    };
+    let Ok(file) = File::open(rt, folder) else {
+        return Ok(None);
+    };
+    for _ in 0..TRIES {
+        if lock(&file).is_ok() {
+            return Ok(Some(file));
+        }
+        thread::sleep(rt, Duration::from_millis(PAUSE));
+    }
+    Err(io::Error::other("another program has its folder locked"))
 }
 
 // Whether a socket lies at this path that nobody listens on. (A connection to a file that is no socket is refused too.)

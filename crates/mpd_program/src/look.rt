@@ -1,4 +1,5 @@
 // A look at the files of a journal, which changes nothing of them.
+use crate::error_lines::say;
 use crate::exit::Exit;
 use crate::tasks::told;
 use crate::{Config, Status};
@@ -7,8 +8,8 @@ use live_stage::StartError;
 use play_journal::{Journal, JournalError, Stored};
 use state_codec::{BodyError, CodecError, Saved, take_saved};
 use std::alloc::Global;
-use std::fs::File;
-use std::io::{self, Read};
+use std::fs::{self, File};
+use std::io::{self, ErrorKind, Read};
 
 /// How often the files are read where they give no state, since a daemon may write them meanwhile.
 const READINGS: u32 = 3;
@@ -117,11 +118,22 @@ fn read_file(rt: &HostRuntime, path: &str) -> Result<Vec<u8>, Exit> {
     let mut bytes = Vec::new(rt.alloc());
     match read_into(rt, path, &mut bytes) {
         Ok(()) => Ok(bytes),
+        Err(error) if error.kind() == ErrorKind::NotFound && !path.starts_with('/') => {
+            say(
+                rt,
+                format_args!("{path}: {error}; it is taken from the folder in which `look` is run"),
+            );
+            Err(Exit::Ended(Status::DiskFault))
+        }
         Err(error) => Err(told(rt, path, &error, Exit::Ended(Status::DiskFault))),
     }
 }
 
+// Of a regular file alone: anything else may have no end, or wait for its other end.
 fn read_into(rt: &HostRuntime, path: &str, bytes: &mut Vec<u8>) -> io::Result<()> {
+    if !fs::metadata(rt, path)?.is_file() {
+        return Err(io::Error::other("no regular file"));
+    }
     let mut file = File::open(rt, path)?;
     file.read_to_end(bytes)?;
     Ok(())
@@ -163,10 +175,13 @@ fn tell(rt: &HostRuntime, config: &Config, error: StartError) -> Exit {
     match error {
         StartError::NoMemory => return Exit::NO_MEMORY,
         StartError::Damaged(offset) => {
-            let _printed = eprintln!(rt; "{a}, {b}: damaged at byte {offset} of the file in use");
+            say(
+                rt,
+                format_args!("{a}, {b}: damaged at byte {offset} of the file in use"),
+            );
         }
         _ => {
-            let _printed = eprintln!(rt; "{a}, {b}: no journal");
+            say(rt, format_args!("{a}, {b}: no journal"));
         }
     }
     Exit::NotWhole

@@ -2,9 +2,16 @@
 ghost use Rattle.std.specs.Prelude.{[]};
 
 use crate::error_lines::ErrorLines;
+use mpd_server::TimedLimit;
 use std::alloc::{AllocError, Global};
-use std::fs;
+use std::fs::{self, File};
+use std::io;
 use wave_pcm::{FileFolder, FileSource, Folder, FolderEntry, FolderFault};
+
+/// How many lines there are at most within a minute.
+const MOST_LINES: u32 = 100;
+
+const MINUTE: u64 = 60_000;
 
 /// The songs of the configuration, in a folder of the operating system. What can't be read is told on standard error, at the
 /// moment at which it is met.
@@ -17,6 +24,9 @@ pub struct Music<'a> {
     files: FileFolder<'a>,
     // None where a line may wait for its reader for ever.
     lines: Option<ErrorLines>,
+    limit: TimedLimit,
+    // What could not be listed last, unless something was opened since.
+    unlisted: Option<String>,
 }
 
 impl<'a> Music<'a> {
@@ -31,37 +41,94 @@ impl<'a> Music<'a> {
             root: String::from_str(rt.alloc(), root)?,
             files: FileFolder::new(rt, String::from_str(rt.alloc(), root)?),
             lines,
+            limit: TimedLimit::new(rt, MOST_LINES, MINUTE),
+            unlisted: None,
         })
     }
 
-    // Whether something else than a file stands at a path: the opening of a pipe would wait for its other end.
-    fn is_no_file(&self, alloc: Global, path: &str) -> Result<bool, AllocError> {
+    // Where the operating system has what stands under a path.
+    fn place(&self, alloc: Global, path: &str) -> Result<String, AllocError> {
         let root = if self.root.is_empty() {
             "."
         } else {
             self.root.as_str()
         };
-        let place = format!(in alloc; "{root}/{path}")?;
+        if path.is_empty() {
+            String::from_str(alloc, root)
+        } else {
+            format!(in alloc; "{root}/{path}")
+        }
+    }
+
+    // Whether something else than a file stands at a path: the opening of a pipe would wait for its other end.
+    fn is_no_file(&self, alloc: Global, path: &str) -> Result<bool, AllocError> {
+        let place = self.place(alloc, path)?;
         Ok(match fs::metadata(self.rt, place.as_str()) {
             Ok(found) => !found.is_file(),
             Err(_) => false,
         })
     }
 
-    // Says what can't be read.
-    fn tell(&mut self, path: &str, fault: FolderFault) {
-        if fault != FolderFault::Source {
-            return;
-        }
-        let is_ready = match &mut self.lines {
+    // Waits until a line is taken; `false` where none is any more.
+    fn is_ready(&mut self) -> bool {
+        match &mut self.lines {
             Some(lines) => lines.is_ready(),
             None => true,
-        };
-        if is_ready {
-            let shown = if path.is_empty() { "." } else { path };
+        }
+    }
+
+    // Whether what can't be read has a line. Where it is one more than a minute may have, one line says that others are left out.
+    fn takes_line(&mut self) -> bool {
+        if self.limit.take(self.rt).is_some() {
+            return self.is_ready();
+        }
+        if self.limit.left_out() == 1 && self.is_ready() {
             let _printed = eprintln!(self.rt;
-                "music: {shown}: can't be read; the songs known there are kept"
+                "music: what else can't be read within this minute is not told; an update counts it"
             );
+        }
+        false
+    }
+
+    // Says what can't be read, and why, where the system says that.
+    fn print(&self, place: &str, error: Option<io::Error>) {
+        let _printed = match error {
+            Some(error) => eprintln!(self.rt;
+                "music: {place}: can't be read: {error}; the songs known there are kept"
+            ),
+            None => eprintln!(self.rt;
+                "music: {place}: can't be read; the songs known there are kept"
+            ),
+        };
+    }
+
+    // Says what can't be listed. For want of memory nothing is said.
+    fn tell_folder(&mut self, alloc: Global, path: &str) {
+        self.unlisted = String::from_str(alloc, path).ok();
+        if self.takes_line() {
+            if let Ok(place) = self.place(alloc, path) {
+                let error = fs::read_dir(self.rt, place.as_str()).err();
+                self.print(place.as_str(), error);
+            }
+        }
+    }
+
+    // Whether a path was told as a folder's right before: what a link that leads nowhere may have led to is looked for as a folder, and
+    // then as a file.
+    fn is_told(&self, path: &str) -> bool {
+        match &self.unlisted {
+            Some(unlisted) => unlisted.as_str() == path,
+            None => false,
+        }
+    }
+
+    // Says what can't be opened. For want of memory nothing is said.
+    fn tell_file(&mut self, alloc: Global, path: &str) {
+        if !self.is_told(path) && self.takes_line() {
+            if let Ok(place) = self.place(alloc, path) {
+                let error = error_of_file(self.rt, place.as_str());
+                self.print(place.as_str(), error);
+            }
         }
     }
 }
@@ -76,9 +143,10 @@ impl Folder for Music<'_> {
     ghost steady = { λ _. ⊥ };
 
     fn list(&mut self, alloc: Global, path: &str) -> Result<Option<Vec<FolderEntry>>, FolderFault> {
+        self.unlisted = None;
         let listed = self.files.list(alloc, path);
-        if let Err(fault) = &listed {
-            self.tell(path, *fault);
+        if matches!(listed, Err(FolderFault::Source)) {
+            self.tell_folder(alloc, path);
         }
         listed
     }
@@ -89,9 +157,20 @@ impl Folder for Music<'_> {
             return Ok(None);
         }
         let opened = self.files.open(alloc, path);
-        if let Err(fault) = &opened {
-            self.tell(path, *fault);
+        if matches!(opened, Err(FolderFault::Source)) {
+            self.tell_file(alloc, path);
         }
+        self.unlisted = None;
         opened
+    }
+}
+
+// What the system says of a file that can't be opened; none where it says nothing. Nothing else is opened: a pipe would wait for its other
+// end.
+fn error_of_file(rt: &HostRuntime, place: &str) -> Option<io::Error> {
+    match fs::metadata(rt, place) {
+        Ok(found) if found.is_file() => File::open(rt, place).err(),
+        Ok(_) => None,
+        Err(error) => Some(error),
     }
 }

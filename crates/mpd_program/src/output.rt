@@ -1,10 +1,13 @@
 // Where the sound goes.
+ghost use Rattle.std.specs.Io.{WritesAtMost};
+
 use crate::file_lock::lock;
 use crate::readiness::{Readiness, STEP};
 use crate::stop_flag::StopFlag;
 use std::fs::{File, OpenOptions};
 use std::io::{self, ErrorKind, Printer, Write};
-use std::os::fd::{AsRawFd, RawFd};
+use std::os::fd::{AsRawFd, OwnedFd, RawFd};
+use std::os::unix::net::UnixStream;
 
 /// The descriptor of standard output.
 const STANDARD_OUTPUT: RawFd = 1;
@@ -44,6 +47,13 @@ fn open_file(rt: &HostRuntime, path: &str) -> io::Result<File> {
     Ok(file)
 }
 
+// From now on a write that would wait is refused by `WouldBlock`, as where others have filled the pipe behind the look at it.
+fn keep_from_waiting(file: &File) -> io::Result<()> {
+    // The two descriptors are of one opened file, to which this is said. That it is no socket doesn't matter.
+    let other = OwnedFd::from(file.try_clone()?);
+    UnixStream::from(other).set_nonblocking(true)
+}
+
 impl<'a> Output<'a> {
     /// Opens the output at this path, or standard output at `-`. A named pipe is opened for reading too, so that it needs no reader
     /// yet. A regular file is made where there is none, and keeps its bytes until `clear`. It is locked, so that it is no journal file of
@@ -56,9 +66,14 @@ impl<'a> Output<'a> {
             let fd = file.as_raw_fd();
             (Target::File(file), fd)
         };
+        let readiness = Readiness::of(rt, fd)?;
+        if let (Target::File(file), Some(_)) = (&target, &readiness) {
+            // Where the system refuses it, a write may wait for a reader.
+            let _kept = keep_from_waiting(file);
+        }
         Ok(Output {
             target,
-            readiness: Readiness::of(rt, fd)?,
+            readiness,
             stop,
         })
     }
@@ -87,16 +102,30 @@ impl<'a> Output<'a> {
         }
         Err(ErrorKind::Other.into())
     }
-}
 
-impl Write for Output<'_> {
-    fn write(&mut self, bytes: &[u8]) -> io::Result<usize> {
-        self.wait()?;
+    // Writes a front of these bytes, as many as a pipe takes that is ready.
+    fn put(&mut self, bytes: &[u8]) -> io::Result<usize>
+        ensures { WritesAtMost result bytes.now }
+    {
         let piece = &bytes[..bytes.len().min(MAX_WRITE)];
         match &mut self.target {
             Target::Standard(printer) => printer.write(piece),
             Target::File(file) => file.write(piece),
         }
+    }
+}
+
+impl Write for Output<'_> {
+    fn write(&mut self, bytes: &[u8]) -> io::Result<usize> {
+        // What others have written since may have filled the pipe again.
+        for _ in 0..u64::MAX {
+            self.wait()?;
+            match self.put(bytes) {
+                Err(error) if error.kind() == ErrorKind::WouldBlock => {}
+                written => return written,
+            }
+        }
+        Err(ErrorKind::Other.into())
     }
 
     fn flush(&mut self) -> io::Result<()> {

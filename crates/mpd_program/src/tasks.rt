@@ -3,12 +3,12 @@ ghost use Rattle.std.specs.Prelude.{◌≡◌};
 ghost use Rattle.mpd_program.specs.Lives.{refusal_of, status_of};
 
 use crate::arguments::Task;
-use crate::config::{Config, ConfigError};
+use crate::config::{Config, ConfigError, unknown_key};
 use crate::console::{ConsoleEnd, Status, run_console};
 use crate::created::tell_created;
 use crate::daemon;
 use crate::daemon_clock::DaemonClock;
-use crate::error_lines::takes_line;
+use crate::error_lines::{say, takes_line};
 use crate::exit::Exit;
 use crate::file_lock::FileLock;
 use crate::look::look;
@@ -35,8 +35,9 @@ pub fn run_command_line<R: Threads + Wait + Clock + Log + Sync>(
     let done = match Task::from_args(rt) {
         Ok(Some(task)) => run(rt, threads, task),
         Ok(None) => {
-            let _printed = eprintln!(rt;
-                "usage: mpd_daemon create CONFIG | console [[--stock-clients] CONFIG] | serve CONFIG | look CONFIG"
+            say(
+                rt,
+                "usage: mpd_daemon create CONFIG | console [[--stock-clients] CONFIG] | serve CONFIG | look CONFIG",
             );
             Err(Exit::BadArguments)
         }
@@ -74,24 +75,35 @@ fn read_config(rt: &HostRuntime, path: &str) -> Result<Config, Exit> {
         Err(error) => return Err(told(rt, path, &error, Exit::BadConfiguration)),
     };
     if text.len() as u64 > CONFIG_LIMIT {
-        let _printed = eprintln!(rt; "{path}: more than {CONFIG_LIMIT} bytes");
+        say(rt, format_args!("{path}: more than {CONFIG_LIMIT} bytes"));
         return Err(Exit::BadConfiguration);
     }
     match Config::read(rt.alloc(), text.as_str()) {
         Ok(config) => Ok(config),
         Err(ConfigError::NoMemory) => Err(Exit::NO_MEMORY),
         Err(ConfigError::Bad) => {
-            let _printed = eprintln!(rt;
-                "{path}: wanted are the texts music, journal_a, another journal_b, key (64 hexadecimal digits), perhaps tcp, unix, output, form (bare or wave), stock_clients and debug (true or false)"
-            );
+            tell_wanted(rt, path, text.as_str());
             Err(Exit::BadConfiguration)
         }
     }
 }
 
+/// Says on standard error what a configuration is to have, and which key of this one none has.
+fn tell_wanted(rt: &HostRuntime, path: &str, text: &str) {
+    if let Some(key) = unknown_key(rt.alloc(), text) {
+        say(rt, format_args!("{path}: {key:?} is an unknown key"));
+    }
+    say(
+        rt,
+        format_args!(
+            "{path}: wanted are the texts music, journal_a, another journal_b, key (64 hexadecimal digits), perhaps tcp, unix (not empty), output, form (bare or wave), stock_clients and debug (true or false)"
+        ),
+    );
+}
+
 /// Says on standard error what the system refused at this path, and how the program ends.
 pub(crate) fn told(rt: &HostRuntime, path: &str, error: &io::Error, exit: Exit) -> Exit {
-    let _printed = eprintln!(rt; "{path}: {error}");
+    say(rt, format_args!("{path}: {error}"));
     exit.unless_memory(error)
 }
 
@@ -149,8 +161,11 @@ fn open_file(rt: &HostRuntime, path: &str) -> Result<(FileDisk<File>, FileLock),
     match FileLock::take(rt, path) {
         Ok(lock) => Ok((disk, lock)),
         Err(error) if error.kind() == ErrorKind::WouldBlock => {
-            let _printed = eprintln!(rt;
-                "{path}: in use already, by another program, as the journal's other file or as the output"
+            say(
+                rt,
+                format_args!(
+                    "{path}: in use already, by another program, as the journal's other file or as the output"
+                ),
             );
             Err(fault)
         }
@@ -226,8 +241,11 @@ pub(crate) fn tell_fault(rt: &HostRuntime, path: &str, disk: &FileDisk<File>) {
 
 /// Says on standard error that the journal has the layout that is written, from now on.
 pub(crate) fn tell_migration(rt: &HostRuntime) {
-    let _printed = eprintln!(rt;
-        "the journal was brought to layout {LAYOUT}: an older program can't read it any more"
+    say(
+        rt,
+        format_args!(
+            "the journal was brought to layout {LAYOUT}: an older program can't read it any more"
+        ),
     );
 }
 

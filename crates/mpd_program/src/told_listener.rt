@@ -2,8 +2,14 @@
 use crate::error_lines::{TakenLog, WatchedLines};
 use log::{Log, warn};
 use mio_clients::{Listener, Socket, SocketListener};
+use mpd_server::TimedLimit;
 use std::io::{self, ErrorKind};
 use std::time::{Duration, Instant};
+
+/// How many lines there are at most within a minute.
+const MOST_LINES: u32 = 10;
+
+const MINUTE: u64 = 60_000;
 
 /// Listening sockets that say why a client can't be accepted: once, until no client waits any more. Whoever wants to connect waits
 /// meanwhile. They say too which client gave way to another.
@@ -13,9 +19,19 @@ pub struct ToldListener<'a> {
     lines: WatchedLines,
     sockets: SocketListener,
     is_told: bool,
+    limit: TimedLimit,
     // When they were made, and how many milliseconds had passed since when that was last asked.
     began: Option<Instant>,
     now: u64,
+}
+
+// A time in milliseconds, as it is told.
+fn told_time(passed: u64) -> (u64, &'static str) {
+    if passed < MINUTE {
+        (passed / 1_000, "seconds")
+    } else {
+        (passed / MINUTE, "minutes")
+    }
 }
 
 // A duration in milliseconds.
@@ -31,9 +47,24 @@ impl<'a> ToldListener<'a> {
             lines: WatchedLines::new(rt),
             sockets,
             is_told: false,
+            limit: TimedLimit::new(rt, MOST_LINES, MINUTE),
             began: Instant::now(rt).ok(),
             now: 0,
         }
+    }
+
+    // Whether a line is written. Where others were left out before it, another one says how many.
+    fn takes_line(&mut self) -> bool {
+        let Some(left_out) = self.limit.take(self.log.rt) else {
+            return false;
+        };
+        if !self.lines.takes_line() {
+            return false;
+        }
+        if left_out > 0 {
+            warn!(self.log; "{left_out} lines about clients were left out: ten within a minute are written");
+        }
+        true
     }
 }
 
@@ -47,7 +78,7 @@ impl Listener<Socket> for ToldListener<'_> {
                 _ if self.is_told => {}
                 _ => {
                     self.is_told = true;
-                    if self.lines.takes_line() {
+                    if self.takes_line() {
                         warn!(self.log; "clients wait, none can be accepted: {error}");
                     }
                 }
@@ -67,9 +98,9 @@ impl Listener<Socket> for ToldListener<'_> {
     }
 
     fn gave_way(&mut self, client: u64, silence: u64) {
-        if self.lines.takes_line() {
-            let minutes = silence / 60_000;
-            warn!(self.log; "client {client} gave its place to another: nothing came of it for {minutes} minutes");
+        if self.takes_line() {
+            let (time, unit) = told_time(silence);
+            warn!(self.log; "client {client} gave its place to another: nothing came of it for {time} {unit}");
         }
     }
 }

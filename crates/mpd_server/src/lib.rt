@@ -6,6 +6,7 @@ mod ends;
 mod job_folder;
 mod jobs;
 mod life;
+mod line_limit;
 mod looping;
 mod opening;
 mod server;
@@ -14,6 +15,7 @@ mod workers;
 
 pub use ending::{ServeEnd, ServeStatus, refusal_number};
 pub use job_folder::{JobFolder, MAX_LISTINGS, MAX_OPENINGS, Visits};
+pub use line_limit::{LineLimit, TimedLimit};
 pub use opening::{Opened, open_journal};
 pub use server::serve;
 pub use workers::{NothingWaits, Stop, Workers};

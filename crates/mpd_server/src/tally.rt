@@ -1,10 +1,17 @@
 // What a job of the database came to, for the log.
 use crate::job_folder::{MAX_LISTINGS, MAX_OPENINGS, Visits};
-use log::{Log, debug, info};
-use song_db::{ScanOrder, Uri};
+use crate::line_limit::TimedLimit;
+use log::{Level, Log, debug, info, log_enabled};
+use song_db::{MAX_ROWS, ScanOrder, Uri};
 use stage_workers::ScanFolder;
 use std::alloc::{AllocError, Global};
+use std::time::Clock;
 use wave_pcm::{Folder, FolderEntry, FolderFault, WaveError, read_head};
+
+/// How many jobs are told at most within ten seconds.
+const MOST_TOLD: u32 = 10;
+
+const TEN_SECONDS: u64 = 10_000;
 
 /// What was found in the files that a job has read.
 #[derive(Clone, Copy, Debug)]
@@ -87,16 +94,24 @@ pub(crate) struct TalliedFolder<'a, F, R> {
     // While a job runs; where memory for it is wanting, nothing is said of the job.
     before: Option<Before>,
     tally: Tally,
+    // What could not be listed last, unless something was opened since.
+    unlisted: Option<String>,
+    limit: TimedLimit,
 }
 
 impl<'a, F, R> TalliedFolder<'a, F, R> {
-    pub(crate) fn new(rt: &'a R, files: F) -> Self {
+    pub(crate) fn new(rt: &'a R, files: F) -> Self
+    where
+        R: Clock,
+    {
         TalliedFolder {
             rt,
             files,
             visits: Visits::NONE,
             before: None,
             tally: Tally::NONE,
+            unlisted: None,
+            limit: TimedLimit::new(rt, MOST_TOLD, TEN_SECONDS),
         }
     }
 
@@ -107,6 +122,8 @@ impl<'a, F, R> TalliedFolder<'a, F, R> {
             visits: _,
             before: _,
             tally: _,
+            unlisted: _,
+            limit: _,
         } = self;
         files
     }
@@ -114,7 +131,8 @@ impl<'a, F, R> TalliedFolder<'a, F, R> {
 
 impl<F: Folder, R: Log> TalliedFolder<'_, F, R> {
     // A folder could not be listed: what is known below it is kept.
-    fn note_folder(&mut self, path: &str) {
+    fn note_folder(&mut self, alloc: Global, path: &str) {
+        self.unlisted = String::from_str(alloc, path).ok();
         self.tally.folders = self.tally.folders.saturating_add(1);
         let kept = match &self.before {
             Some(before) => before.count_in(path),
@@ -130,9 +148,16 @@ impl<F: Folder, R: Log> TalliedFolder<'_, F, R> {
         }
     }
 
-    // A file could not be read.
+    // A file could not be read. What a link that leads nowhere may have led to is looked for as a folder and then as a file: it was
+    // counted already.
     fn note_file(&mut self, path: &str) {
-        self.tally.files = self.tally.files.saturating_add(1);
+        let is_counted = match &self.unlisted {
+            Some(unlisted) => unlisted.as_str() == path,
+            None => false,
+        };
+        if !is_counted {
+            self.tally.files = self.tally.files.saturating_add(1);
+        }
         if self.is_known(path) {
             self.tally.kept = self.tally.kept.saturating_add(1);
         }
@@ -152,7 +177,7 @@ impl<F: Folder, R: Log> TalliedFolder<'_, F, R> {
             }
             _ => self.tally.broken = self.tally.broken.saturating_add(1),
         }
-        debug!(self.rt; "left out: {path}: {refusal}");
+        debug!(self.rt; "left out: {path}: {refusal}{}", beside(refusal));
     }
 
     // A file was read that is a song.
@@ -169,8 +194,42 @@ impl<F: Folder, R: Log> TalliedFolder<'_, F, R> {
         fault
     }
 
-    // Says what the job came to, before which so many rows were known.
-    fn tell(&self, job: u32, before: u64, changed: usize) {
+    // Notes what came of the opening of a file.
+    fn noted(
+        &mut self,
+        alloc: Global,
+        path: &str,
+        opened: Result<Option<F::File>, FolderFault>,
+    ) -> Result<Option<F::File>, FolderFault> {
+        match opened {
+            Ok(Some(mut source)) => {
+                match read_head(alloc, &mut source) {
+                    Ok(_) => self.note_song(path),
+                    Err(refusal) => self.note_refusal(path, refusal),
+                }
+                Ok(Some(source))
+            }
+            Ok(None) => Ok(None),
+            Err(fault) => {
+                if fault == FolderFault::Source {
+                    self.note_file(path);
+                }
+                Err(fault)
+            }
+        }
+    }
+
+    // How one gets to know which files were left out, where so many were.
+    fn hint(&self, left_out: u64) -> &'static str {
+        if left_out > 0 && !log_enabled!(self.rt; Level::Debug) {
+            " (debug = true names them)"
+        } else {
+            ""
+        }
+    }
+
+    // Says what the job came to, before which so many rows were known, and so many jobs were not told.
+    fn tell(&self, job: u32, before: u64, changed: usize, untold: u64) {
         let Tally {
             songs,
             known,
@@ -180,14 +239,31 @@ impl<F: Folder, R: Log> TalliedFolder<'_, F, R> {
             broken,
             folders,
             files,
-            is_full,
+            is_full: _,
         } = self.tally;
-        let new = songs.saturating_sub(known);
+        if untold > 0 {
+            info!(self.rt;
+                "update {job}: {untold} updates before it have no line: ten within ten seconds have one"
+            );
+        }
+        let found = songs.saturating_sub(known);
+        let new = found.min((MAX_ROWS as u64).saturating_sub(before));
         let gone = before.saturating_sub(known).saturating_sub(kept);
+        let hint = self.hint(not_wave.saturating_add(other_format).saturating_add(broken));
         info!(self.rt;
-            "update {job}: {songs} songs, {new} of them new, {changed} changed, {gone} gone; left out: {not_wave} not WAVE, {other_format} of another format, {broken} broken; not read: {folders} folders, {files} files"
+            "update {job}: {songs} songs, {new} of them new, {changed} changed, {gone} gone; left out: {not_wave} not WAVE, {other_format} of another format, {broken} broken{hint}; not read: {folders} folders, {files} files"
         );
-        if is_full {
+        self.tell_limits(job, found.saturating_sub(new));
+    }
+
+    // Says which limits the job came to. For so many songs that it found there was no room.
+    fn tell_limits(&self, job: u32, others: u64) {
+        if others > 0 {
+            info!(self.rt;
+                "update {job}: {MAX_ROWS} songs are known at most; {others} that were found are not"
+            );
+        }
+        if self.tally.is_full {
             info!(self.rt;
                 "update {job}: one update reads {MAX_LISTINGS} folders and {MAX_OPENINGS} files at most; what is known of the others is kept"
             );
@@ -207,12 +283,13 @@ impl<F: Folder, R: Log> Folder for TalliedFolder<'_, F, R> {
     ghost steady = { λ _. ⊥ };
 
     fn list(&mut self, alloc: Global, path: &str) -> Result<Option<Vec<FolderEntry>>, FolderFault> {
+        self.unlisted = None;
         let listed = match self.visits.count_folder() {
             Ok(()) => self.files.list(alloc, path),
             Err(fault) => Err(self.note_full(fault)),
         };
         if matches!(listed, Err(FolderFault::Source)) {
-            self.note_folder(path);
+            self.note_folder(alloc, path);
         }
         listed
     }
@@ -222,26 +299,13 @@ impl<F: Folder, R: Log> Folder for TalliedFolder<'_, F, R> {
             Ok(()) => self.files.open(alloc, path),
             Err(fault) => Err(self.note_full(fault)),
         };
-        match opened {
-            Ok(Some(mut source)) => {
-                match read_head(alloc, &mut source) {
-                    Ok(_) => self.note_song(path),
-                    Err(refusal) => self.note_refusal(path, refusal),
-                }
-                Ok(Some(source))
-            }
-            Ok(None) => Ok(None),
-            Err(fault) => {
-                if fault == FolderFault::Source {
-                    self.note_file(path);
-                }
-                Err(fault)
-            }
-        }
+        let noted = self.noted(alloc, path, opened);
+        self.unlisted = None;
+        noted
     }
 }
 
-impl<F: Folder, R: Log> ScanFolder for TalliedFolder<'_, F, R> {
+impl<F: Folder, R: Log + Clock> ScanFolder for TalliedFolder<'_, F, R> {
     fn begin_job(&mut self, alloc: Global, order: &ScanOrder) {
         self.visits = Visits::NONE;
         self.before = Before::of(alloc, order).ok();
@@ -249,10 +313,23 @@ impl<F: Folder, R: Log> ScanFolder for TalliedFolder<'_, F, R> {
     }
 
     fn end_job(&mut self, job: u32, replaced: usize) {
-        if let Some(before) = &self.before {
-            self.tell(job, before.known.len() as u64, replaced);
+        if let Some(before) = self.before.take() {
+            if let Some(untold) = self.limit.take(self.rt) {
+                self.tell(job, before.known.len() as u64, replaced, untold);
+            }
         }
-        self.before = None;
+    }
+}
+
+// What a refusal doesn't say of a file whose format is one that is played.
+fn beside(refusal: WaveError) -> &'static str {
+    match refusal {
+        WaveError::Unsupported {
+            tag: 1,
+            bits: 16,
+            channels: 1 | 2,
+        } => " at its rate, or with its length of frames",
+        _ => "",
     }
 }
 
