@@ -6,8 +6,8 @@ import threading
 import time
 
 EACH, SELDOM = 1, 60
-# Without a measure at least so many seconds pass before it is told how long the rest takes.
-FIRST = 10
+# So many seconds pass, and this part of the whole is done, before it is told how long the rest takes.
+FIRST, PART = 10, 0.1
 # Begins the line of a terminal anew.
 CLEARED = "\r\x1b[K"
 
@@ -69,7 +69,7 @@ def width(terminal):
 
 def rest(done, whole, seconds):
     """Text of how long the rest takes about, where so much of the whole took so many seconds; empty where nobody can tell yet."""
-    if done <= 0 or seconds < FIRST:
+    if done <= 0 or done < whole * PART or seconds < FIRST:
         return ""
     return f", about {clock(max(0, whole - done) * seconds / done)} to go"
 
