@@ -165,7 +165,12 @@ def more_songs_than_fit(program, folder):
         put_song(daemon, "a/0.wav", [1])
         for number in range(1, MOST + 3):
             os.link(f"{folder}/music/{'a/0' if number % 2 else 'z/known'}.wav", f"{folder}/music/a/{number}.wav")
-        update(client)
+        client.do("update")
+        # It writes more than a thousand records, each of which is synced.
+        for _ in range(3_000):
+            if client.value("status", "updating_db") is None:
+                break
+            time.sleep(0.1)
         check("songs", client.value("stats", "songs"), str(MOST))
         wait_for("the last line", lambda: told(daemon, "update 2: 65536 "))
         daemon.kill(signal.SIGTERM)
