@@ -1,11 +1,11 @@
 -- Clients that connect, in several steps.
-use Rattle.std.proofs.Common.{◌≡◌, ◌⊎◌, List, [], ◌∷◌, ◌++◌, ◌||◌, Bool, true, false, Result, Ok, Err, IfErr, inl, inr, refl, sym, subst, ◌∙◌, ap}
+use Rattle.std.proofs.Common.{◌≡◌, ◌≢◌, ◌⊎◌, ℕ, ◌-◌, ◌^◌, List, [], ◌∷◌, ◌++◌, ◌||◌, Bool, true, false, Result, Ok, Err, IfErr, inl, inr, refl, sym, subst, ◌∙◌, ap}
 use Rattle.mio_clients.specs.Connections.{ConnectionsState, IsFull}
 use Rattle.mio_clients.specs.declared.refusal.ClientsError.{ClientsError}
 use Rattle.mio_clients.specs.declared.refusal.ClientsError.TheVariants.{NoMemory, TooManyClients}
 use Rattle.mio_clients.specs.declared.clients.Admission.{Admission}
 use Rattle.mio_clients.specs.declared.clients.Admission.TheVariants.{Taken, Unwatched, Refused}
-use Rattle.mio_clients.specs.Yielding.{AcceptsAll, Arrival, ComesTo, MakesRoom, TellsOf, has_refused, was_refused}
+use Rattle.mio_clients.specs.Yielding.{AcceptsAll, Arrival, ComesTo, IsFirstToYield, MakesRoom, NoneGivesWay, TellsOf, has_refused, was_refused}
 
 -- the refusals of which one at most was met
 pub refused_is : (result : Result (Unit {0}) ClientsError) (P : Type 0) → (result ≡ Ok tt) ⊎ ((result ≡ Err TooManyClients) × P)
@@ -34,6 +34,12 @@ is_admission Refused is = refl
 module _ {S : Type 0} where
   pub full_room : (a b : ConnectionsState S) → MakesRoom a b → IsFull a → IsFull b
   full_room a b same full = subst (λ (s : ConnectionsState S). IsFull s) (sym same) full
+
+  -- somebody gives way to a client, and the numbers of clients are not spent
+  pub one_gives_way : (remote : S → Bool) (stream : S) (a : ConnectionsState S) (key : ℕ) → IsFirstToYield remote (remote stream) a key
+      → a.last_id ≢ 2 ^ 64 - 1 → NoneGivesWay remote stream a → ⊥
+  one_gives_way remote stream a key first unspent (inl none) = none key first.client first.there first.may
+  one_gives_way remote stream a key first unspent (inr spent) = unspent spent
 
   makes_twice : (a b c : ConnectionsState S) → MakesRoom a b → MakesRoom b c → MakesRoom a c
   makes_twice a b c p q = q ∙ ap (λ (s : ConnectionsState S). record s { room = c.room; places = c.places }) p

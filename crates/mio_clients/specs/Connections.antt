@@ -100,6 +100,14 @@ IsAlone {S} connections id key = (k : ℕ) (client : Client S) → get connectio
 abbrev pub IsFull : {S : Type 0} → ConnectionsState S → Type 0
 IsFull connections = (client_limit ≤ slab_len connections.clients) ⊎ (connections.last_id ≡ 2 ^ 64 - 1)
 
+-- a client that has just connected: it is not to be closed, its end will be told, it waits for nothing, and no request of it was served
+pub record HasBegun {S : Type 0} (client : Client S) : Type 0 where
+  pub unblocked : client.is_blocked ≡ false
+  pub goes_on : client.is_closing ≡ false
+  pub unreleased : client.is_released ≡ false
+  pub waits_not : client.is_waiting ≡ false
+  pub unserved : client.was_served ≡ false
+
 -- a client was taken in with this stream, of which nothing was read, and gathered with its connect; the others stay
 pub record IsAdmitted {S : Type 0} (stream : S) (old new : ConnectionsState S) : Type 0 where
   pub key : ℕ
@@ -112,7 +120,7 @@ pub record IsAdmitted {S : Type 0} (stream : S) (old new : ConnectionsState S) :
   pub accepted : client.stream ≡ stream
   pub session : client.session ≡ fresh
   pub active : client.last_active ≡ old.time
-  pub unserved : client.was_served ≡ false
+  pub begins : HasBegun client
   pub gathered : new.events ≡ old.events ++ events.Connect (old.last_id + 1) ∷ []
 
 -- nothing has changed but what stands at this key

@@ -133,11 +133,12 @@ abbrev pub NoneGivesWay : {S : Type 0} → (S → Bool) → S → ConnectionsSta
 NoneGivesWay remote stream connections = NoneYields remote (remote stream) connections ⊎ (connections.last_id ≡ 2 ^ 64 - 1)
 
 -- What came of a client that connects: it was taken in, as its stream is registered, in the place of another where there are too many; or
--- it was closed, and nothing else was done.
+-- it was closed, and nothing else was done: since its stream could not be watched, though there was a place or one gave way to it, or since
+-- there was none and nobody did.
 abbrev pub ComesTo : {S : Type 0} → (S → Bool) → S → Admission → ConnectionsState S → ConnectionsState S → Type 0
 ComesTo {S} remote stream Taken old new =
     ((IsFull old → ⊥) × (registered : S) × IsAdmitted registered old new) ⊎ Replaces remote stream old new
-ComesTo remote stream Unwatched old new = new ≡ old
+ComesTo remote stream Unwatched old new = (IsFull old → NoneGivesWay remote stream old → ⊥) × (new ≡ old)
 ComesTo remote stream Refused old new = IsFull old × NoneGivesWay remote stream old × (new ≡ old)
 
 -- a client that connected: its stream, what came of it, and the clients right before that and behind it

@@ -5,7 +5,7 @@ ghost use Rattle.client_session.specs.Session.{fresh};
 ghost use Rattle.mio_clients.specs.Events.{asked_by};
 ghost use Rattle.mio_clients.specs.Given.{Moves};
 ghost use Rattle.mio_clients.specs.Yielding.{active_at, keeps_for, still_waits, IsHeard};
-ghost use Rattle.mio_clients.specs.Connections.{Reads, ReadsInPart, IsTaken, IsReading};
+ghost use Rattle.mio_clients.specs.Connections.{HasBegun, Reads, ReadsInPart, IsTaken, IsReading};
 
 use crate::queue::EventQueue;
 use crate::ready::Interest;
@@ -109,7 +109,7 @@ impl<S: Stream> Client<S> {
         ensures stream { result.stream ≡ stream }
         ensures session { result.session ≡ fresh }
         ensures last_active { result.last_active ≡ now }
-        ensures unserved { result.was_served ≡ false }
+        ensures begins { HasBegun result }
     {
         Client {
             id,
@@ -260,7 +260,16 @@ impl<S: Stream> Client<S> {
                 self.last_active = now;
                 self.take_or_close(alloc, &buffer[..count], queue)
             }
-            Err(error) => reading_of(error.kind()),
+            Err(error) => {
+                let reading = reading_of(error.kind());
+                // Something may have come of it that is no request yet.
+                self.last_active = if reading.is_more() {
+                    now
+                } else {
+                    self.last_active
+                };
+                reading
+            }
         }
     }
 

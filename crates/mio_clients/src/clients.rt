@@ -17,7 +17,7 @@ use crate::listener::Listener;
 use crate::ready::{Ready, Token};
 use crate::refusal::ClientsError;
 use crate::stream::Stream;
-use crate::{CALL_LIMIT, READ_SIZE};
+use crate::{CALL_LIMIT, CLIENT_LIMIT, READ_SIZE};
 use std::alloc::{AllocError, Global};
 use std::io::ErrorKind;
 use std::marker::Model;
@@ -25,6 +25,9 @@ use std::time::Duration;
 
 /// How long the loop waits where nothing happens, in milliseconds.
 const PATIENCE: u64 = 100;
+
+/// How many clients are accepted in a turn of the loop at most, so that those that are connected are served between them.
+const ACCEPTS: usize = CLIENT_LIMIT;
 
 /// When a client is sent what it is given.
 #[derive(Clone, Copy, Debug, PartialEq, Eq)]
@@ -134,8 +137,8 @@ impl<S: Stream, L: Listener<S>, P: Ready<S>> Clients<S, L, P> {
         self.connections.set_time(self.listener.now());
     }
 
-    /// Accepts clients until none waits, or for 65,536 calls, and gathers their connects, by rising numbers. A failed `accept` is tried
-    /// again in the next turn of the loop.
+    /// Accepts clients until none waits, or for a hundred calls, and gathers their connects, by rising numbers. Those that wait then, and a
+    /// failed `accept`, have their turn in the next one of the loop.
     ///
     /// Where no place is left, the client over a network whose time is over first gives way: to one over a network only once it is over, to
     /// any other in any case. It is let go of, and the listener is told. Its time is an hour of silence, or ten seconds if no request of it
@@ -151,7 +154,7 @@ impl<S: Stream, L: Listener<S>, P: Ready<S>> Clients<S, L, P> {
     {
         self.is_accepting = true;
         let mut result = Ok(());
-        for _call in 0..CALL_LIMIT {
+        for _call in 0..ACCEPTS {
             if self.connections.reserve().is_err() {
                 return Err(ClientsError::NoMemory);
             }
@@ -282,11 +285,11 @@ impl<S: Stream, L: Listener<S>, P: Ready<S>> Clients<S, L, P> {
         }
     }
 
-    // Where no further client may connect, lets go of those that are over, so that none gives way for nothing.
+    // Where half of the places are taken, lets go of those that are over, so that none gives way for nothing to the clients that connect.
     fn make_places(&mut self)
         ensures later { AllFollow S.remaining S.contents no_bytes no_requests self.old self.new }
     {
-        if !self.connections.is_full() {
+        if self.connections.len() < CLIENT_LIMIT / 2 {
             return;
         }
         for key in 0..self.connections.capacity() {

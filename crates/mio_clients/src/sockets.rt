@@ -58,8 +58,9 @@ impl Write for Link {
 
 /// A client's socket. After `READ_BUDGET` bytes a read answers `WouldBlock` once, so that the other clients come to their turn.
 ///
-/// So it does, without asking the system, behind a read that gave fewer bytes than it had room for and ended with a newline: there were no
-/// more, and the system tells of those that come later. A stream of which it has told the end is read until that is found.
+/// So it does, without asking the system, behind a read of the same turn that gave fewer bytes than it had room for and ended with a
+/// newline: there were no more, and the system tells of those that come later. A stream of which it has told the end is read until that is
+/// found.
 #[derive(Drop)]
 pub struct Socket {
     link: Link,
@@ -67,7 +68,7 @@ pub struct Socket {
     taken: usize,
     // That was no real one: there may be more to read.
     rests: bool,
-    // The last read took all that there was.
+    // The last read, in this turn, took all that there was.
     is_drained: bool,
     // The last `WouldBlock` was no real one: there is nothing more to read but maybe the end.
     is_spared: bool,
@@ -177,10 +178,10 @@ impl SocketListener {
         Ok(Socket::new(Link::Unix(stream), false))
     }
 
-    /// The next connection; `WouldBlock` where none waits.
+    /// The next connection, of the Unix socket where one waits there; `WouldBlock` where none does.
     pub fn accept(&mut self) -> io::Result<Socket> {
-        match self.accept_tcp() {
-            Err(error) if error.kind() == ErrorKind::WouldBlock => self.accept_unix(),
+        match self.accept_unix() {
+            Err(error) if error.kind() == ErrorKind::WouldBlock => self.accept_tcp(),
             accepted => accepted,
         }
     }
@@ -194,7 +195,7 @@ pub struct SocketReady {
     // What the last wait found, and how many of it were given out.
     found: Vec<Token>,
     next: usize,
-    // The keys of streams that were not read to their end.
+    // The keys of streams that were not read to their end, each once.
     again: Vec<usize>,
     // The keys of streams whose client sends nothing more, or that have failed, as the last wait found.
     ended: Vec<usize>,
@@ -263,6 +264,8 @@ impl Ready<Socket> for SocketReady {
     }
 
     fn watch(&mut self, stream: &mut Socket, key: usize, interest: Interest) -> io::Result<()> {
+        // What comes from here on is told of, and a later read has to ask the system for it.
+        stream.is_drained = false;
         let writes = interest == Interest::Room;
         if writes != stream.writes {
             stream.writes = writes;
@@ -276,6 +279,9 @@ impl Ready<Socket> for SocketReady {
         }
         stream.rests = false;
         stream.is_spared = false;
+        if self.again.contains(&key) {
+            return Ok(());
+        }
         // Without room for it, the system is asked to tell of it anew.
         match self.again.push(key) {
             Ok(()) => Ok(()),

@@ -112,18 +112,21 @@ impl Wires {
 
     /// A connection of a client of this number, of which none is there, that speaks the daemon's own protocol.
     pub fn add(&mut self, client: u64, is_remote: bool) -> Result<TestStream, Fault> {
-        let mut stream = self.add_stream(client)?;
-        stream.remote = is_remote;
+        let stream = self.add_stream(client, is_remote)?;
         Ok(StockStream::plain(stream))
     }
 
     /// The same of a stock client.
-    pub fn add_stock(&mut self, client: u64) -> Result<TestStream, Fault> {
-        let stream = self.add_stream(client)?;
+    pub fn add_stock(&mut self, client: u64, is_remote: bool) -> Result<TestStream, Fault> {
+        let stream = self.add_stream(client, is_remote)?;
         Ok(StockStream::translated(self.alloc, stream, StillClock))
     }
 
-    fn add_stream(&mut self, client: u64) -> Result<MemStream<Input, Output>, Fault> {
+    fn add_stream(
+        &mut self,
+        client: u64,
+        is_remote: bool,
+    ) -> Result<MemStream<Input, Output>, Fault> {
         if self.find(client).is_some() {
             return Err(Fault::NoClient);
         }
@@ -140,8 +143,10 @@ impl Wires {
             wire,
             is_over: false,
         };
+        let mut stream = MemStream::new(input, output);
+        stream.remote = is_remote;
         match self.named.push(named) {
-            Ok(()) => Ok(MemStream::new(input, output)),
+            Ok(()) => Ok(stream),
             Err(_) => Err(Fault::NoMemory),
         }
     }

@@ -20,6 +20,12 @@ returns-else-is_ok-clause-later g c =
     let con = g.S.Stream.contents in
     subst (λ (s : ConnectionsState g.row.S.Denot). IsFollowed rem con no_bytes no_requests s c.self.inside.connections) c.self.view_is (later_itself rem con c.self.inside.connections)
 
+pub returns-else-is_ok-clause-comes_to : goal.returns-else-is_ok-clause-comes_to
+returns-else-is_ok-clause-comes_to g c = (
+  λ full. absurd (cc (c.is_full.ensures.1 (subst (λ (s : ConnectionsState g.row.S.Denot). IsFull s) (sym c.self.view_is) full), c.if-is_full.false)),
+  c.self.view_is,
+)
+
 pub returns-then-is_ok-clause-comes_to : goal.returns-then-is_ok-clause-comes_to
 returns-then-is_ok-clause-comes_to g c =
     inl (

@@ -1,8 +1,9 @@
-use Rattle.std.proofs.Common.{Bool, inl, inr, refl, sym, subst}
+use Rattle.std.proofs.Common.{◌∙◌, Bool, ap, inl, inr, refl, sym, subst}
 use Rattle.mio_clients.specs.Connections.{ConnectionsState, IsFull}
 use Rattle.mio_clients.specs.Later.{no_bytes, no_requests}
 use Rattle.mio_clients.specs.Leaving.{IsFollowed}
 use Rattle.mio_clients.specs.Yielding.{IsFirstToYield, NoneYields, Replaces}
+use Rattle.mio_clients.proofs.AcceptLaws.{one_gives_way}
 use Rattle.mio_clients.proofs.FollowLaws.{later_itself}
 use Rattle.mio_clients.proofs.clients.Clients.admit_instead.Goals as goal
 
@@ -38,3 +39,13 @@ returns-else-is_ok-clause-later g c =
     let con = g.S.Stream.contents in
     subst (λ (s : ConnectionsState g.row.S.Denot). IsFollowed rem con no_bytes no_requests s c.self.inside.connections) c.self.view_is
     (later_itself rem con c.self.inside.connections)
+
+pub returns-else-is_ok-clause-comes_to : goal.returns-else-is_ok-clause-comes_to
+returns-else-is_ok-clause-comes_to g c =
+    let first : IsFirstToYield g.S.Stream.remote (g.S.Stream.remote c.args.stream) c.self.inside.connections c.in-Some.key =
+    subst (λ (t : Bool). IsFirstToYield g.S.Stream.remote t c.self.inside.connections c.in-Some.key) c.is_remote.ensures c.in-Some.ensures in (
+      λ _. one_gives_way g.S.Stream.remote c.args.stream c.args.self.now c.in-Some.key
+          (subst (λ (s : ConnectionsState g.row.S.Denot). IsFirstToYield g.S.Stream.remote (g.S.Stream.remote c.args.stream) s c.in-Some.key) c.self.view_is first)
+          (λ spent. absurd (cc (c.is_spent.ensures.1 (ap (λ (s : ConnectionsState g.row.S.Denot). s.last_id) c.self.view_is ∙ spent), c.if-is_spent.false))),
+      c.self.view_is,
+    )

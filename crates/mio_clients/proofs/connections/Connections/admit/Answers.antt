@@ -37,7 +37,7 @@ returns-clause-admitted g c =
       accepted = c.new-client.ensures.stream;
       session = c.new-client.ensures.session;
       active = c.new-client.ensures.last_active;
-      unserved = c.new-client.ensures.unserved;
+      begins = c.new-client.ensures.begins;
       gathered = c.connect.ensures.events;
     })
 
@@ -59,7 +59,7 @@ returns-clause-later g c =
       accepted = c.new-client.ensures.stream;
       session = c.new-client.ensures.session;
       active = c.new-client.ensures.last_active;
-      unserved = c.new-client.ensures.unserved;
+      begins = c.new-client.ensures.begins;
       gathered = c.connect.ensures.events;
     }) in
     subst (λ (s : ConnectionsState g.row.S.Denot). IsFollowed rem con no_bytes no_requests s b) c.self.view_is (later_admitted rem con c.args.stream a b admitted c.self.invariant.none_later refl)
