@@ -57,6 +57,7 @@ def web_of_links(program, folder):
     with daemon.start(), daemon.client() as client:
         update(client)
         check("songs", [it for it in client.ask("listall") if it.startswith("file: ")], ["file: a.wav", "file: z.wav"])
+        wait_for("both lines", lambda: len(told(daemon, "update ")) > 1)
         daemon.kill(signal.SIGTERM)
         first, second = told(daemon, "update ")
         found = first.split()

@@ -21,9 +21,10 @@ pub fn listen_on_address(rt: &HostRuntime, address: SocketAddr) -> io::Result<Tc
 
 /// Listens on a socket at this path, with the mode that the process's umask leaves. A socket there that nobody listens on is replaced.
 ///
-/// Its folder is locked meanwhile, so that of two daemons that begin at once neither removes the other's socket.
+/// Its folder is locked meanwhile, so that of two daemons that begin at once neither removes the other's socket. What else has it locked
+/// keeps nobody from listening: after a second it is done without the lock.
 pub fn listen_on_path(rt: &HostRuntime, path: &str) -> io::Result<UnixListener> {
-    let _locked = lock_folder(rt, path)?;
+    let _locked = lock_folder(rt, path);
     match UnixListener::bind(rt, path) {
         Err(error) if error.kind() == ErrorKind::AddrInUse && is_stale(rt, path) => {
             fs::remove_file(rt, path)?;
@@ -33,23 +34,25 @@ pub fn listen_on_path(rt: &HostRuntime, path: &str) -> io::Result<UnixListener> 
     }
 }
 
-// The folder in which a path stands, locked as long as the value lives. It fails where another program has it locked for a second. Nothing
-// is locked where the folder can't be opened, or the file system knows no locks.
-fn lock_folder(rt: &HostRuntime, path: &str) -> io::Result<Option<File>> {
+// The folder in which a path stands, locked as long as the value lives; none where another program has it locked for a second, where no
+// folder is there that can be opened, or the file system knows no locks.
+fn lock_folder(rt: &HostRuntime, path: &str) -> Option<File> {
     let folder = match Path::new(path).parent() {
         Some(parent) if !parent.as_str().is_empty() => parent.as_str(),
         _ => ".",
     };
-    let Ok(file) = File::open(rt, folder) else {
-        return Ok(None);
-    };
+    // The opening of a pipe would wait for its other end.
+    if !fs::metadata(rt, folder).ok()?.is_dir() {
+        return None;
+    }
+    let file = File::open(rt, folder).ok()?;
     for _ in 0..TRIES {
         if lock(&file).is_ok() {
-            return Ok(Some(file));
+            return Some(file);
         }
         thread::sleep(rt, Duration::from_millis(PAUSE));
     }
-    Err(io::Error::other("another program has its folder locked"))
+    None
 }
 
 // Whether a socket lies at this path that nobody listens on. (A connection to a file that is no socket is refused too.)

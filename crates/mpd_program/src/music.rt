@@ -107,7 +107,7 @@ impl<'a> Music<'a> {
         self.unlisted = String::from_str(alloc, path).ok();
         if self.takes_line() {
             if let Ok(place) = self.place(alloc, path) {
-                let error = fs::read_dir(self.rt, place.as_str()).err();
+                let error = error_of_folder(self.rt, place.as_str());
                 self.print(place.as_str(), error);
             }
         }
@@ -162,6 +162,21 @@ impl Folder for Music<'_> {
         }
         self.unlisted = None;
         opened
+    }
+}
+
+// What the system says of a folder that can't be listed, or of the first name in it that is none; none where it says nothing.
+fn error_of_folder(rt: &HostRuntime, place: &str) -> Option<io::Error> {
+    match fs::read_dir(rt, place) {
+        Ok(entries) => {
+            for entry in entries {
+                if let Err(error) = entry {
+                    return Some(error);
+                }
+            }
+            None
+        }
+        Err(error) => Some(error),
     }
 }
 

@@ -55,12 +55,12 @@ impl<'a> ToldListener<'a> {
 
     // Whether a line is written. Where others were left out before it, another one says how many.
     fn takes_line(&mut self) -> bool {
-        let Some(left_out) = self.limit.take(self.log.rt) else {
-            return false;
-        };
         if !self.lines.takes_line() {
             return false;
         }
+        let Some(left_out) = self.limit.take(self.log.rt) else {
+            return false;
+        };
         if left_out > 0 {
             warn!(self.log; "{left_out} lines about clients were left out: ten within a minute are written");
         }
