@@ -32,18 +32,23 @@ def lanes(memory):
 
 
 def settings_of_proofs():
-    """The environment of `rt ci`, with how many checks it makes at once. Left to itself it reckons with up to three times the memory that
-    they take, and a large crate of the longest chain waits for the others to end."""
+    """The environment of `rt ci`, with how many checks it makes at once, RT_JOBS. Left to itself it reckons with up to three times the
+    memory that they take, and a large crate of the longest chain waits for the others to end."""
     return {"RT_JOBS": str(lanes(CHECK)), **os.environ}
 
 
-def crates_of(name):
-    """The names of this crate and of all below it, as crates.txt has them."""
+def uses():
+    """Of each crate of crates.txt, the names of those of them that it uses."""
     with open(f"{ROOT}/crates.txt", encoding="utf-8") as file:
         listed = dict(line.strip().split(":", 1) for line in file if line.strip())
-    found = [name]
+    return {name: [it for it in low.split() if it in listed] for name, low in listed.items()}
+
+
+def crates_of(name):
+    """The names of this crate and of all below it."""
+    listed, found = uses(), [name]
     for it in found:
-        found += [below for below in listed[it].split() if below in listed and below not in found]
+        found += [below for below in listed[it] if below not in found]
     return found
 
 
