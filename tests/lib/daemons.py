@@ -17,9 +17,9 @@ GREETING = b"OK MPD 0.23.0\n"
 LIMIT = 60
 
 
-def wait_for(what, is_there):
+def wait_for(what, is_there, seconds=LIMIT):
     """Looks again and again; fails at the limit."""
-    end = time.monotonic() + LIMIT
+    end = time.monotonic() + seconds
     while not is_there():
         if time.monotonic() > end:
             raise Failure(f"waited in vain: {what}")

@@ -8,6 +8,7 @@ import time
 import preload
 from consoles import RECORDS, Journal
 from daemons import Daemon, check, put_song, update, wait_for
+from scripts import Failure
 
 RAMP = list(range(0, 4_000, 4))
 # A web of folders, each with so many links to the next: there are more ways through it than any job could go.
@@ -127,6 +128,58 @@ def files_left_out(program, folder):
         check("the tally", told(daemon, "update "), [f"update 1: {tally}; not read: 0 folders, 0 files"])
 
 
+def refuse_later(counts, later):
+    """So many allocations from now on one is refused."""
+    with open(counts, "r+b") as file:
+        file.seek(16)
+        file.write((preload.counts(counts)[0] + later).to_bytes(8, "little"))
+
+
+def line_of(daemon, job):
+    """The line of a job that has ended; None if it has none within a second."""
+    try:
+        wait_for("its line", lambda: told(daemon, f"update {job}: "), 1)
+    except Failure:
+        return None
+    return told(daemon, f"update {job}: ")[0]
+
+
+def job_without_memory(program, folder):
+    """In each of these jobs one allocation is refused. What its line tells is what is known then, or it tells that memory ended it; one
+    without memory for what is noted has no line. The next job of a folder finds all."""
+    counts, jobs, songs = f"{folder}/counts", 8, 400
+    daemon = Daemon(program, folder).create()
+    put_song(daemon, "first.wav", RAMP)
+    for job in range(jobs):
+        os.makedirs(f"{folder}/music/{job}")
+        for number in range(songs):
+            os.link(f"{folder}/music/first.wav", f"{folder}/music/{job}/{number}.wav")
+    settings = preload.settings(preload.library("refuse_memory", folder), counts)
+    with daemon.start(settings=settings), daemon.client() as client:
+
+        def known(job):
+            return sum(it.startswith("file: ") for it in client.ask(f"listall {job}"))
+
+        ended = []
+        for job in range(jobs):
+            # Far behind what the request itself takes, and before the end of the job.
+            refuse_later(counts, 300 + 601 * job)
+            client.do(f"update {job}")
+            wait_for("a refusal", lambda job=job: preload.counts(counts)[1] > job)
+            wait_for("the end of the job", lambda: client.value("status", "updating_db") is None)
+            line = line_of(daemon, job + 1)
+            if line and "memory ran out" in line:
+                ended.append(job)
+                check("that songs of the job are missing", known(job) < songs, True)
+            else:
+                check("songs that are known", (known(job), line and line.split()[2]), (songs, line and str(songs)))
+        check("that some were the scan's", bool(ended), True)
+        client.do(f"update {ended[0]}")
+        wait_for("the end of the job", lambda: client.value("status", "updating_db") is None)
+        check("songs of the next job", known(ended[0]), songs)
+        daemon.kill(signal.SIGTERM)
+
+
 def many_unreadable(program, folder):
     """Of many links that lead nowhere some hundred have a line, each once, and one more line says that there are others. Jobs that come one
     right behind the other have ten lines within ten seconds; the next one says how many were left out."""
@@ -219,4 +272,5 @@ def kill_where_a_folder_hangs(program, folder):
         update(client)
 
 
-ROWS = [web_of_links, job_in_the_log, files_left_out, many_unreadable, more_songs_than_fit, large_journal, kill_where_a_folder_hangs]
+ROWS = [web_of_links, job_in_the_log, files_left_out, job_without_memory, many_unreadable, more_songs_than_fit, large_journal]
+ROWS += [kill_where_a_folder_hangs]

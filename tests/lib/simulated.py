@@ -26,6 +26,8 @@ NO_MEMORY = "no memory for the line itself"
 # How many requests are served together, at most.
 GROUP = 64
 BROKEN, OUT_OF_MEMORY = "refused 42 broken by a disk fault", "refused 43 out of memory"
+# What the driver prints of a scan that found no memory.
+LEFT_OFF = "left off"
 # In an episode this part of the clients are stock clients. What these ask beside what all do; what takes several steps is in tests/stock.
 STOCK = (0, 0.5)
 FOREIGN = """outputs|decoders|channels|urlhandlers|listmounts|listpartitions|replay_gain_status|binarylimit 64|readcomments a.wav
@@ -387,7 +389,8 @@ class Episode:
         if state.job is None:
             return self.is_printed("scan_once", printed, ["no scan"])
         self.counts["scans"] += 1
-        self.is_printed("scan_once", printed[:1], [f"scan {state.job} {len(state.songs)} /"])
+        told = [it for it in printed if it == LEFT_OFF or it.startswith("scan ")]
+        self.is_printed("scan_once", told, [f"scan {state.job} {len(state.songs)} /"])
         job, songs = state.job, dict(self.songs)
         # A batch has what was read, changed or not, and what is gone.
         events = [lambda: self.clients.batch(job, songs)] * bool(songs or state.songs) + [lambda: self.clients.scan_done(job)]
@@ -461,11 +464,11 @@ class Episode:
             return self.is_reported(printed, [lambda: self.clients.report("broken", ticket, "output")])
 
     def scarce_scan(self, printed):
-        """Where the reading finds no memory, the scan is left off."""
+        """Where the reading finds no memory, the scan is left off, and says so."""
         if printed[:1] == [OUT_OF_MEMORY]:
             return None
-        job, state = self.clients.state.job, self.clients.state
-        if job is not None and printed[1:] == ["woken 1"] and (self.songs or state.songs):
+        job = self.clients.state.job
+        if job is not None and printed[1:] == [LEFT_OFF, "woken 1"]:
             return self.is_reported(printed, [lambda: self.clients.scan_done(job)])
         return self.take_scan(printed)
 

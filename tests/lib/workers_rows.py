@@ -1,7 +1,7 @@
 """The rows of tests/refused_memory of a stage that threads share: events of clients and workers, looks, an order of the player and a scan.
 
 A row prints what it prints with memory enough, or that memory was refused, which leaves passes, outbox, output and stage as they were; or a
-request is answered so by its command, which was not done. A scan that finds no memory to read is left off, and its end is told.
+request is answered so by its command, which was not done. A scan that finds no memory to read is left off, says so, and its end is told.
 """
 
 import subprocess
@@ -27,7 +27,7 @@ OTHERS = ["collect", "order", "scan_order", "job", "play_once 1 1 0 50 a.wav", "
 # Orders of the player whose pieces are WAVE files of their own, and the line before them.
 WAVE, PIECES = "player form wave", OTHERS[-3:]
 # By this line is seen what a scan leaves that reads nothing.
-SCAN, NOTHING_READ = "scan_once 2", "report 2 scanned 2"
+SCAN, NOTHING_READ, LEFT_OFF = "scan_once 2", "report 2 scanned 2", "left off"
 
 
 class Entered(refused_rows.Line):
@@ -83,7 +83,7 @@ class Entered(refused_rows.Line):
             front = self.wanted[: next(at for at, line in enumerate(self.wanted) if line.startswith("event ")) + 1]
             yield [*front, "no memory at 0", f"1< ACK [52@0] {{{command}}} out of memory"], "not done"
         if self.line == SCAN:
-            yield self.wanted, "left off"
+            yield [LEFT_OFF], "left off"
 
 
 def rows(program):

@@ -1,9 +1,9 @@
 // What a job of the database came to, for the log.
 use crate::job_folder::{MAX_LISTINGS, MAX_OPENINGS, Visits};
 use crate::line_limit::TimedLimit;
-use log::{Level, Log, debug, info, log_enabled};
+use log::{Level, Log, debug, info, log_enabled, warn};
 use song_db::{MAX_ROWS, ScanOrder, Uri};
-use stage_workers::ScanFolder;
+use stage_workers::{ScanFolder, Scanned};
 use std::alloc::{AllocError, Global};
 use std::time::Clock;
 use wave_pcm::{Folder, FolderEntry, FolderFault, WaveError, read_head};
@@ -91,12 +91,14 @@ pub(crate) struct TalliedFolder<'a, F, R> {
     rt: &'a R,
     files: F,
     visits: Visits,
-    // While a job runs; where memory for it is wanting, nothing is said of the job.
+    // While a job runs; where memory for what is noted is wanting, nothing is said of what the job came to.
     before: Option<Before>,
     tally: Tally,
     // What could not be listed last, unless something was opened since.
     unlisted: Option<String>,
     limit: TimedLimit,
+    // Of jobs that memory ended.
+    warnings: TimedLimit,
 }
 
 impl<'a, F, R> TalliedFolder<'a, F, R> {
@@ -112,6 +114,7 @@ impl<'a, F, R> TalliedFolder<'a, F, R> {
             tally: Tally::NONE,
             unlisted: None,
             limit: TimedLimit::new(rt, MOST_TOLD, TEN_SECONDS),
+            warnings: TimedLimit::new(rt, MOST_TOLD, TEN_SECONDS),
         }
     }
 
@@ -124,6 +127,7 @@ impl<'a, F, R> TalliedFolder<'a, F, R> {
             tally: _,
             unlisted: _,
             limit: _,
+            warnings: _,
         } = self;
         files
     }
@@ -166,7 +170,10 @@ impl<F: Folder, R: Log> TalliedFolder<'_, F, R> {
     // A file was read that is no song.
     fn note_refusal(&mut self, path: &str, refusal: WaveError) {
         match refusal {
-            WaveError::NoMemory => return,
+            WaveError::NoMemory => {
+                self.before = None;
+                return;
+            }
             WaveError::ReadFault => {
                 self.note_file(path);
                 return;
@@ -228,8 +235,8 @@ impl<F: Folder, R: Log> TalliedFolder<'_, F, R> {
         }
     }
 
-    // Says what the job came to, before which so many rows were known, and so many jobs were not told.
-    fn tell(&self, job: u32, before: u64, changed: usize, untold: u64) {
+    // Says what the job came to, before which so many rows were known.
+    fn tell(&self, job: u32, before: u64, changed: usize) {
         let Tally {
             songs,
             known,
@@ -241,11 +248,6 @@ impl<F: Folder, R: Log> TalliedFolder<'_, F, R> {
             files,
             is_full: _,
         } = self.tally;
-        if untold > 0 {
-            info!(self.rt;
-                "update {job}: {untold} updates before it have no line: ten within ten seconds have one"
-            );
-        }
         let found = songs.saturating_sub(known);
         let new = found.min((MAX_ROWS as u64).saturating_sub(before));
         let gone = before.saturating_sub(known).saturating_sub(kept);
@@ -254,6 +256,22 @@ impl<F: Folder, R: Log> TalliedFolder<'_, F, R> {
             "update {job}: {songs} songs, {new} of them new, {changed} changed, {gone} gone; left out: {not_wave} not WAVE, {other_format} of another format, {broken} broken{hint}; not read: {folders} folders, {files} files"
         );
         self.tell_limits(job, found.saturating_sub(new));
+    }
+
+    // Says that memory ended the job. What was counted then isn't what is known now.
+    fn tell_left_off(&self, job: u32) {
+        warn!(self.rt;
+            "update {job}: memory ran out and ended it early: what it had not come to is as before"
+        );
+    }
+
+    // Says that so many jobs before this one were not told.
+    fn tell_untold(&self, job: u32, untold: u64) {
+        if untold > 0 {
+            info!(self.rt;
+                "update {job}: {untold} updates before it have no line: ten within ten seconds have one"
+            );
+        }
     }
 
     // Says which limits the job came to. For so many songs that it found there was no room.
@@ -312,10 +330,17 @@ impl<F: Folder, R: Log + Clock> ScanFolder for TalliedFolder<'_, F, R> {
         self.tally = Tally::NONE;
     }
 
-    fn end_job(&mut self, job: u32, replaced: usize) {
-        if let Some(before) = self.before.take() {
+    fn end_job(&mut self, job: u32, scanned: Scanned) {
+        let before = self.before.take();
+        if scanned.is_left_off {
+            if let Some(untold) = self.warnings.take(self.rt) {
+                self.tell_untold(job, untold);
+                self.tell_left_off(job);
+            }
+        } else if let Some(before) = before {
             if let Some(untold) = self.limit.take(self.rt) {
-                self.tell(job, before.known.len() as u64, replaced, untold);
+                self.tell_untold(job, untold);
+                self.tell(job, before.known.len() as u64, scanned.replaced);
             }
         }
     }

@@ -9,3 +9,4 @@ pub mod Settling
 pub mod Working
 pub mod Played
 pub mod Replacing
+pub mod Scanning

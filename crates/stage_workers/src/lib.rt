@@ -26,7 +26,7 @@ pub use outbox::{Outbox, Outputs};
 pub use pass::Pass;
 pub use player::player_worker;
 pub use refusal::{PassesSpent, SettleError, StageError};
-pub use scan::{ScanFolder, next_changes, scan_worker};
+pub use scan::{ScanFolder, Scanned, next_changes, scan_worker};
 pub use served::{Served, ServedGroup, Way};
 pub use shared::SharedStage;
 pub use worker::{NoWake, Wake, Worker};

@@ -1,12 +1,15 @@
 // The scan's thread: it reads the folder of a job, and reports what it finds.
-ghost use Rattle.std.specs.Prelude.{◌≡◌, MatchResult};
+ghost use Rattle.std.specs.Prelude.{◌≡◌, true, Ok, None, IfOk, MatchResult, OnErr};
+ghost use Rattle.song_db.specs.Scan.{IsEnd, IsHonestAnswer, IsWholeAnswer};
+ghost use Rattle.stage_workers.specs.Scanning.{changes_of};
 ghost use Rattle.stage_workers.specs.Working.{GoesOn, HasWorked};
 
 use crate::worker::{Report, Wake, Worker};
 use crate::{Pass, StageError};
 use crossbeam_channel::Receiver;
 use disk_model::Disk;
-use song_db::{Scan, ScanOrder};
+use no_memory::NoMemory;
+use song_db::{MAX_CHANGES, Scan, ScanOrder};
 use song_output::{Gate, GatedFolder};
 use state_codec::Changes;
 use std::alloc::Global;
@@ -15,13 +18,23 @@ use std::sync::ledger::Ledger;
 use std::time::Clock;
 use wave_pcm::Folder;
 
+/// What a scan came to.
+#[derive(Clone, Copy, Debug, PartialEq, Eq)]
+pub struct Scanned {
+    /// How many songs that were known have another row since.
+    pub replaced: usize,
+    /// Memory ran out: what it found since its last report is lost, and what it had not read yet is as it was. One that the stage's end cut
+    /// off is not left off.
+    pub is_left_off: bool,
+}
+
 /// The folder that a scan's thread reads, which is told of each job.
 pub trait ScanFolder: Folder {
     /// A job begins, by this order.
     fn begin_job(&mut self, _alloc: Global, _order: &ScanOrder) {}
 
-    /// The job of this number is over, and its end was reported. So many songs that were known have another row since.
-    fn end_job(&mut self, _job: u32, _replaced: usize) {}
+    /// The job of this number is over, and its end was reported.
+    fn end_job(&mut self, _job: u32, _scanned: Scanned) {}
 }
 
 /// What lies behind a gate is told.
@@ -30,53 +43,82 @@ impl<F: ScanFolder, G: Gate> ScanFolder for GatedFolder<'_, F, G> {
         self.folder.begin_job(alloc, order);
     }
 
-    fn end_job(&mut self, job: u32, replaced: usize) {
-        self.folder.end_job(job, replaced);
+    fn end_job(&mut self, job: u32, scanned: Scanned) {
+        self.folder.end_job(job, scanned);
     }
 }
 
 /// Carries out one scan: its batches are read without the lock, and each is reported; at last comes its end, `ScanDone`.
 ///
 /// A report that finds no memory is made again until it does. Where the reading finds none, the scan is left off: its end is reported, and
-/// what was not read keeps its row. It ends early where the stage is closed once a batch was reported, and by a report that is refused.
-/// Beside the pass it answers how many songs have another row since.
+/// what was not reported before keeps its row. It ends early where the stage is closed once a batch was reported, and by a report that is
+/// refused. Beside the pass it answers what the scan came to.
 pub fn scan_once<D: Disk, C: Ledger, P: Ledger, S: Ledger, F: Folder, R: Wait + Clock, K: Wake>(
     worker: &Worker<'_, D, C, P, S, R, K>,
     pass: Pass<C, P, S>,
     folder: &mut F,
     order: ScanOrder,
-) -> Result<(Pass<C, P, S>, usize), (StageError, Pass<C, P, S>)>
+) -> Result<(Pass<C, P, S>, Scanned), (StageError, Pass<C, P, S>)>
     ensures worked { MatchResult result (λ r. HasWorked pass r.0) (λ e. GoesOn pass e.1) }
     ensures honest { F.honest folder.old → F.honest folder.new × (F.files folder.new ≡ F.files folder.old) }
 {
     let job = order.job();
     let mut pass = pass;
-    let mut replaced = 0usize;
+    // Until its end is found.
+    let mut scanned = Scanned {
+        replaced: 0,
+        is_left_off: true,
+    };
     if let Ok(mut scan) = Scan::begin(worker.alloc, order) {
         for _ in worker.rt.forever() {
-            let Some(changes) = next_changes(worker.alloc, &mut scan, folder) else {
+            let Ok(found) = next_changes(worker.alloc, &mut scan, folder) else {
                 break;
             };
+            let Some(changes) = found else {
+                scanned.is_left_off = false;
+                break;
+            };
+            let is_last = changes.as_slice().len() < MAX_CHANGES;
             // No other thread changes rows, so that they are the same at the report.
             let count = worker.stage.count_replaced(worker.rt, changes.as_slice());
             pass = worker.report(pass, &Report::Batch { job, changes })?;
-            replaced = replaced.saturating_add(count);
+            scanned.replaced = scanned.replaced.saturating_add(count);
             if worker.stage.is_closed(worker.rt) {
-                return Ok((pass, replaced));
+                scanned.is_left_off = false;
+                return Ok((pass, scanned));
+            }
+            // A batch that isn't full is the last: so memory isn't asked for what nobody needs.
+            if is_last {
+                scanned.is_left_off = false;
+                break;
             }
         }
     }
     let pass = worker.report(pass, &Report::ScanDone { job })?;
-    Ok((pass, replaced))
+    Ok((pass, scanned))
 }
 
-/// What the scan finds next, as a batch; nothing at its end, or where memory runs out.
-pub fn next_changes<F: Folder>(alloc: Global, scan: &mut Scan, folder: &mut F) -> Option<Changes>
+/// What the scan finds next, as a batch; nothing at its end. It refuses where memory runs out: what was found since the last batch is lost
+/// then, and the scan is over.
+pub fn next_changes<F: Folder>(
+    alloc: Global,
+    scan: &mut Scan,
+    folder: &mut F,
+) -> Result<Option<Changes>, NoMemory>
+    ensures read { F.honest folder.old →
+        IfOk result (λ found. IsHonestAnswer (F.files folder.old) scan.old scan.new (changes_of found)) }
+    ensures whole { F.honest folder.old → F.steady folder.old →
+        IfOk result (λ found. IsWholeAnswer (F.files folder.old) scan.old scan.new (changes_of found)) }
+    ensures none { result ≡ Ok None → IsEnd scan.new }
+    ensures err { OnErr result (IsEnd scan.new) }
+    ensures over { scan.old.is_over ≡ true → (result ≡ Ok None) × (folder.new ≡ folder.old) }
     ensures honest { F.honest folder.old → F.honest folder.new × (F.files folder.new ≡ F.files folder.old) }
+    ensures steady { F.steady folder.old → F.steady folder.new }
 {
     match scan.next(alloc, folder) {
-        Ok(Some(changes)) => Changes::new(changes),
-        Ok(None) | Err(_) => None,
+        Ok(Some(changes)) => Ok(Changes::new(changes)),
+        Ok(None) => Ok(None),
+        Err(_) => Err(NoMemory),
     }
 }
 
@@ -106,7 +148,7 @@ pub fn scan_worker<
         };
         let job = order.job();
         folder.begin_job(worker.alloc, &order);
-        let (back, replaced) = match scan_once(worker, pass, &mut folder, order) {
+        let (back, scanned) = match scan_once(worker, pass, &mut folder, order) {
             Ok(worked) => worked,
             Err((_, back)) => {
                 pass = back;
@@ -117,7 +159,7 @@ pub fn scan_worker<
         if worker.stage.is_closed(worker.rt) {
             break;
         }
-        folder.end_job(job, replaced);
+        folder.end_job(job, scanned);
     }
     (pass, folder)
 }

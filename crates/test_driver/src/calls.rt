@@ -10,7 +10,8 @@ use live_stage::{Live, Receipt, Refused};
 use player_core::PlayOrder;
 use song_db::ScanOrder;
 use stage_workers::{
-    Pass, Served, SettleError, SharedStage, StageError, Worker, laws, player_worker, scan_worker,
+    Pass, Scanned, Served, SettleError, SharedStage, StageError, Worker, laws, player_worker,
+    scan_worker,
 };
 use std::alloc::Global;
 use std::sync::Wait;
@@ -114,18 +115,18 @@ pub fn played_once<'m, C: Ledger, P: Ledger, S: Ledger, R: Wait + Clock>(
     }
 }
 
-/// A scan, by this thread.
+/// A scan, by this thread; what it came to.
 pub fn scanned_once<C: Ledger, P: Ledger, S: Ledger, R: Wait + Clock>(
     rt: &R,
     host: &HostRuntime,
     stage: &Stage<C, P, S>,
     stand: &Stand<'_, R>,
     (pass, order): (Pass<C, P, S>, ScanOrder),
-) -> Answer<(), C, P, S> {
+) -> Answer<Scanned, C, P, S> {
     let alloc = host.alloc();
     let worker = worker_of(rt, alloc, stage, stand);
     match laws::scan_once(&worker, pass, &mut music(host, alloc, stand), order) {
-        Ok((pass, _)) => (Ok(()), pass),
+        Ok((pass, scanned)) => (Ok(scanned), pass),
         Err((error, pass)) => (Err(error), pass),
     }
 }

@@ -2,7 +2,7 @@
 use crate::beside::Beside;
 use crate::calls::{Settled, Stage, reported, settled};
 use crate::passes::Passes;
-use crate::shown::tell_stage_error;
+use crate::shown::{tell_scanned, tell_stage_error};
 use crate::sound::Sound;
 use crate::turns;
 use crate::turns::{TestClients, Turned};
@@ -195,9 +195,7 @@ fn scan<R: Wait + Clock, C: Ledger, P: Ledger, S: Ledger>(
     let given = (pass, order);
     let (scanned, pass) = turns::scan(rt, host, &looped.stage, &looped.sound, given);
     looped.passes.put(SCAN, pass);
-    if let Err(error) = scanned {
-        tell_stage_error(printer, error);
-    }
+    tell_scanned(printer, scanned);
     looped.sound.tell(printer);
     Ok(())
 }

@@ -5,7 +5,9 @@ use crate::calls::{
 use crate::hand::{Hand, take_stand};
 use crate::kind::kind_of;
 use crate::passes::{Passes, spend_passes};
-use crate::shown::{tell_job, tell_left, tell_rewound, tell_served, tell_stage_error};
+use crate::shown::{
+    tell_job, tell_left, tell_rewound, tell_scanned, tell_served, tell_stage_error,
+};
 use crate::songs::{OpenMusic, music};
 use crate::stand::Stand;
 use crate::threads::{Done, serve_all};
@@ -179,8 +181,9 @@ impl<'s, C: Ledger, P: Ledger, S: Ledger, R: Wait + Clock> Session<'s, C, P, S, 
         let order = self.scan_order()?;
         let pass = self.passes.take(place)?;
         let stand = self.scan.stand;
-        let answer = scanned_once(self.rt, self.host, self.stage, stand, (pass, order));
-        self.put_back(place, answer);
+        let (scanned, pass) = scanned_once(self.rt, self.host, self.stage, stand, (pass, order));
+        self.passes.put(place, pass);
+        tell_scanned(&mut self.printer, scanned);
         Ok(())
     }
 

@@ -3,7 +3,7 @@ use crate::kind::name_of;
 use driver_base::shown::{tell_live_error, tell_numbers, tell_outputs};
 use driver_base::{Printer, TestDisk};
 use live_stage::{Live, LiveError};
-use stage_workers::{Outbox, Served, SettleError, StageError};
+use stage_workers::{Outbox, Scanned, Served, SettleError, StageError};
 
 /// What events left for the clients.
 pub fn tell_left(printer: &mut Printer, left: &Outbox) {
@@ -21,6 +21,14 @@ pub fn tell_served(printer: &mut Printer, served: &Served<TestDisk>) {
 
 pub fn tell_stage_error(printer: &mut Printer, error: StageError) {
     printer.refused(error.number(), error);
+}
+
+pub fn tell_scanned(printer: &mut Printer, scanned: Result<Scanned, StageError>) {
+    match scanned {
+        Ok(scanned) if scanned.is_left_off => printer.line("left off"),
+        Ok(_) => {}
+        Err(error) => tell_stage_error(printer, error),
+    }
 }
 
 pub fn tell_rewound(printer: &mut Printer, rewound: Result<(), StageError>) {

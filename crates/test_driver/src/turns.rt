@@ -7,7 +7,7 @@ use mio_clients::{Clients, ClientsError, MemListener, MemReady, Part};
 use player_core::PlayOrder;
 use song_db::ScanOrder;
 use song_output::OpenGate;
-use stage_workers::{Pass, StageError, laws};
+use stage_workers::{Pass, Scanned, StageError, laws};
 use std::alloc::{AllocError, Global};
 use std::sync::Wait;
 use std::sync::ledger::Ledger;
@@ -94,19 +94,19 @@ pub fn play<R: Wait + Clock, C: Ledger, P: Ledger, S: Ledger>(
     }
 }
 
-/// A scan of the present folder.
+/// A scan of the present folder; what it came to.
 pub fn scan<R: Wait + Clock, C: Ledger, P: Ledger, S: Ledger>(
     rt: &R,
     host: &HostRuntime,
     stage: &Stage<C, P, S>,
     sound: &Sound,
     (pass, order): (Pass<C, P, S>, ScanOrder),
-) -> Answer<(), C, P, S> {
+) -> Answer<Scanned, C, P, S> {
     let alloc = host.alloc();
     let worker = worker_of(rt, alloc, stage, &sound.woken);
     let mut folder = FileFolder::new(host, String::new(alloc));
     match laws::scan_once(&worker, pass, &mut folder, order) {
-        Ok((pass, _)) => (Ok(()), pass),
+        Ok((pass, scanned)) => (Ok(scanned), pass),
         Err((error, pass)) => (Err(error), pass),
     }
 }

@@ -70,7 +70,7 @@ fn next_changes<F: Folder>(
         files: folder,
         visits: *visits,
     };
-    let changes = stage_workers::next_changes(alloc, scan, &mut files);
+    let found = stage_workers::next_changes(alloc, scan, &mut files);
     *visits = files.visits;
-    changes
+    found.unwrap_or(None)
 }
