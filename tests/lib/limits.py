@@ -65,7 +65,8 @@ def used(process):
 
 
 def serves_without_a_checkpoint(program, folder):
-    """A checkpoint is due and finds no memory: events are served and kept all the same, and it is made once there is some."""
+    """A checkpoint is due and finds no memory: events are served and kept all the same, one line tells it, and it is made once there is
+    some."""
     with with_a_song(program, folder) as daemon:
         with daemon.client() as client:
             for number in range(20):
@@ -84,5 +85,6 @@ def serves_without_a_checkpoint(program, folder):
             check("the file in use", journal.in_use() == was, False)
             check("records", journal.records(), 0)
         daemon.kill()
+        check("lines about it", sum("checkpoint: out of memory" in it for it in daemon.lines), 1)
         with daemon.start(), daemon.client() as client:
             check("the volume", client.value("status", "volume"), "69")

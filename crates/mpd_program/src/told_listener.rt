@@ -19,7 +19,9 @@ pub struct ToldListener<'a> {
     lines: WatchedLines,
     sockets: SocketListener,
     is_told: bool,
-    limit: TimedLimit,
+    // Of each of both lines, so that none uses up what the other may have.
+    waiting: TimedLimit,
+    giving_way: TimedLimit,
     // When they were made, and how many milliseconds had passed since when that was last asked.
     began: Option<Instant>,
     now: u64,
@@ -47,25 +49,26 @@ impl<'a> ToldListener<'a> {
             lines: WatchedLines::new(rt),
             sockets,
             is_told: false,
-            limit: TimedLimit::new(rt, MOST_LINES, MINUTE),
+            waiting: TimedLimit::new(rt, MOST_LINES, MINUTE),
+            giving_way: TimedLimit::new(rt, MOST_LINES, MINUTE),
             began: Instant::now(rt).ok(),
             now: 0,
         }
     }
+}
 
-    // Whether a line is written. Where others were left out before it, another one says how many.
-    fn takes_line(&mut self) -> bool {
-        if !self.lines.takes_line() {
-            return false;
-        }
-        let Some(left_out) = self.limit.take(self.log.rt) else {
-            return false;
-        };
-        if left_out > 0 {
-            warn!(self.log; "{left_out} lines about clients were left out: ten within a minute are written");
-        }
-        true
+// Whether a line is written. Where others like it were left out before it, another one says how many.
+fn is_written(lines: &mut WatchedLines, limit: &mut TimedLimit, log: TakenLog<'_>) -> bool {
+    if !lines.takes_line() {
+        return false;
     }
+    let Some(left_out) = limit.take(log.rt) else {
+        return false;
+    };
+    if left_out > 0 {
+        warn!(log; "{left_out} lines like the next one were left out: ten of a kind within a minute are written");
+    }
+    true
 }
 
 impl Listener<Socket> for ToldListener<'_> {
@@ -78,7 +81,7 @@ impl Listener<Socket> for ToldListener<'_> {
                 _ if self.is_told => {}
                 _ => {
                     self.is_told = true;
-                    if self.takes_line() {
+                    if is_written(&mut self.lines, &mut self.waiting, self.log) {
                         warn!(self.log; "clients wait, none can be accepted: {error}");
                     }
                 }
@@ -98,7 +101,7 @@ impl Listener<Socket> for ToldListener<'_> {
     }
 
     fn gave_way(&mut self, client: u64, silence: u64) {
-        if self.takes_line() {
+        if is_written(&mut self.lines, &mut self.giving_way, self.log) {
             let (time, unit) = told_time(silence);
             warn!(self.log; "client {client} gave its place to another: nothing came of it for {time} {unit}");
         }

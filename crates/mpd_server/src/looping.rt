@@ -20,6 +20,8 @@ pub(crate) struct Turns {
     pub(crate) is_ended: bool,
     // A disk has failed.
     is_faulted: bool,
+    // A checkpoint was due at the last event, and found no memory.
+    is_overdue: bool,
 }
 
 impl Turns {
@@ -28,6 +30,7 @@ impl Turns {
             receipt: None,
             is_ended: false,
             is_faulted: false,
+            is_overdue: false,
         }
     }
 
@@ -43,11 +46,20 @@ impl Turns {
                 Part::Served(served) => {
                     self.receipt = Some(served.turn.receipt());
                     self.is_ended |= served.turn.ended();
+                    self.look_for_checkpoint(rt, served.turn.is_overdue());
                 }
                 Part::Collected(_) => {}
                 Part::Refused(error) => self.refused(rt, *error),
             }
         }
+    }
+
+    // That checkpoints find no memory is told once, until one is made.
+    fn look_for_checkpoint<R: Log>(&mut self, rt: &R, is_overdue: bool) {
+        if is_overdue && !self.is_overdue {
+            warn!(rt; "checkpoint: out of memory; until there is enough, the journal grows with each change");
+        }
+        self.is_overdue = is_overdue;
     }
 
     // An event was refused: for want of memory it is served by a later turn, else the loop ends. A disk fault is told later.
