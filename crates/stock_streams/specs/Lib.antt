@@ -1,3 +1,4 @@
+pub mod Hearing
 pub mod Plain
 pub mod Reading
 pub mod Taken

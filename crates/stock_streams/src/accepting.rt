@@ -1,5 +1,7 @@
 // Where such clients connect, and what tells of them.
-ghost use Rattle.std.specs.Prelude.{◌≡◌, is_some, IfOk};
+ghost use Rattle.std.specs.Prelude.{◌≡◌, is_some, IfOk, IfSome};
+ghost use Rattle.mio_clients.specs.Streams.{IsUntouched};
+ghost use Rattle.stock_streams.specs.Hearing.{HasNotBegun};
 
 use crate::stream::StockStream;
 use crate::telling::TellsTimes;
@@ -35,6 +37,7 @@ impl<S: Stream, L: Listener<S>, C: TellsTimes + Copy> Listener<StockStream<S, C>
     for StockListener<L, C> {
     fn accept(&mut self) -> io::Result<StockStream<S, C>>
         ensures kind { IfOk result (λ s. is_some s.translated ≡ self.old.translates) }
+        ensures begun { IfOk result (λ s. IfSome s.translated HasNotBegun) }
         ensures same { self.new.translates ≡ self.old.translates }
     {
         let stream = self.listener.accept()?;
@@ -66,7 +69,11 @@ impl<P> StockReady<P> {
 }
 
 impl<S: Stream, P: Ready<S>, C: TellsTimes> Ready<StockStream<S, C>> for StockReady<P> {
-    fn register(&mut self, stream: &mut StockStream<S, C>, key: usize) -> io::Result<()> {
+    fn register(&mut self, stream: &mut StockStream<S, C>, key: usize) -> io::Result<()>
+        ensures untouched { IsUntouched ⟦<StockStream<S, C> as Stream>⟧.remaining ⟦<StockStream<S, C> as Stream>⟧.contents
+            stream.old stream.new }
+        ensures same { stream.new ≡ record stream.old { stream = stream.new.stream } }
+    {
         self.ready.register(&mut stream.stream, key)
     }
 
@@ -75,7 +82,11 @@ impl<S: Stream, P: Ready<S>, C: TellsTimes> Ready<StockStream<S, C>> for StockRe
         stream: &mut StockStream<S, C>,
         key: usize,
         interest: Interest,
-    ) -> io::Result<()> {
+    ) -> io::Result<()>
+        ensures untouched { IsUntouched ⟦<StockStream<S, C> as Stream>⟧.remaining ⟦<StockStream<S, C> as Stream>⟧.contents
+            stream.old stream.new }
+        ensures same { stream.new ≡ record stream.old { stream = stream.new.stream } }
+    {
         let interest = if stream.has_more() && interest == Interest::Input {
             Interest::Again
         } else {
@@ -84,7 +95,11 @@ impl<S: Stream, P: Ready<S>, C: TellsTimes> Ready<StockStream<S, C>> for StockRe
         self.ready.watch(&mut stream.stream, key, interest)
     }
 
-    fn deregister(&mut self, stream: &mut StockStream<S, C>) -> io::Result<()> {
+    fn deregister(&mut self, stream: &mut StockStream<S, C>) -> io::Result<()>
+        ensures untouched { IsUntouched ⟦<StockStream<S, C> as Stream>⟧.remaining ⟦<StockStream<S, C> as Stream>⟧.contents
+            stream.old stream.new }
+        ensures same { stream.new ≡ record stream.old { stream = stream.new.stream } }
+    {
         self.ready.deregister(&mut stream.stream)
     }
 

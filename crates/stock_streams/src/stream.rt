@@ -1,8 +1,9 @@
 // A client's stream, with a conversation or without.
-ghost use Rattle.std.specs.Prelude.{◌≡◌, ◌≢◌, [], None, is_some, false, true, Ok, IfOk, IfErr, IfSome, OnErr};
+ghost use Rattle.std.specs.Prelude.{◌≡◌, ◌≢◌, ◌<◌, [], None, is_some, false, true, Ok, length, IfOk, IfErr, IfSome, OnErr, OnOk};
 ghost use Rattle.std.specs.Io.{ReadsAtMost};
 ghost use Rattle.std.specs.Io.KnownBytes.{Keeps, ReadConsumes, append_known};
 ghost use Rattle.std.specs.IoError.{error_kind};
+ghost use Rattle.stock_streams.specs.Hearing.{HasNotBegun, HearsDaemon, IsShown, UnlessFailed};
 ghost use Rattle.stock_streams.specs.Plain.{known_where_plain};
 ghost use Rattle.stock_streams.specs.Reading.{EndsWithClient, GoesOn, HandsOver};
 ghost use Rattle.stock_streams.specs.Taken.{IsTaken};
@@ -44,6 +45,8 @@ impl<S: Stream, C: TellsTimes> StockStream<S, C> {
         ensures remote { ⟦<StockStream<S, C> as Stream>⟧.remote result ≡ S.remote stream }
         ensures unfailed { ⟦<StockStream<S, C> as Stream>⟧.failed result ≡ false }
         ensures translated { is_some result.translated ≡ true }
+        ensures begun { IfSome result.translated HasNotBegun }
+        ensures stream { result.stream ≡ stream }
     {
         StockStream {
             stream,
@@ -58,8 +61,9 @@ impl<S: Stream, C: TellsTimes> StockStream<S, C> {
         ensures bytes { ReadConsumes (known_where_plain self.old.translated (S.remaining self.old.stream))
             (known_where_plain self.new.translated (S.remaining self.new.stream)) result buf.new }
         ensures handed { GoesOn (λ before after. HandsOver (S.remaining self.old.stream) (S.remaining self.new.stream) result buf.new
-            before.talk after.talk) self.old.translated self.new.translated }
+            before.talk after.talk × (after.is_first_heard ≡ before.is_first_heard)) self.old.translated self.new.translated }
         ensures ends { IfSome self.new.translated (λ translated. EndsWithClient result buf.new translated.talk.has_ended) }
+        ensures waits { IfSome self.old.translated (λ translated. OnErr result (length translated.talk.conversation.native ≡ 0)) }
         ensures unwritten { Keeps (known_where_plain self.old.translated (S.contents self.old.stream))
             (known_where_plain self.new.translated (S.contents self.new.stream)) }
         ensures below { Keeps (S.contents self.old.stream) (S.contents self.new.stream) }
@@ -109,8 +113,9 @@ impl<S: Stream, C: TellsTimes> Stream for StockStream<S, C> {
         ensures bytes { ReadConsumes (known_where_plain self.old.translated (S.remaining self.old.stream))
             (known_where_plain self.new.translated (S.remaining self.new.stream)) result buf.new }
         ensures handed { GoesOn (λ before after. HandsOver (S.remaining self.old.stream) (S.remaining self.new.stream) result buf.new
-            before.talk after.talk) self.old.translated self.new.translated }
+            before.talk after.talk × (after.is_first_heard ≡ before.is_first_heard)) self.old.translated self.new.translated }
         ensures ends { IfSome self.new.translated (λ translated. EndsWithClient result buf.new translated.talk.has_ended) }
+        ensures waits { IfSome self.old.translated (λ translated. OnErr result (length translated.talk.conversation.native ≡ 0)) }
         ensures unwritten { Keeps (known_where_plain self.old.translated (S.contents self.old.stream))
             (known_where_plain self.new.translated (S.contents self.new.stream)) }
         ensures below { Keeps (S.contents self.old.stream) (S.contents self.new.stream) }
@@ -126,11 +131,19 @@ impl<S: Stream, C: TellsTimes> Stream for StockStream<S, C> {
         }
     }
 
+    /// Where a conversation is held, it hears what is queued, and what it gives for that is sent below.
     fn send(&mut self, session: &mut Session) -> io::Result<usize>
         ensures in_order { Keeps
             (append_known (known_where_plain self.old.translated (S.contents self.old.stream)) session.old.queued)
             (append_known (known_where_plain self.new.translated (S.contents self.new.stream)) session.new.queued) }
         ensures sent { IfOk result (λ n. IsTaken n session.old session.new) }
+        ensures heard { UnlessFailed result (GoesOn
+            (HearsDaemon (S.contents self.old.stream) (S.contents self.new.stream) session.old session.new)
+            self.old.translated self.new.translated) }
+        ensures shown { OnOk result (IfSome self.new.translated (λ translated.
+            IsShown translated.talk.giving session.old session.new)) }
+        ensures moves { result ≡ Ok 0 → 0 < length session.old.queued → IfSome self.new.translated (λ translated.
+            0 < length translated.talk.giving.queued) }
         ensures nothing { session.old.queued ≡ [] → result ≡ Ok 0 }
         ensures err { OnErr result (session.new ≡ session.old) }
         ensures unread { Keeps (known_where_plain self.old.translated (S.remaining self.old.stream))

@@ -1,5 +1,9 @@
 // A client's conversation, with what it is to be sent and what a clock tells.
-ghost use Rattle.std.specs.Prelude.{◌≡◌, ◌≤◌, ◌==◌, ◌&&◌, not, length, Ok};
+ghost use Rattle.std.specs.Prelude.{◌≡◌, ◌≤◌, ◌==◌, ◌&&◌, not, false, length, Ok, IfErr, OnOk};
+ghost use Rattle.std.specs.IoError.{error_kind};
+ghost use Rattle.client_session.specs.Session.{fresh};
+ghost use Rattle.stock_clients.specs.Conversation.{begun};
+ghost use Rattle.stock_streams.specs.Hearing.{HearsPiece};
 ghost use Rattle.stock_streams.specs.Reading.{IsGiven, IsHanded, TakesPiece};
 
 use crate::telling::TellsTimes;
@@ -24,7 +28,11 @@ pub(crate) struct Talk<C> {
 }
 
 impl<C> Talk<C> {
-    pub(crate) fn new(alloc: Global, clock: C) -> Self {
+    pub(crate) fn new(alloc: Global, clock: C) -> Self
+        ensures conversation { result.conversation ≡ begun }
+        ensures giving { result.giving ≡ fresh }
+        ensures has_ended { result.has_ended ≡ false }
+    {
         Talk {
             alloc,
             clock,
@@ -64,7 +72,8 @@ impl<C> Talk<C> {
 
     /// Takes what the client sends, nothing where that has ended, and looks whether it is too long.
     pub(crate) fn take(&mut self, piece: &[u8]) -> io::Result<()>
-        ensures { TakesPiece piece.now self.old self.new }
+        ensures taken { TakesPiece result piece.now self.old self.new }
+        ensures lasting { IfErr result (λ e. error_kind e ≡ ErrorKind.Other) }
     {
         self.has_ended = piece.is_empty();
         match self.hand_over(piece) {
@@ -92,7 +101,10 @@ impl<C> Talk<C> {
 
 impl<C: TellsTimes> Talk<C> {
     /// Takes what the daemon says.
-    pub(crate) fn hear(&mut self, piece: &[u8]) -> io::Result<()> {
+    pub(crate) fn hear(&mut self, piece: &[u8]) -> io::Result<()>
+        ensures heard { OnOk result (HearsPiece piece.now self.old self.new) }
+        ensures lasting { IfErr result (λ e. error_kind e ≡ ErrorKind.Other) }
+    {
         self.conversation.set_times(self.clock.times());
         match self
             .conversation

@@ -1,7 +1,9 @@
 // The translation between a client's stream and the daemon's session.
-ghost use Rattle.std.specs.Prelude.{◌≡◌, [], Ok, IfOk, OnErr};
+ghost use Rattle.std.specs.Prelude.{◌≡◌, ◌<◌, ◌==◌, if◌then◌else◌, [], length, false, Ok, IfOk, IfErr, OnErr, OnOk};
 ghost use Rattle.std.specs.Io.{ReadsAtMost};
 ghost use Rattle.std.specs.Io.KnownBytes.{Keeps, append_known};
+ghost use Rattle.std.specs.IoError.{error_kind};
+ghost use Rattle.stock_streams.specs.Hearing.{HasNotBegun, HearsDaemon, HearsNext, IsShown, UnlessFailed};
 ghost use Rattle.stock_streams.specs.Reading.{EndsWithClient, HandsOver, IsFetched};
 ghost use Rattle.stock_streams.specs.Taken.{IsTaken};
 
@@ -10,53 +12,36 @@ use crate::telling::TellsTimes;
 use client_session::Session;
 use mio_clients::Stream;
 use std::alloc::Global;
-use std::io::{self, ErrorKind, Write};
+use std::io::{self, ErrorKind};
 
 // How many bytes of the daemon's are heard at once.
 const HEARD: usize = 65_536;
+
+// One where it is so, else none.
+fn one_if(is_so: bool) -> usize
+    ensures { result ≡ (if is_so then 1 else 0) }
+{
+    if is_so { 1 } else { 0 }
+}
 
 /// A client's conversation over a stream.
 #[derive(Drop)]
 pub(crate) struct Translated<C> {
     talk: Talk<C>,
-    // So many bytes of what the daemon has queued were heard, and are not taken away yet.
-    ahead: usize,
+    // The first byte of what the daemon has queued was heard already. It is left there as long as something waits to be sent to the client:
+    // so the queue isn't empty, and whoever looks at it knows that there is something to be sent.
+    is_first_heard: bool,
     // It was not read, since a command is asked step by step.
     is_put_off: bool,
 }
 
-// Hears what a session has queued.
-//
-// As long as something waits to be sent to the client, the last byte of it is left where it is, though it was heard: so the session's queue
-// is not empty, and whoever looks at it knows that there is something to be sent.
-#[derive(Drop)]
-struct Taker<'a, C> {
-    translated: &'a mut Translated<C>,
-}
-
-impl<'a, C: TellsTimes> Write for Taker<'a, C> {
-    fn write(&mut self, buf: &[u8]) -> io::Result<usize> {
-        let end = buf.len().min(HEARD);
-        let begin = self.translated.ahead.min(end);
-        self.translated.talk.hear(&buf[begin..end])?;
-        if self.translated.talk.giving.queued_len() == 0 {
-            self.translated.ahead = 0;
-            return Ok(end);
-        }
-        self.translated.ahead = end.min(1);
-        Ok(end.saturating_sub(1))
-    }
-
-    fn flush(&mut self) -> io::Result<()> {
-        Ok(())
-    }
-}
-
 impl<C> Translated<C> {
-    pub(crate) fn new(alloc: Global, clock: C) -> Self {
+    pub(crate) fn new(alloc: Global, clock: C) -> Self
+        ensures { HasNotBegun result }
+    {
         Translated {
             talk: Talk::new(alloc, clock),
-            ahead: 0,
+            is_first_heard: false,
             is_put_off: false,
         }
     }
@@ -71,7 +56,10 @@ impl<C> Translated<C> {
 impl<C: TellsTimes> Translated<C> {
     // Reads of the client, unless something waits for the daemon.
     fn fetch<S: Stream>(&mut self, stream: &mut S) -> io::Result<()>
-        ensures fetched { IsFetched (S.remaining stream.old) (S.remaining stream.new) self.old.talk self.new.talk }
+        ensures fetched { IsFetched result (S.remaining stream.old) (S.remaining stream.new) self.old.talk self.new.talk }
+        ensures same { self.new ≡ record self.old { talk = self.new.talk } }
+        ensures waits { 0 < length self.old.talk.conversation.native → (result ≡ Ok tt) × (self.new.talk ≡ self.old.talk) }
+        ensures again { IfErr result (λ e. error_kind e ≡ ErrorKind.Interrupted → self.new.talk.has_ended ≡ false) }
         ensures unwritten { Keeps (S.contents stream.old) (S.contents stream.new) }
     {
         if !self.talk.wants_more() {
@@ -89,6 +77,8 @@ impl<C: TellsTimes> Translated<C> {
         ensures handed { HandsOver (S.remaining stream.old) (S.remaining stream.new) result buf.new
             self.old.talk self.new.talk }
         ensures ends { EndsWithClient result buf.new self.new.talk.has_ended }
+        ensures waits { OnErr result (length self.old.talk.conversation.native ≡ 0) }
+        ensures unheard { self.new.is_first_heard ≡ self.old.is_first_heard }
         ensures unwritten { Keeps (S.contents stream.old) (S.contents stream.new) }
     {
         self.is_put_off = false;
@@ -108,6 +98,13 @@ impl<C: TellsTimes> Translated<C> {
         ensures in_order { Keeps (append_known (S.contents stream.old) self.old.talk.giving.queued)
             (append_known (S.contents stream.new) self.new.talk.giving.queued) }
         ensures unread { Keeps (S.remaining stream.old) (S.remaining stream.new) }
+        ensures all { IfOk result (λ all. all ≡ (length self.new.talk.giving.queued == 0)) }
+        ensures same { self.new ≡ record self.old {
+          talk = record self.old.talk {
+            giving =
+                record self.old.talk.giving { queued = self.new.talk.giving.queued };
+          };
+        } }
     {
         while self.talk.giving.queued_len() > 0 {
             if stream.send(&mut self.talk.giving)? == 0 {
@@ -117,26 +114,46 @@ impl<C: TellsTimes> Translated<C> {
         Ok(true)
     }
 
-    // Hears what the daemon has queued.
+    // Hears what the daemon has queued, at most `HEARD` bytes, and takes it away, but for the last byte if something waits to be sent to the
+    // client.
     fn listen(&mut self, session: &mut Session) -> io::Result<usize>
         ensures sent { IfOk result (λ n. IsTaken n session.old session.new) }
+        ensures heard { OnOk result (HearsNext session.old session.new self.old self.new) }
+        ensures shown { OnOk result (IsShown self.new.talk.giving session.old session.new) }
+        ensures moves { result ≡ Ok 0 → 0 < length session.old.queued → 0 < length self.new.talk.giving.queued }
         ensures err { OnErr result (session.new ≡ session.old) }
+        ensures lasting { IfErr result (λ e. error_kind e ≡ ErrorKind.Other) }
     {
-        session.send_some(&mut Taker { translated: self })
+        let queued = session.queued();
+        let end = queued.len().min(HEARD);
+        let begin = end.min(one_if(self.is_first_heard));
+        self.talk.hear(&queued[begin..end])?;
+        self.is_first_heard = end > 0 && self.talk.giving.queued_len() > 0;
+        let count = end - one_if(self.is_first_heard);
+        session.take_queued(count);
+        Ok(count)
     }
 
-    /// Sends what becomes of what the daemon has queued, and takes that away.
+    /// Sends what waits for the client, then hears what the daemon has queued, and takes that away. What comes of it is sent with the next
+    /// call, that of a last byte at once.
     pub(crate) fn send<S: Stream>(
         &mut self,
         stream: &mut S,
         session: &mut Session,
     ) -> io::Result<usize>
         ensures sent { IfOk result (λ n. IsTaken n session.old session.new) }
+        ensures heard { UnlessFailed result
+            (HearsDaemon (S.contents stream.old) (S.contents stream.new) session.old session.new self.old self.new) }
+        ensures shown { OnOk result (IsShown self.new.talk.giving session.old session.new) }
+        ensures moves { result ≡ Ok 0 → 0 < length session.old.queued → 0 < length self.new.talk.giving.queued }
         ensures nothing { session.old.queued ≡ [] → result ≡ Ok 0 }
         ensures err { OnErr result (session.new ≡ session.old) }
         ensures unread { Keeps (S.remaining stream.old) (S.remaining stream.new) }
     {
-        if session.queued_len() == 0 || !self.flush(stream)? {
+        if session.queued_len() == 0 {
+            return Ok(0);
+        }
+        if !self.flush(stream)? {
             return Ok(0);
         }
         let count = self.listen(session)?;
