@@ -12,6 +12,7 @@ is wrong.
 import contextlib
 import hashlib
 import os
+import signal
 import subprocess
 import sys
 import tempfile
@@ -92,6 +93,13 @@ class Built:
         return True
 
 
+def end_in_order():
+    """Has a signal end this program so that its temporary folders go; one that is ignored, as below nohup, stays so."""
+    for which in (signal.SIGTERM, signal.SIGHUP):
+        if signal.getsignal(which) == signal.SIG_DFL:
+            signal.signal(which, lambda *_: sys.exit(1))
+
+
 def build(built, make, crate):
     """Builds it where it isn't there; whether it is there then."""
     if built.is_there():
@@ -119,6 +127,7 @@ def main(words):
         sys.exit(__doc__.strip())
     import toolchain
 
+    end_in_order()
     is_tests, name = len(words) == 2, words[-1]
     if not os.path.isdir(f"{ROOT}/crates/{name}"):
         sys.exit(f"there is no crate {name}")

@@ -1,0 +1,47 @@
+"""The journal that a configuration names, for start and contrib/install."""
+
+import fcntl
+import os
+
+# The keys of its two files, and their names in the configurations that come with the program.
+NAMES = ("journal_a", "journal_b")
+
+
+class Journal:
+    """Two files, by their paths, and the folder in which the program is started."""
+
+    def __init__(self, folder, paths):
+        self.folder, self.paths = folder, paths
+
+    def is_there(self):
+        """Whether one of the files has bytes: without any there is nothing that `create` could harm."""
+        return any(os.path.exists(it) and os.path.getsize(it) for it in self.paths)
+
+    def is_at_home(self):
+        """Whether the files stand where they are by default. The drive of any others may be away: a new journal there would be served
+        empty, and be hidden once the drive is back."""
+        return [os.path.realpath(it) for it in self.paths] == [f"{os.path.realpath(self.folder)}/{it}" for it in NAMES]
+
+    def lack(self, command):
+        """What is said of a journal that isn't there, and is made by this command alone."""
+        missing = next((f"{it} is missing" for it in self.paths if not os.path.exists(it)), f"{self.paths[0]} is empty")
+        return f"{missing}: is its drive there? `{command}` makes a new journal"
+
+    def is_in_use(self):
+        """Whether a program has it open: it locks both files."""
+        try:
+            with open(self.paths[0], "rb") as file:
+                fcntl.flock(file, fcntl.LOCK_EX | fcntl.LOCK_NB)
+        except BlockingIOError:
+            return True
+        except OSError:
+            pass
+        return False
+
+
+def make_pipe(path, mode=0o666):
+    """Makes a named pipe; the system's fault doesn't name it."""
+    try:
+        os.mkfifo(path, mode)
+    except OSError as fault:
+        raise OSError(fault.errno, fault.strerror, path) from None

@@ -1,0 +1,257 @@
+"""The rows of tests/install about what isn't as it was laid: the drive of a journal is away, its files are empty, a file stands where the
+pipe is to be, a player takes nothing; of `./start`, the units, contrib/install and contrib/sound."""
+
+import fcntl
+import os
+import stat
+import subprocess
+import sys
+import threading
+
+from daemons import LIMIT, check, wait_for
+from homes import NAME, ROOT, Home, Service, content, put, run_before, script_of
+from sounds import Sound
+
+FILES = ("journal_a", "journal_b")
+# What is said of a journal whose drive may be away.
+AWAY = "is missing: is its drive there? `"
+# A start of a script by a Python that has no tomllib, as one older than 3.11.
+OLDER = "import runpy, sys; sys.modules['tomllib'] = None; runpy.run_path(sys.argv[1], run_name='__main__')"
+
+
+def size_of(path):
+    return os.path.getsize(path) if os.path.exists(path) else None
+
+
+def moved(config, folder):
+    """Has a configuration name the journal in this folder, which is made, as an empty mount point is there."""
+    os.makedirs(folder)
+    text = content(config).decode()
+    for it in FILES:
+        text = text.replace(f'{it} = "{it}"', f'{it} = "{folder}/{it}"')
+    put(config, text)
+
+
+def empty(folder):
+    """Makes the files of the journal empty."""
+    for it in FILES:
+        put(f"{folder}/{it}", "")
+
+
+class Start:
+    """The script `start` over a player in this folder."""
+
+    def __init__(self, program, folder):
+        self.script, self.folder, self.program = script_of("start"), f"{folder}/player", f"{folder}/{NAME}"
+        self.script.PLAYER, self.script.CONFIG, self.script.say = self.folder, f"{self.folder}/{NAME}.toml", lambda _: None
+        self.config, self.pipe = self.script.CONFIG, f"{self.folder}/sound.pipe"
+        put(self.program, f'#!/bin/sh\nexec {program} "$@" 2>/dev/null >&2\n', 0o755)
+
+    def make_player(self):
+        """What it says where it ends; nothing where it goes on."""
+        try:
+            self.script.make_player(self.program)
+        except SystemExit as end:
+            return str(end.code)
+        except OSError as fault:
+            return f"{fault.filename}: {fault.strerror}"
+        return ""
+
+    def sizes(self):
+        return [size_of(f"{self.folder}/{it}") for it in FILES]
+
+
+def start_makes_what_is_missing(program, folder):
+    """A journal of empty files, and the pipe, are made again."""
+    start = Start(program, folder)
+    check("the first start", start.make_player(), "")
+    made = start.sizes()
+    empty(start.folder)
+    os.remove(start.pipe)
+    check("the next one", start.make_player(), "")
+    check("what is there", (start.sizes(), made[0] > 0, stat.S_ISFIFO(os.stat(start.pipe).st_mode)), (made, True, True))
+
+
+def byte_order_mark(program, folder):
+    """A configuration may begin with one, as for the daemon."""
+    start, home = Start(program, folder), Home(folder, program)
+    start.make_player()
+    home.install()
+    for it in (start.config, home.config):
+        put(it, "\ufeff" + content(it).decode())
+    empty(home.folder)
+    check("./start", start.make_player(), "")
+    check("contrib/install", f"laid      {home.folder}/journal_a" in home.install(), True)
+
+
+def start_without_the_drive(program, folder):
+    """No journal is made where the configuration names one elsewhere, be it by a link; the command that is told makes it."""
+    start = Start(program, folder)
+    start.make_player()
+    moved(start.config, f"{folder}/drive")
+    told = start.make_player()
+    check("what is told", told.startswith(f"{folder}/drive/journal_a {AWAY}"), True)
+    check("the drive", os.listdir(f"{folder}/drive"), [])
+    subprocess.run(["sh", "-c", told.split("`")[1]], check=True, timeout=LIMIT)
+    check("the drive", sorted(os.listdir(f"{folder}/drive")), [*FILES])
+    check("then", start.make_player(), "")
+    start = Start(program, f"{folder}/linked")
+    start.make_player()
+    os.makedirs(f"{folder}/other")
+    for it in FILES:
+        os.remove(f"{start.folder}/{it}")
+        os.symlink(f"{folder}/other/{it}", f"{start.folder}/{it}")
+    check("links", (AWAY in start.make_player(), os.listdir(f"{folder}/other")), (True, []))
+
+
+def start_without_a_pipe(program, folder):
+    """A file in the place of the pipe is named, with what mends it."""
+    start = Start(program, folder)
+    start.make_player()
+    os.remove(start.pipe)
+    put(start.pipe, "")
+    told = start.make_player()
+    check("what is told", f"{os.path.relpath(start.pipe)} is a file and no pipe: end the daemon, remove it" in told, True)
+
+
+def pipe_that_cannot_be_made(program, folder):
+    """It is named."""
+    start = Start(program, folder)
+    os.makedirs(start.folder)
+    os.symlink("nothing/there", start.pipe)
+    check("what is told", start.make_player(), f"{start.pipe}: File exists")
+
+
+def older_python(program, folder):
+    del program, folder
+    for script in ("start", "contrib/install"):
+        done = subprocess.run([sys.executable, "-c", OLDER, f"{ROOT}/{script}"], capture_output=True, text=True, timeout=LIMIT, check=False)
+        check(script, (done.returncode, done.stderr), (1, "Python 3.11 or later is wanted\n"))
+
+
+# The units and contrib/install.
+
+
+def machines_unit_without_the_drive(program, folder):
+    """The machine's unit makes a journal where its configuration has it as it came, and elsewhere none, of which it tells nothing."""
+    home, root, state = Home(folder, program), f"{folder}/root", f"{folder}/state"
+    home.install("--system", "--root", root)
+    unit, config = f"{root}/etc/systemd/system/{NAME}.service", f"{root}/etc/{NAME}.toml"
+    os.makedirs(state)
+    put(config, '# journal_a = "remarked"\n' + content(config).decode())
+    empty(state)
+    run_before(unit, state, root)
+    made = [size_of(f"{state}/{it}") for it in FILES]
+    check("what is made in place of empty files", made, [size_of(f"{root}/var/lib/{NAME}/{it}") for it in FILES])
+    moved(config, f"{folder}/drive")
+    for it in FILES:
+        os.rename(f"{state}/{it}", f"{folder}/{it}")
+    check("what is told", run_before(unit, state, root), "")
+    check("the drive", os.listdir(f"{folder}/drive"), [])
+    for it in FILES:
+        os.rename(f"{folder}/{it}", f"{folder}/drive/{it}")
+    check("what is told with the journal there", run_before(unit, state, root), "")
+    check("the journal", [size_of(f"{folder}/drive/{it}") for it in FILES], made)
+
+
+def users_unit_without_a_pipe(program, folder):
+    home = Home(folder, program)
+    home.install()
+    os.remove(f"{home.folder}/sound.pipe")
+    run_before(home.unit, home.folder, "")
+    check("the pipe", oct(os.lstat(f"{home.folder}/sound.pipe").st_mode), "0o10600")
+
+
+def installed_without_the_drive(program, folder):
+    """A second installation makes no journal on a drive that is away; one of empty files in the service's own folder it makes."""
+    home = Home(folder, program)
+    home.install()
+    empty(home.folder)
+    check("empty files", f"laid      {home.folder}/journal_a" in home.install(), True)
+    with Service(home) as client:
+        client.do("setvol 41")
+    moved(home.config, f"{folder}/drive")
+    told = home.install()
+    check("what is told", f"missing   {folder}/drive/journal_a {AWAY}" in told, True)
+    check("the drive", os.listdir(f"{folder}/drive"), [])
+    subprocess.run(["sh", "-c", told.split("`")[1]], check=True, capture_output=True, timeout=LIMIT)
+    check("what is told then", f"there     {folder}/drive/journal_a" in home.install(), True)
+
+
+def words_that_are_not_taken(program, folder):
+    """A configuration that is there says where to listen and which music there is; words that say the same are not named."""
+    home = Home(folder, program)
+    home.install("--music", f"{folder}/songs")
+    check("the same words", "not taken" in home.install("--music", f"{folder}/songs"), False)
+    told = home.run(program, "--music", "other", "--tcp", "127.0.0.1:1")
+    check("others", f"{home.config} stays as it is: --music and --tcp are not taken\n" in told, True)
+    check("one", f"{home.config} stays as it is: --music is not taken\n" in home.install("--music", "other"), True)
+
+
+def daemon_that_runs_on(program, folder):
+    """Where no systemd ends it, a daemon runs on behind the end of its installation, and that is told."""
+    home = Home(folder, program)
+    home.install()
+    with Service(home):
+        check("what is told", f"runs      the daemon of {home.folder}/journal_a" in home.uninstall(), True)
+    home.install()
+    check("without one", "runs  " in home.uninstall(), False)
+
+
+# The sound.
+
+
+def sound_without_a_pipe(program, folder):
+    """A file that the daemon has locked is no pipe, nor is one that is to be followed."""
+    del program
+    put(f"{folder}/sound.pipe", "")
+    line = "sound: no pipe: sound.pipe is a file; end the daemon, remove it, and make the pipe: mkfifo sound.pipe"
+    with Sound(folder, "--to", "files", "--follow", "sound.pipe") as sound:
+        followed = sound.end()
+    with open(f"{folder}/sound.pipe", "rb") as file, Sound(folder, "--to", "files", "sound.pipe") as sound:
+        fcntl.flock(file, fcntl.LOCK_EX)
+        check("how they end", (followed, sound.end()), ((1, [line]), (1, [line])))
+
+
+def player_that_takes_nothing(program, folder):
+    """It is ended and begun again, which one line tells, and the sound passes meanwhile."""
+    del program
+    os.makedirs(folder)
+    sound, lines = script_of("contrib/sound"), []
+    sound.STUCK, sound.PLAYER_HOLDS, sound.say = 0.2, 0, lines.append
+    speaker = sound.Speaker(f"sh -c 'echo $$ >>{folder}/tries; exec sleep 100'")
+    speaker.begin(sound.Form(44_100, 2))
+
+    def play():
+        while tries(folder) < 3:
+            speaker.take(bytes(1 << 14))
+
+    thread = threading.Thread(target=play, daemon=True)
+    thread.start()
+    try:
+        wait_for("a player that is begun again", lambda: not thread.is_alive(), 20)
+        check("what is told", lines, ["sh took nothing for 0.2 seconds, and was ended; it is begun again"])
+    finally:
+        speaker.stop()
+
+
+def tries(folder):
+    """How many players were begun."""
+    return content(f"{folder}/tries").count(b"\n") if os.path.exists(f"{folder}/tries") else 0
+
+
+ROWS = [
+    start_makes_what_is_missing,
+    byte_order_mark,
+    start_without_the_drive,
+    start_without_a_pipe,
+    pipe_that_cannot_be_made,
+    older_python,
+    machines_unit_without_the_drive,
+    users_unit_without_a_pipe,
+    installed_without_the_drive,
+    words_that_are_not_taken,
+    daemon_that_runs_on,
+    sound_without_a_pipe,
+    player_that_takes_nothing,
+]
