@@ -7,7 +7,7 @@ import time
 
 import preload
 from consoles import RECORDS, Journal
-from daemons import Daemon, check, put_song, update, wait_for
+from daemons import Daemon, check, put_song, refused, update, wait_for
 from scripts import Failure
 
 RAMP = list(range(0, 4_000, 4))
@@ -19,6 +19,8 @@ MOST = 65_536
 MOST_LINES = 100
 # What a job says that left out no file.
 NONE = "0 not WAVE, 0 of another format, 0 broken"
+# What is to be known where one file of a journal is missing.
+OLDER = "the other file may have an older state; if it stands elsewhere, end this at once and put it back"
 # Records of seven bytes, of which a journal has more bytes than one that is opened without a line.
 MANY = 2_400_000
 
@@ -250,6 +252,28 @@ def large_journal(program, folder):
         check("behind it", [it for it in others if not it.startswith(wanted[0]) or not it.endswith(wanted[1])], [])
 
 
+def journal_file_missing(program, folder):
+    """One of the two files is away at a start, and an older state is served: a line tells that. There is none where neither or both are."""
+    daemon = Daemon(program, folder, output="-").create()
+    Journal(f"{folder}/a", f"{folder}/b").fill(1, 40)
+    with daemon.start(), daemon.client() as client:
+        client.do("setvol 41", "setvol 42", "setvol 43")
+        daemon.kill(signal.SIGTERM)
+        check("standard error", daemon.lines, [])
+    os.rename(f"{folder}/b", f"{folder}/away")
+    for volume, lines in (("41", [f"b: missing, and made empty: {OLDER}"]), ("41", []), ("43", [])):
+        with daemon.start(), daemon.client() as client:
+            check("the volume", client.value("status", "volume"), volume)
+            daemon.kill(signal.SIGTERM)
+        check("standard error", daemon.lines, lines)
+        daemon.lines = []
+        if volume == "41" and not lines:
+            os.rename(f"{folder}/away", f"{folder}/b")
+    for name in "ab":
+        os.remove(f"{folder}/{name}")
+    refused(program, folder, {"output": "-"}, 2, ["a, b: no journal; `mpd_daemon create CONFIG` makes one", "journal refused: 4"])
+
+
 def kill_where_a_folder_hangs(program, folder):
     """A scan is in a call of the system that doesn't come back: `kill` closes the clients, a line says what the end waits for, and a signal
     ends it. What was answered is kept."""
@@ -273,4 +297,4 @@ def kill_where_a_folder_hangs(program, folder):
 
 
 ROWS = [web_of_links, job_in_the_log, files_left_out, job_without_memory, many_unreadable, more_songs_than_fit, large_journal]
-ROWS += [kill_where_a_folder_hangs]
+ROWS += [journal_file_missing, kill_where_a_folder_hangs]

@@ -15,11 +15,11 @@ use crate::serve_config::ServeConfig;
 use crate::slow_opening::Opening;
 use crate::stop_flag::StopFlag;
 use crate::stopping_folder::StoppingFolder;
-use crate::tasks::{JournalFiles, open_files, tell_fault, tell_migration, tell_refusal, told};
+use crate::tasks::{JournalFiles, open_made_files, tell_fault, tell_migration, tell_refusal, told};
 use crate::told_listener::ToldListener;
 use disk_model::FileDisk;
 use http_guard::{Guarded, GuardedListener, GuardedReady};
-use log::{Level, Log, Logged};
+use log::{Level, Log, Logged, info, warn};
 use mio::Waker;
 use mio::net::{TcpListener, UnixListener};
 use mio_clients::{Clients, Socket, SocketListener, SocketReady};
@@ -135,10 +135,15 @@ fn listen<'a>(
     }
 }
 
-/// Opens the output.
+/// Opens the output. Where it is a regular file, that is told: nothing paces the songs then.
 fn open_output<'a>(rt: &'a HostRuntime, path: &str, stop: &StopFlag) -> Result<Output<'a>, Exit> {
     match Output::open(rt, path, stop.again()?) {
-        Ok(output) => Ok(output),
+        Ok(output) => {
+            if output.is_regular_file() {
+                warn!(LoopLog::new(rt); "{path}: a file, no pipe: songs are written as fast as it takes them");
+            }
+            Ok(output)
+        }
         Err(error) if error.kind() == ErrorKind::WouldBlock => {
             say(
                 rt,
@@ -164,7 +169,8 @@ fn exit_of(status: ServeStatus) -> Result<(), Exit>
     }
 }
 
-/// What the daemon ended with; which journal file the system failed, how, and what can be done, goes to standard error.
+/// What the daemon ended with. That a client asked for it, or which journal file the system failed, how, and what can be done, goes to
+/// standard error.
 fn ended(
     rt: &HostRuntime,
     config: &ServeConfig,
@@ -172,9 +178,13 @@ fn ended(
 ) -> Result<(), Exit> {
     tell_fault(rt, config.journal_a.as_str(), &end.a);
     tell_fault(rt, config.journal_b.as_str(), &end.b);
-    if let ServeStatus::JournalRefused(number) = end.status {
-        let (a, b) = (config.journal_a.as_str(), config.journal_b.as_str());
-        tell_refusal(rt, a, b, number);
+    match end.status {
+        ServeStatus::Killed => info!(LoopLog::new(rt); "ended by a client's kill"),
+        ServeStatus::JournalRefused(number) => {
+            let (a, b) = (config.journal_a.as_str(), config.journal_b.as_str());
+            tell_refusal(rt, a, b, number);
+        }
+        ServeStatus::NoThread | ServeStatus::DiskFault => {}
     }
     exit_of(end.status)
 }
@@ -243,7 +253,7 @@ fn serve_over<R: Threads + Wait + Clock + Log + Sync>(
         a,
         b,
         locks: _locks,
-    } = open_files(rt, config.journal_a.as_str(), config.journal_b.as_str())?;
+    } = open_made_files(rt, config.journal_a.as_str(), config.journal_b.as_str())?;
     let opening = Opening::begin(rt, threads, config);
     let opened = match open_journal(rt.alloc(), a, b) {
         Ok(opened) => opened,

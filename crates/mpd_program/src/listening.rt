@@ -19,14 +19,18 @@ pub fn listen_on_address(rt: &HostRuntime, address: SocketAddr) -> io::Result<Tc
     TcpListener::bind(rt, address)
 }
 
-/// Listens on a socket at this path, with the mode that the process's umask leaves. A socket there that nobody listens on is replaced.
+/// Listens on a socket at this path, with the mode that the process's umask leaves. A socket there that nobody listens on is replaced; one
+/// that the process may not connect to can't be asked, and is refused with words of its own.
 ///
 /// Its folder is locked meanwhile, so that of two daemons that begin at once neither removes the other's socket. What else has it locked
 /// keeps nobody from listening: after a second it is done without the lock.
 pub fn listen_on_path(rt: &HostRuntime, path: &str) -> io::Result<UnixListener> {
     let _locked = lock_folder(rt, path);
     match UnixListener::bind(rt, path) {
-        Err(error) if error.kind() == ErrorKind::AddrInUse && is_stale(rt, path) => {
+        Err(error) if error.kind() == ErrorKind::AddrInUse => {
+            if !is_stale(rt, path)? {
+                return Err(error);
+            }
             fs::remove_file(rt, path)?;
             UnixListener::bind(rt, path)
         }
@@ -56,12 +60,15 @@ fn lock_folder(rt: &HostRuntime, path: &str) -> Option<File> {
 }
 
 // Whether a socket lies at this path that nobody listens on. (A connection to a file that is no socket is refused too.)
-fn is_stale(rt: &HostRuntime, path: &str) -> bool {
+fn is_stale(rt: &HostRuntime, path: &str) -> io::Result<bool> {
     match fs::symlink_metadata(rt, path) {
         Ok(found) if found.file_type().is_socket() => match UnixStream::connect(rt, path) {
-            Ok(_) => false,
-            Err(error) => error.kind() == ErrorKind::ConnectionRefused,
+            Ok(_) => Ok(false),
+            Err(error) if error.kind() == ErrorKind::PermissionDenied => Err(io::Error::other(
+                "another user's socket is there: remove it if no daemon has it",
+            )),
+            Err(error) => Ok(error.kind() == ErrorKind::ConnectionRefused),
         },
-        _ => false,
+        _ => Ok(false),
     }
 }

@@ -78,10 +78,21 @@ impl<'a> Output<'a> {
         })
     }
 
+    /// Whether it is a regular file, which takes any number of bytes at once, and nothing else, as standard output.
+    pub fn is_regular_file(&self) -> bool {
+        match &self.target {
+            Target::Standard(_) => false,
+            Target::File(file) => match file.metadata() {
+                Ok(found) => found.is_file(),
+                Err(_) => false,
+            },
+        }
+    }
+
     /// Drops what a regular file held. What is no such file is left as it is.
     pub fn clear(&self) -> io::Result<()> {
         match &self.target {
-            Target::File(file) if file.metadata()?.is_file() => file.set_len(0),
+            Target::File(file) if self.is_regular_file() => file.set_len(0),
             _ => Ok(()),
         }
     }

@@ -122,7 +122,7 @@ pub(crate) struct JournalFiles {
 }
 
 /// Opens the files of a journal, each of which is made, empty, where it is missing.
-pub(crate) fn open_files(rt: &HostRuntime, a: &str, b: &str) -> Result<JournalFiles, Exit> {
+fn open_files(rt: &HostRuntime, a: &str, b: &str) -> Result<JournalFiles, Exit> {
     let (a, a_lock) = open_file(rt, a)?;
     let (b, b_lock) = open_file(rt, b)?;
     Ok(JournalFiles {
@@ -130,6 +130,35 @@ pub(crate) fn open_files(rt: &HostRuntime, a: &str, b: &str) -> Result<JournalFi
         b,
         locks: (a_lock, b_lock),
     })
+}
+
+/// Whether nothing stands at the path of a journal file.
+fn is_missing(rt: &HostRuntime, path: &str) -> bool {
+    match fs::metadata(rt, path) {
+        Ok(_) => false,
+        Err(error) => error.kind() == ErrorKind::NotFound,
+    }
+}
+
+/// Says on standard error which file of a journal is missing, where one of them is: what the other has may be an older state.
+fn tell_missing(rt: &HostRuntime, a: &str, b: &str) {
+    let missing = match (is_missing(rt, a), is_missing(rt, b)) {
+        (true, false) => a,
+        (false, true) => b,
+        _ => return,
+    };
+    say(
+        rt,
+        format_args!(
+            "{missing}: missing, and made empty: the other file may have an older state; if it stands elsewhere, end this at once and put it back"
+        ),
+    );
+}
+
+/// Opens the files of a journal that was made before, as `open_files` does, and says which of them is missing, where one is.
+pub(crate) fn open_made_files(rt: &HostRuntime, a: &str, b: &str) -> Result<JournalFiles, Exit> {
+    tell_missing(rt, a, b);
+    open_files(rt, a, b)
 }
 
 /// Where a link stands at the path of a journal file: syncs the folder of the file that it leads to, as its opening does the link's, so
@@ -273,7 +302,7 @@ fn console(rt: &HostRuntime, config: Config, translates: bool) -> Result<(), Exi
         a,
         b,
         locks: _locks,
-    } = open_files(rt, journal_a.as_str(), journal_b.as_str())?;
+    } = open_made_files(rt, journal_a.as_str(), journal_b.as_str())?;
     let mut music = Music::new(rt, music.as_str(), None)?;
     let end = if translates {
         serve_stock(rt, a, b, &mut music)
