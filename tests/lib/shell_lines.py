@@ -158,6 +158,26 @@ def talk(room, block):
         process.communicate(timeout=LIMIT)
 
 
+def make_songs(room, loop):
+    """The loop that makes songs of another folder's: what is there already stays, where the folder is that of the originals too."""
+    originals, made = ([f"{it}/{song}" for song in SONGS] for it in (f"{room.folder}/from", f"{room.folder}/to"))
+    room.write(f"to/{SONGS[0]}", b"there already")
+    before = [content(it) for it in originals]
+    room.run(loop)
+    if content(made[0]) != b"there already" or not content(made[1]).startswith(b"RIFF"):
+        raise Failure(f"{loop}: it made {content(made[0])[:20]} and {content(made[1])[:20]}")
+    room.how["env"]["TO"] += "/link"
+    os.symlink("../from", f"{room.folder}/to/link")
+    room.run(loop)
+    if [content(it) for it in originals] != before:
+        raise Failure(f"{loop}: it wrote into the originals")
+
+
+def content(path):
+    with open(path, "rb") as file:
+        return file.read()
+
+
 def run_readme(room, text):
     """The lines of README.md; which are left out, each with why."""
     for block in blocks(text):
@@ -185,6 +205,8 @@ def run_running(room, text):
                 pass
             elif it == "mpd_daemon serve CONFIG":
                 serve(room, it)
+            elif it.startswith("while "):
+                make_songs(room, it)
             else:
                 said = re.search(r"prints `([^`]*)`", line)
                 room.run(it, said and said[1])
