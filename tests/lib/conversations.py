@@ -77,6 +77,7 @@ class Lines:
         kinds += [["setvol", draw.choice(["7", "100", "101"])], ["repeat", draw.choice("012")]]
         kinds += [["single", draw.choice(["0", "oneshot", "x"])]]
         kinds += [["save", draw.choice(["old", "new"]), "replace"], ["rm", "new"], ["sticker", "list", "song", "a.wav"]]
+        kinds += [["shuffle", draw.choice(["x", "2:1", "99:", "0:1", "1:2", "5:", "0:4294967296", ""])]]
         kinds += [["next"], ["stop"], ["clearerror"], ["move", "0", count], ["status", "x"], ["commands", "x"], ["lsinfo", "", "x"]]
         return draw.choice(kinds)
 
@@ -107,7 +108,9 @@ class Lines:
         if kind < 0.35 and depth < 4:
             return "(" + " AND ".join(self.expression(depth + 1) for _ in range(draw.randint(1, 3))) + ")"
         if kind < 0.45:
-            return draw.choice([f"(file == {self.quoted()})", f"(filename == {self.quoted()})", "(base 'd')", "(FileName == 'a.wav')"])
+            sign = draw.choice(["==", "!="])
+            given = [f"(file {sign} {self.quoted()})", f"(filename {sign} {self.quoted()})", "(base 'd')", f"(FileName{sign}'a.wav')"]
+            return draw.choice(given)
         tag, blank = draw.choice([any_tag(draw), cased(draw, "any")]), draw.choice(["", " ", "  "])
         if draw.random() < 0.3:
             return f"({blank}{tag} contains {blank}{self.quoted()}{blank})"
@@ -137,7 +140,7 @@ class Lines:
         words = [name, *(["found"] if name == "searchaddpl" else []), *self.filter()]
         if name in ("find", "search", "findadd", "searchadd"):
             if draw.random() < 0.5:
-                words += ["sort", draw.choice(["", "-"]) + draw.choice([any_tag(draw), "file", "filename"])]
+                words += ["sort", draw.choice(["", "-"]) + draw.choice([any_tag(draw), "file", "filename", "Last-Modified"])]
             if draw.random() < 0.2:
                 words += ["window", draw.choice(["0:2", "1:", "7"])]
         if name in ("findadd", "searchadd") and draw.random() < 0.2:

@@ -26,6 +26,15 @@ def wait_for(what, is_there, seconds=LIMIT):
         time.sleep(0.002)
 
 
+@contextlib.contextmanager
+def standing_still(process):
+    """The process does nothing meanwhile."""
+    process.send_signal(signal.SIGSTOP)
+    os.waitpid(process.pid, os.WUNTRACED)
+    yield
+    process.send_signal(signal.SIGCONT)
+
+
 def free_port(host="127.0.0.1"):
     family = socket.AF_INET6 if ":" in host else socket.AF_INET
     with socket.socket(family) as bound:

@@ -13,7 +13,7 @@ from translator import BEGINS, END, NATIVE, Translator, Unreadable, words_of
 
 # The commands that stand in the place of others.
 PLACED = set("""ping status setvol playlistinfo lsinfo listall listplaylists list count find search findadd searchadd searchaddpl
-playlistfind playlistsearch""".split())
+playlistfind playlistsearch shuffle moveid""".split())
 FILTERED = {"list", "count", "find", "search", "findadd", "searchadd", "searchaddpl", "playlistfind", "playlistsearch"}
 VOLUMES = [[str(it)] for it in range(101)]
 # So many bytes a line of the daemon's may have, and one that it is asked; and the number of its refusal.
@@ -141,7 +141,8 @@ class Daemon:
         if name == "ping":
             return []
         if name == "status":
-            return [b"volume: %d" % draw.randint(0, 100), *(self.pair(b"x") for _ in range(count))]
+            found = [b"volume: %d" % draw.randint(0, 100), *(self.pair(b"x") for _ in range(count))]
+            return found + [b"song: %d" % draw.randint(0, 3), b"songid: %d" % draw.randint(1, 9)] * draw.randint(0, 1)
         if name == "count":
             return [b"songs: %d" % draw.randint(0, 2), b"playtime: 1"]
         if name == "list":

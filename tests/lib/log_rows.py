@@ -17,6 +17,8 @@ FOLDERS, LINKS = 8, 16
 MOST = 65_536
 # So many lines about what can't be read there are within a minute.
 MOST_LINES = 100
+# So many changes a batch has, and so many of the last allocations of a job are refused.
+BATCH, LAST = 64, 32
 # What a job says that left out no file.
 NONE = "0 not WAVE, 0 of another format, 0 broken"
 # What is to be known where one file of a journal is missing.
@@ -182,6 +184,39 @@ def job_without_memory(program, folder):
         daemon.kill(signal.SIGTERM)
 
 
+def full_batch(program, folder, library, refused):
+    """A job that finds just as many songs as a batch has, in a daemon of its own, while this allocation is refused, counted from the request
+    on, or none where that is 0: how many there were, how many songs are known then, and the job's line."""
+    daemon, counts = Daemon(program, folder).create(), f"{folder}/counts"
+    put_song(daemon, "0.wav", RAMP)
+    for number in range(1, BATCH):
+        os.link(f"{folder}/music/0.wav", f"{folder}/music/{number}.wav")
+    with daemon.start(settings=preload.settings(library, counts)), daemon.client() as client:
+        client.do("status")
+        before = preload.counts(counts)[0]
+        if refused:
+            refuse_later(counts, refused)
+        client.do("update")
+        line, count = line_of(daemon, 1), preload.counts(counts)[0] - before
+        with daemon.client() as other:
+            known = sum(it.startswith("file: ") for it in other.ask("listall"))
+        daemon.kill(signal.SIGTERM)
+    return count, known, line or ""
+
+
+def full_batch_without_memory(program, folder):
+    """Of the last allocations of such a job each is refused in turn: where all songs are known, no line says that memory ended it."""
+    os.makedirs(folder)
+    library = preload.library("refuse_memory", folder)
+    count, known, _ = full_batch(program, f"{folder}/0", library, 0)
+    check("the songs", known, BATCH)
+    ended = set()
+    for refused in range(count - LAST, count + 1):
+        _, known, line = full_batch(program, f"{folder}/{refused}", library, refused)
+        ended.add((known, "memory ran out" in line))
+    check("where memory ended it, and where it didn't", ended, {(0, True), (BATCH, False)})
+
+
 def many_unreadable(program, folder):
     """Of many links that lead nowhere some hundred have a line, each once, and one more line says that there are others. Jobs that come one
     right behind the other have ten lines within ten seconds; the next one says how many were left out."""
@@ -296,5 +331,5 @@ def kill_where_a_folder_hangs(program, folder):
         update(client)
 
 
-ROWS = [web_of_links, job_in_the_log, files_left_out, job_without_memory, many_unreadable, more_songs_than_fit, large_journal]
-ROWS += [journal_file_missing, kill_where_a_folder_hangs]
+ROWS = [web_of_links, job_in_the_log, files_left_out, job_without_memory, full_batch_without_memory, many_unreadable]
+ROWS += [more_songs_than_fit, large_journal, journal_file_missing, kill_where_a_folder_hangs]

@@ -161,6 +161,14 @@ class Episode:
             lines = [draw.choice(["command_list_begin", "command_list_ok_begin"]), *lines, "command_list_end"]
         return sessions.Request("".join(f"{it}\n" for it in lines).encode())
 
+    def of_stock(self, draw):
+        """What a stock client asks, in a list where it would take several steps."""
+        if draw.random() < 0.5:
+            return self.foreign(draw)
+        request = self.request(draw)
+        is_alone = len(request.commands) == 1 and not request.is_list
+        return sessions.listing(request.commands, True) if is_alone and request.commands[0][0] == "shuffle" else request
+
     def send(self, draw):
         streams = self.open_streams()
         # One that waits mostly goes on to wait.
@@ -172,7 +180,7 @@ class Episode:
         stream = draw.choice(streams)
         if len(stream.unsent) < MOST_WAITING and (not stream.unsent or draw.random() < 0.5):
             for _ in range(draw.choice([1, 1, 1, 2, 3])):
-                stream.ask(self.foreign(draw) if isinstance(stream, StockStream) and draw.random() < 0.5 else self.request(draw))
+                stream.ask(self.of_stock(draw) if isinstance(stream, StockStream) else self.request(draw))
         return self.is_silent(f"{stream.number}>- {shown(stream.next_piece(draw))}")
 
     def slow(self, draw):

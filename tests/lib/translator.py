@@ -24,6 +24,11 @@ listplaylistinfo""".split())
 TAILS = {"find": ("sort", "window"), "search": ("sort", "window")}
 TAILS |= {it: ("sort", "window", "position") for it in ("findadd", "searchadd")}
 TAILS |= {it: () for it in ("searchaddpl", "playlistfind", "playlistsearch", "count")}
+# Those whose pairs look for a value within a text.
+SEARCHES = {"search", "searchadd", "searchaddpl", "playlistsearch"}
+FILES = ("file", "filename")
+# The numbers that a range may have are less.
+NUMBERS = 2**32
 BEGINS, END = ("command_list_begin", "command_list_ok_begin"), "command_list_end"
 # A text in quotes in an expression; and such a text, one without an end, or a name behind a parenthesis with the test that it begins.
 VALUE = r"""'(?:[^'\\]|\\.)*'|"(?:[^"\\]|\\.)*\""""
@@ -146,6 +151,8 @@ def by_words(line, alone, name, given):
     """None where it stays as it is."""
     if name == "volume":
         return volume(alone, given)
+    if name == "shuffle":
+        return shuffled(given) if alone else None
     if name in FOREIGN:
         return foreign(name, given)
     if name == "tagtypes":
@@ -234,6 +241,29 @@ def volume(alone, given):
     return Part([b"status"], "volume", told=take, step=step)
 
 
+def shuffled(given):
+    """The current song is looked up; where it stands in the range, it is moved to the front, and the rest is shuffled."""
+    span = re.fullmatch(r"([0-9]{1,10}):([0-9]{1,10}|)", given[0]) if len(given) == 1 else None
+    if given and not span:
+        return None
+    start, end = (int(it) if it else NUMBERS for it in span.groups()) if span else (0, NUMBERS)
+    if start >= NUMBERS or start > end or (span and span[2] and end >= NUMBERS):
+        return None
+    found = {}
+
+    def take(line, number):
+        key, _, value = line.partition(b": ")
+        found[key] = value
+
+    def step():
+        if {b"song", b"songid"} <= found.keys() and start <= int(found[b"song"]) < end:
+            rest = f"{start + 1}:{end if end < NUMBERS else ''}"
+            return Part([b"moveid %s %d" % (found[b"songid"], start), line_of("shuffle", rest)], "shuffle", told=take)
+        return Part([line_of("shuffle", *given)], "shuffle", told=take)
+
+    return Part([b"status"], "shuffle", told=take, step=step)
+
+
 class Songs:
     """Collects the songs that an answer tells, and groups them by tags, the outermost first."""
 
@@ -300,7 +330,7 @@ def tag_types(given):
 def list_of(tag, *given):
     """`list TAG ..`: how many songs lack it is asked before its values, where that can be asked."""
     given, kind = list(given), tag.lower()
-    if kind in ("file", "filename"):
+    if kind in FILES:
         return files_of(given)
     if kind not in ALL:
         return None
@@ -333,12 +363,12 @@ def without_tag(name, words):
 def filtered(line, name, given):
     """A command with a filter in it."""
     front = given[:1] if name == "searchaddpl" else []
-    found = front + filter_of(given[len(front) :], TAILS[name])
+    found = front + filter_of(given[len(front) :], TAILS[name], name in SEARCHES)
     return Part([line if found == given else line_of(name, *found)], name, has_songs=name in SONGS)
 
 
-def filter_of(words, tails):
-    """The words of a filter and of what stands behind it."""
+def filter_of(words, tails, within=False):
+    """The words of a filter and of what stands behind it; its pairs may look for a value within a text."""
     if not words:
         raise Unreadable
     if words[0].startswith("("):
@@ -351,7 +381,7 @@ def filter_of(words, tails):
     pairs = words[:place]
     if len(pairs) % 2:
         raise Unreadable
-    found = [it for pair in zip(pairs[0::2], pairs[1::2]) for it in pair_of(*pair)]
+    found = [it for pair in zip(pairs[0::2], pairs[1::2]) for it in pair_of(*pair, within)]
     return found + tail_of(words[place:])
 
 
@@ -360,12 +390,14 @@ def tail_of(words):
     if len(words) < 2 or words[0] != "sort":
         return list(words)
     turned, tag = words[1].startswith("-"), words[1].removeprefix("-").lower()
-    if tag in ABSENT:
+    if tag in ABSENT or tag == "last-modified":
         return ["sort", "file", *words[2:]]
     return ["sort", "-" * turned + name_of(words[1].removeprefix("-")), *words[2:]]
 
 
-def pair_of(tag, value):
+def pair_of(tag, value, within):
+    if within and not value and tag.lower() in {*ALL, *FILES, "any"}:
+        return "base", ""
     if tag.lower() in ABSENT:
         return "base", "/" if value else ""
     return name_of(tag), value
@@ -390,7 +422,13 @@ def replaced(piece):
         return piece[0]
     if name.lower() in ABSENT:
         return "(" + test_of_none(operator, value)
+    if name.lower() in FILES and operator == "!=":
+        return "(" + other_file(value)
     return "(" + name_of(name) + piece["behind"]
+
+
+def other_file(value):
+    return f"!(file == {value})"
 
 
 def test_of_none(operator, value):
@@ -450,6 +488,8 @@ class Expression:
             self.need(VALUE)
             return tag + self.text[begun : self.place]
         operator, value = self.need("==|!=|contains(?=[ \t])"), self.need(VALUE)
+        if tag.lower() in FILES and operator == "!=":
+            return other_file(value)
         return test_of_none(operator, value) if tag.lower() in ABSENT else name_of(tag) + self.text[begun : self.place]
 
 

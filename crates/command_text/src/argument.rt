@@ -77,7 +77,7 @@ pub(crate) fn digits(word: &[u8]) -> Option<u32>
 
 /// A number of 1 to 10 decimal digits, at most 4294967295.
 #[tactic(auto, unfolding(crate::specs::Arguments::number_of))]
-pub(crate) fn number(word: &[u8]) -> Option<u32>
+pub fn number(word: &[u8]) -> Option<u32>
     ensures { result ≡ number_of word.now }
 {
     if word.len() > 10 {
@@ -88,7 +88,7 @@ pub(crate) fn number(word: &[u8]) -> Option<u32>
 
 /// A number of at most so much.
 #[tactic(auto, unfolding(crate::specs::Arguments::number_to))]
-pub(crate) fn number_to(most: u32, word: &[u8]) -> Option<u32>
+pub fn number_to(most: u32, word: &[u8]) -> Option<u32>
     ensures value { result ≡ number_to most word.now }
     ensures bound { IfSome result (λ number. number ≤ most) }
 {
@@ -132,9 +132,9 @@ pub(crate) fn range(word: &[u8]) -> Option<PositionRange>
     }
 }
 
-/// `S:` or `S:E` of a result.
+/// `S:`, or `S:E` where S is not above E.
 #[tactic(auto, unfolding(crate::specs::Arguments::window_of))]
-pub(crate) fn window(word: &[u8]) -> Option<Window>
+pub fn window(word: &[u8]) -> Option<Window>
     ensures { result ≡ window_of word.now }
 {
     match range(word)? {

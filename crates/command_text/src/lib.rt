@@ -30,6 +30,7 @@ pub use answer::{
     write_playlist, write_song, write_statistics, write_status, write_sticker, write_tag_type,
     write_value,
 };
+pub use argument::{number, number_to, window};
 pub use command::database::DatabaseCommand;
 pub use command::finding::{FindingCommand, Search};
 pub use command::lists::{ListsCommand, SaveMode};

@@ -19,7 +19,7 @@ use crate::tasks::{JournalFiles, open_made_files, tell_fault, tell_migration, te
 use crate::told_listener::ToldListener;
 use disk_model::FileDisk;
 use http_guard::{Guarded, GuardedListener, GuardedReady};
-use log::{Level, Log, Logged, info, warn};
+use log::{Level, Log, Logged, warn};
 use mio::Waker;
 use mio::net::{TcpListener, UnixListener};
 use mio_clients::{Clients, Socket, SocketListener, SocketReady};
@@ -169,8 +169,7 @@ fn exit_of(status: ServeStatus) -> Result<(), Exit>
     }
 }
 
-/// What the daemon ended with. That a client asked for it, or which journal file the system failed, how, and what can be done, goes to
-/// standard error.
+/// What the daemon ended with; which journal file the system failed, how, and what can be done, goes to standard error.
 fn ended(
     rt: &HostRuntime,
     config: &ServeConfig,
@@ -178,13 +177,9 @@ fn ended(
 ) -> Result<(), Exit> {
     tell_fault(rt, config.journal_a.as_str(), &end.a);
     tell_fault(rt, config.journal_b.as_str(), &end.b);
-    match end.status {
-        ServeStatus::Killed => info!(LoopLog::new(rt); "ended by a client's kill"),
-        ServeStatus::JournalRefused(number) => {
-            let (a, b) = (config.journal_a.as_str(), config.journal_b.as_str());
-            tell_refusal(rt, a, b, number);
-        }
-        ServeStatus::NoThread | ServeStatus::DiskFault => {}
+    if let ServeStatus::JournalRefused(number) = end.status {
+        let (a, b) = (config.journal_a.as_str(), config.journal_b.as_str());
+        tell_refusal(rt, a, b, number);
     }
     exit_of(end.status)
 }

@@ -90,14 +90,14 @@ impl<'a> Music<'a> {
         false
     }
 
-    // Says what can't be read, and why, where the system says that.
+    // Says what can't be read, and why. Where the system has no error of its own, a link leads upwards, or something changed.
     fn print(&self, place: &str, error: Option<io::Error>) {
         let _printed = match error {
             Some(error) => eprintln!(self.rt;
                 "music: {place}: can't be read: {error}; the songs known there are kept"
             ),
             None => eprintln!(self.rt;
-                "music: {place}: can't be read; the songs known there are kept"
+                "music: {place}: can't be read: it leads upwards, or changed meanwhile; the songs known there are kept"
             ),
         };
     }

@@ -4,7 +4,7 @@ ghost use Rattle.std.specs.Prelude.{◌≡◌};
 use crate::jobs::Jobs;
 use disk_model::Disk;
 use live_stage::Receipt;
-use log::{Log, warn};
+use log::{Log, info, warn};
 use mio_clients::{Clients, Listener, Part, Ready, Stream};
 use stage_workers::{Pass, SharedStage, StageError};
 use std::alloc::Global;
@@ -45,12 +45,20 @@ impl Turns {
             match part {
                 Part::Served(served) => {
                     self.receipt = Some(served.turn.receipt());
-                    self.is_ended |= served.turn.ended();
+                    self.look_for_end(rt, served.turn.ended());
                     self.look_for_checkpoint(rt, served.turn.is_overdue());
                 }
                 Part::Collected(_) => {}
                 Part::Refused(error) => self.refused(rt, *error),
             }
+        }
+    }
+
+    // A client's kill that was kept is told, as the end has no other reason in the log.
+    fn look_for_end<R: Log>(&mut self, rt: &R, ends: bool) {
+        if ends {
+            info!(rt; "ended by a client's kill");
+            self.is_ended = true;
         }
     }
 

@@ -1,14 +1,14 @@
 -- Marks at known URIs.
 use Rattle.std.proofs.Common.{◌≡◌, ◌⊎◌, inl, inr, ℕ, zero, suc, ◌+◌, ◌-◌, ◌<◌, ◌≤◌, Bool, true, false, not, ◌&&◌, List}
 use Rattle.std.proofs.Common.{[], ◌∷◌, ◌++◌, length, take, drop, get_or, filter, refl, sym, ap, ◌∙◌, arith, cond}
-use Rattle.std.proofs.Common.{length-drop}
+use Rattle.std.proofs.Common.{length-drop, nat_eq}
 use Rattle.std.specs.Prelude.{replicate}
 use Rattle.std.specs.List.Sorted.{IsPartitionPoint}
 use Rattle.std.specs.Ordering.{is_lt}
 use Rattle.std.specs.declared.cmp.Ordering.TheVariants.{Less}
 use Rattle.std.specs.Cmp.Lexicographic.{nat_list_cmp_total, nat_list_eq_equiv}
 use Rattle.std.specs.Str.{bytes_eq}
-use Rattle.std.proofs.lemmas.Bool.{cases_lt}
+use Rattle.std.proofs.lemmas.Bool.{cases_lt, eq-eqb, eqb-true}
 use Rattle.std.proofs.lemmas.List.{get_or-drop, get_or_default}
 use Rattle.std.proofs.lemmas.Map.Keys.{Less-from_sorted}
 use Rattle.std.proofs.lemmas.Slice.Eq.{bytes_eq-Decides}
@@ -189,6 +189,42 @@ picked_passed [] marks n within each unset = absurd (omega arith)
 picked_passed (uri ∷ uris) [] n within each unset = absurd (omega arith)
 picked_passed (uri ∷ uris) (m ∷ marks) zero within each unset = rw unset refl
 picked_passed (uri ∷ uris) (m ∷ marks) (suc n) within each unset = picked_passed uris marks n (omega arith) (omega arith) unset
+
+-- from the first mark that is set on, or their end, nothing is picked exactly at the end
+picked_some : (uris : List (List ℕ)) (marks : List Bool) (n : ℕ) → n < length uris → length marks ≡ length uris
+    → get_or marks n true ≡ true → picked (drop n uris) (drop n marks) ≡ [] → ⊥
+picked_some [] marks n within each is_set none = absurd (omega arith)
+picked_some (uri ∷ uris) [] n within each is_set none = absurd (omega arith)
+picked_some (uri ∷ uris) (m ∷ marks) zero within each is_set none = by_mark m is_set none
+  where
+    by_mark : (m : Bool) → m ≡ true → cond m (uri ∷ picked uris marks) (picked uris marks) ≡ [] → ⊥
+    by_mark true is none = absurd (cc)
+    by_mark false is none = absurd (cc)
+picked_some (uri ∷ uris) (m ∷ marks) (suc n) within each is_set none = picked_some uris marks n (omega arith) (omega arith) is_set none
+
+picked_end : (uris : List (List ℕ)) (marks : List Bool) → picked (drop (length uris) uris) (drop (length uris) marks) ≡ []
+picked_end [] marks = refl
+picked_end (uri ∷ uris) [] = by_drop (drop (length uris) uris)
+  where
+    by_drop : (rest : List (List ℕ)) → picked rest [] ≡ []
+    by_drop [] = refl
+    by_drop (uri ∷ rest) = refl
+picked_end (uri ∷ uris) (m ∷ marks) = picked_end uris marks
+
+pub ends_at : (uris : List (List ℕ)) (marks : List Bool) (known : List (List ℕ)) (n count : ℕ) → length marks ≡ length uris
+    → count ≡ length uris → n ≤ count → known ≡ picked (drop n uris) (drop n marks) → (n < length marks → get_or marks n true ≡ true)
+    → (nat_eq n count ≡ true → known ≡ []) × (known ≡ [] → nat_eq n count ≡ true)
+ends_at uris marks known n count each all within is is_set = (
+  λ end. is ∙ at_end (eqb-true n count end ∙ all),
+  λ none. by_cases none (cases_lt n (length uris)),
+)
+  where
+    at_end : n ≡ length uris → picked (drop n uris) (drop n marks) ≡ []
+    at_end end = rw end (picked_end uris marks)
+
+    by_cases : known ≡ [] → (n < length uris) ⊎ (length uris ≤ n) → nat_eq n count ≡ true
+    by_cases none (inl below) = absurd (picked_some uris marks n below each (is_set (omega arith)) (sym is ∙ none))
+    by_cases none (inr past) = eq-eqb n count (omega arith)
 
 take_nil : (n : ℕ) → take {A = Bool} n [] ≡ []
 take_nil zero = refl

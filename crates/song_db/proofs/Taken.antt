@@ -1,11 +1,12 @@
 -- The next visit of a walk is taken from what is still to be read.
-use Rattle.std.proofs.Common.{◌≡◌, ℕ, ◌+◌, ◌≤◌, Bool, true, false, not, ◌&&◌, ◌||◌, List, [], ◌∷◌, ◌++◌, cond, take, get_or, length, nat_eq}
+use Rattle.std.proofs.Common.{◌≡◌, ℕ, ◌+◌, ◌≤◌, Bool, true, false, not, ◌&&◌, ◌||◌, List, [], ◌∷◌, ◌++◌, cond, take, get_or, length, nat_eq, suc}
 use Rattle.std.proofs.Common.{refl, sym, ap, ◌∙◌, arith, length-append}
 use Rattle.std.specs.Prelude.{nat_le, nat_lt, if◌then◌else◌}
 use Rattle.std.specs.List.{list_any, list_all, flat_map, sum_by}
 use Rattle.std.specs.List.Sorted.{IsPermutation}
 use Rattle.std.specs.Str.{bytes_eq, is_utf8, chars, IsUtf8}
 use Rattle.std.specs.Char.{is_control}
+use Rattle.std.proofs.Math.Dec.{eqb-suc-zero}
 use Rattle.std.proofs.lemmas.Bool.Decides.{nat_tests}
 use Rattle.std.proofs.lemmas.Grind.{flat_map-append}
 use Rattle.std.proofs.lemmas.List.Concat.{flat_map-cons}
@@ -222,3 +223,37 @@ popped {L} prefix entries before front after level rest entry pending uri view i
       times-cons (entry_pending p e) (entries_pending p es) uri,
       one_more p es,
     )
+
+-- nothing is pending exactly where no level has an entry
+pub none_left : {L : Type 0} (prefix : L → List ℕ) (entries : L → List FolderEntry) (levels : List L)
+    → list_all (λ l. nat_eq (length (entries l)) 0) levels ≡ true → flat_map (λ l. entries_pending (prefix l) (entries l)) levels ≡ []
+none_left prefix entries [] h = refl
+none_left {L} prefix entries (level ∷ levels) h = by_entries (entries level) refl h (none_left prefix entries levels)
+  where
+    f : L → List Pending
+    f l = entries_pending (prefix l) (entries l)
+
+    not_both : (n : ℕ) (b : Bool) → (nat_eq (suc n) 0 && b) ≡ true → ⊥
+    not_both n b h = let off : nat_eq (suc n) 0 ≡ false = eqb-suc-zero n in let no : false ≡ true = rw off at h in absurd (cc)
+
+    by_entries : (es : List FolderEntry) → entries level ≡ es
+        → (nat_eq (length es) 0 && list_all (λ l. nat_eq (length (entries l)) 0) levels) ≡ true
+        → (list_all (λ l. nat_eq (length (entries l)) 0) levels ≡ true → flat_map f levels ≡ [])
+        → entries_pending (prefix level) es ++ flat_map f levels ≡ []
+    by_entries [] is h rest = rest h
+    by_entries (e ∷ es) is h rest = absurd (not_both (length es) (list_all (λ l. nat_eq (length (entries l)) 0) levels) h)
+
+pub no_entry : {L : Type 0} (prefix : L → List ℕ) (entries : L → List FolderEntry) (levels : List L)
+    → flat_map (λ l. entries_pending (prefix l) (entries l)) levels ≡ [] → list_all (λ l. nat_eq (length (entries l)) 0) levels ≡ true
+no_entry prefix entries [] h = refl
+no_entry {L} prefix entries (level ∷ levels) h = by_entries (entries level) refl h (no_entry prefix entries levels)
+  where
+    f : L → List Pending
+    f l = entries_pending (prefix l) (entries l)
+
+    by_entries : (es : List FolderEntry) → entries level ≡ es
+        → entries_pending (prefix level) es ++ flat_map f levels ≡ []
+        → (flat_map f levels ≡ [] → list_all (λ l. nat_eq (length (entries l)) 0) levels ≡ true)
+        → (nat_eq (length es) 0 && list_all (λ l. nat_eq (length (entries l)) 0) levels) ≡ true
+    by_entries [] is h rest = rest h
+    by_entries (e ∷ es) is h rest = absurd (cc)

@@ -1,5 +1,5 @@
 // The scan of a job, answer after answer.
-ghost use Rattle.std.specs.Prelude.{◌≡◌, true, false, Ok, None, IfOk, IfSome, OnErr, IsOkUnless};
+ghost use Rattle.std.specs.Prelude.{◌≡◌, [], true, false, Ok, None, IfOk, IfSome, OnErr, IsOkUnless};
 ghost use Rattle.song_db.specs.Pending.{own_pending};
 ghost use Rattle.song_db.specs.Scan.{IsAnswer, IsEnd, IsHonestAnswer, IsSameOrder, IsWholeAnswer, changes_in};
 ghost use Rattle.song_db.specs.declared.refusal.SongDbError.TheVariants.{NoMemory};
@@ -76,7 +76,8 @@ impl Scan {
         })
     }
 
-    /// The next changes: 64, or the last ones, 1 to 64 of them; `None` at the end, and from then on.
+    /// The next changes: 64, or the last ones, 1 to 64 of them; `None` at the end, and from then on. Where nothing is left, it takes no
+    /// memory to say so.
     ///
     /// Refused by `NoMemory`, the scan is over: what it hasn't read keeps its row.
     pub fn next<F: Folder>(
@@ -88,6 +89,7 @@ impl Scan {
         ensures some { IfOk result (λ answer. IfSome answer (λ changes. IsAnswer self.old self.new changes.items)) }
         ensures none { result ≡ Ok None → IsEnd self.new }
         ensures err { OnErr result (IsEnd self.new) }
+        ensures nothing_left { self.old.pending ≡ [] → self.old.droppable ≡ [] → (result ≡ Ok None) × (folder.new ≡ folder.old) }
         ensures over { self.old.is_over ≡ true → (result ≡ Ok None) × (folder.new ≡ folder.old) }
         ensures only { IsOkUnless result NoMemory }
         ensures order { IsSameOrder self.old self.new }
@@ -100,7 +102,8 @@ impl Scan {
         ensures honest { F.honest folder.old → F.honest folder.new × (F.files folder.new ≡ F.files folder.old) }
         ensures steady { F.steady folder.old → F.steady folder.new }
     {
-        if self.is_over {
+        if self.is_over || self.reader.is_at_end() {
+            self.is_over = true;
             return Ok(None);
         }
         match self.reader.batch(alloc, folder) {

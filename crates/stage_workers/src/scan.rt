@@ -1,5 +1,5 @@
 // The scan's thread: it reads the folder of a job, and reports what it finds.
-ghost use Rattle.std.specs.Prelude.{◌≡◌, true, Ok, None, IfOk, MatchResult, OnErr};
+ghost use Rattle.std.specs.Prelude.{◌≡◌, [], true, Ok, None, IfOk, MatchResult, OnErr};
 ghost use Rattle.song_db.specs.Scan.{IsEnd, IsHonestAnswer, IsWholeAnswer};
 ghost use Rattle.stage_workers.specs.Scanning.{changes_of};
 ghost use Rattle.stage_workers.specs.Working.{GoesOn, HasWorked};
@@ -98,8 +98,8 @@ pub fn scan_once<D: Disk, C: Ledger, P: Ledger, S: Ledger, F: Folder, R: Wait + 
     Ok((pass, scanned))
 }
 
-/// What the scan finds next, as a batch; nothing at its end. It refuses where memory runs out: what was found since the last batch is lost
-/// then, and the scan is over.
+/// What the scan finds next, as a batch; nothing at its end, which takes no memory. It refuses where memory runs out: what was found since
+/// the last batch is lost then, and the scan is over.
 pub fn next_changes<F: Folder>(
     alloc: Global,
     scan: &mut Scan,
@@ -111,6 +111,7 @@ pub fn next_changes<F: Folder>(
         IfOk result (λ found. IsWholeAnswer (F.files folder.old) scan.old scan.new (changes_of found)) }
     ensures none { result ≡ Ok None → IsEnd scan.new }
     ensures err { OnErr result (IsEnd scan.new) }
+    ensures nothing_left { scan.old.pending ≡ [] → scan.old.droppable ≡ [] → (result ≡ Ok None) × (folder.new ≡ folder.old) }
     ensures over { scan.old.is_over ≡ true → (result ≡ Ok None) × (folder.new ≡ folder.old) }
     ensures honest { F.honest folder.old → F.honest folder.new × (F.files folder.new ≡ F.files folder.old) }
     ensures steady { F.steady folder.old → F.steady folder.new }

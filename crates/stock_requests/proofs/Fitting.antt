@@ -5,6 +5,7 @@ use Rattle.std.specs.Prelude.{if◌then◌else◌, codes, IfSome}
 use Rattle.std.specs.Str.{bytes_eq}
 use Rattle.command_text.specs.declared.name.CommandName.{CommandName}
 use Rattle.command_text.specs.declared.name.CommandName.TheVariants as names
+use Rattle.command_text.specs.declared.range.Window.{Window}
 use Rattle.command_text.specs.Counts.{Word}
 use Rattle.command_text.specs.Finding.{has_filter_count}
 use Rattle.command_text.specs.Names.{name_text, named}
@@ -46,11 +47,13 @@ use Rattle.stock_requests.specs.Foreign.{by_reply, foreign_translation, louder, 
 use Rattle.stock_requests.specs.Names.{foreign_named}
 use Rattle.stock_requests.specs.Native.{adding_to_playlist, answered, as_it_is, by_handling, by_line, by_natives, by_one, counting, filtered}
 use Rattle.stock_requests.specs.Native.{by_steps, grouped_count, grouped_count_of, grouped_list, grouped_list_of, grouping}
-use Rattle.stock_requests.specs.Native.{files_change, files_natives, is_file_name, list_all, listing_files}
+use Rattle.stock_requests.specs.Expressions.{is_file_name}
+use Rattle.stock_requests.specs.Native.{files_change, files_natives, list_all, listing_files, shuffling, shuffling_in}
 use Rattle.stock_requests.specs.Native.{handling_of, list_info, listing, listing_by, listing_change, listing_empty, listing_of, listing_values}
 use Rattle.stock_requests.specs.Native.{listing_words, filter_or_all, has_list_count, is_root, mask_alone, mask_by, mask_change, mask_of}
 use Rattle.stock_requests.specs.Native.{mask_refused, refused, root, songs_lines, tag_types, telling, with_named}
 use Rattle.stock_requests.specs.Masks.{empty_set, only_tag}
+use Rattle.stock_requests.specs.Shuffles.{begun_shuffle, shuffled_range}
 use Rattle.stock_requests.specs.Spelling.{line_limit, spelled_line, spelled_words, words_eq}
 use Rattle.stock_requests.specs.Steps.{group_name}
 use Rattle.stock_requests.specs.Volumes.{begun_volume}
@@ -100,11 +103,12 @@ itself_fits : (songs : Bool) → Holds (as_it_is songs)
 itself_fits true = songs_hold
 itself_fits false = same_holds
 
-filter_fits : (name : CommandName) (songs sorts : Bool) (front words : List Word) → Holds (filtered name songs sorts front words)
+filter_fits : (name : CommandName) (songs sorts within : Bool) (front words : List Word)
+    → Holds (filtered name songs sorts within front words)
 unfolding filtered
-filter_fits name songs sorts front words =
-    choice (words_eq (native_filter sorts words) words) (as_it_is songs) _ (itself_fits songs)
-    (line_fits (as_it_is songs) (spelled_line (name_text name) (front ++ native_filter sorts words))
+filter_fits name songs sorts within front words =
+    choice (words_eq (native_filter sorts within words) words) (as_it_is songs) _ (itself_fits songs)
+    (line_fits (as_it_is songs) (spelled_line (name_text name) (front ++ native_filter sorts within words))
     (telling (Native name) (songs_lines songs) endings.Nothing) (itself_fits songs))
 
 steps_hold : (line : List ℕ) (steps : Steps) → length line ≤ line_limit → Holds (Stepped line steps)
@@ -125,7 +129,7 @@ grouping_fits listed words tags = choice (has_list_count words) _ _
 
 parted_count_fits : (parted : Result Parted ForeignRefusal) → Holds (grouped_count_of parted)
 parted_count_fits (Err refusal) = refusal_fits (group_name true) refusal
-parted_count_fits (Ok p) = grouping_fits None (native_filter false p.words) p.tags
+parted_count_fits (Ok p) = grouping_fits None (native_filter false false p.words) p.tags
 
 grouped_count_fits : (is_alone : Bool) (words : List Word) → Holds (grouped_count is_alone words)
 grouped_count_fits false words = refusal_fits (group_name true) refusals.NotInList
@@ -134,12 +138,12 @@ grouped_count_fits true words = parted_count_fits (part_ends 1 empty_set words)
 count_fits : (is_alone : Bool) (words : List Word) → Holds (counting is_alone words)
 unfolding counting
 count_fits is_alone words =
-    choice (is_grouped words) (grouped_count is_alone words) _ (grouped_count_fits is_alone words) (filter_fits names.Count false false [] words)
+    choice (is_grouped words) (grouped_count is_alone words) _ (grouped_count_fits is_alone words) (filter_fits names.Count false false false [] words)
 
 playlist_fits : (words : List Word) → Holds (adding_to_playlist words)
 unfolding adding_to_playlist
 playlist_fits [] = same_holds
-playlist_fits (list ∷ words) = filter_fits names.SearchAddPlaylist false false (list ∷ []) words
+playlist_fits (list ∷ words) = filter_fits names.SearchAddPlaylist false false true (list ∷ []) words
 
 second_fits_so : (second : Option (List ℕ)) → second_fits second ≡ true → IfSome second (λ line. length line ≤ line_limit)
 second_fits_so None e = tt
@@ -173,7 +177,7 @@ empty_fits tag words =
 
 standing_fits : (standing : Standing) (tag : ForeignTag) (words : List Word) → Holds (listing_by standing tag words)
 standing_fits (standings.Native other) tag words = values_fit tag (listing_words other words)
-standing_fits (standings.FallsBackTo other) tag words = values_fit tag (native_filter false words)
+standing_fits (standings.FallsBackTo other) tag words = values_fit tag (native_filter false false words)
 standing_fits standings.Absent tag words = empty_fits tag words
 
 tag_fits : (tag : Option ForeignTag) (words : List Word) → Holds (listing_of tag words)
@@ -182,7 +186,7 @@ tag_fits (Some tag) words = standing_fits (standing_of tag) tag words
 
 parted_list_fits : (tag : ForeignTag) (parted : Result Parted ForeignRefusal) → Holds (grouped_list_of tag parted)
 parted_list_fits tag (Err refusal) = refusal_fits (group_name false) refusal
-parted_list_fits tag (Ok p) = grouping_fits (Some tag) (native_filter false p.words) (p.tags ++ tag ∷ [])
+parted_list_fits tag (Ok p) = grouping_fits (Some tag) (native_filter false false p.words) (p.tags ++ tag ∷ [])
 
 grouped_list_fits : (is_alone : Bool) (tag : Option ForeignTag) (words : List Word) → Holds (grouped_list is_alone tag words)
 grouped_list_fits is_alone None words = same_holds
@@ -194,7 +198,7 @@ unfolding listing_files
 files_fit [] = one_holds (codes "listall") files_change (omega arith)
 files_fit (word ∷ words) =
     choice (has_filter_count (word ∷ words)) _ Same
-    (by_natives_fits (files_natives (native_filter false (word ∷ words))) files_change) same_holds
+    (by_natives_fits (files_natives (native_filter false false (word ∷ words))) files_change) same_holds
 
 list_fits : (is_alone : Bool) (words : List Word) → Holds (listing is_alone words)
 unfolding listing
@@ -244,13 +248,22 @@ masks_fit (what ∷ words) =
     let shows = choice (bytes_eq what (codes "all")) (mask_alone All words) _ (alone_fits All words) enables in
     choice (bytes_eq what (codes "clear")) (mask_alone Clear words) _ (alone_fits Clear words) shows
 
+range_fits : (words : List Word) (range : Option Window) → Holds (shuffling_in words range)
+range_fits words None = same_holds
+range_fits words (Some range) = steps_fit (codes "status") (steps.Shuffle (begun_shuffle words range))
+
+shuffle_fits : (is_alone : Bool) (words : List Word) → Holds (shuffling is_alone words)
+shuffle_fits false words = same_holds
+shuffle_fits true words = range_fits words (shuffled_range words)
+
 handled_fits : (is_alone : Bool) (handling : Handling) (name : CommandName) (words : List Word)
     → Holds (by_handling is_alone handling name words)
 handled_fits is_alone handlings.Untouched name words = same_holds
 handled_fits is_alone handlings.TellsSongs name words = songs_hold
 handled_fits is_alone (handlings.Adds text) name words = changed_holds (telling (Native name) lines.Kept (endings.Text text))
 handled_fits is_alone handlings.AddsTimes name words = changed_holds (telling (Native name) lines.Kept endings.Times)
-handled_fits is_alone (handlings.Filters songs sorts) name words = filter_fits name songs sorts [] words
+handled_fits is_alone (handlings.Filters songs sorts) name words = filter_fits name songs sorts false [] words
+handled_fits is_alone (handlings.Searches songs sorts) name words = filter_fits name songs sorts true [] words
 handled_fits is_alone handlings.AddsToPlaylist name words = playlist_fits words
 handled_fits is_alone handlings.Counts name words = count_fits is_alone words
 handled_fits is_alone handlings.ListsValues name words = list_fits is_alone words
@@ -258,6 +271,7 @@ handled_fits is_alone handlings.ListsFolder name words = info_fits words
 handled_fits is_alone (handlings.ListsAll songs) name words = all_fits name songs words
 handled_fits is_alone handlings.ListsPlaylists name words = changed_holds (telling (Native name) lines.Dated endings.Nothing)
 handled_fits is_alone handlings.Masks name words = masks_fit words
+handled_fits is_alone handlings.Shuffles name words = shuffle_fits is_alone words
 
 louder_fits : (is_alone : Bool) (name : ForeignName) (step : VolumeStep) → Holds (louder is_alone name step)
 louder_fits false name step = refusal_fits name refusals.NotInList

@@ -143,43 +143,43 @@ one_at words i name le at =
     get_or_read (word ∷ words) (suc k) h = get_or_read words k (omega arith)
 
 -- a part that may stand behind a filter
-pub pairs_stop : (sorts : Bool) (front words whole : List Word) (i : ℕ) (name bytes : Word) → i + 2 ≤ length words
+pub pairs_stop : (sorts within : Bool) (front words whole : List Word) (i : ℕ) (name bytes : Word) → i + 2 ≤ length words
     → name ≡ get_or words i name → bytes ≡ name → (sorts && begins_part true bytes) ≡ true
-    → front ++ more_pairs sorts (drop i words) ≡ whole → front ++ native_parts sorts (drop i words) ≡ whole
+    → front ++ more_pairs sorts within (drop i words) ≡ whole → front ++ native_parts sorts (drop i words) ≡ whole
 unfolding more_pairs
-pairs_stop sorts front words whole i name bytes le at same e before =
+pairs_stop sorts within front words whole i name bytes le at same e before =
     let two = one_at words i name le at in
     let part : (sorts && begins_part true name) ≡ true = ap (λ (w : Word). sorts && begins_part true w) (sym same) ∙ e in
-    let read : more_pairs sorts (name ∷ two.0 ∷ drop (i + 2) words) ≡ native_parts sorts (name ∷ two.0 ∷ drop (i + 2) words) =
+    let read : more_pairs sorts within (name ∷ two.0 ∷ drop (i + 2) words) ≡ native_parts sorts (name ∷ two.0 ∷ drop (i + 2) words) =
     rw part refl in
     ap (λ (ws : List Word). front ++ ws) (
-    ap (native_parts sorts) two.1 ∙ sym read ∙ sym (ap (more_pairs sorts) two.1)
+    ap (native_parts sorts) two.1 ∙ sym read ∙ sym (ap (more_pairs sorts within) two.1)
     ) ∙ before
 
 -- a pair
-pub pairs_go : (sorts : Bool) (front out words whole : List Word) (i : ℕ) (name bytes value : Word) → i + 2 ≤ length words
+pub pairs_go : (sorts within : Bool) (front out words whole : List Word) (i : ℕ) (name bytes value : Word) → i + 2 ≤ length words
     → name ≡ get_or words i name → bytes ≡ name → value ≡ get_or words (i + 1) value → (sorts && begins_part true bytes) ≡ false
-    → out ≡ front ++ native_pair name value
-    → front ++ more_pairs sorts (drop i words) ≡ whole → out ++ more_pairs sorts (drop (i + 2) words) ≡ whole
+    → out ≡ front ++ native_pair within name value
+    → front ++ more_pairs sorts within (drop i words) ≡ whole → out ++ more_pairs sorts within (drop (i + 2) words) ≡ whole
 unfolding more_pairs
-pairs_go sorts front out words whole i name bytes value le at same next e is before =
+pairs_go sorts within front out words whole i name bytes value le at same next e is before =
     let two = two_at words i name value le at next in
     let no_part : (sorts && begins_part true name) ≡ false = ap (λ (w : Word). sorts && begins_part true w) (sym same) ∙ e in
-    let read : more_pairs sorts (name ∷ value ∷ drop (i + 2) words) ≡ native_pair name value ++ more_pairs sorts (drop (i + 2) words) =
+    let read : more_pairs sorts within (name ∷ value ∷ drop (i + 2) words) ≡ native_pair within name value ++ more_pairs sorts within (drop (i + 2) words) =
     rw no_part refl in
-    let rest = more_pairs sorts (drop (i + 2) words) in
-    ap (λ (s : List Word). s ++ rest) is ∙ append_assoc front (native_pair name value) rest
-    ∙ ap (λ (ws : List Word). front ++ ws) (sym read ∙ sym (ap (more_pairs sorts) two)) ∙ before
+    let rest = more_pairs sorts within (drop (i + 2) words) in
+    ap (λ (s : List Word). s ++ rest) is ∙ append_assoc front (native_pair within name value) rest
+    ∙ ap (λ (ws : List Word). front ++ ws) (sym read ∙ sym (ap (more_pairs sorts within) two)) ∙ before
 
 -- fewer than two words
-pub pairs_end : (sorts : Bool) (front words whole : List Word) (i : ℕ) → length words < i + 2
-    → front ++ more_pairs sorts (drop i words) ≡ whole → front ++ drop i words ≡ whole
+pub pairs_end : (sorts within : Bool) (front words whole : List Word) (i : ℕ) → length words < i + 2
+    → front ++ more_pairs sorts within (drop i words) ≡ whole → front ++ drop i words ≡ whole
 unfolding more_pairs
-pairs_end sorts front words whole i few before =
+pairs_end sorts within front words whole i few before =
     let short : length (drop i words) < 2 = omega (arith, length-drop i words) in
     ap (λ (ws : List Word). front ++ ws) (sym (few_words (drop i words) short)) ∙ before
   where
-    few_words : (ws : List Word) → length ws < 2 → more_pairs sorts ws ≡ ws
+    few_words : (ws : List Word) → length ws < 2 → more_pairs sorts within ws ≡ ws
     few_words [] h = refl
     few_words (word ∷ []) h = refl
     few_words (word ∷ other ∷ words) h = absurd (omega arith)

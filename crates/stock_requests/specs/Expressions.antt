@@ -1,7 +1,7 @@
 -- An expression over the daemon's tags in the place of one over all of MPD's: the text is parted into pieces from the left. A text in
--- quotes is one, and so is an open parenthesis with the name of a tag that the daemon hasn't, and the test behind it where no song has the
--- tag; any other byte is a piece by itself, and stays.
-use Rattle.std.specs.Prelude.{ℕ, zero, suc, ◌+◌, ◌-◌, ◌==◌, ◌&&◌, not, nat_eq, List, [], ◌∷◌, ◌++◌, length, take, drop, codes}
+-- quotes is one, and so is an open parenthesis with the name of a tag that the daemon hasn't, or of a song's file, and the test behind it
+-- where no song has the tag, or the daemon no such test; any other byte is a piece by itself, and stays.
+use Rattle.std.specs.Prelude.{ℕ, zero, suc, ◌+◌, ◌-◌, ◌==◌, ◌&&◌, ◌||◌, not, nat_eq, List, [], ◌∷◌, ◌++◌, length, take, drop, codes}
 use Rattle.std.specs.Prelude.{Bool, true, false, Option, Some, None, if◌then◌else◌}
 use Rattle.std.specs.List.{starts_with}
 use Rattle.std.specs.Str.{str_eq_ignore_ascii_case}
@@ -26,9 +26,13 @@ abbrev pub filter_tag : Option ForeignTag → FilterName
 filter_tag None = Kept
 filter_tag (Some tag) = filter_standing (standing_of tag)
 
+-- a song's file, as clients call it
+abbrev pub is_file_name : List ℕ → Bool
+is_file_name word = str_eq_ignore_ascii_case word (codes "file") || str_eq_ignore_ascii_case word (codes "filename")
+
 -- what becomes of a name in a filter
 unfoldable pub filter_name : List ℕ → FilterName
-filter_name name = if str_eq_ignore_ascii_case name (codes "filename") then File else filter_tag (tag_named name)
+filter_name name = if is_file_name name then File else filter_tag (tag_named name)
 
 -- `base` of the empty text holds for every song, and of `/` for none
 abbrev pub base_value : Bool → List ℕ
@@ -96,6 +100,30 @@ test_behind (Some x) = test_by x.operator (without_blanks x.rest) (value_length 
 unfoldable pub test_at : List ℕ → Option Test
 test_at text = test_behind (operator_at (without_blanks text))
 
+-- a text in quotes in front, and what stands behind it
+pub record Quoted : Type 0 where
+  pub value : List ℕ
+  pub rest : List ℕ
+
+abbrev pub quoted : List ℕ → List ℕ → Quoted
+quoted value rest = record { value = value; rest = rest }
+
+abbrev pub quoted_by : List ℕ → Option ℕ → Option Quoted
+quoted_by text None = None
+quoted_by text (Some n) = Some (quoted (take n text) (drop n text))
+
+-- the value that something must not be, and what stands behind it
+abbrev pub unequal_by : Operator → List ℕ → Option Quoted
+unequal_by Unequal text = quoted_by text (value_length text)
+unequal_by operator text = None
+
+abbrev pub unequal_to : Option Compared → Option Quoted
+unequal_to None = None
+unequal_to (Some x) = unequal_by x.operator (without_blanks x.rest)
+
+unfoldable pub unequal_at : List ℕ → Option Quoted
+unequal_at text = unequal_to (operator_at (without_blanks text))
+
 -- so many bytes of a text, and what stands in their place
 pub record Piece : Type 0 where
   pub length : ℕ
@@ -115,11 +143,16 @@ abbrev pub absent_piece : List ℕ → Option Test → Piece
 absent_piece text None = kept 1 text
 absent_piece text (Some test) = replaced text test.rest (base_test test.always)
 
+-- a test of a song's file: the daemon has no `!=` of it, but `!` before a test in parentheses
+abbrev pub file_piece : List ℕ → List ℕ → Option Quoted → Piece
+file_piece text rest None = replaced text rest (codes "file")
+file_piece text rest (Some q) = replaced text q.rest (codes "!(file == " ++ (q.value ++ codes ")"))
+
 -- a parenthesis, behind which a name of this kind stands
 abbrev pub named_piece : List ℕ → List ℕ → FilterName → Piece
 named_piece text rest Kept = kept 1 text
 named_piece text rest (OfTag tag) = replaced text rest (name_of tag)
-named_piece text rest File = replaced text rest (codes "file")
+named_piece text rest File = file_piece text rest (unequal_at rest)
 named_piece text rest Absent = absent_piece text (test_at rest)
 
 abbrev pub quoted_piece : List ℕ → Option ℕ → Piece

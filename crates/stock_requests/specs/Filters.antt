@@ -1,14 +1,15 @@
 -- The words of a filter, and the order behind it, over the daemon's tags in the place of all of MPD's.
-use Rattle.std.specs.Prelude.{ℕ, List, [], ◌∷◌, ◌++◌, ◌&&◌, Bool, true, false, drop, codes, if◌then◌else◌}
-use Rattle.std.specs.Str.{bytes_eq}
+use Rattle.std.specs.Prelude.{ℕ, List, [], ◌∷◌, ◌++◌, ◌&&◌, ◌||◌, is_some, Bool, true, false, drop, codes, if◌then◌else◌}
+use Rattle.std.specs.Str.{bytes_eq, str_eq_ignore_ascii_case}
 use Rattle.wave_pcm.specs.TagName.{name_of}
 use Rattle.filter_expr.specs.Parts.{opening, begins_so}
 use Rattle.command_text.specs.Counts.{Word}
 use Rattle.command_text.specs.Finding.{begins_part}
 use Rattle.stock_requests.specs.declared.expression.FilterName.{FilterName}
 use Rattle.stock_requests.specs.declared.expression.FilterName.TheVariants.{Kept, OfTag, File, Absent}
-use Rattle.stock_requests.specs.Expressions.{base_value, filter_name, holds_of_none, native_text}
+use Rattle.stock_requests.specs.Expressions.{base_value, filter_name, holds_of_none, is_file_name, native_text}
 use Rattle.stock_requests.specs.declared.expression.Operator.TheVariants.{Equal}
+use Rattle.stock_requests.specs.Tags.{tag_named}
 
 abbrev pub minus : ℕ
 minus = 45
@@ -24,8 +25,14 @@ pair_by (OfTag tag) name value = name_of tag ∷ value ∷ []
 pair_by File name value = codes "file" ∷ value ∷ []
 pair_by Absent name value = codes "base" ∷ base_value (holds_of_none Equal (is_empty value)) ∷ []
 
-abbrev pub native_pair : Word → Word → List Word
-native_pair name value = pair_by (filter_name name) name value
+-- what a pair may ask for: a tag, `any` of them, or a song's file
+abbrev pub is_asked_for : Word → Bool
+is_asked_for name = is_some (tag_named name) || (str_eq_ignore_ascii_case name (codes "any") || is_file_name name)
+
+-- a pair; `search` and its like look for a value within a text, and the empty one is within each, also where there is none
+abbrev pub native_pair : Bool → Word → Word → List Word
+native_pair within name value =
+    if within && (is_empty value && is_asked_for name) then codes "base" ∷ [] ∷ [] else pair_by (filter_name name) name value
 
 -- What songs are sorted by in the place of a name, upwards or downwards. Where no song has the tag they stay as they are found, by URIs.
 abbrev pub sort_by : Bool → FilterName → Word → Word
@@ -36,9 +43,13 @@ sort_by false File word = codes "file"
 sort_by true File word = codes "-file"
 sort_by down Absent word = codes "file"
 
+-- what is sorted by: no song has a time of its last change
+abbrev pub sort_name : Word → FilterName
+sort_name name = if str_eq_ignore_ascii_case name (codes "last-modified") then Absent else filter_name name
+
 unfoldable pub native_sort : Word → Word
 native_sort word =
-    if begins_so minus word then sort_by true (filter_name (drop 1 word)) word else sort_by false (filter_name word) word
+    if begins_so minus word then sort_by true (sort_name (drop 1 word)) word else sort_by false (sort_name word) word
 
 -- the words behind a filter; only the first part can be an order
 unfoldable pub native_parts : Bool → List Word → List Word
@@ -48,21 +59,21 @@ native_parts sorts (part ∷ value ∷ words) =
     if sorts && bytes_eq part (codes "sort") then part ∷ native_sort value ∷ words else part ∷ value ∷ words
 
 -- the pairs behind the first one, up to a part that may stand behind them
-unfoldable pub more_pairs : Bool → List Word → List Word
-more_pairs sorts [] = []
-more_pairs sorts (word ∷ []) = word ∷ []
-more_pairs sorts (name ∷ value ∷ words) =
+unfoldable pub more_pairs : Bool → Bool → List Word → List Word
+more_pairs sorts within [] = []
+more_pairs sorts within (word ∷ []) = word ∷ []
+more_pairs sorts within (name ∷ value ∷ words) =
     if sorts && begins_part true name then native_parts sorts (name ∷ value ∷ words)
-    else native_pair name value ++ more_pairs sorts words
+    else native_pair within name value ++ more_pairs sorts within words
 
 -- the first pair is one whatever its name
-unfoldable pub native_pairs : Bool → List Word → List Word
-native_pairs sorts [] = []
-native_pairs sorts (word ∷ []) = word ∷ []
-native_pairs sorts (name ∷ value ∷ words) = native_pair name value ++ more_pairs sorts words
+unfoldable pub native_pairs : Bool → Bool → List Word → List Word
+native_pairs sorts within [] = []
+native_pairs sorts within (word ∷ []) = word ∷ []
+native_pairs sorts within (name ∷ value ∷ words) = native_pair within name value ++ more_pairs sorts within words
 
--- a filter and what stands behind it, where an order may stand there or not
-unfoldable pub native_filter : Bool → List Word → List Word
-native_filter sorts [] = []
-native_filter sorts (word ∷ words) =
-    if begins_so opening word then native_text word ∷ native_parts sorts words else native_pairs sorts (word ∷ words)
+-- a filter and what stands behind it, where an order may stand there or not, and whose pairs look for a value within a text or don't
+unfoldable pub native_filter : Bool → Bool → List Word → List Word
+native_filter sorts within [] = []
+native_filter sorts within (word ∷ words) =
+    if begins_so opening word then native_text word ∷ native_parts sorts words else native_pairs sorts within (word ∷ words)

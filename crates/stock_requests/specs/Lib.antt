@@ -9,6 +9,7 @@ pub mod Listed
 pub mod Masks
 pub mod Names
 pub mod Native
+pub mod Shuffles
 pub mod Spelling
 pub mod Steps
 pub mod Tags

@@ -1,12 +1,13 @@
 -- What becomes of the daemon's own commands where MPD's do more.
 use Rattle.std.specs.Prelude.{ℕ, List, [], ◌∷◌, ◌++◌, ◌||◌, not, nat_le, length, Bool, true, false, Option, Some, None, option_and_then, codes}
 use Rattle.std.specs.Prelude.{if◌then◌else◌, Result, Ok, Err}
-use Rattle.std.specs.Str.{bytes_eq, str_eq_ignore_ascii_case}
+use Rattle.std.specs.Str.{bytes_eq}
 use Rattle.wave_pcm.specs.declared.tags.Tag.{Tag}
 use Rattle.wave_pcm.specs.declared.tags.Tag.TheVariants as native
 use Rattle.command_text.specs.declared.name.CommandName.{CommandName}
 use Rattle.command_text.specs.declared.name.CommandName.TheVariants as names
 use Rattle.filter_expr.specs.Parts.{begins_so, opening}
+use Rattle.command_text.specs.declared.range.Window.{Window}
 use Rattle.command_text.specs.Counts.{Word}
 use Rattle.command_text.specs.Finding.{has_filter_count}
 use Rattle.command_text.specs.Names.{name_text}
@@ -28,18 +29,21 @@ use Rattle.stock_requests.specs.declared.mask.MaskChange.TheVariants.{Clear, All
 use Rattle.stock_requests.specs.declared.name.ForeignName.{ForeignName}
 use Rattle.stock_requests.specs.declared.name.ForeignName.TheVariants.{Native}
 use Rattle.stock_requests.specs.declared.native.Handling.{Handling}
-use Rattle.stock_requests.specs.declared.native.Handling.TheVariants.{Untouched, TellsSongs, Adds, AddsTimes, Filters, AddsToPlaylist}
-use Rattle.stock_requests.specs.declared.native.Handling.TheVariants.{Counts, ListsValues, ListsFolder, ListsAll, ListsPlaylists, Masks}
+use Rattle.stock_requests.specs.declared.native.Handling.TheVariants.{Untouched, TellsSongs, Adds, AddsTimes, Filters, Searches}
+use Rattle.stock_requests.specs.declared.native.Handling.TheVariants.{AddsToPlaylist, Counts, ListsValues, ListsFolder, ListsAll}
+use Rattle.stock_requests.specs.declared.native.Handling.TheVariants.{ListsPlaylists, Masks, Shuffles}
 use Rattle.stock_requests.specs.declared.tag.ForeignTag.{ForeignTag}
 use Rattle.stock_requests.specs.declared.tag.Standing.{Standing}
 use Rattle.stock_requests.specs.declared.tag.Standing.TheVariants as standings
 use Rattle.stock_requests.specs.declared.steps.Steps as declared
-use Rattle.stock_requests.specs.declared.steps.Steps.TheVariants.{Group}
+use Rattle.stock_requests.specs.declared.steps.Steps.TheVariants.{Group, Shuffle}
+use Rattle.stock_requests.specs.Expressions.{is_file_name}
 use Rattle.stock_requests.specs.Filters.{native_filter}
 use Rattle.stock_requests.specs.Grouped.{begun_group, is_grouped, most_ends, part_ends, Parted}
 use Rattle.stock_requests.specs.Groups.{count_line, counts_in, fits, two_natives}
 use Rattle.stock_requests.specs.Listed.{listing_natives}
 use Rattle.stock_requests.specs.Masks.{empty_set, only_tag, with_tags}
+use Rattle.stock_requests.specs.Shuffles.{begun_shuffle, shuffled_range}
 use Rattle.stock_requests.specs.Spelling.{line_limit, spelled_line, spelled_words, words_eq}
 use Rattle.stock_requests.specs.Steps.{group_name}
 use Rattle.stock_requests.specs.Tags.{standing_of, tag_named}
@@ -77,11 +81,12 @@ abbrev pub songs_lines : Bool → LineChange
 songs_lines true = lines.Masked
 songs_lines false = lines.Kept
 
--- a command with a filter behind some words: whether its answer tells songs, and whether an order may stand behind the filter
-unfoldable pub filtered : CommandName → Bool → Bool → List Word → List Word → Translation
-filtered name songs sorts front words =
-    if words_eq (native_filter sorts words) words then as_it_is songs
-    else by_line (as_it_is songs) (spelled_line (name_text name) (front ++ native_filter sorts words))
+-- a command with a filter behind some words: whether its answer tells songs, whether an order may stand behind the filter, and whether
+-- pairs look for a value within a text
+unfoldable pub filtered : CommandName → Bool → Bool → Bool → List Word → List Word → Translation
+filtered name songs sorts within front words =
+    if words_eq (native_filter sorts within words) words then as_it_is songs
+    else by_line (as_it_is songs) (spelled_line (name_text name) (front ++ native_filter sorts within words))
     (telling (Native name) (songs_lines songs) endings.Nothing)
 
 -- a command that takes more than one request begins with this line, where a line may be so long
@@ -101,18 +106,18 @@ grouping listed words tags =
 -- in a command list nothing can be asked step by step
 abbrev pub grouped_count_of : Result Parted ForeignRefusal → Translation
 grouped_count_of (Err refusal) = refused (group_name true) refusal
-grouped_count_of (Ok p) = grouping None (native_filter false p.words) p.tags
+grouped_count_of (Ok p) = grouping None (native_filter false false p.words) p.tags
 
 abbrev pub grouped_count : Bool → List Word → Translation
 grouped_count false words = refused (group_name true) refusals.NotInList
 grouped_count true words = grouped_count_of (part_ends 1 empty_set words)
 
 unfoldable pub counting : Bool → List Word → Translation
-counting is_alone words = if is_grouped words then grouped_count is_alone words else filtered names.Count false false [] words
+counting is_alone words = if is_grouped words then grouped_count is_alone words else filtered names.Count false false false [] words
 
 unfoldable pub adding_to_playlist : List Word → Translation
 adding_to_playlist [] = Same
-adding_to_playlist (list ∷ words) = filtered names.SearchAddPlaylist false false (list ∷ []) words
+adding_to_playlist (list ∷ words) = filtered names.SearchAddPlaylist false false true (list ∷ []) words
 
 -- `list Album ARTIST`, as clients of old say it
 abbrev pub is_artist_alone : Tag → List Word → Bool
@@ -121,7 +126,7 @@ is_artist_alone tag words = false
 
 -- the words behind the tag of a `list`, one that songs have
 abbrev pub listing_words : Tag → List Word → List Word
-listing_words tag words = if is_artist_alone tag words then codes "Artist" ∷ words else native_filter false words
+listing_words tag words = if is_artist_alone tag words then codes "Artist" ∷ words else native_filter false false words
 
 -- an answer of which the values of a tag are told
 abbrev pub listing_change : ForeignTag → Change
@@ -138,7 +143,7 @@ listing_values tag words = if has_list_count words then by_natives (listing_nati
 -- a filter that holds for every song, where there is none
 abbrev pub filter_or_all : List Word → List Word
 filter_or_all [] = codes "base" ∷ [] ∷ []
-filter_or_all (word ∷ words) = native_filter false (word ∷ words)
+filter_or_all (word ∷ words) = native_filter false false (word ∷ words)
 
 -- of a tag that no song has the empty one, where there are songs
 unfoldable pub listing_empty : ForeignTag → List Word → Translation
@@ -147,7 +152,7 @@ listing_empty tag words =
 
 abbrev pub listing_by : Standing → ForeignTag → List Word → Translation
 listing_by (standings.Native other) tag words = listing_values tag (listing_words other words)
-listing_by (standings.FallsBackTo other) tag words = listing_values tag (native_filter false words)
+listing_by (standings.FallsBackTo other) tag words = listing_values tag (native_filter false false words)
 listing_by standings.Absent tag words = listing_empty tag words
 
 abbrev pub listing_of : Option ForeignTag → List Word → Translation
@@ -156,16 +161,12 @@ listing_of (Some tag) words = listing_by (standing_of tag) tag words
 
 abbrev pub grouped_list_of : ForeignTag → Result Parted ForeignRefusal → Translation
 grouped_list_of tag (Err refusal) = refused (group_name false) refusal
-grouped_list_of tag (Ok p) = grouping (Some tag) (native_filter false p.words) (p.tags ++ tag ∷ [])
+grouped_list_of tag (Ok p) = grouping (Some tag) (native_filter false false p.words) (p.tags ++ tag ∷ [])
 
 abbrev pub grouped_list : Bool → Option ForeignTag → List Word → Translation
 grouped_list is_alone None words = Same
 grouped_list false (Some tag) words = refused (group_name false) refusals.NotInList
 grouped_list true (Some tag) words = grouped_list_of tag (part_ends most_ends (only_tag tag) words)
-
--- a song's file, as clients call it
-abbrev pub is_file_name : Word → Bool
-is_file_name word = str_eq_ignore_ascii_case word (codes "file") || str_eq_ignore_ascii_case word (codes "filename")
 
 -- an answer of which the files of songs are told
 abbrev pub files_change : Change
@@ -179,7 +180,7 @@ files_natives words = two_natives (spelled_line (codes "count") words) (spelled_
 unfoldable pub listing_files : List Word → Translation
 listing_files [] = by_one (codes "listall") files_change
 listing_files (word ∷ words) =
-    if has_filter_count (word ∷ words) then by_natives (files_natives (native_filter false (word ∷ words))) files_change else Same
+    if has_filter_count (word ∷ words) then by_natives (files_natives (native_filter false false (word ∷ words))) files_change else Same
 
 unfoldable pub listing : Bool → List Word → Translation
 listing is_alone [] = Same
@@ -248,6 +249,15 @@ tag_types (what ∷ words) =
     else (if bytes_eq what (codes "disable") then mask_of false words
     else mask_refused refusals.UnknownSubCommand)))
 
+abbrev pub shuffling_in : List Word → Option Window → Translation
+shuffling_in words None = Same
+shuffling_in words (Some range) = by_steps (codes "status") (Shuffle (begun_shuffle words range))
+
+-- in a command list nothing can be asked step by step; there the daemon's own shuffle stays
+abbrev pub shuffling : Bool → List Word → Translation
+shuffling false words = Same
+shuffling true words = shuffling_in words (shuffled_range words)
+
 -- how a command of the daemon is handled
 abbrev pub handling_of : CommandName → Handling
 handling_of names.Commands = Adds texts.Commands
@@ -264,11 +274,12 @@ handling_of names.ListInfo = ListsFolder
 handling_of names.QueueFind = Filters true false
 handling_of names.QueueId = TellsSongs
 handling_of names.QueueInfo = TellsSongs
-handling_of names.QueueSearch = Filters true false
+handling_of names.QueueSearch = Searches true false
 handling_of names.QueueChanges = TellsSongs
-handling_of names.Search = Filters true true
-handling_of names.SearchAdd = Filters false true
+handling_of names.Search = Searches true true
+handling_of names.SearchAdd = Searches false true
 handling_of names.SearchAddPlaylist = AddsToPlaylist
+handling_of names.Shuffle = Shuffles
 handling_of names.Stats = AddsTimes
 handling_of names.Status = Adds texts.Status
 handling_of names.TagTypes = Masks
@@ -291,7 +302,8 @@ by_handling is_alone Untouched name words = Same
 by_handling is_alone TellsSongs name words = Songs
 by_handling is_alone (Adds text) name words = adding name (endings.Text text)
 by_handling is_alone AddsTimes name words = adding name endings.Times
-by_handling is_alone (Filters songs sorts) name words = filtered name songs sorts [] words
+by_handling is_alone (Filters songs sorts) name words = filtered name songs sorts false [] words
+by_handling is_alone (Searches songs sorts) name words = filtered name songs sorts true [] words
 by_handling is_alone AddsToPlaylist name words = adding_to_playlist words
 by_handling is_alone Counts name words = counting is_alone words
 by_handling is_alone ListsValues name words = listing is_alone words
@@ -299,6 +311,7 @@ by_handling is_alone ListsFolder name words = list_info words
 by_handling is_alone (ListsAll songs) name words = list_all name songs words
 by_handling is_alone ListsPlaylists name words = changing name lines.Dated
 by_handling is_alone Masks name words = tag_types words
+by_handling is_alone Shuffles name words = shuffling is_alone words
 
 -- the same of the words of its line, of which the first is its name
 abbrev pub by_first : Bool → Handling → CommandName → List Word → Translation

@@ -1,10 +1,10 @@
 // Writes an expression over the daemon's tags in the place of one over all of MPD's.
-ghost use Rattle.std.specs.Prelude.{◌≡◌, ◌+◌, ◌<◌, ◌≤◌, ◌∷◌, ◌++◌, [], false, length, take, drop, IfOk, IfSome, OnOk};
+ghost use Rattle.std.specs.Prelude.{◌≡◌, ◌+◌, ◌<◌, ◌≤◌, ◌∷◌, ◌++◌, [], false, length, take, drop, codes, IfOk, IfSome, OnOk};
 ghost use Rattle.std.specs.Option.{option_map};
 ghost use Rattle.filter_expr.specs.Parts.{is_blank, is_quote, ends_name, opening, without_blanks, name_in, behind_name};
 ghost use Rattle.stock_requests.specs.Expressions.{base_test, begins_with_blank, compared, filter_name, holds_of_none, kept, native_text};
 ghost use Rattle.stock_requests.specs.Expressions.{opened_piece, operator_at, piece, piece_at, quoted_length, replaced, test_at, tested};
-ghost use Rattle.stock_requests.specs.Expressions.{value_length};
+ghost use Rattle.stock_requests.specs.Expressions.{is_file_name, quoted, quoted_by, unequal_at, value_length};
 
 use crate::tag::{ForeignTag, Standing};
 use filter_expr::{ends_name, is_blank, is_quote};
@@ -31,12 +31,21 @@ pub(crate) enum Operator {
     Contains,
 }
 
-/// The first bytes of a text, and what stands in their place, in two parts.
+/// The first bytes of a text, and what stands in their place, in four parts.
 #[derive(Clone, Copy)]
 struct TextPiece<'a> {
     length: usize,
     kept: &'a [u8],
     put: &'static str,
+    value: &'a [u8],
+    back: &'static str,
+}
+
+/// Whether it is the name of a song's file, as clients call it.
+pub(crate) fn is_file_name(word: &[u8]) -> bool
+    ensures { result ≡ is_file_name word.now }
+{
+    word.eq_ignore_ascii_case(b"file") || word.eq_ignore_ascii_case(b"filename")
 }
 
 impl FilterName {
@@ -45,7 +54,7 @@ impl FilterName {
     pub(crate) fn of(name: &[u8]) -> Self
         ensures { result ≡ filter_name name.now }
     {
-        if name.eq_ignore_ascii_case(b"filename") {
+        if is_file_name(name) {
             return FilterName::File;
         }
         match ForeignTag::named(name) {
@@ -171,6 +180,24 @@ fn test_at(text: &[u8]) -> Option<(bool, &[u8])>
     }
 }
 
+/// The value in quotes behind `!=`, and what stands behind it. The text begins behind a name.
+#[tactic(auto, unfolding(crate::specs::Expressions::unequal_at))]
+fn unequal_at(text: &[u8]) -> Option<(&[u8], &[u8])>
+    ensures value { option_map (λ x. quoted x.0.now x.1.now) result ≡ unequal_at text.now }
+    ensures bound { IfSome result (λ x. length x.1.now ≤ length text.now) }
+{
+    match operator_at(without_blanks(text)) {
+        Some((Operator::Unequal, rest)) => {
+            let value = without_blanks(rest);
+            match value_length(value) {
+                None => None,
+                Some(length) => Some(value.split_at(length)),
+            }
+        }
+        _ => None,
+    }
+}
+
 /// What stands in the place of a test that holds for every song or for none.
 fn base_test(always: bool) -> &'static str
     ensures { result.now ≡ base_test always }
@@ -181,32 +208,60 @@ fn base_test(always: bool) -> &'static str
 /// The first bytes of a text as they are.
 fn kept(size: usize, text: &[u8]) -> TextPiece<'_>
     requires { size ≤ length text.now }
-    ensures { piece result.length (result.kept.now ++ result.put.now) ≡ kept size text.now }
+    ensures { piece result.length (result.kept.now ++ (result.put.now ++ (result.value.now ++ result.back.now))) ≡ kept size text.now }
 {
     TextPiece {
         length: size,
         kept: &text[..size],
         put: "",
+        value: &[],
+        back: "",
     }
+}
+
+fn first_byte(text: &[u8]) -> &[u8]
+    requires { 0 < length text.now }
+    ensures { result.now ≡ take 1 text.now }
+{
+    &text[..1]
 }
 
 /// A text that begins with a parenthesis, up to a rest of it, in whose place this text stands behind the parenthesis.
 fn replaced<'a>(text: &'a [u8], rest: &[u8], put: &'static str) -> TextPiece<'a>
     requires opened { take 1 text.now ≡ opening ∷ [] }
     requires rest { length rest.now < length text.now }
-    ensures { piece result.length (result.kept.now ++ result.put.now) ≡ replaced text.now rest.now put.now }
+    ensures { piece result.length (result.kept.now ++ (result.put.now ++ (result.value.now ++ result.back.now)))
+        ≡ replaced text.now rest.now put.now }
 {
     TextPiece {
         length: text.len() - rest.len(),
-        kept: &text[..1],
+        kept: first_byte(text),
         put,
+        value: &[],
+        back: "",
+    }
+}
+
+/// The piece up to a value that a song's file must not be.
+fn other_file<'a>(text: &'a [u8], value: &'a [u8], rest: &[u8]) -> TextPiece<'a>
+    requires opened { take 1 text.now ≡ opening ∷ [] }
+    requires rest { length rest.now < length text.now }
+    ensures { piece result.length (result.kept.now ++ (result.put.now ++ (result.value.now ++ result.back.now)))
+        ≡ replaced text.now rest.now (codes "!(file == " ++ (value.now ++ codes ")")) }
+{
+    TextPiece {
+        length: text.len() - rest.len(),
+        kept: first_byte(text),
+        put: "!(file == ",
+        value,
+        back: ")",
     }
 }
 
 /// The piece in front of a text that begins with an open parenthesis.
 fn opened_piece(text: &[u8]) -> TextPiece<'_>
     requires { take 1 text.now ≡ opening ∷ [] }
-    ensures value { piece result.length (result.kept.now ++ result.put.now)
+    ensures value { piece result.length (result.kept.now ++ (result.put.now ++ (result.value.now ++ result.back.now)))
         ≡ opened_piece text.now (without_blanks (drop 1 text.now)) }
     ensures within { (0 < result.length) × (result.length ≤ length text.now) }
 {
@@ -215,7 +270,10 @@ fn opened_piece(text: &[u8]) -> TextPiece<'_>
     match FilterName::of(name) {
         FilterName::Kept => kept(1, text),
         FilterName::OfTag(tag) => replaced(text, rest, tag.name()),
-        FilterName::File => replaced(text, rest, "file"),
+        FilterName::File => match unequal_at(rest) {
+            None => replaced(text, rest, "file"),
+            Some((value, rest)) => other_file(text, value, rest),
+        },
         FilterName::Absent => match test_at(rest) {
             None => kept(1, text),
             Some((always, rest)) => replaced(text, rest, base_test(always)),
@@ -227,7 +285,7 @@ fn opened_piece(text: &[u8]) -> TextPiece<'_>
 #[tactic(auto, unfolding(crate::specs::Expressions::piece_at))]
 fn piece_at(text: &[u8]) -> TextPiece<'_>
     requires { 0 < length text.now }
-    ensures value { piece result.length (result.kept.now ++ result.put.now) ≡ piece_at text.now }
+    ensures value { piece result.length (result.kept.now ++ (result.put.now ++ (result.value.now ++ result.back.now))) ≡ piece_at text.now }
     ensures within { (0 < result.length) × (result.length ≤ length text.now) }
 {
     if is_quote(text[0]) {
@@ -244,10 +302,13 @@ fn piece_at(text: &[u8]) -> TextPiece<'_>
 
 /// Adds what stands in the place of a piece.
 fn put_piece(out: &mut Vec<u8>, piece: TextPiece<'_>) -> Result<(), AllocError>
-    ensures { OnOk result (out.new.items ≡ out.old.items ++ (piece.entry.kept.now ++ piece.entry.put.now)) }
+    ensures { OnOk result (out.new.items ≡ out.old.items
+        ++ (piece.entry.kept.now ++ (piece.entry.put.now ++ (piece.entry.value.now ++ piece.entry.back.now)))) }
 {
     out.extend_from_slice(piece.kept)?;
-    out.extend_from_slice(piece.put.as_bytes())
+    out.extend_from_slice(piece.put.as_bytes())?;
+    out.extend_from_slice(piece.value)?;
+    out.extend_from_slice(piece.back.as_bytes())
 }
 
 /// The expression in the place of a text.

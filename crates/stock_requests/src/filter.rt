@@ -5,9 +5,10 @@ ghost use Rattle.filter_expr.specs.Parts.{begins_so};
 ghost use Rattle.std.specs.Str.{bytes_eq};
 ghost use Rattle.stock_requests.specs.Expressions.{base_value};
 ghost use Rattle.stock_requests.specs.Filters.{minus, more_pairs, native_filter, native_pair, native_pairs, native_parts, native_sort};
-ghost use Rattle.stock_requests.specs.Filters.{sort_by};
+ghost use Rattle.stock_requests.specs.Filters.{is_asked_for, sort_by, sort_name};
 
-use crate::expression::{FilterName, Operator, native_text};
+use crate::expression::{FilterName, Operator, is_file_name, native_text};
+use crate::tag::ForeignTag;
 use filter_expr::LineWord;
 use std::alloc::{AllocError, Global};
 
@@ -43,10 +44,24 @@ fn base_value(always: bool) -> &'static str
     if always { "" } else { "/" }
 }
 
-/// The pair in the place of a name and a value.
-fn native_pair<'w>(name: &'w LineWord<'_>, value: &'w LineWord<'_>) -> (LineWord<'w>, LineWord<'w>)
-    ensures { result.0 ∷ result.1 ∷ [] ≡ native_pair name.now value.now }
+/// Whether a pair may ask for it: a tag, `any` of them, or a song's file.
+fn is_asked_for(name: &[u8]) -> bool
+    ensures { result ≡ is_asked_for name.now }
 {
+    ForeignTag::named(name).is_some() || name.eq_ignore_ascii_case(b"any") || is_file_name(name)
+}
+
+/// The pair in the place of a name and a value, which is looked for within a text or isn't.
+fn native_pair<'w>(
+    within: bool,
+    name: &'w LineWord<'_>,
+    value: &'w LineWord<'_>,
+) -> (LineWord<'w>, LineWord<'w>)
+    ensures { result.0 ∷ result.1 ∷ [] ≡ native_pair within name.now value.now }
+{
+    if within && value.bytes().is_empty() && is_asked_for(name.bytes()) {
+        return (LineWord::from_slice(b"base"), LineWord::from_slice(b""));
+    }
     match FilterName::of(name.bytes()) {
         FilterName::Kept => (again(name), again(value)),
         FilterName::OfTag(tag) => (LineWord::from_slice(tag.name().as_bytes()), again(value)),
@@ -89,6 +104,16 @@ fn sort_by<'w>(
     }
 }
 
+/// What becomes of a name that songs are sorted by; no song has a time of its last change.
+fn sort_name(name: &[u8]) -> FilterName
+    ensures { result ≡ sort_name name.now }
+{
+    if name.eq_ignore_ascii_case(b"last-modified") {
+        return FilterName::Absent;
+    }
+    FilterName::of(name)
+}
+
 /// What songs are sorted by in the place of a word.
 #[tactic(auto, unfolding(crate::specs::Filters::native_sort))]
 fn native_sort<'w>(alloc: Global, word: &'w LineWord<'_>) -> Result<LineWord<'w>, AllocError>
@@ -96,9 +121,9 @@ fn native_sort<'w>(alloc: Global, word: &'w LineWord<'_>) -> Result<LineWord<'w>
 {
     let name = word.bytes();
     if begins_so(b'-', name) {
-        sort_by(alloc, true, FilterName::of(&name[1..]), word)
+        sort_by(alloc, true, sort_name(&name[1..]), word)
     } else {
-        sort_by(alloc, false, FilterName::of(name), word)
+        sort_by(alloc, false, sort_name(name), word)
     }
 }
 
@@ -147,13 +172,14 @@ fn begins_part(word: &[u8]) -> bool
 /// Words, and behind them the pair in the place of a name and a value.
 fn with_pair<'w>(
     words: Vec<LineWord<'w>>,
+    within: bool,
     name: &'w LineWord<'_>,
     value: &'w LineWord<'_>,
 ) -> Result<Vec<LineWord<'w>>, AllocError>
-    ensures { IfOk result (λ new. new.items ≡ words.entry.items ++ native_pair name.now value.now) }
+    ensures { IfOk result (λ new. new.items ≡ words.entry.items ++ native_pair within name.now value.now) }
 {
     let mut words = words;
-    let (name, value) = native_pair(name, value);
+    let (name, value) = native_pair(within, name, value);
     words.push(name)?;
     words.push(value)?;
     Ok(words)
@@ -171,9 +197,10 @@ fn with_pairs<'w>(
     alloc: Global,
     words: Vec<LineWord<'w>>,
     sorts: bool,
+    within: bool,
     pairs: &'w [LineWord<'_>],
 ) -> Result<Vec<LineWord<'w>>, AllocError>
-    ensures { IfOk result (λ new. new.items ≡ words.entry.items ++ more_pairs sorts pairs.now) }
+    ensures { IfOk result (λ new. new.items ≡ words.entry.items ++ more_pairs sorts within pairs.now) }
 {
     let mut words = words;
     let mut passed = 0;
@@ -181,20 +208,22 @@ fn with_pairs<'w>(
         if ends_pairs(sorts, pairs[passed].bytes()) {
             return with_parts(alloc, words, sorts, pairs.split_at(passed).1);
         }
-        words = with_pair(words, &pairs[passed], &pairs[passed + 1])?;
+        words = with_pair(words, within, &pairs[passed], &pairs[passed + 1])?;
         passed += 2;
     }
     with_words(words, pairs.split_at(passed).1)
 }
 
-/// The words in the place of a filter and what stands behind it, where an order may stand there or not.
+/// The words in the place of a filter and what stands behind it, where an order may stand there or not, and whose pairs look for a value
+/// within a text or don't.
 #[tactic(auto, unfolding(crate::specs::Filters::native_filter, crate::specs::Filters::native_pairs))]
 pub(crate) fn native_filter<'w>(
     alloc: Global,
     sorts: bool,
+    within: bool,
     words: &'w [LineWord<'_>],
 ) -> Result<Vec<LineWord<'w>>, AllocError>
-    ensures { IfOk result (λ new. new.items ≡ native_filter sorts words.now) }
+    ensures { IfOk result (λ new. new.items ≡ native_filter sorts within words.now) }
 {
     match words {
         [word, parts @ ..] if begins_so(b'(', word.bytes()) => {
@@ -204,8 +233,8 @@ pub(crate) fn native_filter<'w>(
         }
         [name, value, pairs @ ..] => {
             let new = Vec::with_capacity(alloc, words.len())?;
-            let new = with_pair(new, name, value)?;
-            with_pairs(alloc, new, sorts, pairs)
+            let new = with_pair(new, within, name, value)?;
+            with_pairs(alloc, new, sorts, within, pairs)
         }
         _ => with_words(Vec::new(alloc), words),
     }

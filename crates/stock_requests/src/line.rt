@@ -110,12 +110,14 @@ fn of_native(
         Handling::AddsTimes => Ok(adding(name, Ending::Times)),
         Handling::ListsPlaylists => Ok(changing(name, LineChange::Dated)),
         Handling::Filters(_, _)
+        | Handling::Searches(_, _)
         | Handling::AddsToPlaylist
         | Handling::Counts
         | Handling::ListsValues
         | Handling::ListsFolder
         | Handling::ListsAll(_)
-        | Handling::Masks => by_words(alloc, is_alone, handling, name, line),
+        | Handling::Masks
+        | Handling::Shuffles => by_words(alloc, is_alone, handling, name, line),
     }
 }
 

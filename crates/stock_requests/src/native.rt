@@ -4,7 +4,7 @@ ghost use Rattle.command_text.specs.Finding.{has_filter_count};
 ghost use Rattle.stock_requests.specs.Native.{adding, answered, as_it_is, by_handling, by_line, by_natives, by_one, by_two, filtered};
 ghost use Rattle.stock_requests.specs.Native.{handling_of, is_artist_alone, listing_change, listing_words, refused};
 ghost use Rattle.stock_requests.specs.Native.{adding_to_playlist, counting, has_list_count, is_root, list_info, listing};
-ghost use Rattle.stock_requests.specs.Native.{changing, files_change, files_natives, is_file_name, list_all, listing_files};
+ghost use Rattle.stock_requests.specs.Native.{changing, files_change, files_natives, list_all, listing_files, shuffling};
 ghost use Rattle.stock_requests.specs.Native.{by_steps, grouped_count, grouped_list, grouping};
 ghost use Rattle.stock_requests.specs.Native.{filter_or_all, listing_empty, listing_values, mask_of, tag_types};
 ghost use Rattle.stock_requests.specs.Native.{mask_alone, mask_refused, masked, songs_lines, telling, with_named};
@@ -13,12 +13,14 @@ ghost use Rattle.stock_requests.specs.Masks.{empty_set};
 use crate::change::{
     Change, Ending, FixedText, ForeignRefusal, LineChange, Natives, RefusalChange, Translation,
 };
+use crate::expression::is_file_name;
 use crate::filter::{begins_so, is_word, native_filter, with_words};
 use crate::group::{count_line, counts_in, fits, two_natives};
 use crate::grouped::{MOST_ENDS, begun_group, is_expression, is_grouped, part_ends};
 use crate::listed::listing_natives;
 use crate::mask::{MaskChange, TagSet};
 use crate::name::ForeignName;
+use crate::shuffle::{ShuffleChange, shuffled_range};
 use crate::spelling::{LINE_LIMIT, line_of, put_words, same_words};
 use crate::steps::{Steps, group_name};
 use crate::tag::{ForeignTag, Standing};
@@ -40,6 +42,8 @@ pub(crate) enum Handling {
     AddsTimes,
     /// It has a filter: whether its answer tells songs, and whether an order may stand behind the filter.
     Filters(bool, bool),
+    /// The same of one whose pairs look for a value within a text.
+    Searches(bool, bool),
     AddsToPlaylist,
     Counts,
     ListsValues,
@@ -49,6 +53,8 @@ pub(crate) enum Handling {
     /// Its answer tells playlists.
     ListsPlaylists,
     Masks,
+    /// The current song comes to the front.
+    Shuffles,
 }
 
 /// How the command is handled.
@@ -63,15 +69,19 @@ pub(crate) fn handling_of(name: CommandName) -> Handling
         | CommandName::QueueChanges
         | CommandName::QueueId
         | CommandName::QueueInfo => Handling::TellsSongs,
-        CommandName::Find | CommandName::Search => Handling::Filters(true, true),
-        CommandName::FindAdd | CommandName::SearchAdd => Handling::Filters(false, true),
-        CommandName::QueueFind | CommandName::QueueSearch => Handling::Filters(true, false),
+        CommandName::Find => Handling::Filters(true, true),
+        CommandName::FindAdd => Handling::Filters(false, true),
+        CommandName::QueueFind => Handling::Filters(true, false),
+        CommandName::Search => Handling::Searches(true, true),
+        CommandName::SearchAdd => Handling::Searches(false, true),
+        CommandName::QueueSearch => Handling::Searches(true, false),
         CommandName::ListTag => Handling::ListsValues,
         CommandName::ListInfo => Handling::ListsFolder,
         CommandName::ListAll => Handling::ListsAll(false),
         CommandName::ListAllInfo => Handling::ListsAll(true),
         CommandName::ListPlaylists => Handling::ListsPlaylists,
         CommandName::SearchAddPlaylist => Handling::AddsToPlaylist,
+        CommandName::Shuffle => Handling::Shuffles,
         CommandName::Stats => Handling::AddsTimes,
         CommandName::Status => Handling::Adds(FixedText::Status),
         CommandName::TagTypes => Handling::Masks,
@@ -189,12 +199,13 @@ fn filtered(
     name: CommandName,
     songs: bool,
     sorts: bool,
+    within: bool,
     front: &[LineWord<'_>],
     words: &[LineWord<'_>],
 ) -> Result<Translation, AllocError>
-    ensures { IfOk result (λ t. t ≡ filtered name songs sorts front.now words.now) }
+    ensures { IfOk result (λ t. t ≡ filtered name songs sorts within front.now words.now) }
 {
-    let new = native_filter(alloc, sorts, words)?;
+    let new = native_filter(alloc, sorts, within, words)?;
     if same_words(new.as_slice(), words) {
         return Ok(as_it_is(songs));
     }
@@ -255,7 +266,7 @@ fn grouped_count(
     match part_ends(1, TagSet::empty(), words, &mut tags)? {
         Err(refusal) => refused(alloc, group_name(true), refusal),
         Ok(end) => {
-            let filter = native_filter(alloc, false, &words[..end])?;
+            let filter = native_filter(alloc, false, false, &words[..end])?;
             grouping(alloc, None, filter.as_slice(), tags)
         }
     }
@@ -272,7 +283,7 @@ fn counting(
     if is_grouped(words) {
         return grouped_count(alloc, is_alone, words);
     }
-    filtered(alloc, CommandName::Count, false, false, &[], words)
+    filtered(alloc, CommandName::Count, false, false, false, &[], words)
 }
 
 #[tactic(auto, unfolding(crate::specs::Native::adding_to_playlist))]
@@ -288,6 +299,7 @@ fn adding_to_playlist(alloc: Global, words: &[LineWord<'_>]) -> Result<Translati
         CommandName::SearchAddPlaylist,
         false,
         false,
+        true,
         list,
         filter,
     )
@@ -327,7 +339,7 @@ fn listing_words<'w>(
         new.push(LineWord::from_slice(b"Artist"))?;
         return with_words(new, words);
     }
-    native_filter(alloc, false, words)
+    native_filter(alloc, false, false, words)
 }
 
 /// An answer of which the values of a tag are told.
@@ -387,7 +399,7 @@ fn filter_or_all<'w>(
         all.push(LineWord::from_slice(b""))?;
         return Ok(all);
     }
-    native_filter(alloc, false, words)
+    native_filter(alloc, false, false, words)
 }
 
 /// The empty value of a tag that no song has, where there are songs.
@@ -424,17 +436,10 @@ fn grouped_list(
         Err(refusal) => refused(alloc, group_name(false), refusal),
         Ok(end) => {
             tags.push(tag)?;
-            let filter = native_filter(alloc, false, &words[..end])?;
+            let filter = native_filter(alloc, false, false, &words[..end])?;
             grouping(alloc, Some(tag), filter.as_slice(), tags)
         }
     }
-}
-
-/// Whether it is the name of a song's file, as clients call it.
-fn is_file_name(word: &[u8]) -> bool
-    ensures { result ≡ is_file_name word.now }
-{
-    word.eq_ignore_ascii_case(b"file") || word.eq_ignore_ascii_case(b"filename")
 }
 
 /// An answer of which the files of songs are told.
@@ -468,7 +473,7 @@ fn listing_files(alloc: Global, words: &[LineWord<'_>]) -> Result<Translation, A
     if !has_filter_count(words) {
         return Ok(Translation::Same);
     }
-    let new = native_filter(alloc, false, words)?;
+    let new = native_filter(alloc, false, false, words)?;
     let natives = files_natives(alloc, new.as_slice())?;
     Ok(by_natives(natives, files_change()))
 }
@@ -493,7 +498,7 @@ fn listing(alloc: Global, is_alone: bool, words: &[LineWord<'_>]) -> Result<Tran
                 listing_values(alloc, tag, new.as_slice())
             }
             Standing::FallsBackTo(_) => {
-                let new = native_filter(alloc, false, words)?;
+                let new = native_filter(alloc, false, false, words)?;
                 listing_values(alloc, tag, new.as_slice())
             }
             Standing::Absent => listing_empty(alloc, tag, words),
@@ -612,6 +617,26 @@ fn tag_types(alloc: Global, words: &[LineWord<'_>]) -> Result<Translation, Alloc
     }
 }
 
+/// A shuffle of a range, or of the whole queue, in no list.
+fn shuffling(
+    alloc: Global,
+    is_alone: bool,
+    words: &[LineWord<'_>],
+) -> Result<Translation, AllocError>
+    ensures { IfOk result (λ t. t ≡ shuffling is_alone words.now) }
+{
+    if !is_alone {
+        return Ok(Translation::Same);
+    }
+    match shuffled_range(words) {
+        None => Ok(Translation::Same),
+        Some(range) => {
+            let change = ShuffleChange::new(alloc, words, range)?;
+            by_steps(alloc, b"status", Steps::Shuffle(change))
+        }
+    }
+}
+
 /// What becomes of a command that is handled so, with these arguments.
 pub(crate) fn by_handling(
     alloc: Global,
@@ -627,7 +652,8 @@ pub(crate) fn by_handling(
         Handling::TellsSongs => Ok(Translation::Songs),
         Handling::Adds(text) => Ok(adding(name, Ending::Text(text))),
         Handling::AddsTimes => Ok(adding(name, Ending::Times)),
-        Handling::Filters(songs, sorts) => filtered(alloc, name, songs, sorts, &[], words),
+        Handling::Filters(songs, sorts) => filtered(alloc, name, songs, sorts, false, &[], words),
+        Handling::Searches(songs, sorts) => filtered(alloc, name, songs, sorts, true, &[], words),
         Handling::AddsToPlaylist => adding_to_playlist(alloc, words),
         Handling::Counts => counting(alloc, is_alone, words),
         Handling::ListsValues => listing(alloc, is_alone, words),
@@ -635,6 +661,7 @@ pub(crate) fn by_handling(
         Handling::ListsAll(songs) => Ok(list_all(name, songs, words)),
         Handling::ListsPlaylists => Ok(changing(name, LineChange::Dated)),
         Handling::Masks => tag_types(alloc, words),
+        Handling::Shuffles => shuffling(alloc, is_alone, words),
     }
 }
 

@@ -1,10 +1,12 @@
 // Spells words as a command's line.
 ghost use Rattle.std.specs.Prelude.{◌≡◌, ◌∷◌, ◌++◌, IfOk, OnOk};
+ghost use Rattle.std.specs.Fmt.{decimal};
 ghost use Rattle.std.specs.List.{list_all};
 ghost use Rattle.stock_requests.specs.Spelling.{escaped, escaped_byte, is_bare, is_bare_byte, space, spelled_line, spelled_word};
 ghost use Rattle.stock_requests.specs.Spelling.{spelled_words, words_eq};
 
 use filter_expr::LineWord;
+use itoa::Buffer;
 use std::alloc::{AllocError, Global};
 
 /// How many bytes a line may have before its newline.
@@ -80,6 +82,14 @@ pub(crate) fn put_words(out: &mut Vec<u8>, words: &[LineWord<'_>]) -> Result<(),
         put_argument(out, word.bytes())?;
     }
     Ok(())
+}
+
+/// Adds a number's decimal digits.
+pub(crate) fn put_number(out: &mut Vec<u8>, number: u64) -> Result<(), AllocError>
+    ensures { OnOk result (out.new.items ≡ out.old.items ++ decimal number) }
+{
+    let mut digits = Buffer::new();
+    out.extend_from_slice(digits.format(number).as_bytes())
 }
 
 /// The line of a command with these arguments, and others behind them.

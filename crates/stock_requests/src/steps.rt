@@ -5,6 +5,7 @@ ghost use Rattle.stock_requests.specs.Steps.{after_step, group_name, refusing, s
 use crate::change::{Change, Ending, LineChange, RefusalChange};
 use crate::group::Grouping;
 use crate::name::{ForeignCommand, ForeignName};
+use crate::shuffle::ShuffleChange;
 use crate::volume::VolumeChange;
 use command_text::{CommandName, Lines};
 use no_memory::NoMemory;
@@ -15,6 +16,8 @@ use std::alloc::{AllocError, Global};
 pub enum Steps {
     /// `volume`
     Volume(VolumeChange),
+    /// `shuffle`
+    Shuffle(ShuffleChange),
     /// `list` or `count` with `group`
     Group(Grouping),
 }
@@ -68,6 +71,10 @@ impl Steps {
     {
         match self {
             Steps::Volume(change) => change.take_line(out, text),
+            Steps::Shuffle(change) => {
+                change.take_line(text);
+                Ok(())
+            }
             Steps::Group(grouping) => grouping.take_line(alloc, out, text),
         }
     }
@@ -78,7 +85,7 @@ impl Steps {
         ensures given { OnOk result (let now = step_part self.old in out.new.items ≡ out.old.items ++ now.given) }
     {
         match self {
-            Steps::Volume(_) => Ok(()),
+            Steps::Volume(_) | Steps::Shuffle(_) => Ok(()),
             Steps::Group(grouping) => grouping.end_part(alloc, out),
         }
     }
@@ -96,6 +103,11 @@ impl Steps {
                 change.is_set = true;
                 Ok(natives)
             }
+            Steps::Shuffle(change) => {
+                let natives = change.natives(alloc)?;
+                change.is_asked = true;
+                Ok(natives)
+            }
             Steps::Group(grouping) => grouping.go_on(alloc, out),
         }
     }
@@ -109,6 +121,12 @@ impl Steps {
                 refusing(
                     ForeignName::Foreign(ForeignCommand::Volume),
                     change.refusal(),
+                )
+            }
+            Steps::Shuffle(_) => {
+                refusing(
+                    ForeignName::Native(CommandName::Shuffle),
+                    RefusalChange::Named,
                 )
             }
             Steps::Group(grouping) => refusing(group_name(grouping.counts()), grouping.refusal()),

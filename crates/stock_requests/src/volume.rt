@@ -5,8 +5,8 @@ ghost use Rattle.stock_requests.specs.Volumes.{volume_in, volume_limit, volume_r
 
 use crate::change::{ForeignRefusal, RefusalChange};
 use crate::filter::begins_so;
-use crate::number::number_to;
-use itoa::Buffer;
+use crate::spelling::put_number;
+use command_text::number_to;
 use no_memory::NoMemory;
 use std::alloc::{AllocError, Global};
 
@@ -106,8 +106,7 @@ impl VolumeChange {
             None => Vec::from_slice(alloc, b"ping no"),
             Some(volume) => {
                 let mut text = Vec::from_slice(alloc, b"setvol ")?;
-                let mut digits = Buffer::new();
-                text.extend_from_slice(digits.format(self.step.volume(volume)).as_bytes())?;
+                put_number(&mut text, u64::from(self.step.volume(volume)))?;
                 Ok(text)
             }
         }

@@ -12,8 +12,13 @@ use std::path::{AsPath, Path};
 
 /// The files below a folder of the operating system. Links are followed, but a link to a folder that it stands in can't
 /// be listed, since it would go on for ever. What is neither a folder nor a plain file isn't listed, can't be opened,
-/// and counts as no file. Where the folder itself isn't there, or a link leads nowhere, as to a disk that was taken out,
-/// every listing and opening below it is a fault.
+/// and counts as no file.
+///
+/// Where the folder itself isn't there, or a link leads nowhere, as to a disk that was taken out, every listing and
+/// opening below it is a fault. So is a listing that meets a name behind which nothing stands any more, if what is listed
+/// doesn't stand at its path any more either, or is another folder by then. All else that isn't there counts as gone:
+/// a name of a folder that is still the same, what stood below a folder that was moved away before it was listed, and
+/// what stood on a disk whose mount point is there without it.
 ///
 /// No contract can say what a folder holds, so its honesty is a premise that no code supplies.
 #[derive(Drop)]
@@ -92,20 +97,18 @@ impl<'a> FileFolder<'a> {
         }
     }
 
-    // Whether the folder itself isn't there, or is no folder, or a link on the way to a path leads nowhere.
+    // Whether a link on the way to a path leads nowhere, or the folder itself isn't there, or is no folder. That one is looked at last:
+    // without it no link would have been found.
     fn is_cut_off(&self, alloc: Global, path: &str) -> io::Result<bool> {
         let mut over = String::from_str(alloc, self.root())?;
-        if !is_folder(self.rt, over.as_str()) {
-            return Ok(true);
-        }
         for part in path.split('/') {
             over.push_str("/")?;
             over.push_str(part)?;
-            if fs::metadata(self.rt, over.as_str()).is_err() && is_link(self.rt, over.as_str()) {
+            if fs::metadata(self.rt, over.as_str()).is_err() && is_there(self.rt, over.as_str())? {
                 return Ok(true);
             }
         }
-        Ok(false)
+        Ok(!is_folder(self.rt, self.root()))
     }
 
     // A file, if one stands there. What isn't known to be a file is looked at first: the opening of a pipe would wait for its other end.
@@ -119,18 +122,23 @@ impl<'a> FileFolder<'a> {
         FileSource::open(self.rt, alloc, place)
     }
 
+    // What is to be listed, unless it is a link upwards.
+    fn folder_at(&self, alloc: Global, path: &str, place: &str) -> io::Result<Metadata> {
+        let found = fs::symlink_metadata(self.rt, place)?;
+        if !found.is_symlink() {
+            return Ok(found);
+        }
+        let folder = fs::metadata(self.rt, place)?;
+        if !path.is_empty() && self.stands_in(alloc, path, &folder)? {
+            return Err(io::Error::other("a link to a folder that it stands in"));
+        }
+        Ok(folder)
+    }
+
     // What stands in a folder, unless it is a link upwards.
     fn entries(&self, alloc: Global, path: &str, place: &str) -> io::Result<Vec<FolderEntry>> {
-        if path.is_empty() {
-            return entries_of(self.rt, alloc, place);
-        }
-        if fs::symlink_metadata(self.rt, place)?.is_symlink() {
-            let folder = fs::metadata(self.rt, place)?;
-            if self.stands_in(alloc, path, &folder)? {
-                return Err(io::Error::other("a link to a folder that it stands in"));
-            }
-        }
-        entries_of(self.rt, alloc, place)
+        let folder = self.folder_at(alloc, path, place)?;
+        entries_of(self.rt, alloc, place, &folder)
     }
 }
 
@@ -164,12 +172,21 @@ impl Folder for FileFolder<'_> {
     }
 }
 
-// What stands in a folder. A name that isn't UTF-8 is an error.
-fn entries_of(rt: &HostRuntime, alloc: Global, place: &str) -> io::Result<Vec<FolderEntry>> {
+// What stands in a folder, which was this one before. A name that isn't UTF-8 is an error.
+fn entries_of(
+    rt: &HostRuntime,
+    alloc: Global,
+    place: &str,
+    folder: &Metadata,
+) -> io::Result<Vec<FolderEntry>> {
     let mut entries = Vec::new(alloc);
     for found in fs::read_dir(rt, place)? {
         let found = found?;
-        for is_folder in kinds_of(rt, found.path())? {
+        let kinds = match kinds_of(rt, found.path()) {
+            Err(error) if is_absent(&error) => kinds_of_removed(rt, place, folder)?,
+            kinds => kinds?,
+        };
+        for is_folder in kinds {
             let name = String::from_str(alloc, found.file_name())?;
             entries.push(FolderEntry {
                 name,
@@ -180,16 +197,29 @@ fn entries_of(rt: &HostRuntime, alloc: Global, place: &str) -> io::Result<Vec<Fo
     Ok(entries)
 }
 
-// Whether what stands there is a folder; nothing for what is neither a folder nor a file, and for what vanished since it was listed. A link
-// that leads nowhere may have led to either: so it is looked for as both, which is a fault, and what is known of it is kept.
+// Whether what stands there is a folder; nothing for what is neither a folder nor a file. A link that leads nowhere may have led to either:
+// so it is looked for as both, which is a fault, and what is known of it is kept. So is what came, or came back, between both looks.
 fn kinds_of(rt: &HostRuntime, place: Path<'_>) -> io::Result<&'static [bool]> {
     match fs::metadata(rt, place) {
         Ok(found) if found.is_dir() => Ok(&[true]),
         Ok(found) if found.is_file() => Ok(&[false]),
         Ok(_) => Ok(&[]),
-        Err(_) if is_link(rt, place) => Ok(&[true, false]),
-        Err(error) if is_absent(&error) => Ok(&[]),
+        Err(_) if is_there(rt, place)? => Ok(&[true, false]),
         Err(error) => Err(error),
+    }
+}
+
+// Nothing for a name that vanished since it was read, if the folder that was listed still stands at its place: it was removed. Else that
+// isn't known of any name.
+fn kinds_of_removed(
+    rt: &HostRuntime,
+    place: &str,
+    folder: &Metadata,
+) -> io::Result<&'static [bool]> {
+    match fs::metadata(rt, place) {
+        Ok(found) if is_same(&found, folder) => Ok(&[]),
+        Err(error) if !is_absent(&error) => Err(error),
+        _ => Err(io::Error::other("the folder went away while it was listed")),
     }
 }
 
@@ -200,10 +230,12 @@ fn is_folder(rt: &HostRuntime, place: &str) -> bool {
     }
 }
 
-fn is_link<P: AsPath>(rt: &HostRuntime, place: P) -> bool {
+// Whether something stands there, be it a link that leads nowhere.
+fn is_there<P: AsPath>(rt: &HostRuntime, place: P) -> io::Result<bool> {
     match fs::symlink_metadata(rt, place) {
-        Ok(found) => found.is_symlink(),
-        Err(_) => false,
+        Ok(_) => Ok(true),
+        Err(error) if is_absent(&error) => Ok(false),
+        Err(error) => Err(error),
     }
 }
 

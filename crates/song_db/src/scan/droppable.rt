@@ -1,6 +1,6 @@
 // The known URIs that a scan may still drop, with a mark for each.
-ghost use Rattle.std.specs.Prelude.{◌≡◌, ℕ, ◌≤◌, ◌<◌, Bool, true, false, List, [], ◌∷◌, ◌++◌, length, drop};
-ghost use Rattle.std.specs.Prelude.{slice_index_or, IfOk, OnOk, MatchOption, vec_len, vec_capacity};
+ghost use Rattle.std.specs.Prelude.{◌≡◌, ◌↔◌, ℕ, ◌≤◌, ◌<◌, Bool, true, false, List, [], ◌∷◌, ◌++◌, length, drop};
+ghost use Rattle.std.specs.Prelude.{slice_index_or, IfOk, OnOk, IsTrue, MatchOption, vec_len, vec_capacity};
 ghost use Rattle.std.specs.List.Sorted.{IsPartitionPoint};
 ghost use Rattle.std.specs.Ordering.{nat_cmp, is_lt};
 ghost use Rattle.std.specs.Cmp.Lexicographic.{slice_cmp};
@@ -76,6 +76,15 @@ impl Droppable {
         ensures { self.new ≡ [] }
     {
         self.at = self.uris.len();
+    }
+
+    // Nothing may be dropped any more.
+    pub(crate) fn is_at_end(&mut self) -> bool
+        ensures same { self.new ≡ self.old }
+        ensures end { IsTrue result ↔ (self.old ≡ []) }
+    {
+        self.at = next_mark(&self.marks, self.at);
+        self.at == self.uris.len()
     }
 
     // The first that may be dropped, which then may no more.

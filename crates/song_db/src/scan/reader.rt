@@ -1,6 +1,6 @@
 // The reading of a scan: batch after batch, from the listings on the present path.
-ghost use Rattle.std.specs.Prelude.{◌≡◌, ℕ, ◌+◌, ◌<◌, ◌≤◌, true, false, List, [], ◌∷◌, ◌++◌, length, vec_len, vec_capacity, Err};
-ghost use Rattle.std.specs.Prelude.{IfOk, OnOk, IsOkUnless};
+ghost use Rattle.std.specs.Prelude.{◌≡◌, ◌↔◌, ℕ, ◌+◌, ◌<◌, ◌≤◌, true, false, List, [], ◌∷◌, ◌++◌, length, vec_len, vec_capacity, Err};
+ghost use Rattle.std.specs.Prelude.{IfOk, OnOk, IsOkUnless, IsTrue};
 ghost use Rattle.song_db.specs.Batch.{IsBatch, IsRead, after_listing, after_own, visit_after};
 ghost use Rattle.song_db.specs.Found.{IsVisitIn, visited};
 ghost use Rattle.song_db.specs.Pending.{listed_pending, own_pending, own_prefix, still_pending, times_pending};
@@ -28,6 +28,15 @@ pub(crate) struct Reader {
 }
 
 impl Reader {
+    // Nothing is still to be read, and nothing may be dropped any more.
+    pub(crate) fn is_at_end(&mut self) -> bool
+        ensures same { self.new ≡ self.old }
+        ensures end { IsTrue result
+            ↔ ((self.old.is_begun ≡ true) × (self.old.walk.pending ≡ []) × (self.old.droppable ≡ [])) }
+    {
+        self.is_begun && self.walk.is_at_end() && self.droppable.is_at_end()
+    }
+
     // The changes of a batch; none at the end, and fewer than a batch may have right before it.
     pub(crate) fn batch<F: Folder>(
         &mut self,

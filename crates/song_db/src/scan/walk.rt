@@ -1,5 +1,7 @@
 // The folders that a scan is in, with what is left of their listings.
-ghost use Rattle.std.specs.Prelude.{◌≡◌, ℕ, ◌+◌, true, List, [], ◌∷◌, ◌++◌, IfOk, OnOk, IfSome, IsTrue, option_map, unwrap_or};
+ghost use Rattle.std.specs.Prelude.{◌≡◌, ◌↔◌, ◌==◌, ℕ, ◌+◌, true, List, [], ◌∷◌, ◌++◌, length, IfOk, OnOk, IfSome, IsTrue, option_map};
+ghost use Rattle.std.specs.Prelude.{unwrap_or};
+ghost use Rattle.std.specs.List.{list_all};
 ghost use Rattle.std.specs.String.{string_bytes};
 ghost use Rattle.song_db.specs.Found.{IsPrefixIn, IsTaken, IsVisitIn, visit_at};
 ghost use Rattle.song_db.specs.Pending.{entries_pending, times_pending};
@@ -75,9 +77,9 @@ impl FolderWalk {
 
     // Nothing that was entered is still to be read.
     pub(crate) fn is_at_end(&self) -> bool
-        ensures { IsTrue result → self.now.pending ≡ [] }
+        ensures { IsTrue result ↔ (self.now.pending ≡ []) }
     {
-        self.levels.is_empty()
+        have_no_entry(&self.levels)
     }
 
     // Goes into a folder whose entries' paths have the prefix.
@@ -119,6 +121,13 @@ impl FolderWalk {
     {
         self.levels.clear();
     }
+}
+
+// Nothing is left of any listing.
+fn have_no_entry(levels: &[Level]) -> bool
+    ensures { result ≡ list_all (λ level. length level.entries.items == 0) levels.now }
+{
+    levels.iter().all(|level| level.entries.is_empty())
 }
 
 // From the last name to the first; of the same name a folder comes before a file.

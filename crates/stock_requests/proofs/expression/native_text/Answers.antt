@@ -12,7 +12,7 @@ loop-rest-preserved c =
     let within = c.piece_at-piece.ensures.within in
     let some : 0 < length rest = omega (arith, within.0, within.1) in
     ap (λ (s : List ℕ). c.put_piece.new.out.items ++ native_from 0 s) c.split_at.ensures.back
-    ∙ pieces_on c.loop-rest.new.items rest (native_from 0 text) (piece.kept.now ++ piece.put.now) c.put_piece.new.out.items piece.length
+    ∙ pieces_on c.loop-rest.new.items rest (native_from 0 text) (piece.kept.now ++ (piece.put.now ++ (piece.value.now ++ piece.back.now))) c.put_piece.new.out.items piece.length
     some within.0 c.piece_at-piece.ensures.value c.in_ok-put_piece.ensures c.loop-rest.invariant
 
 pub returns : goal.returns

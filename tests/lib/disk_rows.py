@@ -1,0 +1,129 @@
+"""Rows of tests/serve: what a job keeps, and what is gone, where the files change while it reads them."""
+
+import os
+
+import preload
+from daemons import Daemon, check, put_song, update, wait_for
+from log_rows import NONE, told
+from scripts import write
+
+RAMP = list(range(0, 4_000, 4))
+# Songs in the folder in which a job waits, and at which look at them it does: in the middle of its listing, or where the first is opened.
+SONGS, LISTING, OPENING = 8, 4, 9
+ALL = ["a.wav", *(f"slow/{it}.wav" for it in range(SONGS)), "z.wav"]
+
+
+class Slow:
+    """A daemon that knows songs, each with a queue entry and a sticker, and whose jobs can be made to wait at a look at one."""
+
+    def __init__(self, program, folder, songs="music/slow"):
+        """Those of `slow` stand in this folder, which has a link where it isn't in the music."""
+        self.daemon, self.folder = Daemon(program, folder).create(), folder
+        for name in "a.wav", "z.wav":
+            put_song(self.daemon, name, RAMP)
+        for number in range(SONGS):
+            put_song(self.daemon, f"../{songs}/{number}.wav", RAMP)
+        if songs != "music/slow":
+            os.symlink(f"../{songs}", f"{folder}/music/slow")
+        self.client = None
+
+    def __enter__(self):
+        self.daemon.start(settings={"LD_PRELOAD": preload.library("wait_calls", self.folder)})
+        self.client = self.daemon.client()
+        update(self.client)
+        self.client.do('add ""', *(f"sticker set song {it} n v" for it in ALL))
+        self.knows(ALL)
+        return self
+
+    def __exit__(self, *_):
+        self.client.socket.close()
+        self.daemon.__exit__()
+
+    def job(self, number, change):
+        """A job that waits before look NUMBER: what is to be looked at is given to CHANGE."""
+        write(f"{self.folder}/wait", b"%d" % number)
+        self.client.do("update")
+        wait_for("a look that waits", lambda: os.path.exists(f"{self.folder}/waiting"))
+        with open(f"{self.folder}/waiting", encoding="utf-8") as file:
+            change(f"{self.folder}/{file.read()}")
+        for name in "waiting", "wait":
+            os.remove(f"{self.folder}/{name}")
+        wait_for("the end of the job", lambda: self.client.value("status", "updating_db") is None)
+
+    def move(self, path, other):
+        os.rename(f"{self.folder}/{path}", f"{self.folder}/{other}")
+
+    def knows(self, songs):
+        """These are known, each with its entry and its sticker."""
+        for request in "listall", "playlistinfo", 'sticker find song "" n':
+            found = [it.removeprefix("file: ") for it in self.client.ask(request) if it.startswith("file: ")]
+            check(request, sorted(found), songs)
+
+    def tells(self, job, text):
+        """The last line of a job."""
+        wait_for("its line", lambda: told(self.daemon, f"update {job}: "))
+        check("its line", told(self.daemon, f"update {job}: "), [f"update {job}: {text}"])
+
+
+def tally(songs, gone, folders, files):
+    """What a job says that found no new song."""
+    return f"{songs} songs, 0 of them new, 0 changed, {gone} gone; left out: {NONE}; not read: {folders} folders, {files} files"
+
+
+def disk_goes_in_a_listing(program, folder):
+    """The music is taken out in the middle of a listing, and also between that and the opening of the songs: all are kept."""
+    with Slow(program, folder) as slow:
+        for job, number, text in ((2, LISTING, tally(1, 0, 1, 1)), (3, OPENING, tally(1, 0, 0, SONGS + 1))):
+            slow.job(number, lambda _: slow.move("music", "away"))
+            slow.knows(ALL)
+            slow.tells(job, text)
+            slow.move("away", "music")
+        update(slow.client)
+        slow.knows(ALL)
+        slow.tells(4, tally(SONGS + 2, 0, 0, 0))
+
+
+def disk_behind_a_link_goes(program, folder):
+    """The same of a disk to which a link leads."""
+    with Slow(program, folder, "disk/songs") as slow:
+        for job, number, text in ((2, LISTING, tally(2, 0, 1, 0)), (3, OPENING, tally(2, 0, 0, SONGS))):
+            slow.job(number, lambda _: slow.move("disk", "away"))
+            slow.knows(ALL)
+            slow.tells(job, text)
+            slow.move("away", "disk")
+        update(slow.client)
+        slow.knows(ALL)
+
+
+def folder_replaced_in_a_listing(program, folder):
+    """In the middle of its listing a folder gives way to an empty one, as a disk to its mount point: that job keeps its songs. The next one
+    finds none there."""
+    with Slow(program, folder) as slow:
+
+        def replace(_):
+            slow.move("music/slow", "away")
+            os.mkdir(f"{folder}/music/slow")
+
+        slow.job(LISTING, replace)
+        slow.knows(ALL)
+        slow.tells(2, tally(2, 0, 1, 0))
+        why = "can't be read: it leads upwards, or changed meanwhile; the songs known there are kept"
+        check("its line", [it for it in slow.daemon.lines if it.startswith("music: ")], [f"music: music/slow: {why}"])
+        update(slow.client)
+        slow.knows(["a.wav", "z.wav"])
+        slow.tells(3, tally(2, SONGS, 0, 0))
+
+
+def songs_removed_in_a_listing(program, folder):
+    """A song that is removed between the reading of its name and the look at it is gone, and one between its listing and its opening."""
+    with Slow(program, folder) as slow:
+        left = list(ALL)
+        for job, number in ((2, LISTING), (3, OPENING - 1)):
+            removed = []
+            slow.job(number, lambda path: removed.append(path) or os.remove(path))
+            left.remove(os.path.relpath(removed[0], f"{folder}/music"))
+            slow.knows(left)
+            slow.tells(job, tally(len(left), 1, 0, 0))
+
+
+ROWS = [disk_goes_in_a_listing, disk_behind_a_link_goes, folder_replaced_in_a_listing, songs_removed_in_a_listing]
