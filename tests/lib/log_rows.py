@@ -185,8 +185,8 @@ def job_without_memory(program, folder):
 
 
 def full_batch(program, folder, library, refused):
-    """A job that finds just as many songs as a batch has, in a daemon of its own, while this allocation is refused, counted from the request
-    on, or none where that is 0: how many there were, how many songs are known then, and the job's line."""
+    """A job that finds just as many songs as a batch has, in a daemon of its own, while this allocation is refused, counted from the
+    request on, or none where that is 0: how many there were, how many songs are known then, and the job's line."""
     daemon, counts = Daemon(program, folder).create(), f"{folder}/counts"
     put_song(daemon, "0.wav", RAMP)
     for number in range(1, BATCH):
