@@ -10,11 +10,12 @@ import subprocess
 import threading
 import time
 
+import under
 from scripts import Failure, configuration
 
 GREETING = b"OK MPD 0.23.0\n"
 # How many seconds a wait lasts at most, however slow the machine is.
-LIMIT = 60
+LIMIT = under.seconds(60)
 
 
 def wait_for(what, is_there, seconds=LIMIT):

@@ -10,10 +10,11 @@ import threading
 import consoles
 import preload
 import scripts
+import under
 
 END = b".\n"
 # A driver of a script is killed after so many seconds.
-SECONDS = 60
+SECONDS = under.seconds(60)
 # So much is taken by a pipe that nobody reads.
 PIPE = 32_768
 

@@ -6,6 +6,7 @@ import signal
 import time
 
 import preload
+import under
 from consoles import RECORDS, Journal
 from daemons import Daemon, check, put_song, refused, update, wait_for
 from scripts import Failure
@@ -139,10 +140,17 @@ def refuse_later(counts, later):
         file.write((preload.counts(counts)[0] + later).to_bytes(8, "little"))
 
 
+def refuse_none(counts):
+    """No allocation is refused from now on."""
+    with open(counts, "r+b") as file:
+        file.seek(16)
+        file.write(bytes(8))
+
+
 def line_of(daemon, job):
     """The line of a job that has ended; None if it has none within a second."""
     try:
-        wait_for("its line", lambda: told(daemon, f"update {job}: "), 1)
+        wait_for("its line", lambda: told(daemon, f"update {job}: "), under.seconds(1))
     except Failure:
         return None
     return told(daemon, f"update {job}: ")[0]
@@ -198,6 +206,7 @@ def full_batch(program, folder, library, refused):
             refuse_later(counts, refused)
         client.do("update")
         line, count = line_of(daemon, 1), preload.counts(counts)[0] - before
+        refuse_none(counts)
         with daemon.client() as other:
             known = sum(it.startswith("file: ") for it in other.ask("listall"))
         daemon.kill(signal.SIGTERM)

@@ -42,6 +42,12 @@ class Part(NamedTuple):
     listens: bool = False
     # Without these commands on the path it is left out.
     wants: tuple = ()
+    # Whether it loads a library into the program, which one that is linked statically doesn't take.
+    loads: bool = False
+    # Why it tells nothing of a program that an emulator runs.
+    here_alone: str = ""
+    # Whether it compiles C for the machine of the programs.
+    compiles: bool = False
 
     def programs(self):
         """The names of the programs that it runs."""
@@ -58,11 +64,12 @@ class Part(NamedTuple):
 
 PARTS = [
     Part("toolchain", "toolchain"),
+    Part("shim", "shim", is_counted=True, compiles=True),
     Part("console", "run_scripts {mpd_daemon}", is_counted=True),
-    Part("serve", "serve {mpd_daemon}", listens=True),
+    Part("serve", "serve {mpd_daemon}", listens=True, loads=True),
     Part("import", "import {mpd_daemon}", listens=True),
-    Part("install", "install {mpd_daemon}", listens=True),
-    Part("stock", "stock {mpd_daemon}", listens=True),
+    Part("install", "install {mpd_daemon}", listens=True, here_alone="what it packs and installs would be the emulator's call"),
+    Part("stock", "stock {mpd_daemon}", listens=True, loads=True),
     Part("false_answers", "false_answers {test_driver}"),
     Part("loop", "run_scripts {test_driver} {scripts}/loop", is_counted=True),
     Part("workers", "run_scripts {test_driver} {scripts}/workers", is_counted=True),
@@ -73,16 +80,16 @@ PARTS = [
     Part("players", "players {test_driver} --steps 5000"),
     Part("simulation", "simulation {test_driver}"),
     Part("kills", "kills {mpd_daemon} {room}/kills --kills 40 --short"),
-    Part("images", "images {mpd_daemon}"),
+    Part("images", "images {mpd_daemon}", loads=True),
     Part("backup", "backup {mpd_daemon} --copies 20"),
-    Part("faults", "faults {mpd_daemon}"),
+    Part("faults", "faults {mpd_daemon}", loads=True),
     Part("migration", "migration {mpd_daemon}"),
-    Part("refused_memory", "refused_memory {mpd_daemon} {test_driver}"),
+    Part("refused_memory", "refused_memory {mpd_daemon} {test_driver}", loads=True),
     Part("replace_kills", "replace_kills {mpd_daemon} --kills 40", listens=True),
     Part("sox_tree", "sox_tree {mpd_daemon} {room}/sox", wants=("sox", "soxi")),
     Part("profile", "profile {mpd_daemon}"),
     Part("believed", "believed"),
-    Part("documents", "documents {mpd_daemon}", listens=True),
+    Part("documents", "documents {mpd_daemon}", listens=True, here_alone="what is typed there packs and installs the program"),
     Part("planted", "planted --look"),
     Part("mutants", "mutants --look"),
 ]

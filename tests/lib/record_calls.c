@@ -10,6 +10,7 @@
 #include <fcntl.h>
 #include <stdlib.h>
 #include <string.h>
+#include <sys/syscall.h>
 #include <sys/types.h>
 #include <unistd.h>
 
@@ -38,11 +39,19 @@ static long name_of(int file)
     return length > 1 && path[length - 2] == '/' ? path[length - 1] : 0;
 }
 
+/* Writes to the record by the system call itself, since `write` is the one below. */
+static void put(const void *bytes, long count)
+{
+    if (syscall(SYS_write, record, bytes, count) != count)
+        abort();
+}
+
 static void note(long call, long name, long at, long count, long is_done, const void *bytes)
 {
     long numbers[5] = {call, name, at, count, is_done};
-    if (syscall(1, record, numbers, sizeof numbers) != sizeof numbers || (bytes && syscall(1, record, bytes, count) != count))
-        abort();
+    put(numbers, sizeof numbers);
+    if (bytes)
+        put(bytes, count);
 }
 
 ssize_t pwrite(int file, const void *bytes, size_t count, off_t at)

@@ -10,8 +10,9 @@ import consoles
 import preload
 import refusals
 import scripts
+import under
 
-SECONDS = 60
+SECONDS = under.seconds(60)
 # What a program says that ends for want of memory itself.
 ENDED = re.compile(r"out of memory|no memory|OutOfMemory|memory allocation failed")
 

@@ -39,8 +39,10 @@ import subprocess
 import tempfile
 import threading
 
+import under
+
 DEFAULTS = {"music": '"music"', "journal_a": '"a"', "journal_b": '"b"', "key": '"' + "5a" * 32 + '"'}
-SECONDS = 60
+SECONDS = under.seconds(60)
 # So many seconds without a byte, and a program that is to be killed has written all.
 QUIET = 1
 
