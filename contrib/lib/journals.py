@@ -1,5 +1,6 @@
 """The journal that a configuration names, for start and contrib/install."""
 
+import errno
 import fcntl
 import os
 
@@ -28,20 +29,25 @@ class Journal:
         return f"{missing}: is its drive there? `{command}` makes a new journal"
 
     def is_in_use(self):
-        """Whether a program has it open: it locks both files."""
+        """Whether a program has it open: it locks both files. Raises OSError where that can't be told."""
+        if not os.path.exists(self.paths[0]):
+            return False
         try:
-            with open(self.paths[0], "rb") as file:
+            # Over a network (NFS) only a file that is open for writing can be locked.
+            with open(self.paths[0], "r+b") as file:
                 fcntl.flock(file, fcntl.LOCK_EX | fcntl.LOCK_NB)
         except BlockingIOError:
             return True
-        except OSError:
-            pass
+        except OSError as fault:
+            # Where the file system knows no locks, nobody can tell.
+            if fault.errno not in (errno.EOPNOTSUPP, errno.ENOSYS):
+                raise OSError(fault.errno, fault.strerror, self.paths[0]) from None
         return False
 
 
-def make_pipe(path, mode=0o666):
-    """Makes a named pipe; the system's fault doesn't name it."""
+def make_pipe(path):
+    """Makes a named pipe for its owner alone; the system's fault doesn't name it."""
     try:
-        os.mkfifo(path, mode)
+        os.mkfifo(path, 0o600)
     except OSError as fault:
         raise OSError(fault.errno, fault.strerror, path) from None
