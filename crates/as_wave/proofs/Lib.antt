@@ -1,0 +1,14 @@
+pub mod ChunkPlaces
+pub mod Fronts
+pub mod MadeFiles
+pub mod OwnFrames
+pub mod OwnHeads
+pub mod OwnTexts
+pub mod Picks
+pub mod PieceReads
+pub mod PlainFiles
+pub mod PlanParts
+pub mod PlanReads
+pub mod SampleList
+pub mod WaveFiles
+pub mod WaveParts

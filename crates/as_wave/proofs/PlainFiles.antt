@@ -1,0 +1,167 @@
+-- A WAVE file that is read is what it stands for.
+use Rattle.std.proofs.Common.{◌≡◌, ℕ, zero, suc, List, [], ◌∷◌, ◌++◌, length, take, drop, map, ◌+◌, Bool, true, false, cond, refl, ap, ◌∙◌, sym, Ok, Err, Some, None, codes}
+use Rattle.std.specs.Prelude.{Result, Option, option_map, option_and_then, nat_lt, nat_le, if◌then◌else◌, unwrap_or, ◌==◌, ◌&&◌, ◌||◌, not}
+use Rattle.std.specs.List.{find, flat_map}
+use Rattle.std.specs.Str.{bytes_eq}
+use Rattle.std.proofs.lemmas.Bool.Decides.{nat_tests}
+use Rattle.std.proofs.Common.{arith}
+use Rattle.wave_pcm.specs.Chunks.{Chunk, chunks_after}
+use Rattle.wave_pcm.specs.Format.{is_supported, u16_at, u32_at, format_by, format_from}
+use Rattle.wave_pcm.specs.Parts.{Part, file_parts, is_format, is_data, file_part, text_part, parts_of, file_kind, text_kind, is_text_list}
+use Rattle.wave_pcm.specs.Reading.{◌>>=◌, is_wave, wave_reading, reading_of, format_of, format_at, data_of, texts_of, info_of, is_long, is_key, MAX_CHUNKS}
+use Rattle.wave_pcm.specs.declared.format.Format.{Format}
+use Rattle.wave_pcm.specs.declared.info.WaveInfo.{WaveInfo}
+use Rattle.wave_pcm.specs.declared.parts.Kind.{Kind}
+use Rattle.wave_pcm.specs.declared.parts.Kind.TheVariants.{Format as FormatKind, Data as DataKind, Nested, Other}
+use Rattle.wave_pcm.specs.declared.refusal.WaveError.{WaveError}
+use Rattle.wave_pcm.specs.declared.refusal.WaveError.TheVariants.{NotWave, NoFormat, Unsupported}
+use Rattle.as_wave.specs.Format.{is_pcm, is_plain, format_by as sample_format_by, sample_format}
+use Rattle.as_wave.specs.Forms.{as_wave}
+use Rattle.as_wave.specs.StandsFor.{is_format_id, is_data_id, is_key as is_key_chunk, format_in, file_chunks, wave_by, converted}
+use Rattle.as_wave.specs.declared.format.SampleFormat.{SampleFormat}
+use Rattle.as_wave.specs.declared.forms.Forms.{Forms}
+use Rattle.as_wave.proofs.Picks.{no_format_by}
+
+passes : {A : Type 0} (b : Bool) (x : Result A WaveError) (e : WaveError) (y : A) → (if b then x else Err e) ≡ Ok y → (b ≡ true) × (x ≡ Ok y)
+passes true x e y same = (refl, same)
+passes false x e y same = absurd (cc)
+
+passes_not : {A : Type 0} (b : Bool) (x : Result A WaveError) (e : WaveError) (y : A) → (if b then Err e else x) ≡ Ok y → x ≡ Ok y
+passes_not false x e y same = same
+passes_not true x e y same = absurd (cc)
+
+then_ok : {A B : Type 0} (r : Result A WaveError) (f : A → Result B WaveError) (y : B) → (r >>= f) ≡ Ok y → (x : A) × (r ≡ Ok x)
+then_ok (Ok x) f y same = (x, refl)
+then_ok (Err e) f y same = absurd (cc)
+
+judged_ok : (b : Bool) (made format : Format) (e : WaveError) → (if b then Ok made else Err e) ≡ Ok format → b ≡ true
+judged_ok true made format e same = refl
+judged_ok false made format e same = absurd (cc)
+
+plain_of : (tag channels rate align bits : ℕ) → is_supported tag channels rate align bits ≡ true → (tag == 1 && bits == 16) ≡ true
+plain_of tag channels rate align bits yes' = grind (arith, nat_tests)
+
+no_sample_format : (some pcm : Bool) (found : Option SampleFormat) → (if some && pcm && not true then found else None) ≡ None
+no_sample_format true true found = refl
+no_sample_format true false found = refl
+no_sample_format false pcm found = refl
+
+-- 16-bit PCM is no form of its own
+plain_format : (body : List ℕ) (format : Format) → format_from body ≡ Ok format → sample_format body ≡ None
+plain_format body format same =
+    let read : format_by body ≡ Ok format = passes_not (nat_lt (length body) 16) (format_by body) NoFormat format same in
+    let tag = u16_at 0 body in
+    let bits = u16_at 14 body in
+    let yes' : is_supported tag (u16_at 2 body) (u32_at 4 body) (u16_at 12 body) bits ≡ true = judged_ok (is_supported tag (u16_at 2
+    body) (u32_at 4 body) (u16_at 12 body) bits) (record { rate = u32_at 4 body; channels = u16_at 2 body }) format (Unsupported tag bits
+    (u16_at 2 body)) read in
+    let plain : is_plain body ≡ true = plain_of tag (u16_at 2 body) (u32_at 4 body) (u16_at 12 body) bits yes' in
+    ap (λ b. if nat_le 16 (length body) && is_pcm body && not b then sample_format_by body else None) plain
+    ∙ no_sample_format (nat_le 16 (length body)) (is_pcm body) (sample_format_by body)
+
+-- no chunk inside a list is a format or data
+abbrev is_key_kind : Kind → Bool
+is_key_kind kind = is_format kind || is_data kind
+
+if_false : (f : Kind → Bool) (b : Bool) (x y : Kind) → f x ≡ false → f y ≡ false → f (if b then x else y) ≡ false
+if_false f true x y p q = p
+if_false f false x y p q = q
+
+text_no_key : (id : List ℕ) → is_key_kind (text_kind id) ≡ false
+text_no_key id =
+    if_false is_key_kind (bytes_eq id (codes "INAM")) _ _ refl
+    (if_false is_key_kind (bytes_eq id (codes "IART")) _ _ refl
+    (if_false is_key_kind (bytes_eq id (codes "IPRD")) _ _ refl
+    (if_false is_key_kind (bytes_eq id (codes "ICRD")) _ _ refl
+    (if_false is_key_kind (bytes_eq id (codes "IGNR")) _ _ refl
+    (if_false is_key_kind (bytes_eq id (codes "ICMT")) _ _ refl refl)))))
+
+texts_no_key : (cs : List Chunk) (ps : List Part) → find is_key (map text_part cs ++ ps) ≡ find is_key ps
+texts_no_key [] ps = refl
+texts_no_key (c ∷ cs) ps = ap (λ b. cond b (Some (text_part c)) (find is_key (map text_part cs ++ ps))) (text_no_key c.id)
+    ∙ texts_no_key cs ps
+
+key_by : (a b d : Bool) → is_key_kind (if a then FormatKind else if b then DataKind else if d then Nested else Other) ≡ (a || b)
+key_by true b d = refl
+key_by false true d = refl
+key_by false false true = refl
+key_by false false false = refl
+
+nested_no_key : (b : Bool) (cs : List Chunk) (ps : List Part) → find is_key ((if b then map text_part cs else []) ++ ps) ≡ find is_key ps
+nested_no_key true cs ps = texts_no_key cs ps
+nested_no_key false cs ps = refl
+
+-- the first format or data among the parts is that among the chunks
+key_among : (cs : List Chunk) → find is_key (flat_map parts_of cs) ≡ option_map file_part (find is_key_chunk cs)
+key_among [] = refl
+key_among (c ∷ cs) =
+    let nested = chunks_after 0 (c.first + 4) (drop 4 c.body) in
+    let t = is_text_list (file_kind c.id) c.body in
+    ap (λ b. cond b (Some (file_part c)) (find is_key ((if t then map text_part nested else []) ++ flat_map parts_of cs))) (key_by
+    (is_format_id c.id) (is_data_id c.id) (bytes_eq c.id (codes "LIST")))
+    ∙ ap (λ o. cond (is_key_chunk c) (Some (file_part c)) o) (nested_no_key t nested (flat_map parts_of cs) ∙ key_among cs)
+    ∙ split (is_key_chunk c)
+  where
+    split : (b : Bool) → cond b (Some (file_part c)) (option_map file_part (find is_key_chunk cs))
+        ≡ option_map file_part (cond b (Some c) (find is_key_chunk cs))
+    split true = refl
+    split false = refl
+
+-- what is found in a front is found
+find-take : {X : Type 0} (p : X → Bool) (n : ℕ) (xs : List X) (x : X) → find p (take n xs) ≡ Some x → find p xs ≡ Some x
+find-take p zero xs x found = absurd (cc)
+find-take p (suc n) [] x found = absurd (cc)
+find-take p (suc n) (y ∷ xs) x found = chosen (p y) (find-take p n xs x) found
+  where
+    chosen : (b : Bool) → (find p (take n xs) ≡ Some x → find p xs ≡ Some x) → cond b (Some y) (find p (take n xs)) ≡ Some x
+        → cond b (Some y) (find p xs) ≡ Some x
+    chosen true more same = same
+    chosen false more same = more same
+
+abbrev body_of : Option Part → List ℕ
+body_of None = []
+body_of (Some q) = q.body
+
+none_either : {A : Type 0} (b : Bool) (o : Option A) → o ≡ None → (if b then o else None) ≡ None
+none_either true o none = none
+none_either false o none = refl
+
+key_of : (cs : List Chunk) (long : Bool) (found : Option Part) (format : Format) → find is_key (take MAX_CHUNKS (flat_map parts_of cs)) ≡ found
+    → format_at long found ≡ Ok format → format_in cs ≡ None
+key_of cs true None format found same = absurd (cc)
+key_of cs false None format found same = absurd (cc)
+key_of cs long (Some p) format found same =
+    by_chunk (find is_key_chunk cs) (sym (key_among cs) ∙ find-take is_key MAX_CHUNKS (flat_map parts_of cs) p found)
+    (passes (is_format p.kind) (format_from p.body) NoFormat format same).1
+  where
+    by_chunk : (o : Option Chunk) → option_map file_part o ≡ Some p → format_from p.body ≡ Ok format
+        → option_and_then (λ (c : Chunk). if is_format_id c.id then sample_format c.body else None) o ≡ None
+    by_chunk None is read = refl
+    by_chunk (Some c) is read =
+        let body : c.body ≡ p.body = ap body_of is in
+        none_either (is_format_id c.id) (sample_format c.body) (plain_format c.body format (ap format_from body ∙ read))
+
+no_form : (file : List ℕ) (info : WaveInfo) → reading_of (file_parts file) ≡ Ok info → format_in (file_chunks file) ≡ None
+unfolding reading_of
+no_form file info same =
+    let parts = file_parts file in
+    let first = then_ok (format_of parts) (λ format. data_of parts >>= (λ sound. Ok (info_of format sound (texts_of parts)))) info same in
+    key_of (file_chunks file) (is_long parts) (find is_key (take MAX_CHUNKS parts)) first.0 refl first.1
+
+is_wave_if : (b : Bool) (x : Result WaveInfo WaveError) (info : WaveInfo) → (if b then x else Err NotWave) ≡ Ok info → x ≡ Ok info
+is_wave_if true x info same = same
+is_wave_if false x info same = absurd (cc)
+
+not_converted : (file : List ℕ) (info : WaveInfo) → wave_reading file ≡ Ok info → converted file ≡ None
+unfolding wave_reading converted
+not_converted file info same =
+    let none = no_form file info (is_wave_if (is_wave file) (reading_of (file_parts file)) info same) in
+    none_either (is_wave file) (wave_by (file_chunks file)) (no_format_by (file_chunks file) none)
+
+pub plain_stays : (forms : Forms) (file : List ℕ) (info : WaveInfo) → wave_reading file ≡ Ok info → as_wave forms file ≡ file
+plain_stays forms file info same = ap (λ o. if forms.wave_pcm then unwrap_or o file else file) (not_converted file info same)
+    ∙ either forms.wave_pcm
+  where
+    either : (b : Bool) → (if b then file else file) ≡ file
+    either true = refl
+    either false = refl

@@ -1,0 +1,9 @@
+pub mod ChunkHead
+pub mod FileKind
+pub mod Format
+pub mod Forms
+pub mod OwnHead
+pub mod Plan
+pub mod Playable
+pub mod Samples
+pub mod StandsFor

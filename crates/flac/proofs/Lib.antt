@@ -1,0 +1,10 @@
+pub mod BlockList
+pub mod Decodings
+pub mod FieldList
+pub mod Heads
+pub mod PictureParts
+pub mod Ranges
+pub mod Samples
+pub mod TextTests
+pub mod Turns
+pub mod Verdicts

@@ -1,0 +1,12 @@
+pub mod Blocks
+pub mod Comments
+pub mod FlacError
+pub mod Frames
+pub mod Id3
+pub mod Limits
+pub mod Numbers
+pub mod Pictures
+pub mod Reader
+pub mod Reading
+pub mod Steps
+pub mod StreamInfo

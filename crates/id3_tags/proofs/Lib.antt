@@ -1,0 +1,14 @@
+pub mod FrameList
+pub mod Labels
+pub mod Pushes
+pub mod Resyncs
+pub mod Splits
+pub mod Standing
+pub mod Terminated
+pub mod Units
+pub mod Wholes
+pub mod Writings
+pub mod WrittenHeads
+pub mod WrittenFrames
+pub mod WrittenPictures
+pub mod ReadBack

@@ -1,0 +1,11 @@
+pub mod Frames
+pub mod Limits
+pub mod Numbers
+pub mod Pictures
+pub mod Reading
+pub mod Strings
+pub mod TagError
+pub mod TagHead
+pub mod Texts
+pub mod Unsynchronisation
+pub mod Writing
