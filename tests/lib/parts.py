@@ -87,6 +87,7 @@ PARTS = [
     Part("refused_memory", "refused_memory {mpd_daemon} {test_driver}", loads=True),
     Part("replace_kills", "replace_kills {mpd_daemon} --kills 40", listens=True),
     Part("sox_tree", "sox_tree {mpd_daemon} {room}/sox", wants=("sox", "soxi")),
+    Part("encoders", "encoders {mpd_daemon} {room}/encoders", listens=True, wants=("flac", "ffmpeg")),
     Part("profile", "profile {mpd_daemon}"),
     Part("believed", "believed"),
     Part("documents", "documents {mpd_daemon}", listens=True, here_alone="what is typed there packs and installs the program"),

@@ -9,7 +9,7 @@ use Rattle.std.proofs.lemmas.Bool.Decides.{nat_tests}
 use Rattle.std.proofs.lemmas.List.{take-take, drop-take, take_all, take_at, length-take}
 use Rattle.wave_pcm.specs.Format.{u16_at, u32_at}
 use Rattle.wave_pcm.proofs.ChunkList.{le_bytes-take, take_front}
-use Rattle.wave_pcm.proofs.Ranges.{range_is}
+use Rattle.song_files.proofs.Ranges.{range_is}
 use Rattle.as_wave.specs.Format.{width_of, judged, pcm_guid, sample_format}
 use Rattle.as_wave.specs.declared.format.SampleFormat.{SampleFormat}
 

@@ -1,6 +1,16 @@
 pub mod ChunkPlaces
+pub mod Faults
+pub mod Firsts
+pub mod FlacParts
+pub mod FlacPlans
+pub mod FlacSounds
+pub mod FlacTags
+pub mod FlacWaves
+pub mod FormReads
+pub mod FrameRows
 pub mod Fronts
 pub mod MadeFiles
+pub mod NoFlac
 pub mod OwnFrames
 pub mod OwnHeads
 pub mod OwnTexts
@@ -9,6 +19,7 @@ pub mod PieceReads
 pub mod PlainFiles
 pub mod PlanParts
 pub mod PlanReads
+pub mod Rounded
 pub mod SampleList
 pub mod WaveFiles
 pub mod WaveParts

@@ -9,8 +9,8 @@ use Rattle.std.proofs.lemmas.List.{take_all, length-map}
 use Rattle.std.proofs.lemmas.List.Elements.{All-head, All-tail, All-cons, All-nil, All-take, All-drop}
 use Rattle.wave_pcm.specs.Chunks.{Chunk, chunk_of, chunks_after, size_in, padded}
 use Rattle.wave_pcm.specs.Pcm.{samples_in, frames_from}
-use Rattle.wave_pcm.specs.Tag.{Texts}
-use Rattle.wave_pcm.proofs.Ranges.{range_is}
+use Rattle.song_files.specs.Tags.{TagText}
+use Rattle.song_files.proofs.Ranges.{range_is}
 use Rattle.as_wave.specs.Format.{byte_len}
 use Rattle.as_wave.specs.OwnHead.{IsMade, own_info}
 use Rattle.as_wave.specs.Plan.{wave_head}
@@ -92,7 +92,7 @@ sound_part file wave format sound made =
     ∙ slice_mid h s k 0 n (omega (arith, long))
     ∙ range_is s 0 n ∙ take_all n s (omega (arith, long))
 
-pub frames_are : (file wave : List ℕ) (format : SampleFormat) (sound : Chunk) (texts : Texts) → IsMade file wave format sound
+pub frames_are : (file wave : List ℕ) (format : SampleFormat) (sound : Chunk) (texts : List TagText) → IsMade file wave format sound
     → All IsByte file → (from most : ℕ)
     → frames_from wave (own_info format (frames_in format sound.body) texts) from most
     ≡ take (format.channels * most) (drop (format.channels * from) (sound_in format sound.body))

@@ -10,7 +10,8 @@ use Rattle.std.proofs.lemmas.Nat.{from_le_bytes-to_le_bytes_2, from_le_bytes-to_
 use Rattle.wave_pcm.specs.Chunks.{Chunk, chunks_after, size_in, padded}
 use Rattle.wave_pcm.specs.Format.{is_supported, judged, u16_at, u32_at}
 use Rattle.wave_pcm.specs.Parts.{Part, file_parts, parts_of, is_data}
-use Rattle.wave_pcm.specs.Reading.{is_wave, wave_reading, reading_of, format_of, data_of, data_at, texts_of, is_long}
+use Rattle.wave_pcm.specs.Reading.{is_wave, wave_reading, reading_of, format_of, data_of, data_at, texts_in, is_long}
+use Rattle.song_files.specs.declared.tag_set.TagSet.{TagSet}
 use Rattle.wave_pcm.specs.declared.parts.Kind.TheVariants.{Format as FormatKind, Data as DataKind}
 use Rattle.wave_pcm.specs.declared.refusal.WaveError.TheVariants.{Unsupported, NotWave}
 use Rattle.wave_pcm.proofs.ChunkList.{chunks_first, chunks_none}
@@ -53,7 +54,7 @@ parsed (a ∷ b ∷ c ∷ d ∷ []) body rest at four small =
 abbrev IsSmall : Chunk → Type 0
 IsSmall c = length c.body < 2 ^ 32
 
-abbrev HasId : Chunk → Type 0
+abbrev pub HasId : Chunk → Type 0
 HasId c = length c.id ≡ 4
 
 chunks_placed : (at : ℕ) (cs : List Chunk) → All HasId cs → All IsSmall cs → chunks_after 0 at (chunks_bytes cs) ≡ placed at cs
@@ -72,10 +73,10 @@ all_small (c ∷ cs) ids small =
     All-cons IsSmall c cs (omega (arith, whole, one, small)) (all_small cs (All-tail HasId c cs ids) (omega (arith, whole, small)))
 
 -- the chunks of the file
-abbrev format_chunk : SampleFormat → Chunk
+abbrev pub format_chunk : SampleFormat → Chunk
 format_chunk format = record { id = codes "fmt "; first = 20; body = format_bytes format }
 
-abbrev data_chunk : List ℕ → Chunk
+abbrev pub data_chunk : List ℕ → Chunk
 data_chunk sound = record { id = codes "data"; first = 44; body = sound }
 
 behind_tag : (format : SampleFormat) (sound : List ℕ) (kept : List Chunk) (rest : ℕ) → length sound % 2 ≡ 0
@@ -117,7 +118,7 @@ format_back format more limits =
 data_back : (parts : List Part) (p : Part) → is_long parts ≡ false → find (λ (q : Part). is_data q.kind) parts ≡ Some p → data_of parts ≡ Ok p
 data_back parts p short found = ap (λ b. data_at b (find (λ (q : Part). is_data q.kind) parts)) short ∙ ap (data_at false) found
 
-whole_frames : (channels count : ℕ) → 1 ≤ channels → channels ≤ 2 → 2 * channels * count / (2 * channels) ≡ count
+pub whole_frames : (channels count : ℕ) → 1 ≤ channels → channels ≤ 2 → 2 * channels * count / (2 * channels) ≡ count
 whole_frames zero count some few = absurd (omega arith)
 whole_frames (suc zero) count some few = omega arith
 whole_frames (suc (suc zero)) count some few = omega arith
@@ -152,41 +153,59 @@ read_by (Some c) format same =
     let played = (some_if (nat_le 16 (length c.body) && is_pcm c.body && not (is_plain c.body)) (format_by c.body) format chosen).1 in
     by_width (u16_at 2 c.body) (u32_at 4 c.body) (u16_at 12 c.body) (width_of (u16_at 14 c.body)) format played
 
-pub head_is : (file wave : List ℕ) (format : SampleFormat) (sound : Chunk) → IsMade file wave format sound
-    → is_long (file_parts wave) ≡ false
-    → wave_reading wave ≡ Ok (own_info format (frames_in format sound.body) (texts_of (file_parts file)))
-unfolding wave_reading
-head_is file wave format sound made short =
-    let s = bytes_of (sound_in format sound.body) in
-    let kept = kept_in (file_chunks file) in
+-- the parts of a WAVE file that is made of a format, its samples and further chunks
+pub parts_are : (wave : List ℕ) (format : SampleFormat) (s : List ℕ) (kept : List Chunk)
+    → wave ≡ wave_head format (length s) (length (chunks_bytes kept)) ++ (s ++ chunks_bytes kept) → length s % 2 ≡ 0 → All HasId kept
+    → length (riff_data format s kept) < 2 ^ 32
+    → file_parts wave ≡ flat_map parts_of (placed 12 (format_chunk format ∷ data_chunk s ∷ kept))
+parts_are wave format s kept is even each little =
     let k = chunks_bytes kept in
-    let n = length s in
-    let h = wave_head format n (length k) in
-    let is : wave ≡ h ++ (s ++ k) = made_is file wave format sound made.made made.by_format made.by_data in
-    let limits : IsRead format = read_by (find is_key (file_chunks file)) format made.by_format in
-    let even : n % 2 ≡ 0 = omega (arith, length-sound format sound.body) in
     let cs = format_chunk format ∷ data_chunk s ∷ kept in
-    let ids : All HasId cs = All-cons HasId (format_chunk format) (data_chunk s ∷ kept) refl (All-cons HasId (data_chunk s) kept refl
-    (kept_ids file)) in
-    let little : length (riff_data format s kept) < 2 ^ 32 = made_small file wave format sound made.made made.by_format made.by_data in
+    let ids : All HasId cs = All-cons HasId (format_chunk format) (data_chunk s ∷ kept) refl (All-cons HasId (data_chunk s) kept refl each) in
     let small : All IsSmall cs = all_small cs ids (omega (arith, little, ap length (riff_is_chunks format s kept), length-append (codes "WAVE") (chunks_bytes cs))) in
     let all : slice_range wave 12 (length wave) ≡ chunks_bytes cs = take_all (length wave - 12) (drop 12 wave) (omega (
       arith,
       length-drop
           12 wave,
     )) ∙ ap (drop 12) is ∙ behind_tag format s kept (length k) even in
-    let parts : file_parts wave ≡ flat_map parts_of (placed 12 cs) = ap (λ bytes. flat_map parts_of (chunks_after 0 12 bytes)) all
-    ∙ ap (flat_map parts_of) (chunks_placed 12 cs ids small) in
+    ap (λ bytes. flat_map parts_of (chunks_after 0 12 bytes)) all ∙ ap (flat_map parts_of) (chunks_placed 12 cs ids small)
+
+-- what is read of it
+pub read_is : (wave : List ℕ) (wanted : TagSet) (format : SampleFormat) (s : List ℕ) (kept : List Chunk)
+    → wave ≡ wave_head format (length s) (length (chunks_bytes kept)) ++ (s ++ chunks_bytes kept) → length s % 2 ≡ 0 → All HasId kept
+    → length (riff_data format s kept) < 2 ^ 32 → IsRead format → is_long (file_parts wave) ≡ false
+    → wave_reading wave wanted ≡ Ok (own_info format (length s / (2 * format.channels)) (texts_in (flat_map parts_of (placed 12 (format_chunk
+    format ∷ data_chunk s ∷ kept))) wanted))
+unfolding wave_reading
+read_is wave wanted format s kept is even each little limits short =
+    let k = chunks_bytes kept in
+    let n = length s in
+    let cs = format_chunk format ∷ data_chunk s ∷ kept in
     let ps = flat_map parts_of (placed 12 cs) in
+    let parts : file_parts wave ≡ flat_map parts_of (placed 12 (format_chunk format ∷ data_chunk s ∷ kept)) = parts_are wave format s kept is
+    even each little in
     let short' : is_long ps ≡ false = ap is_long (sym parts) ∙ short in
     let sound_part : Part = record { kind = DataKind; first = 44; body = s } in
-    let texts : texts_of ps ≡ texts_of (file_parts file) = texts_kept (36 + (8 + padded n)) (file_chunks file) in
+    ap (λ xs. if is_wave xs then reading_of (file_parts wave) wanted else Err NotWave) is
+    ∙ ap (λ b. if b then reading_of (file_parts wave) wanted else Err NotWave) (tagged format n (length k) (s ++ k))
+    ∙ ap (λ xs. reading_of xs wanted) parts
+    ∙ reading_ok wanted ps (record { rate = format.rate; channels = format.channels }) sound_part (format_back format (sound_part ∷ flat_map parts_of (placed (36 + (8 + padded n)) kept)) limits) (data_back ps
+    sound_part short' refl)
+
+pub head_is : (file wave : List ℕ) (wanted : TagSet) (format : SampleFormat) (sound : Chunk) → IsMade file wave format sound
+    → is_long (file_parts wave) ≡ false
+    → wave_reading wave wanted ≡ Ok (own_info format (frames_in format sound.body) (texts_in (file_parts file) wanted))
+head_is file wave wanted format sound made short =
+    let s = bytes_of (sound_in format sound.body) in
+    let kept = kept_in (file_chunks file) in
+    let n = length s in
+    let limits : IsRead format = read_by (find is_key (file_chunks file)) format made.by_format in
+    let even : n % 2 ≡ 0 = omega (arith, length-sound format sound.body) in
+    let ps = flat_map parts_of (placed 12 (format_chunk format ∷ data_chunk s ∷ kept)) in
+    let texts : texts_in ps wanted ≡ texts_in (file_parts file) wanted = texts_kept (36 + (8 + padded n)) (file_chunks file) wanted in
     let frames : n / (2 * format.channels) ≡ frames_in format sound.body = ap (λ m. m / (2 * format.channels)) (length-sound format
     sound.body) ∙ whole_frames format.channels (frames_in format sound.body) limits.some_channels limits.channels_within in
-    ap (λ xs. if is_wave xs then reading_of (file_parts wave) else Err NotWave) is
-    ∙ ap (λ b. if b then reading_of (file_parts wave) else Err NotWave) (tagged format n (length k) (s ++ k))
-    ∙ ap reading_of parts
-    ∙ reading_ok ps (record { rate = format.rate; channels = format.channels }) sound_part (format_back format (sound_part ∷ flat_map parts_of (placed (36 + (8 + padded n)) kept)) limits) (data_back ps
-    sound_part short' refl)
-    ∙ ap (λ m. Ok (own_info format m (texts_of ps))) frames
+    read_is wave wanted format s kept (made_is file wave format sound made.made made.by_format made.by_data) even (kept_ids file)
+    (made_small file wave format sound made.made made.by_format made.by_data) limits short
+    ∙ ap (λ m. Ok (own_info format m (texts_in ps wanted))) frames
     ∙ ap (λ t. Ok (own_info format (frames_in format sound.body) t)) texts

@@ -7,16 +7,22 @@ use Rattle.std.proofs.lemmas.Bool.Decides.{nat_tests}
 use Rattle.std.proofs.Common.{arith}
 use Rattle.wave_pcm.specs.Chunks.{Chunk, chunks_after}
 use Rattle.wave_pcm.specs.Format.{is_supported, u16_at, u32_at, format_by, format_from}
-use Rattle.wave_pcm.specs.Parts.{Part, file_parts, is_format, is_data, file_part, text_part, parts_of, file_kind, text_kind, is_text_list}
-use Rattle.wave_pcm.specs.Reading.{◌>>=◌, is_wave, wave_reading, reading_of, format_of, format_at, data_of, texts_of, info_of, is_long, is_key, MAX_CHUNKS}
+use Rattle.wave_pcm.specs.Parts.{Part, file_parts, is_format, is_data, file_part, text_part, parts_of, file_kind, text_kind, kind_by, is_text_list}
+use Rattle.song_files.specs.Tag.{info_tag}
+use Rattle.song_files.specs.declared.tag.Tag.{Tag}
+use Rattle.song_files.specs.declared.tag_set.TagSet.{TagSet}
+use Rattle.wave_pcm.specs.Reading.{◌>>=◌, is_wave, wave_reading, reading_of, format_of, format_at, data_of, texts_in, info_of, is_long, is_key, MAX_CHUNKS}
 use Rattle.wave_pcm.specs.declared.format.Format.{Format}
 use Rattle.wave_pcm.specs.declared.info.WaveInfo.{WaveInfo}
 use Rattle.wave_pcm.specs.declared.parts.Kind.{Kind}
-use Rattle.wave_pcm.specs.declared.parts.Kind.TheVariants.{Format as FormatKind, Data as DataKind, Nested, Other}
+use Rattle.wave_pcm.specs.declared.parts.Kind.TheVariants.{Format as FormatKind, Data as DataKind, Nested, Id3, Other}
 use Rattle.wave_pcm.specs.declared.refusal.WaveError.{WaveError}
 use Rattle.wave_pcm.specs.declared.refusal.WaveError.TheVariants.{NotWave, NoFormat, Unsupported}
 use Rattle.as_wave.specs.Format.{is_pcm, is_plain, format_by as sample_format_by, sample_format}
-use Rattle.as_wave.specs.Forms.{as_wave}
+use Rattle.std.specs.Option.{option_or}
+use Rattle.as_wave.specs.FlacWave.{flac_wave}
+use Rattle.as_wave.specs.Forms.{as_wave, taken}
+use Rattle.as_wave.proofs.NoFlac.{no_flac}
 use Rattle.as_wave.specs.StandsFor.{is_format_id, is_data_id, is_key as is_key_chunk, format_in, file_chunks, wave_by, converted}
 use Rattle.as_wave.specs.declared.format.SampleFormat.{SampleFormat}
 use Rattle.as_wave.specs.declared.forms.Forms.{Forms}
@@ -63,29 +69,25 @@ plain_format body format same =
 abbrev is_key_kind : Kind → Bool
 is_key_kind kind = is_format kind || is_data kind
 
-if_false : (f : Kind → Bool) (b : Bool) (x y : Kind) → f x ≡ false → f y ≡ false → f (if b then x else y) ≡ false
-if_false f true x y p q = p
-if_false f false x y p q = q
+kind_no_key : (o : Option Tag) → is_key_kind (kind_by o) ≡ false
+kind_no_key None = refl
+kind_no_key (Some tag) = refl
 
 text_no_key : (id : List ℕ) → is_key_kind (text_kind id) ≡ false
-text_no_key id =
-    if_false is_key_kind (bytes_eq id (codes "INAM")) _ _ refl
-    (if_false is_key_kind (bytes_eq id (codes "IART")) _ _ refl
-    (if_false is_key_kind (bytes_eq id (codes "IPRD")) _ _ refl
-    (if_false is_key_kind (bytes_eq id (codes "ICRD")) _ _ refl
-    (if_false is_key_kind (bytes_eq id (codes "IGNR")) _ _ refl
-    (if_false is_key_kind (bytes_eq id (codes "ICMT")) _ _ refl refl)))))
+text_no_key id = kind_no_key (info_tag id)
 
 texts_no_key : (cs : List Chunk) (ps : List Part) → find is_key (map text_part cs ++ ps) ≡ find is_key ps
 texts_no_key [] ps = refl
 texts_no_key (c ∷ cs) ps = ap (λ b. cond b (Some (text_part c)) (find is_key (map text_part cs ++ ps))) (text_no_key c.id)
     ∙ texts_no_key cs ps
 
-key_by : (a b d : Bool) → is_key_kind (if a then FormatKind else if b then DataKind else if d then Nested else Other) ≡ (a || b)
-key_by true b d = refl
-key_by false true d = refl
-key_by false false true = refl
-key_by false false false = refl
+key_by : (a b d e : Bool)
+    → is_key_kind (if a then FormatKind else if b then DataKind else if d then Nested else if e then Id3 else Other) ≡ (a || b)
+key_by true b d e = refl
+key_by false true d e = refl
+key_by false false true e = refl
+key_by false false false true = refl
+key_by false false false false = refl
 
 nested_no_key : (b : Bool) (cs : List Chunk) (ps : List Part) → find is_key ((if b then map text_part cs else []) ++ ps) ≡ find is_key ps
 nested_no_key true cs ps = texts_no_key cs ps
@@ -98,7 +100,7 @@ key_among (c ∷ cs) =
     let nested = chunks_after 0 (c.first + 4) (drop 4 c.body) in
     let t = is_text_list (file_kind c.id) c.body in
     ap (λ b. cond b (Some (file_part c)) (find is_key ((if t then map text_part nested else []) ++ flat_map parts_of cs))) (key_by
-    (is_format_id c.id) (is_data_id c.id) (bytes_eq c.id (codes "LIST")))
+    (is_format_id c.id) (is_data_id c.id) (bytes_eq c.id (codes "LIST")) (bytes_eq c.id (codes "id3 ") || bytes_eq c.id (codes "ID3 ")))
     ∙ ap (λ o. cond (is_key_chunk c) (Some (file_part c)) o) (nested_no_key t nested (flat_map parts_of cs) ∙ key_among cs)
     ∙ split (is_key_chunk c)
   where
@@ -141,27 +143,37 @@ key_of cs long (Some p) format found same =
         let body : c.body ≡ p.body = ap body_of is in
         none_either (is_format_id c.id) (sample_format c.body) (plain_format c.body format (ap format_from body ∙ read))
 
-no_form : (file : List ℕ) (info : WaveInfo) → reading_of (file_parts file) ≡ Ok info → format_in (file_chunks file) ≡ None
+no_form : (file : List ℕ) (wanted : TagSet) (info : WaveInfo) → reading_of (file_parts file) wanted ≡ Ok info → format_in (file_chunks file) ≡ None
 unfolding reading_of
-no_form file info same =
+no_form file wanted info same =
     let parts = file_parts file in
-    let first = then_ok (format_of parts) (λ format. data_of parts >>= (λ sound. Ok (info_of format sound (texts_of parts)))) info same in
+    let first = then_ok (format_of parts) (λ format. data_of parts >>= (λ sound. Ok (info_of format sound (texts_in parts wanted)))) info same in
     key_of (file_chunks file) (is_long parts) (find is_key (take MAX_CHUNKS parts)) first.0 refl first.1
 
 is_wave_if : (b : Bool) (x : Result WaveInfo WaveError) (info : WaveInfo) → (if b then x else Err NotWave) ≡ Ok info → x ≡ Ok info
 is_wave_if true x info same = same
 is_wave_if false x info same = absurd (cc)
 
-not_converted : (file : List ℕ) (info : WaveInfo) → wave_reading file ≡ Ok info → converted file ≡ None
+not_converted : (file : List ℕ) (wanted : TagSet) (info : WaveInfo) → wave_reading file wanted ≡ Ok info → converted file ≡ None
 unfolding wave_reading converted
-not_converted file info same =
-    let none = no_form file info (is_wave_if (is_wave file) (reading_of (file_parts file)) info same) in
+not_converted file wanted info same =
+    let none = no_form file wanted info (is_wave_if (is_wave file) (reading_of (file_parts file) wanted) info same) in
     none_either (is_wave file) (wave_by (file_chunks file)) (no_format_by (file_chunks file) none)
 
-pub plain_stays : (forms : Forms) (file : List ℕ) (info : WaveInfo) → wave_reading file ≡ Ok info → as_wave forms file ≡ file
-plain_stays forms file info same = ap (λ o. if forms.wave_pcm then unwrap_or o file else file) (not_converted file info same)
-    ∙ either forms.wave_pcm
-  where
-    either : (b : Bool) → (if b then file else file) ≡ file
-    either true = refl
-    either false = refl
+wave_of : (b : Bool) (x : Result WaveInfo WaveError) (info : WaveInfo) → (if b then x else Err NotWave) ≡ Ok info → b ≡ true
+wave_of true x info same = refl
+wave_of false x info same = absurd (cc)
+
+is_wave_of : (file : List ℕ) (wanted : TagSet) (info : WaveInfo) → wave_reading file wanted ≡ Ok info → is_wave file ≡ true
+unfolding wave_reading
+is_wave_of file wanted info same = wave_of (is_wave file) (reading_of (file_parts file) wanted) info same
+
+not_taken : (b : Bool) (o : Option (List ℕ)) → o ≡ None → taken b o ≡ None
+not_taken true o none = none
+not_taken false o none = refl
+
+pub plain_stays : (forms : Forms) (file : List ℕ) (wanted : TagSet) (info : WaveInfo) → wave_reading file wanted ≡ Ok info → as_wave forms file ≡ file
+plain_stays forms file wanted info same =
+    ap (λ o. unwrap_or (option_or o (taken forms.flac (flac_wave file))) file) (not_taken forms.wave_pcm (converted file) (not_converted file
+    wanted info same))
+    ∙ ap (λ o. unwrap_or o file) (not_taken forms.flac (flac_wave file) (no_flac file (is_wave_of file wanted info same)))

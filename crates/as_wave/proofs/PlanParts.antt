@@ -6,7 +6,7 @@ use Rattle.std.proofs.lemmas.Bool.{lt-ltb, le-ltb}
 use Rattle.std.proofs.lemmas.List.{length-map, length-append}
 use Rattle.std.proofs.Math.Nat.{mul-div-le}
 use Rattle.wave_pcm.specs.Chunks.{Chunk}
-use Rattle.wave_pcm.proofs.Ranges.{range_is}
+use Rattle.song_files.proofs.Ranges.{range_is}
 use Rattle.as_wave.specs.ChunkHead.{chunk_at, chunks_at, StandsBy, total_size}
 use Rattle.as_wave.specs.Format.{byte_len}
 use Rattle.as_wave.specs.Plan.{laid_out, sound_from, wave_head}

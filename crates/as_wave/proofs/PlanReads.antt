@@ -2,9 +2,9 @@
 use Rattle.std.proofs.Common.{◌≡◌, ◌+◌, ◌-◌, ◌*◌, ◌≤◌, ℕ, List, ◌++◌, length, take, drop, ap, ◌∙◌, sym, arith, slice_range, Ok, Err, IfOk, Some, subst}
 use Rattle.std.specs.Prelude.{Result, Option, IfSome}
 use Rattle.std.proofs.lemmas.List.{drop_at, drop-drop, take-append-le, length-drop}
-use Rattle.wave_pcm.proofs.Ranges.{range_is}
+use Rattle.song_files.proofs.Ranges.{range_is}
 use Rattle.as_wave.specs.ChunkHead.{chunk_at, chunks_at, StandsBy, chunk_size}
-use Rattle.as_wave.specs.Plan.{wave_head, sound_from, laid_out, planned, stood_for, Fits}
+use Rattle.as_wave.specs.Plan.{wave_head, sound_from, laid_out, planned, Fits}
 use Rattle.as_wave.specs.StandsFor.{chunk_bytes, chunks_bytes}
 use Rattle.as_wave.specs.declared.chunks.ChunkHead.{ChunkHead}
 use Rattle.as_wave.specs.declared.format.SampleFormat.{SampleFormat}
@@ -63,9 +63,3 @@ chunk_in_plan (Ok n) file buffer more format first count rest kept head at insid
 
 pub length-planned : (plan : PcmPlan) (file : List ℕ) → Fits plan file → length (planned plan file) ≡ 44 + 2 * plan.count + plan.rest
 length-planned plan file fits = length-laid_out file plan.format plan.first plan.count plan.rest plan.kept.items fits.kept plan.counted
-
-pub length-stood_for : (found : Option PcmPlan) (plan : PcmPlan) (file : List ℕ) → found ≡ Some plan
-    → IfSome found (λ p. Fits p file) → 44 + 2 * plan.count + plan.rest ≡ length (stood_for found file)
-length-stood_for found plan file same fits =
-    let here : Fits plan file = (let P : Option PcmPlan → Type 0 = λ o. IfSome o (λ p. Fits p file) in subst P same fits) in
-    sym (length-planned plan file here) ∙ ap (λ o. length (stood_for o file)) (sym same)

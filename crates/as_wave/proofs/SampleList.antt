@@ -33,10 +33,10 @@ pub length-bytes_of : (zs : List ℤ) → length (bytes_of zs) ≡ 2 * length zs
 length-bytes_of [] = refl
 length-bytes_of (z ∷ zs) = omega (arith, length-bytes_of zs)
 
-bytes_of-push : (f : ℤ → ℤ) (zs : List ℤ) (z : ℤ) → bytes_of (map f (zs ++ z ∷ [])) ≡ bytes_of (map f zs) ++ two_bytes (f z)
+pub bytes_of-push : (f : ℤ → ℤ) (zs : List ℤ) (z : ℤ) → bytes_of (map f (zs ++ z ∷ [])) ≡ bytes_of (map f zs) ++ two_bytes (f z)
 bytes_of-push f zs z = ap bytes_of (map_push f zs z) ∙ flat_map-append two_bytes (map f zs) (f z ∷ [])
 
-put_pair : (front was : List ℕ) (i a b : ℕ) → length front ≡ 2 * i → 2 * i + 1 < length was
+pub put_pair : (front was : List ℕ) (i a b : ℕ) → length front ≡ 2 * i → 2 * i + 1 < length was
     → set (set (front ++ drop (2 * i) was) (2 * i) a) (2 * i + 1) b ≡ (front ++ a ∷ b ∷ []) ++ drop (2 * (i + 1)) was
 put_pair front was i a b long room =
     let e : 2 * i + 1 + 1 ≡ 2 * (i + 1) = omega arith in

@@ -1,13 +1,14 @@
 -- The files of a folder as what they stand for.
-use Rattle.std.proofs.Common.{◌≡◌, ℕ, List, [], ◌∷◌, ap, ◌∙◌, sym, refl, Some, None, Bool, true, false, cond, IfOk, Ok, Err}
+use Rattle.std.proofs.Common.{◌≡◌, ℕ, List, [], ◌∷◌, ap, ◌∙◌, sym, refl, Some, None, Bool, true, false, cond, IfOk, Ok, Err, subst}
 use Rattle.std.specs.Prelude.{Option, Result, option_map, ◌||◌}
 use Rattle.std.specs.List.{find}
+use Rattle.std.proofs.lemmas.List.Elements.{All-head, All-tail}
 use Rattle.std.specs.Str.{bytes_eq}
 use Rattle.std.specs.declared.vec.Vec.{Vec}
-use Rattle.wave_pcm.specs.Folder.{File, bytes_at}
-use Rattle.wave_pcm.specs.Listing.{IsListing, IsNoFile, has_first, begins_with, behind, entries_of}
-use Rattle.wave_pcm.specs.declared.folder.FolderEntry.{FolderEntry}
-use Rattle.as_wave.specs.Forms.{as_wave, waves_of}
+use Rattle.song_files.specs.Folder.{File, bytes_at, stamp_at}
+use Rattle.song_files.specs.Listing.{IsListing, IsNoFile, has_first, begins_with, behind, entries_of}
+use Rattle.song_files.specs.declared.folder.FolderEntry.{FolderEntry}
+use Rattle.as_wave.specs.Forms.{as_wave, waves_of, IsPlain, ArePlain}
 use Rattle.as_wave.specs.declared.forms.Forms.{Forms}
 
 abbrev wave_file : Forms → File → File
@@ -57,3 +58,28 @@ pub some_opened : (forms : Forms) (files : List File) (path bytes now : List ℕ
     → now ≡ as_wave forms bytes → bytes_at (waves_of forms files) path ≡ Some now
 some_opened forms files path bytes now found same = bytes_at-waves_of forms files path ∙ ap (option_map (as_wave forms)) found
     ∙ ap Some (sym same)
+
+-- a file's stamp is that of the file below it
+pub stamp_at-waves_of : (forms : Forms) (files : List File) (path : List ℕ) → stamp_at (waves_of forms files) path ≡ stamp_at files path
+stamp_at-waves_of forms [] path = refl
+stamp_at-waves_of forms (file ∷ files) path = elim (bytes_eq file.path path) as (λ b. option_map (λ (f : File). f.stamp) (cond b
+    (Some (wave_file forms file)) (find (λ (f : File). bytes_eq f.path path) (waves_of forms files))) ≡ option_map (λ (f : File).
+    f.stamp) (cond b (Some file) (find (λ (f : File). bytes_eq f.path path) files))) [
+      | true ↦ refl
+      | false ↦ stamp_at-waves_of forms files path
+    ]
+
+plain_chosen : (forms : Forms) (file : File) (b : Bool) (rest : Option File) (bytes : List ℕ) → IsPlain forms file.bytes
+    → (option_map (λ (f : File). f.bytes) rest ≡ Some bytes → IsPlain forms bytes)
+    → option_map (λ (f : File). f.bytes) (cond b (Some file) rest) ≡ Some bytes → IsPlain forms bytes
+plain_chosen forms file true rest bytes here more found = let e : file.bytes ≡ bytes = cc in subst (λ (bs : List ℕ). IsPlain forms bs) e here
+plain_chosen forms file false rest bytes here more found = more found
+
+-- a file of those that are plain
+pub plain_at : (forms : Forms) (files : List File) (path bytes : List ℕ) → ArePlain forms files → bytes_at files path ≡ Some bytes
+    → IsPlain forms bytes
+plain_at forms [] path bytes each found = absurd (cc)
+plain_at forms (file ∷ files) path bytes each found =
+    plain_chosen forms file (bytes_eq file.path path) (find (λ (f : File). bytes_eq f.path path) files) bytes
+    (All-head (λ (f : File). IsPlain forms f.bytes) file files each)
+    (plain_at forms files path bytes (All-tail (λ (f : File). IsPlain forms f.bytes) file files each)) found

@@ -6,7 +6,7 @@ use Rattle.std.proofs.lemmas.List.{length-append, length-replicate, append-nil, 
 use Rattle.std.proofs.lemmas.List.Sums.{sum_by-cons}
 use Rattle.std.proofs.lemmas.List.Elements.{All-head, All-tail}
 use Rattle.wave_pcm.specs.Chunks.{Chunk, padded}
-use Rattle.wave_pcm.proofs.Ranges.{range_is}
+use Rattle.song_files.proofs.Ranges.{range_is}
 use Rattle.as_wave.specs.ChunkHead.{chunk_at, chunks_at, StandsBy, chunk_size, total_size}
 use Rattle.as_wave.specs.Format.{byte_len}
 use Rattle.as_wave.specs.Samples.{sample_at, samples_of}

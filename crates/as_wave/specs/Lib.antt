@@ -1,6 +1,16 @@
 pub mod ChunkHead
+pub mod Faults
 pub mod FileKind
+pub mod FlacLaws
+pub mod FlacLayout
+pub mod FlacNames
+pub mod FlacRows
+pub mod FlacSamples
+pub mod FlacTag
+pub mod FlacTail
+pub mod FlacWave
 pub mod Format
+pub mod Form
 pub mod Forms
 pub mod OwnHead
 pub mod Plan

@@ -1,7 +1,7 @@
 -- What a reader finds in the WAVE file that a file stands for.
 use Rattle.std.specs.Prelude.{◌≡◌, ℕ, List, Some}
 use Rattle.wave_pcm.specs.Chunks.{Chunk}
-use Rattle.wave_pcm.specs.Tag.{Texts}
+use Rattle.song_files.specs.Tags.{TagText}
 use Rattle.wave_pcm.specs.declared.info.WaveInfo.{WaveInfo}
 use Rattle.as_wave.specs.StandsFor.{converted, format_in, data_in, file_chunks}
 use Rattle.as_wave.specs.declared.format.SampleFormat.{SampleFormat}
@@ -13,7 +13,7 @@ pub record IsMade (file wave : List ℕ) (format : SampleFormat) (sound : Chunk)
   pub by_data : data_in (file_chunks file) ≡ Some sound
 
 -- the samples follow a head of 44 bytes
-abbrev pub own_info : SampleFormat → ℕ → Texts → WaveInfo
+abbrev pub own_info : SampleFormat → ℕ → List TagText → WaveInfo
 own_info format frames texts = record {
   rate = format.rate;
   channels = format.channels;

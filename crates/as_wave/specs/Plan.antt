@@ -1,5 +1,5 @@
 -- How the WAVE file that a file stands for is made of that file.
-use Rattle.std.specs.Prelude.{ℕ, ◌+◌, ◌*◌, ◌≤◌, List, ◌++◌, length, drop, map, All, Option, Some, None, codes}
+use Rattle.std.specs.Prelude.{ℕ, ◌+◌, ◌*◌, ◌≤◌, List, ◌++◌, length, drop, map, All, codes}
 use Rattle.std.specs.Int.{w32, to_le_bytes}
 use Rattle.as_wave.specs.ChunkHead.{chunks_at, StandsBy}
 use Rattle.as_wave.specs.Format.{byte_len}
@@ -32,8 +32,3 @@ planned plan file = laid_out plan.format plan.first plan.count plan.rest plan.ke
 pub record Fits (plan : PcmPlan) (file : List ℕ) : Type 0 where
   pub sound : plan.first + byte_len plan.format.width * plan.count ≤ length file
   pub kept : All (StandsBy (length file)) plan.kept.items
-
--- without a plan it is the file itself
-abbrev pub stood_for : Option PcmPlan → List ℕ → List ℕ
-stood_for None file = file
-stood_for (Some plan) file = planned plan file

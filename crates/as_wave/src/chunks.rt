@@ -1,15 +1,16 @@
 // The chunks of a WAVE file.
 ghost use Rattle.std.specs.Prelude.{◌≡◌, ◌+◌, ◌-◌, ◌<◌, ◌≤◌, ◌^◌, length, take, min, IsTrue, IfOk, IfSome, IfErr, OnErr, IsOkUnless};
 ghost use Rattle.std.specs.Prelude.{vec_len, All, List, ℕ};
-ghost use Rattle.wave_pcm.specs.Source.{Grows, Keeps};
+ghost use Rattle.song_files.specs.Source.{Grows, Keeps};
 ghost use Rattle.wave_pcm.specs.WaveError.{Fails};
 ghost use Rattle.wave_pcm.specs.Chunks.{chunks_in, size_in, padded};
 ghost use Rattle.wave_pcm.specs.Reading.{is_wave};
 ghost use Rattle.as_wave.specs.ChunkHead.{chunk_at, chunks_at, chunks_from, IsWithin, StandsBy};
 ghost use Rattle.as_wave.specs.StandsFor.{is_format_id, is_data_id, is_kept_id};
 
+use song_files::{Source, read_exact};
 use std::alloc::Global;
-use wave_pcm::{MAX_CHUNKS, Source, WaveError, read_exact};
+use wave_pcm::{MAX_CHUNKS, WaveError};
 
 /// How many bytes the head of a chunk has.
 const HEAD_LEN: u64 = 8;

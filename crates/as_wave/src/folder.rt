@@ -1,9 +1,10 @@
 // A folder whose files are what they stand for.
-ghost use Rattle.as_wave.specs.Forms.{waves_of};
+ghost use Rattle.as_wave.specs.Forms.{waves_of, ArePlain};
 
 use crate::{Forms, WaveSource};
+use song_files::{FileStamp, Folder, FolderEntry, FolderFault};
 use std::alloc::Global;
-use wave_pcm::{Folder, FolderEntry, FolderFault, WaveError};
+use wave_pcm::WaveError;
 
 /// A folder with the same paths, whose file at a path is the WAVE file of 16-bit PCM that the file there stands for.
 #[derive(Drop)]
@@ -19,10 +20,14 @@ impl<F: Folder> Folder for AsWave<F> {
 
     ghost honest = { λ f. F.honest f.folder };
 
-    ghost steady = { λ f. F.steady f.folder × F.honest f.folder };
+    ghost steady = { λ f. F.steady f.folder × F.honest f.folder × ArePlain f.forms (F.files f.folder) };
 
     fn list(&mut self, alloc: Global, path: &str) -> Result<Option<Vec<FolderEntry>>, FolderFault> {
         self.folder.list(alloc, path)
+    }
+
+    fn look(&mut self, alloc: Global, path: &str) -> Result<Option<FileStamp>, FolderFault> {
+        self.folder.look(alloc, path)
     }
 
     fn open(&mut self, alloc: Global, path: &str) -> Result<Option<Self::File>, FolderFault> {

@@ -1,11 +1,12 @@
 // The format of the samples, by the data of the chunk `fmt `.
 ghost use Rattle.std.specs.Prelude.{◌≡◌, ◌+◌, ◌*◌, ◌≤◌, ◌<◌, ◌^◌, length, slice_range, IfOk, IfSome, OnErr, IsOkUnless};
-ghost use Rattle.wave_pcm.specs.Source.{Grows, Keeps};
+ghost use Rattle.song_files.specs.Source.{Grows, Keeps};
 ghost use Rattle.wave_pcm.specs.Format.{u16_at, u32_at};
 ghost use Rattle.as_wave.specs.Format.{byte_len, width_of, is_extensible_pcm, is_pcm, is_plain, judged, format_by, sample_format};
 ghost use Rattle.as_wave.specs.Playable.{IsPlayable};
 
-use wave_pcm::{MAX_RATE, Source, WaveError, read_exact};
+use song_files::{Source, read_exact};
+use wave_pcm::{MAX_RATE, WaveError};
 
 /// How many bytes of a chunk `fmt ` are looked at.
 const FRONT_LEN: usize = 40;

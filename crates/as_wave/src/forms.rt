@@ -5,4 +5,6 @@
 pub struct Forms {
     /// WAVE files of PCM with 8, 16, 24 or 32 bits a sample.
     pub wave_pcm: bool,
+    /// FLAC files.
+    pub flac: bool,
 }

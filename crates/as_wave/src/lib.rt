@@ -3,7 +3,19 @@
 
 mod chunks;
 mod file_kind;
+mod flac_chunk;
+mod flac_layout;
+mod flac_names;
+mod flac_plan;
+mod flac_read;
+mod flac_samples;
+mod flac_tag;
+mod flac_tail;
+#[cfg(test)]
+mod flac_tests;
+mod flac_texts;
 mod folder;
+mod form;
 mod format;
 mod forms;
 mod head;
@@ -21,5 +33,8 @@ pub use file_kind::{FRONT_LEN, FileKind, describe};
 pub use folder::AsWave;
 pub use format::{SampleFormat, SampleWidth};
 pub use forms::Forms;
-pub use laws::{frames_are_the_samples, plain_file_stays, wave_file_is_read};
+pub use laws::{
+    flac_comments_are_told, flac_file_is_read, flac_frames_are_the_samples, frames_are_the_samples,
+    plain_file_stays, wave_file_is_read,
+};
 pub use wave_source::WaveSource;

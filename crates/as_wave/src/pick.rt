@@ -1,7 +1,7 @@
 // The chunks of a file that count, and its plan.
 ghost use Rattle.std.specs.Prelude.{◌≡◌, ℕ, ◌-◌, ◌<◌, ◌≤◌, ◌^◌, ◌||◌, length, All, filter, find, option_map, IfOk, IfErr, IfSome, OnErr};
 ghost use Rattle.std.specs.Prelude.{IsOkUnless};
-ghost use Rattle.wave_pcm.specs.Source.{Grows, Keeps};
+ghost use Rattle.song_files.specs.Source.{Grows, Keeps};
 ghost use Rattle.wave_pcm.specs.WaveError.{Fails};
 ghost use Rattle.as_wave.specs.ChunkHead.{chunks_at, StandsBy};
 ghost use Rattle.as_wave.specs.Plan.{planned, Fits};
@@ -13,8 +13,9 @@ use crate::chunks::{ChunkHead, begins_as_wave, list_chunks};
 use crate::format::read_format;
 use crate::plan::PcmPlan;
 use crate::planning::plan_for;
+use song_files::Source;
 use std::alloc::{AllocError, Global};
-use wave_pcm::{MAX_CHUNKS, Source, WaveError};
+use wave_pcm::{MAX_CHUNKS, WaveError};
 
 /// How many chunks are kept at most.
 const MAX_KEPT: usize = 64;

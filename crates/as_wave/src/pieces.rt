@@ -3,7 +3,7 @@ ghost use Rattle.std.specs.Prelude.{◌≡◌, ◌+◌, ◌*◌, ◌-◌, ◌<�
 ghost use Rattle.std.specs.Prelude.{ℕ, List, All, MatchOption, IfSome, ◌++◌};
 ghost use Rattle.std.specs.Int.{w32, to_le_bytes};
 ghost use Rattle.wave_pcm.specs.Chunks.{padded};
-ghost use Rattle.wave_pcm.specs.Source.{Grows, Keeps};
+ghost use Rattle.song_files.specs.Source.{Grows, Keeps};
 ghost use Rattle.as_wave.specs.ChunkHead.{chunk_at, chunks_at, StandsBy, chunk_size, total_size};
 ghost use Rattle.as_wave.specs.Format.{byte_len};
 ghost use Rattle.as_wave.specs.Plan.{sound_from};
@@ -12,7 +12,8 @@ ghost use Rattle.as_wave.specs.StandsFor.{chunk_bytes, chunks_bytes};
 use crate::SampleWidth;
 use crate::chunks::ChunkHead;
 use crate::samples::convert;
-use wave_pcm::{Source, SourceFault, WaveError, read_exact};
+use song_files::{Source, SourceFault, read_exact};
+use wave_pcm::WaveError;
 
 /// How many bytes the head of a chunk has.
 const HEAD_LEN: u64 = 8;
@@ -62,9 +63,7 @@ fn read_samples<S: Source>(
         OnErr result (Grows (S.faults source.old) (S.faults source.new)) }
     ensures kept { S.honest source.old → Keeps S.bytes S.honest S.faults S.steady source.old source.new }
 {
-    let Ok(()) = read_exact(source, first, raw) else {
-        return Err(SourceFault);
-    };
+    read_exact(source, first, raw)?;
     convert(width, count, raw, sound);
     Ok(copy_from(sound, skip, buffer))
 }
@@ -115,25 +114,26 @@ fn head_bytes(head: &ChunkHead) -> [u8; 8]
     [a, b, c, d, e, f, g, h]
 }
 
-/// Reads from the data of a chunk, from the byte `place` of it on.
-fn read_body<S: Source>(
+/// Reads from `len` bytes that begin at `first` in the source, from the byte `place` of them on.
+pub fn read_range<S: Source>(
     source: &mut S,
-    head: &ChunkHead,
+    first: u64,
+    len: u64,
     place: u64,
     buffer: &mut [u8],
 ) -> Result<usize, SourceFault>
-    requires fits { head.now.first + head.now.len < 2 ^ 64 }
-    requires within { place < head.now.len }
-    ensures count { IfOk result (λ n. (n ≤ length buffer.old) × (place + n ≤ head.now.len)) }
+    requires fits { first + len < 2 ^ 64 }
+    requires within { place < len }
+    ensures count { IfOk result (λ n. (n ≤ length buffer.old) × (place + n ≤ len)) }
     ensures read { S.honest source.old → IfOk result (λ n. take n buffer.new
-        ≡ slice_range (S.bytes source.old) (head.now.first + place) (head.now.first + place + n)) }
+        ≡ slice_range (S.bytes source.old) (first + place) (first + place + n)) }
     ensures failed { S.honest source.old → OnErr result (Grows (S.faults source.old) (S.faults source.new)) }
-    ensures no_byte { S.honest source.old → head.now.first + head.now.len ≤ length (S.bytes source.old) →
+    ensures no_byte { S.honest source.old → first + len ≤ length (S.bytes source.old) →
         result ≡ Ok 0 → 0 < length buffer.old → Grows (S.faults source.old) (S.faults source.new) }
     ensures kept { S.honest source.old → Keeps S.bytes S.honest S.faults S.steady source.old source.new }
 {
-    let count = (head.len - place).min(buffer.len() as u64) as usize;
-    let read = source.read_at(head.first + place, &mut buffer[..count]);
+    let count = (len - place).min(buffer.len() as u64) as usize;
+    let read = source.read_at(first + place, &mut buffer[..count]);
     read
 }
 
@@ -161,7 +161,7 @@ pub fn read_chunk<S: Source>(
     }
     let place = at - HEAD_LEN;
     if place < head.len {
-        return read_body(source, head, place, buffer);
+        return read_range(source, head.first, head.len, place, buffer);
     }
     Ok(copy_from(&[0], place - head.len, buffer))
 }

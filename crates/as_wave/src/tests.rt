@@ -1,14 +1,15 @@
 // Files that ffmpeg wrote (8, 24 and 32 bits a sample, the last two by the extensible tag), read as what they stand for.
 use crate::{AsWave, FRONT_LEN, Forms, WaveSource, describe};
+use song_files::{FaultySource, Folder, MemFolder, MemSource, ReadTrouble, Source, Tag, TagSet};
 use std::alloc::Global;
 use std::process::Abort;
 use std::test::Fail;
-use wave_pcm::{
-    FaultySource, Folder, MemFolder, MemSource, ReadTrouble, Source, Tag, WaveError, read_frames,
-    read_head,
-};
+use wave_pcm::{WaveError, read_frames, read_head};
 
-const FORMS: Forms = Forms { wave_pcm: true };
+const FORMS: Forms = Forms {
+    wave_pcm: true,
+    flac: true,
+};
 
 struct Row {
     file: &'static [u8],
@@ -75,7 +76,7 @@ fn is_read<S: Source>(
     source: &mut S,
     row: &Row,
 ) -> Result<(), Fail> {
-    let info = read_head(alloc, source)?;
+    let info = read_head(alloc, source, TagSet::ALL)?;
     assert_eq!(rt; info.rate, row.rate);
     assert_eq!(rt; info.tags.get(Tag::Title), Some(row.title));
     let samples = read_frames(alloc, source, &info, 0, 100)?;
@@ -110,10 +111,13 @@ fn a_folder_opens_what_its_files_stand_for(rt: HostRuntime) -> Result<(), Fail> 
 
 #[test]
 fn without_forms_a_file_is_what_it_is(rt: HostRuntime) -> Result<(), Fail> {
-    let forms = Forms { wave_pcm: false };
+    let forms = Forms {
+        wave_pcm: false,
+        flac: false,
+    };
     let mut source = WaveSource::new(rt.alloc(), MemSource::new(EIGHT), forms)?;
     assert_eq!(rt; source.len(), EIGHT.len() as u64);
-    assert!(rt; read_head(rt.alloc(), &mut source).is_err());
+    assert!(rt; read_head(rt.alloc(), &mut source, TagSet::ALL).is_err());
     Ok(())
 }
 

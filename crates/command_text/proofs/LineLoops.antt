@@ -3,7 +3,9 @@ use Rattle.std.proofs.Math.ListN.{drop_of_length-le}
 use Rattle.std.proofs.Math.Seq.{drop-cons}
 use Rattle.std.proofs.Common.{map, suc, ◌≤◌, add-one, ◌≡◌, ℕ, ◌+◌, ◌<◌, Bool, true, false, List, [], ◌∷◌, ◌++◌, filter, if◌then◌else◌}
 use Rattle.std.proofs.Common.{length, drop, get_or, Result, Ok, Err, IsErr, ap, sym, refl, arith}
-use Rattle.std.specs.List.{flat_map}
+use Rattle.std.specs.List.{flat_map, slice_get}
+use Rattle.std.specs.Prelude.{Some}
+use Rattle.std.proofs.lemmas.Option.{slice_get_within, get_or_from_slice_get}
 use Rattle.std.specs.Global.{Vec}
 use Rattle.command_text.specs.Answer.{Adds}
 use Rattle.command_text.proofs.Adding.{adds_none, adds_stop, adds_then}
@@ -39,6 +41,11 @@ leaves_off lines all x left before now after e result h a failed =
 pub next_left : {X Y : Type 0} (view : X → Y) (xs : List X) (i : ℕ) (x : X) → i < length xs → x ≡ get_or xs i x
     → map view (drop i xs) ≡ view x ∷ map view (drop (i + 1) xs)
 next_left view xs i x h is = rw (add-one, drop-cons xs i x) (ap (λ y. view y ∷ map view (drop (suc i) xs)) (sym is))
+
+pub next_at : {X : Type 0} (xs : List X) (i : ℕ) (x : X) → slice_get xs i ≡ Some x → drop i xs ≡ x ∷ drop (i + 1) xs
+next_at xs i x is =
+    let h : i < length xs = slice_get_within xs i x is in
+    rw (add-one, drop-cons xs i x) (ap (λ y. y ∷ drop (suc i) xs) (get_or_from_slice_get xs i x x is))
 
 pub none_left : {X Y : Type 0} (view : X → Y) (xs : List X) (i : ℕ) → length xs ≤ i → map view (drop i xs) ≡ []
 none_left view xs i h = ap (map view) (drop_of_length-le xs h)

@@ -3,8 +3,8 @@ use Rattle.std.specs.Prelude.{ℕ, List, [], ◌∷◌, ◌++◌, codes, filter}
 use Rattle.std.specs.List.{concat, flat_map}
 use Rattle.idle_masks.specs.declared.subsystem.Subsystem.{Subsystem}
 use Rattle.idle_masks.specs.Subsystem.{name_of as subsystem_name}
-use Rattle.wave_pcm.specs.declared.tags.Tag.{Tag}
-use Rattle.wave_pcm.specs.TagName.{name_of}
+use Rattle.song_files.specs.declared.tag.Tag.{Tag}
+use Rattle.song_files.specs.Tag.{name_of}
 use Rattle.command_text.specs.declared.name.CommandName.{CommandName}
 use Rattle.command_text.specs.Names.{all_names, is_listed, name_text}
 use Rattle.command_text.specs.Answer.{pair, number_pair}

@@ -1,14 +1,12 @@
 -- The lines of a song, and of an entry of the queue.
-use Rattle.std.specs.Prelude.{ℕ, ◌==◌, List, [], ◌∷◌, ◌++◌, Option, Some, None, codes, if◌then◌else◌}
+use Rattle.std.specs.Prelude.{ℕ, ◌==◌, List, [], ◌∷◌, ◌++◌, codes, if◌then◌else◌}
 use Rattle.std.specs.List.{concat, flat_map}
 use Rattle.std.specs.Fmt.{decimal}
 use Rattle.play_queue.specs.declared.entry.Entry.{Entry}
 use Rattle.song_db.specs.Row.{Row}
 use Rattle.song_db.specs.Duration.{milliseconds}
-use Rattle.wave_pcm.specs.declared.tags.Tag.{Tag}
-use Rattle.wave_pcm.specs.declared.tags.Tag.TheVariants.{Title, Artist, Album, Date, Genre, Comment}
-use Rattle.wave_pcm.specs.Tag.{Texts, text_of}
-use Rattle.wave_pcm.specs.TagName.{name_of}
+use Rattle.song_files.specs.Tag.{name_of}
+use Rattle.song_files.specs.Tags.{TagText}
 use Rattle.command_text.specs.Answer.{pair, number_pair}
 use Rattle.command_text.specs.AnswerTimes.{whole_seconds, exact_seconds}
 
@@ -19,17 +17,13 @@ file_line uri = pair (codes "file") uri
 abbrev pub format_text : ℕ → ℕ → List ℕ
 format_text rate channels = decimal rate ++ (codes ":16:" ++ decimal channels)
 
--- the tags in the order in which a song shows them
-abbrev pub shown_tags : List Tag
-shown_tags = Title ∷ Artist ∷ Album ∷ Date ∷ Genre ∷ Comment ∷ []
+-- a text of a tag
+abbrev pub tag_line : TagText → List ℕ
+tag_line text = pair (name_of text.tag) text.text
 
--- a tag is shown where it has a text
-abbrev pub tag_line : Tag → Option (List ℕ) → List ℕ
-tag_line tag None = []
-tag_line tag (Some text) = pair (name_of tag) text
-
-abbrev pub tag_lines : Texts → List ℕ
-tag_lines texts = flat_map (λ tag. tag_line tag (text_of texts tag)) shown_tags
+-- a line for each text of each tag, in their order
+abbrev pub tag_lines : List TagText → List ℕ
+tag_lines texts = flat_map tag_line texts
 
 abbrev pub song_lines : Row → List ℕ
 song_lines row = concat (

@@ -1,7 +1,7 @@
 -- The arguments that have refusals of their own: names of playlists and of stickers, tags and filters.
 use Rattle.std.specs.Prelude.{ℕ, List, Bool, ◌&&◌, Option, Some, None, Result, Ok, Err, if◌then◌else◌}
 use Rattle.std.specs.Str.{is_utf8}
-use Rattle.wave_pcm.specs.declared.tags.Tag.{Tag}
+use Rattle.song_files.specs.declared.tag.Tag.{Tag}
 use Rattle.stored_lists.specs.Name as playlists
 use Rattle.stickers.specs.Name as stickers
 use Rattle.stickers.specs.Value.{is_good_value}

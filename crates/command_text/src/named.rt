@@ -9,8 +9,8 @@ use crate::stop::Stop;
 use crate::text::{Text, utf8};
 use crate::words::Word;
 use filter_expr::{Filter, FilterError, LineWord, SortOrder, tag_named};
+use song_files::Tag;
 use std::alloc::Global;
-use wave_pcm::Tag;
 
 /// The name of a playlist.
 #[tactic(auto, unfolding(crate::specs::NameArguments::playlist_name))]

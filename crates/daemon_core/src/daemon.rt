@@ -10,7 +10,7 @@ use crate::watching::Watching;
 use machine_core::Machine;
 use no_memory::NoMemory;
 use player_core::{Order, PlayState};
-use song_db::ScanOrder;
+use song_db::{LibraryRules, ScanOrder};
 use state_codec::Saved;
 use std::alloc::Global;
 use std::marker::Model;
@@ -68,7 +68,7 @@ impl Core {
         self.parts.machine.order(alloc)
     }
 
-    /// What is to be read for the job that runs; none where no job runs.
+    /// What is to be read for the job that runs, by the rules `LibraryRules::NAMED`; none where no job runs.
     pub fn scan_order(&self, alloc: Global) -> Result<Option<ScanOrder>, NoMemory>
         ensures { IfOk result (λ order. order ≡ scan_order self.now.machine) }
     {
@@ -81,11 +81,13 @@ impl Core {
             Some(uri) => Some(uri.try_clone(alloc)?),
             None => None,
         };
-        match machine.saved().songs().scan_order(alloc, job.number, place) {
+        let songs = machine.saved().songs();
+        match songs.scan_order(alloc, job.number, place, LibraryRules::NAMED) {
             Ok(order) => Ok(Some(order)),
             Err(_) => Err(NoMemory),
         }
     }
+
     /// Whether a song plays: where none does, `order` is to wait. It takes no memory.
     pub fn is_playing(&self) -> bool
         ensures value { IsTrue result ↔ (self.now.machine.player.state ≡ PlayState.Play) }

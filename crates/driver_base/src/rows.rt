@@ -2,15 +2,17 @@
 use crate::fault::Fault;
 use crate::words::{first_word, number};
 use song_db::{MAX_CHANGES, RowChange, SongRow, Uri};
+use song_files::{TAG_COUNT, Tag, Tags, tag_text};
 use state_codec::Changes;
 use std::alloc::{AllocError, Global};
 use std::mem;
-use wave_pcm::{Tag, Tags, WaveInfo};
+use wave_pcm::WaveInfo;
 
 fn tag_of(name: &str) -> Result<Tag, Fault> {
-    for tag in &Tag::ALL {
+    for number in 0..TAG_COUNT {
+        let tag = Tag::at(number);
         if tag.name() == name {
-            return Ok(*tag);
+            return Ok(tag);
         }
     }
     Err(Fault::NoRow)
@@ -18,12 +20,13 @@ fn tag_of(name: &str) -> Result<Tag, Fault> {
 
 /// The names of tags, each with its text behind it, in which `_` stands for a space.
 fn tags_of(alloc: Global, text: &str) -> Result<Tags, Fault> {
-    let mut tags = Tags::new();
+    let mut tags = Tags::new(alloc);
     let mut named = None;
     for word in text.split_whitespace() {
         match named {
             Some(tag) => {
-                tags.set(tag, Some(word.replace(alloc, '_', " ")?));
+                let text = word.replace(alloc, '_', " ")?;
+                tags.add(tag, tag_text(text.as_bytes()).ok_or(Fault::NoRow)?)?;
                 named = None;
             }
             None => named = Some(tag_of(word)?),
@@ -54,7 +57,7 @@ fn row_of(alloc: Global, text: &str) -> Result<SongRow, Fault> {
         frames: number(frames)?,
         tags: tags_of(alloc, tags)?,
     };
-    match SongRow::new(alloc, uri, info)? {
+    match SongRow::new(alloc, uri, info, None)? {
         Some(row) => Ok(row),
         None => Err(Fault::NoRow),
     }

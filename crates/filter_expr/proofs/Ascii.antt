@@ -31,3 +31,17 @@ whole_begins [] [] e = refl
 whole_begins [] (t ∷ text) e = absurd (omega arith)
 whole_begins (v ∷ value) [] e = absurd (omega arith)
 whole_begins (v ∷ value) (t ∷ text) e = ap (λ (b : Bool). nat_eq t v && b) (whole_begins value text (omega arith))
+
+begins_short : (part text : List ℕ) → length text < length part → begins_with part text ≡ false
+begins_short [] text short = absurd (omega arith)
+begins_short (p ∷ part) [] short = refl
+begins_short (p ∷ part) (t ∷ text) short = rw (begins_short part text (omega arith)) (and_off (nat_eq t p))
+  where
+    and_off : (b : Bool) → (b && false) ≡ false
+    and_off true = refl
+    and_off false = refl
+
+-- nothing longer stands in a text
+pub occurs_short : (part text : List ℕ) → length text < length part → occurs_in part text ≡ false
+occurs_short part [] short = begins_short part [] short
+occurs_short part (t ∷ text) short = rw (begins_short part (t ∷ text) short) (occurs_short part text (omega arith))

@@ -6,7 +6,7 @@ use Rattle.std.proofs.lemmas.Bool.{and_parts}
 use Rattle.std.specs.List.{list_all}
 use Rattle.filter_expr.specs.declared.operator.Operator.{Operator}
 use Rattle.filter_expr.specs.declared.operator.Operator.TheVariants as operators
-use Rattle.wave_pcm.specs.declared.tags.Tag.{Tag}
+use Rattle.song_files.specs.declared.tag.Tag.{Tag}
 use Rattle.filter_expr.specs.declared.subject.Subject.{Subject}
 use Rattle.filter_expr.specs.declared.subject.Subject.TheVariants.{OfTag, Any, File}
 use Rattle.filter_expr.specs.Grammar.{AreBlanks, IsGap, IsOperator}

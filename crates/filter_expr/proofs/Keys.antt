@@ -1,13 +1,16 @@
 -- A name has no byte that ends a name, so it is read whole.
 use Rattle.std.proofs.Common.{◌≡◌, inl, inr, ℕ, suc, ◌<◌, Bool, true, false, nat_lt, nat_eq, List, [], ◌∷◌, ◌++◌, length, map, Option, Some}
 use Rattle.std.proofs.Common.{None, Ok, refl, sym, ap, ◌∙◌, arith}
-use Rattle.std.specs.Prelude.{codes}
-use Rattle.std.proofs.lemmas.Bool.{false≢true, cases_Bool, cases_lt, agree_below_at, or_parts, le-ltb, and_parts, eqb-true}
-use Rattle.std.specs.List.{list_any, list_all}
+use Rattle.std.specs.Prelude.{codes, not, ◌&&◌, cond, option_map}
+use Rattle.std.proofs.lemmas.Bool.{false≢true, cases_Bool, cases_lt, agree_below_at, or_parts, le-ltb, ltb-true}
+use Rattle.std.proofs.lemmas.Bool.{and_parts, not-true, eqb-true}
+use Rattle.std.specs.List.{list_any, list_all, find}
 use Rattle.std.specs.Char.{to_ascii_lowercase}
 use Rattle.std.specs.Str.{str_eq_ignore_ascii_case}
+use Rattle.song_files.specs.Tag.{Row as TagRow, table, same_letters, tag_named as any_tag_named}
+use Rattle.song_files.specs.declared.tag.Tag.{Tag}
 use Rattle.filter_expr.specs.declared.name.Key.{Key}
-use Rattle.filter_expr.specs.Names.{tag_named, key_of, key_named}
+use Rattle.filter_expr.specs.Names.{known, key_of, key_named}
 use Rattle.filter_expr.specs.Parts.{is_blank, ends_name, name_in, behind_name, key_at, key_from, key_found}
 use Rattle.std.proofs.lemmas.Slice.Eq.{bytes_eq-Decides}
 
@@ -33,44 +36,59 @@ lower_length : (name : List ℕ) → length (map to_ascii_lowercase name) ≡ le
 lower_length [] = refl
 lower_length (b ∷ name) = ap suc (lower_length name)
 
-same_name : (name word : List ℕ) → str_eq_ignore_ascii_case name word ≡ true → IsName word → IsName name
-same_name name word h good =
-    let lower : map to_ascii_lowercase name ≡ map to_ascii_lowercase word =
-    (bytes_eq-Decides (map to_ascii_lowercase name) (map to_ascii_lowercase word)).0 h in
-    record {
-      whole = sym (lower_any name) ∙ ap (list_any ends_name) lower ∙ lower_any word ∙ good.whole;
-      some = omega (arith, good.some, lower_length name, lower_length word, ap length lower);
-    }
+same_name : (name word : List ℕ) → map to_ascii_lowercase name ≡ map to_ascii_lowercase word → IsName word → IsName name
+same_name name word lower good = record {
+  whole = sym (lower_any name) ∙ ap (list_any ends_name) lower ∙ lower_any word ∙ good.whole;
+  some = omega (arith, good.some, lower_length name, lower_length word, ap length lower);
+}
+
+-- the same but for the case of ASCII letters
+same_letters_name : (name word : List ℕ) → str_eq_ignore_ascii_case name word ≡ true → IsName word → IsName name
+same_letters_name name word h good =
+    same_name name word ((bytes_eq-Decides (map to_ascii_lowercase name) (map to_ascii_lowercase word)).0 h) good
+
+is_name : List ℕ → Bool
+is_name name = not (list_any ends_name name) && nat_lt 0 (length name)
+
+is_name_so : (name : List ℕ) → is_name name ≡ true → IsName name
+unfolding is_name
+is_name_so name h =
+    let both = and_parts (not (list_any ends_name name)) (nat_lt 0 (length name)) h in
+    record { whole = not-true (list_any ends_name name) both.0; some = ltb-true 0 (length name) both.1 }
+
+-- the names of all tags are names
+all_names : list_all (λ (row : TagRow). is_name row.name) table ≡ true
+unfolding table is_name
+all_names = refl
+
+row_name : (name : List ℕ) (rows : List TagRow) (row : TagRow) → list_all (λ (row : TagRow). is_name row.name) rows ≡ true
+    → find (λ (row : TagRow). same_letters row.name name) rows ≡ Some row → IsName name
+row_name name [] row good h = absurd (cc)
+row_name name (r ∷ rows) row good h =
+    let both = and_parts (is_name r.name) (list_all (λ (row : TagRow). is_name row.name) rows) good in
+    by_cases (same_letters r.name name) refl (row_name name rows row both.1) h both.0
+  where
+    by_cases : (b : Bool) → same_letters r.name name ≡ b
+        → (find (λ (row : TagRow). same_letters row.name name) rows ≡ Some row → IsName name)
+        → cond b (Some r) (find (λ (row : TagRow). same_letters row.name name) rows) ≡ Some row → is_name r.name ≡ true → IsName name
+    by_cases true e later h one =
+        same_name name r.name (sym ((bytes_eq-Decides (map to_ascii_lowercase r.name) (map to_ascii_lowercase name)).0 e))
+        (is_name_so r.name one)
+    by_cases false e later h one = later h
+
+tag_name : (name : List ℕ) (tag : Tag) → any_tag_named name ≡ Some tag → IsName name
+unfolding any_tag_named
+tag_name name tag h = by_cases (find (λ (row : TagRow). same_letters row.name name) table) refl h
+  where
+    by_cases : (found : Option TagRow) → find (λ (row : TagRow). same_letters row.name name) table ≡ found
+        → option_map (λ (row : TagRow). row.tag) found ≡ Some tag → IsName name
+    by_cases None e h = absurd (cc)
+    by_cases (Some row) e h = row_name name table row all_names e
 
 pub key_name : (name : List ℕ) (key : Key) → key_named name ≡ Some key → IsName name
 unfolding key_named
-key_name name key h =
-    elim (cases_Bool (str_eq_ignore_ascii_case name (codes "title"))) [
-      | inl t ↦ same_name name (codes "title") t (record { whole = refl; some = omega arith })
-      | inr n1 ↦ elim (cases_Bool (str_eq_ignore_ascii_case name (codes "artist"))) [
-        | inl t ↦ same_name name (codes "artist") t (record { whole = refl; some = omega arith })
-        | inr n2 ↦ elim (cases_Bool (str_eq_ignore_ascii_case name (codes "album"))) [
-          | inl t ↦ same_name name (codes "album") t (record { whole = refl; some = omega arith })
-          | inr n3 ↦ elim (cases_Bool (str_eq_ignore_ascii_case name (codes "date"))) [
-            | inl t ↦ same_name name (codes "date") t (record { whole = refl; some = omega arith })
-            | inr n4 ↦ elim (cases_Bool (str_eq_ignore_ascii_case name (codes "genre"))) [
-              | inl t ↦ same_name name (codes "genre") t (record { whole = refl; some = omega arith })
-              | inr n5 ↦ elim (cases_Bool (str_eq_ignore_ascii_case name (codes "comment"))) [
-                | inl t ↦ same_name name (codes "comment") t (record { whole = refl; some = omega arith })
-                | inr n6 ↦ other_name name key (ap (λ tag. key_of tag name) (sym (no_tag name n1 n2 n3 n4 n5 n6)) ∙ h)
-              ]
-            ]
-          ]
-        ]
-      ]
-    ]
+key_name name key h = by_cases (any_tag_named name) refl h
   where
-    no_tag : (name : List ℕ) → str_eq_ignore_ascii_case name (codes "title") ≡ false
-        → str_eq_ignore_ascii_case name (codes "artist") ≡ false → str_eq_ignore_ascii_case name (codes "album") ≡ false
-        → str_eq_ignore_ascii_case name (codes "date") ≡ false → str_eq_ignore_ascii_case name (codes "genre") ≡ false
-        → str_eq_ignore_ascii_case name (codes "comment") ≡ false → tag_named name ≡ None
-    no_tag name n1 n2 n3 n4 n5 n6 = rw (n1, n2, n3, n4, n5, n6) refl
-
     none_key : (name : List ℕ) → str_eq_ignore_ascii_case name (codes "any") ≡ false → str_eq_ignore_ascii_case name (codes "file") ≡ false
         → str_eq_ignore_ascii_case name (codes "base") ≡ false → key_of None name ≡ None
     none_key name n1 n2 n3 = rw (n1, n2, n3) refl
@@ -78,15 +96,19 @@ key_name name key h =
     other_name : (name : List ℕ) (key : Key) → key_of None name ≡ Some key → IsName name
     other_name name key h =
         elim (cases_Bool (str_eq_ignore_ascii_case name (codes "any"))) [
-          | inl t ↦ same_name name (codes "any") t (record { whole = refl; some = omega arith })
+          | inl t ↦ same_letters_name name (codes "any") t (record { whole = refl; some = omega arith })
           | inr n7 ↦ elim (cases_Bool (str_eq_ignore_ascii_case name (codes "file"))) [
-            | inl t ↦ same_name name (codes "file") t (record { whole = refl; some = omega arith })
+            | inl t ↦ same_letters_name name (codes "file") t (record { whole = refl; some = omega arith })
             | inr n8 ↦ elim (cases_Bool (str_eq_ignore_ascii_case name (codes "base"))) [
-              | inl t ↦ same_name name (codes "base") t (record { whole = refl; some = omega arith })
+              | inl t ↦ same_letters_name name (codes "base") t (record { whole = refl; some = omega arith })
               | inr n9 ↦ absurd (let none = none_key name n7 n8 n9 in cc)
             ]
           ]
         ]
+
+    by_cases : (found : Option Tag) → any_tag_named name ≡ found → key_of (known found) name ≡ Some key → IsName name
+    by_cases None e k = other_name name key k
+    by_cases (Some tag) e k = tag_name name tag e
 
 -- a name ends behind it
 abbrev pub EndsName : List ℕ → Type 0

@@ -5,6 +5,7 @@ mod Enclosing
 mod Expressions
 mod Groups
 mod Keys
+mod LikeTexts
 mod Occurrence
 mod Pairs
 mod Pieces

@@ -1,14 +1,10 @@
 -- Songs whose texts are plain ASCII.
-use Rattle.std.specs.Prelude.{ℕ, List, Option, IfSome, IsAscii}
-use Rattle.wave_pcm.specs.Tag.{text_of}
-use Rattle.wave_pcm.specs.declared.tags.Tag.{Tag}
+use Rattle.std.specs.Prelude.{IsAscii}
+use Rattle.std.specs.List.{All}
+use Rattle.song_files.specs.Tags.{TagText}
 use Rattle.filter_expr.specs.Meaning.{Song}
 
--- an absent text counts as one
-abbrev pub IsAsciiText : Option (List ℕ) → Type 0
-IsAsciiText text = IfSome text IsAscii
-
--- the URI and the text of each tag
+-- the URI and the texts of all tags
 pub record IsAsciiSong (song : Song) : Type 0 where
   pub uri : IsAscii song.uri
-  pub texts : (tag : Tag) → IsAsciiText (text_of song.texts tag)
+  pub texts : All (λ (t : TagText). IsAscii t.text) song.tags

@@ -8,6 +8,7 @@ pub mod Parts
 pub mod Reading
 pub mod Numbered
 pub mod LineWord
+pub mod Looked
 pub mod Looks
 pub mod Meaning
 pub mod SortWord

@@ -3,7 +3,7 @@ use Rattle.std.specs.Prelude.{ℕ, ◌+◌, ◌-◌, ◌*◌, min, List, [], ◌
 use Rattle.std.specs.Option.{option_or}
 use Rattle.song_db.specs.Row.{Row}
 use Rattle.song_db.specs.Valued.{has_value}
-use Rattle.wave_pcm.specs.declared.tags.Tag.{Tag}
+use Rattle.song_files.specs.declared.tag.Tag.{Tag}
 use Rattle.filter_expr.specs.declared.case.Case.{Case}
 use Rattle.filter_expr.specs.declared.case.Case.TheVariants.{Exact, Folded}
 use Rattle.filter_expr.specs.declared.subject.Comparison.TheVariants.{Contains}

@@ -1,17 +1,17 @@
 -- The rows that a filter denotes, once exact and once folded.
-use Rattle.std.specs.Prelude.{ℕ, Bool, true, false, not, ◌==◌, ◌&&◌, ◌||◌, List, [], ◌∷◌, Option, Some, None, is_some}
-use Rattle.std.specs.List.{list_any, list_all}
+use Rattle.std.specs.Prelude.{ℕ, Bool, true, false, not, ◌==◌, ◌&&◌, ◌||◌, List, [], ◌∷◌, map}
+use Rattle.std.specs.List.{list_any}
 use Rattle.std.specs.Str.{bytes_eq}
 use Rattle.song_db.specs.Place.{is_below}
-use Rattle.song_db.specs.Row.{Row, six_texts}
-use Rattle.wave_pcm.specs.Tag.{Texts, text_of}
+use Rattle.song_db.specs.Row.{Row}
+use Rattle.song_files.specs.Tags.{TagText, texts_of}
 use Rattle.filter_expr.specs.declared.case.Case.{Case}
 use Rattle.filter_expr.specs.declared.case.Case.TheVariants.{Exact, Folded}
 use Rattle.filter_expr.specs.declared.subject.Subject.{Subject}
 use Rattle.filter_expr.specs.declared.subject.Subject.TheVariants.{OfTag, Any, File}
 use Rattle.filter_expr.specs.declared.subject.Comparison.{Comparison}
 use Rattle.filter_expr.specs.declared.subject.Comparison.TheVariants.{Equals, Contains, Pair}
-use Rattle.filter_expr.specs.Folding.{in_case}
+use Rattle.filter_expr.specs.Folding.{folded, in_case}
 use Rattle.filter_expr.specs.Tree.{Tree}
 use Rattle.filter_expr.specs.Tree.Tree.{Test, Base, Not, And}
 
@@ -25,27 +25,12 @@ abbrev pub occurs_in : List ℕ → List ℕ → Bool
 occurs_in part [] = begins_with part []
 occurs_in part (t ∷ text) = begins_with part (t ∷ text) || occurs_in part text
 
--- an absent text is equal to the empty value, which no other text is equal to
-abbrev pub is_equal : Case → List ℕ → Option (List ℕ) → Bool
-is_equal case [] text = not (is_some text)
-is_equal case (v ∷ value) None = false
-is_equal case (v ∷ value) (Some text) = bytes_eq (in_case case text) (in_case case (v ∷ value))
-
--- each text, and an absent one too, contains the empty value
-abbrev pub is_within : Case → List ℕ → Option (List ℕ) → Bool
-is_within case [] text = true
-is_within case (v ∷ value) None = false
-is_within case (v ∷ value) (Some text) = occurs_in (in_case case (v ∷ value)) (in_case case text)
-
-abbrev pub is_pair : Case → List ℕ → Option (List ℕ) → Bool
-is_pair Exact value text = is_equal Exact value text
-is_pair Folded [] text = is_equal Folded [] text
-is_pair Folded (v ∷ value) text = is_within Folded (v ∷ value) text
-
-abbrev pub passes : Case → Comparison → List ℕ → Option (List ℕ) → Bool
-passes case Equals value text = is_equal case value text
-passes case Contains value text = is_within case value text
-passes case Pair value text = is_pair case value text
+-- A text against a value that isn't empty. A pair asks for equality where the case counts, and else for containment.
+abbrev pub is_like : Case → Comparison → List ℕ → List ℕ → Bool
+is_like case Equals value text = bytes_eq (in_case case text) (in_case case value)
+is_like case Contains value text = occurs_in (in_case case value) (in_case case text)
+is_like Exact Pair value text = bytes_eq text value
+is_like Folded Pair value text = occurs_in (folded value) (folded text)
 
 -- a folded text against a folded value that isn't empty
 abbrev pub compared : Comparison → List ℕ → List ℕ → Bool
@@ -53,24 +38,38 @@ compared Equals value text = bytes_eq text value
 compared Contains value text = occurs_in value text
 compared Pair value text = occurs_in value text
 
--- one of the six texts passes; the empty value is looked for in all of them
-abbrev pub any_passes : Case → Comparison → List ℕ → Texts → Bool
-any_passes case comparison [] texts = list_all (passes case comparison []) texts
-any_passes case comparison (v ∷ value) texts = list_any (passes case comparison (v ∷ value)) texts
+abbrev pub is_absent : List (List ℕ) → Bool
+is_absent [] = true
+is_absent (text ∷ texts) = false
 
--- what a filter sees of a song: its URI and its six texts
+-- the empty value: it is contained always, and is equal where there is no text
+abbrev pub passes_empty : Comparison → List (List ℕ) → Bool
+passes_empty Equals texts = is_absent texts
+passes_empty Contains texts = true
+passes_empty Pair texts = is_absent texts
+
+-- one of the texts is like the value
+abbrev pub passes : Case → Comparison → List ℕ → List (List ℕ) → Bool
+passes case comparison [] texts = passes_empty comparison texts
+passes case comparison (v ∷ value) texts = list_any (is_like case comparison (v ∷ value)) texts
+
+-- what a filter sees of a song: its URI and its tags
 pub record Song : Type 0 where
   pub uri : List ℕ
-  pub texts : Texts
+  pub tags : List TagText
 
 abbrev pub song_of : Row → Song
-song_of row = record { uri = row.uri; texts = six_texts row.tags }
+song_of row = record { uri = row.uri; tags = row.tags }
+
+-- the texts that a test looks at: those of one tag, of all tags, or the URI
+abbrev pub texts_for : Subject → Song → List (List ℕ)
+texts_for (OfTag tag) song = texts_of song.tags tag
+texts_for Any song = map (λ (t : TagText). t.text) song.tags
+texts_for File song = song.uri ∷ []
 
 -- a test of a song
 abbrev pub does_hold : Case → Subject → Comparison → List ℕ → Song → Bool
-does_hold case (OfTag tag) comparison value song = passes case comparison value (text_of song.texts tag)
-does_hold case Any comparison value song = any_passes case comparison value song.texts
-does_hold case File comparison value song = passes case comparison value (Some song.uri)
+does_hold case subject comparison value song = passes case comparison value (texts_for subject song)
 
 -- the song of this URI, the songs under this folder, or all
 abbrev pub is_at : List ℕ → List ℕ → Bool

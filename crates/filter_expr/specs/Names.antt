@@ -1,20 +1,21 @@
 -- The names of what a test looks at; the case of ASCII letters doesn't count.
 use Rattle.std.specs.Prelude.{ℕ, List, Option, Some, None, codes, if◌then◌else◌}
 use Rattle.std.specs.Str.{str_eq_ignore_ascii_case}
-use Rattle.wave_pcm.specs.declared.tags.Tag.{Tag}
-use Rattle.wave_pcm.specs.declared.tags.Tag.TheVariants.{Title, Artist, Album, Date, Genre, Comment}
+use Rattle.song_files.specs.Tag.{tag_named as any_tag_named}
+use Rattle.song_files.specs.TagSet.{has_tag}
+use Rattle.song_files.specs.declared.tag.Tag.{Tag}
+use Rattle.song_files.specs.declared.tag_set.TheConstants.TagSet.{SIX}
 use Rattle.filter_expr.specs.declared.subject.Subject.TheVariants.{OfTag, Any, File}
 use Rattle.filter_expr.specs.declared.name.Key.{Key}
 use Rattle.filter_expr.specs.declared.name.Key.TheVariants.{Of, Base}
 
+-- a tag that filters know: one of the six
+abbrev pub known : Option Tag → Option Tag
+known None = None
+known (Some tag) = if has_tag SIX tag then Some tag else None
+
 abbrev pub tag_named : List ℕ → Option Tag
-tag_named name =
-    if str_eq_ignore_ascii_case name (codes "title") then Some Title
-    else (if str_eq_ignore_ascii_case name (codes "artist") then Some Artist
-    else (if str_eq_ignore_ascii_case name (codes "album") then Some Album
-    else (if str_eq_ignore_ascii_case name (codes "date") then Some Date
-    else (if str_eq_ignore_ascii_case name (codes "genre") then Some Genre
-    else (if str_eq_ignore_ascii_case name (codes "comment") then Some Comment else None)))))
+tag_named name = known (any_tag_named name)
 
 -- a tag, or something else that is named
 abbrev pub key_of : Option Tag → List ℕ → Option Key

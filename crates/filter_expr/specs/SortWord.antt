@@ -1,7 +1,7 @@
 -- The order that a word asks for.
 use Rattle.std.specs.Prelude.{ℕ, Bool, true, false, ◌==◌, List, [], ◌∷◌, Option, Some, None, Result, Ok, Err, codes, if◌then◌else◌}
 use Rattle.std.specs.Str.{str_eq_ignore_ascii_case}
-use Rattle.wave_pcm.specs.declared.tags.Tag.{Tag}
+use Rattle.song_files.specs.declared.tag.Tag.{Tag}
 use Rattle.filter_expr.specs.declared.order.SortKey.{SortKey}
 use Rattle.filter_expr.specs.declared.order.SortKey.TheVariants.{OfTag, File}
 use Rattle.filter_expr.specs.declared.order.SortOrder.{SortOrder}

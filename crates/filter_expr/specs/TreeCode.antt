@@ -1,9 +1,10 @@
 -- A tree as a list of numbers and texts, by which proofs tell trees apart.
-use Rattle.std.specs.Prelude.{◌≡◌, ℕ, ◌==◌, List, [], ◌∷◌, refl, if◌then◌else◌}
+use Rattle.std.specs.Prelude.{◌≡◌, ℕ, zero, suc, ◌==◌, List, [], ◌∷◌, Option, Some, None, refl, if◌then◌else◌}
 use Rattle.std.specs.Coded.{Coded, code_by, coded_ℕ, coded_list, coded×}
 use Rattle.std.proofs.Common.{ap, ◌∙◌}
-use Rattle.wave_pcm.specs.Tag.{place_of}
-use Rattle.wave_pcm.specs.declared.tags.Tag.TheVariants.{Title, Artist, Album, Date, Genre, Comment}
+use Rattle.song_files.specs.Tag.{number_of, tag_at}
+use Rattle.song_files.specs.declared.tag.Tag.{Tag}
+use Rattle.song_files.proofs.TagNumbers.{tag_at-number}
 use Rattle.filter_expr.specs.declared.subject.Subject.{Subject}
 use Rattle.filter_expr.specs.declared.subject.Subject.TheVariants.{OfTag, Any, File}
 use Rattle.filter_expr.specs.declared.subject.Comparison.{Comparison}
@@ -16,19 +17,18 @@ abbrev Step : Type 0
 Step = ℕ × (ℕ × List ℕ)
 
 abbrev subject_number : Subject → ℕ
-subject_number (OfTag tag) = place_of tag
-subject_number Any = 6
-subject_number File = 7
+subject_number Any = 0
+subject_number File = 1
+subject_number (OfTag tag) = suc (suc (number_of tag))
+
+abbrev subject_of : Option Tag → Subject
+subject_of None = Any
+subject_of (Some tag) = OfTag tag
 
 abbrev subject_at : ℕ → Subject
-subject_at n =
-    if n == 0 then OfTag Title
-    else (if n == 1 then OfTag Artist
-    else (if n == 2 then OfTag Album
-    else (if n == 3 then OfTag Date
-    else (if n == 4 then OfTag Genre
-    else (if n == 5 then OfTag Comment
-    else (if n == 6 then Any else File))))))
+subject_at zero = Any
+subject_at (suc zero) = File
+subject_at (suc (suc n)) = subject_of (tag_at n)
 
 abbrev comparison_number : Comparison → ℕ
 comparison_number Equals = 0
@@ -69,12 +69,7 @@ first_tree [] = Base []
 first_tree (tree ∷ trees) = tree
 
 pub subject_again : (subject : Subject) → subject_at (subject_number subject) ≡ subject
-subject_again (OfTag Title) = refl
-subject_again (OfTag Artist) = refl
-subject_again (OfTag Album) = refl
-subject_again (OfTag Date) = refl
-subject_again (OfTag Genre) = refl
-subject_again (OfTag Comment) = refl
+subject_again (OfTag tag) = ap subject_of (tag_at-number tag)
 subject_again Any = refl
 subject_again File = refl
 

@@ -13,8 +13,8 @@ use crate::row_text::{does_hold_exact, is_at};
 use crate::subject::{Comparison, Subject};
 use crate::value::TestValue;
 use song_db::SongRow;
+use song_files::Tag;
 use std::alloc::{AllocError, Global};
-use wave_pcm::Tag;
 
 /// What a filter says. A list of three or more that hold is kept as the last of them beside the others.
 #[derive(Debug, Drop)]

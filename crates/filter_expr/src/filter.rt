@@ -11,15 +11,15 @@ use crate::case::Case;
 use crate::expression::Expression;
 use crate::folded_row::FoldedRow;
 use crate::refusal::FilterError;
-use crate::select::{count_with, select_of_all, select_with};
+use crate::select::{select_of_all, select_with};
 use crate::value::TestValue;
 use crate::word::LineWord;
 use crate::words;
 use no_memory::NoMemory;
 use song_db::{SongDb, SongRow};
+use song_files::Tag;
 use std::alloc::Global;
 use std::marker::Model;
-use wave_pcm::Tag;
 
 /// Which songs are looked for. Contracts see what it says as a tree.
 #[derive(Debug, Drop)]
@@ -61,14 +61,14 @@ impl Filter {
         match case {
             Case::Exact => Ok(self.root.matches_exact(row)),
             Case::Folded => {
-                let mut folded = FoldedRow::new(row);
+                let mut folded = FoldedRow::new(alloc, row);
                 Ok(self.root.matches_folded(alloc, &mut folded)?)
             }
         }
     }
 
     /// The numbers of the songs that the filter denotes, rising; a song's number is its place by URI, from 0 on. Where the case counts,
-    /// and the filter or a part of its outermost `AND` says that a tag has a value, only songs with that value are matched.
+    /// and the filter or a part of its outermost `AND` says that a tag has a value, only songs with that value are matched, by a look-up.
     pub fn select(&self, alloc: Global, songs: &SongDb, case: Case) -> Result<Vec<u32>, NoMemory>
         ensures numbers { IfOk result (λ numbers. numbers.items ≡ numbers_of (is_match case self.now) songs.now) }
     {
@@ -111,15 +111,12 @@ impl Filter {
     }
 }
 
-// So many looks at each song with a value of a tag. Of none nothing is counted.
+// So many looks at each song with a value of a tag.
 fn looks_with(songs: &SongDb, each: u64, tag: Tag, value: &TestValue) -> u64
     requires { each ≤ 4294967550 }
     ensures looks { result ≡ each * count_by (has_value tag value.now) songs.now }
     ensures few { result ≤ 4294967550 * 65536 }
 {
-    if each == 0 {
-        return 0;
-    }
     let _limit = songs.len();
-    each * count_with(songs.rows(), tag, value)
+    each * songs.count_with(tag, value.text()) as u64
 }

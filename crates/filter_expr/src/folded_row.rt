@@ -1,77 +1,56 @@
 // A song's texts without case, folded when one is asked for, and whether they pass a test.
-ghost use Rattle.std.specs.Prelude.{◌≡◌, Bool, IfOk, IsOk, option_copied};
-ghost use Rattle.std.specs.Str.{bytes_eq};
-ghost use Rattle.wave_pcm.specs.Tag.{text_of};
-ghost use Rattle.filter_expr.specs.AsciiSong.{IsAsciiText, IsAsciiSong};
+ghost use Rattle.std.specs.Prelude.{◌≡◌, Bool, IfOk, IfSome, IsOk, IsAscii};
+ghost use Rattle.std.specs.List.{list_any};
+ghost use Rattle.filter_expr.specs.AsciiSong.{IsAsciiSong};
 ghost use Rattle.filter_expr.specs.Folding.{folded};
-ghost use Rattle.filter_expr.specs.Meaning.{passes, compared, song_of, does_hold, any_passes};
+ghost use Rattle.filter_expr.specs.Looked.{is_like_of};
+ghost use Rattle.filter_expr.specs.Meaning.{compared, is_like, song_of, does_hold};
 ghost use Rattle.filter_expr.specs.declared.case.Case.TheVariants.{Folded};
 
 use crate::lowered::compare_ascii;
-use crate::row_text::occurs_in;
+use crate::row_text::{occurs_in, passes_empty};
 use crate::subject::{Comparison, Subject};
 use crate::value::{TestValue, fold};
 use song_db::SongRow;
 use std::alloc::{AllocError, Global};
 use std::marker::Model;
-use wave_pcm::Tag;
 
-/// A text of a song, or its absence, and what it folds to once that was asked for; a text that is plain ASCII is compared where it stands.
+/// A text, and what it folds to.
 #[derive(Debug, Drop)]
-pub(crate) struct FoldedText<'a> {
-    text: Option<&'a str>,
-    folds_to: Option<String>,
+struct FoldedText<'a> {
+    text: &'a str,
+    folds_to: String,
 }
 
 impl<'a> Model for FoldedText<'a> {
-    ghost use Rattle.std.specs.Prelude.{◌≡◌, ℕ, List, Option, Some, IfSome, option_copied, option_map, string_bytes};
+    ghost use Rattle.std.specs.Prelude.{◌≡◌, ℕ, List, string_bytes};
     ghost use Rattle.filter_expr.specs.Folding.{folded};
 
-    ghost Value = { Option (List ℕ) };
+    ghost Value = { List ℕ };
 
-    ghost view = { λ t. option_copied t.text };
+    ghost view = { λ t. t.text.now };
 
-    ghost invariant = { λ t. IfSome t.folds_to (λ s. Some (string_bytes s) ≡ option_map folded (option_copied t.text)) };
+    ghost invariant = { λ t. string_bytes t.folds_to ≡ folded t.text.now };
 }
 
 impl<'a> FoldedText<'a> {
-    pub(crate) fn new(text: Option<&'a str>) -> Self
-        ensures { result ≡ option_copied text.entry }
+    fn new(alloc: Global, text: &'a str) -> Result<Self, AllocError>
+        ensures { IfOk result (λ new. new ≡ text.now) }
     {
-        FoldedText {
-            text,
-            folds_to: None,
-        }
+        let folds_to = fold(alloc, text)?;
+        Ok(FoldedText { text, folds_to })
     }
 
-    /// Whether the text, or its absence, passes where the case doesn't count.
-    pub(crate) fn passes(
-        &mut self,
-        alloc: Global,
-        comparison: Comparison,
-        value: &TestValue,
-    ) -> Result<bool, AllocError>
-        ensures member { IfOk result (λ passed. passed ≡ passes Folded comparison value.now self.old) }
-        ensures same { self.new ≡ self.old }
-        ensures ascii { IsAsciiText self.old → IsOk result }
+    fn text(&self) -> &str
+        ensures { result.now ≡ self.now }
     {
-        let empty = value.text().is_empty();
-        let Some(text) = self.text else {
-            return Ok(empty);
-        };
-        if empty {
-            return Ok(comparison == Comparison::Contains);
-        }
-        if text.is_ascii() {
-            return Ok(compare_ascii(comparison, value.folded(), text));
-        }
-        if let Some(folded) = &self.folds_to {
-            return Ok(compare(comparison, value.folded(), folded.as_str()));
-        }
-        let folded = fold(alloc, text)?;
-        let passed = compare(comparison, value.folded(), folded.as_str());
-        self.folds_to = Some(folded);
-        Ok(passed)
+        self.text
+    }
+
+    fn folded(&self) -> &str
+        ensures { result.now ≡ folded self.now }
+    {
+        self.folds_to.as_str()
     }
 }
 
@@ -85,43 +64,66 @@ fn compare(comparison: Comparison, value: &str, text: &str) -> bool
     }
 }
 
-/// The texts of a song, each folded when it is first needed.
+/// Texts that were folded. One alone takes no memory of its own.
+#[derive(Debug, Drop)]
+struct FoldedTexts<'a> {
+    first: Option<FoldedText<'a>>,
+    others: Vec<FoldedText<'a>>,
+}
+
+impl<'a> FoldedTexts<'a> {
+    // What a text folds to, if it was folded.
+    fn folded(&self, text: &str) -> Option<&str>
+        ensures { IfSome result (λ folds_to. folds_to.now ≡ folded text.now) }
+    {
+        if let Some(first) = &self.first
+            && first.text() == text
+        {
+            return Some(first.folded());
+        }
+        for other in &self.others {
+            if other.text() == text {
+                return Some(other.folded());
+            }
+        }
+        None
+    }
+
+    fn keep(&mut self, folded: FoldedText<'a>) -> Result<(), AllocError> {
+        if self.first.is_none() {
+            self.first = Some(folded);
+            return Ok(());
+        }
+        self.others.push(folded)?;
+        Ok(())
+    }
+}
+
+/// A song, and its texts that had to be folded, each once. A text that is plain ASCII is compared where it stands.
 #[derive(Debug, Drop)]
 pub(crate) struct FoldedRow<'a> {
-    path: &'a str,
-    uri: FoldedText<'a>,
-    title: FoldedText<'a>,
-    artist: FoldedText<'a>,
-    album: FoldedText<'a>,
-    date: FoldedText<'a>,
-    genre: FoldedText<'a>,
-    comment: FoldedText<'a>,
+    row: &'a SongRow,
+    texts: FoldedTexts<'a>,
 }
 
 impl<'a> Model for FoldedRow<'a> {
-    ghost use Rattle.std.specs.Prelude.{◌≡◌, [], ◌∷◌, Some};
-    ghost use Rattle.filter_expr.specs.Meaning.{Song};
+    ghost use Rattle.filter_expr.specs.Meaning.{Song, song_of};
 
     ghost Value = { Song };
 
-    ghost view = { λ r. record { uri = r.path.now; texts = r.title ∷ r.artist ∷ r.album ∷ r.date ∷ r.genre ∷ r.comment ∷ [] } };
-
-    ghost invariant = { λ r. r.uri ≡ Some r.path.now };
+    ghost view = { λ r. song_of r.row.now };
 }
 
 impl<'a> FoldedRow<'a> {
-    pub(crate) fn new(row: &'a SongRow) -> Self
+    pub(crate) fn new(alloc: Global, row: &'a SongRow) -> Self
         ensures { result ≡ song_of row.now }
     {
         FoldedRow {
-            path: row.uri(),
-            uri: FoldedText::new(Some(row.uri())),
-            title: FoldedText::new(row.tag(Tag::Title)),
-            artist: FoldedText::new(row.tag(Tag::Artist)),
-            album: FoldedText::new(row.tag(Tag::Album)),
-            date: FoldedText::new(row.tag(Tag::Date)),
-            genre: FoldedText::new(row.tag(Tag::Genre)),
-            comment: FoldedText::new(row.tag(Tag::Comment)),
+            row,
+            texts: FoldedTexts {
+                first: None,
+                others: Vec::new(alloc),
+            },
         }
     }
 
@@ -129,7 +131,7 @@ impl<'a> FoldedRow<'a> {
     pub(crate) fn path(&self) -> &str
         ensures { result.now ≡ self.now.uri }
     {
-        self.path
+        self.row.uri()
     }
 
     /// Whether the song passes a test where the case doesn't count.
@@ -144,64 +146,59 @@ impl<'a> FoldedRow<'a> {
         ensures same { self.new ≡ self.old }
         ensures ascii { IsAsciiSong self.old → IsOk result }
     {
+        if value.text().is_empty() {
+            return Ok(passes_empty(subject, comparison, self.row));
+        }
+        let row = self.row;
         match subject {
-            Subject::OfTag(tag) => self.tag_passes(alloc, tag, comparison, value),
-            Subject::Any => self.any_passes(alloc, comparison, value),
-            Subject::File => self.uri.passes(alloc, comparison, value),
+            Subject::File => self.is_like(alloc, comparison, value, row.uri()),
+            _ => self.one_is_like(alloc, subject, comparison, value),
         }
     }
 
-    fn tag_passes(
+    // Whether one of the texts of the subject's tags is like a value that isn't empty.
+    fn one_is_like(
         &mut self,
         alloc: Global,
-        tag: Tag,
+        subject: Subject,
         comparison: Comparison,
         value: &TestValue,
     ) -> Result<bool, AllocError>
-        ensures member { IfOk result (λ passed. passed ≡ passes Folded comparison value.now (text_of self.old.texts tag)) }
-        ensures same { self.new ≡ self.old }
-        ensures ascii { IsAsciiText (text_of self.old.texts tag) → IsOk result }
-    {
-        match tag {
-            Tag::Title => self.title.passes(alloc, comparison, value),
-            Tag::Artist => self.artist.passes(alloc, comparison, value),
-            Tag::Album => self.album.passes(alloc, comparison, value),
-            Tag::Date => self.date.passes(alloc, comparison, value),
-            Tag::Genre => self.genre.passes(alloc, comparison, value),
-            Tag::Comment => self.comment.passes(alloc, comparison, value),
-        }
-    }
-
-    // The empty value is looked for in all six texts, another one in any.
-    fn any_passes(
-        &mut self,
-        alloc: Global,
-        comparison: Comparison,
-        value: &TestValue,
-    ) -> Result<bool, AllocError>
-        ensures member { IfOk result (λ passed. passed ≡ any_passes Folded comparison value.now self.old.texts) }
+        ensures member { IfOk result (λ found. found ≡ list_any (is_like_of Folded subject comparison value.now) self.old.tags) }
         ensures same { self.new ≡ self.old }
         ensures ascii { IsAsciiSong self.old → IsOk result }
     {
-        let settling = !value.text().is_empty();
-        if self.title.passes(alloc, comparison, value)? == settling {
-            return Ok(settling);
+        let tags = self.row.tags();
+        for at in 0..tags.len() {
+            let (tag, text) = tags.at(at);
+            if subject.is_of(tag) && self.is_like(alloc, comparison, value, text)? {
+                return Ok(true);
+            }
         }
-        if self.artist.passes(alloc, comparison, value)? == settling {
-            return Ok(settling);
+        Ok(false)
+    }
+
+    // Whether one of the song's texts is like a value that isn't empty. It is folded, unless it was.
+    fn is_like(
+        &mut self,
+        alloc: Global,
+        comparison: Comparison,
+        value: &TestValue,
+        text: &'a str,
+    ) -> Result<bool, AllocError>
+        ensures member { IfOk result (λ like. like ≡ is_like Folded comparison value.now text.now) }
+        ensures same { self.new ≡ self.old }
+        ensures ascii { IsAscii text.now → IsOk result }
+    {
+        if text.is_ascii() {
+            return Ok(compare_ascii(comparison, value.folded(), text));
         }
-        if self.album.passes(alloc, comparison, value)? == settling {
-            return Ok(settling);
+        if let Some(folded) = self.texts.folded(text) {
+            return Ok(compare(comparison, value.folded(), folded));
         }
-        if self.date.passes(alloc, comparison, value)? == settling {
-            return Ok(settling);
-        }
-        if self.genre.passes(alloc, comparison, value)? == settling {
-            return Ok(settling);
-        }
-        if self.comment.passes(alloc, comparison, value)? == settling {
-            return Ok(settling);
-        }
-        Ok(!settling)
+        let folded = FoldedText::new(alloc, text)?;
+        let like = compare(comparison, value.folded(), folded.folded());
+        self.texts.keep(folded)?;
+        Ok(like)
     }
 }

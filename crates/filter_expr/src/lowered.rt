@@ -36,6 +36,10 @@ fn occurs_lowered(part: &[u8], text: &[u8]) -> bool
     };
     let mut rest = text;
     while let [byte, behind @ ..] = rest {
+        // What is shorter than the part doesn't hold it.
+        if behind.len() < others.len() {
+            return false;
+        }
         if byte.to_ascii_lowercase() == *first && begins_lowered(others, behind) {
             return true;
         }

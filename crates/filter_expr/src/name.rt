@@ -4,7 +4,7 @@ ghost use Rattle.std.specs.Str.{str_eq_ignore_ascii_case};
 ghost use Rattle.filter_expr.specs.Names.{tag_named, key_named};
 
 use crate::subject::Subject;
-use wave_pcm::Tag;
+use song_files::{Tag, TagSet};
 
 /// What a name stands for in a filter.
 #[derive(Clone, Copy, Debug)]
@@ -13,25 +13,15 @@ pub(crate) enum Key {
     Base,
 }
 
-/// The tag of a name; the case of ASCII letters doesn't count.
+/// The tag of a name, if filters know it; the case of ASCII letters doesn't count.
 pub fn tag_named(name: &[u8]) -> Option<Tag>
     ensures { result ≡ tag_named name.now }
 {
-    if is_named(name, b"title") {
-        Some(Tag::Title)
-    } else if is_named(name, b"artist") {
-        Some(Tag::Artist)
-    } else if is_named(name, b"album") {
-        Some(Tag::Album)
-    } else if is_named(name, b"date") {
-        Some(Tag::Date)
-    } else if is_named(name, b"genre") {
-        Some(Tag::Genre)
-    } else if is_named(name, b"comment") {
-        Some(Tag::Comment)
-    } else {
-        None
+    let tag = Tag::named(name)?;
+    if !TagSet::SIX.contains(tag) {
+        return None;
     }
+    Some(tag)
 }
 
 /// What the name stands for: a tag, `any`, `file` or `base`.

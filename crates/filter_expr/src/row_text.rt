@@ -1,15 +1,15 @@
 // Whether a song's texts pass a test as they stand, with their case.
-ghost use Rattle.std.specs.Prelude.{◌≡◌, Some, IfOk, option_copied};
-ghost use Rattle.song_db.specs.Row.{six_texts};
-ghost use Rattle.wave_pcm.specs.Tag.{text_of};
-ghost use Rattle.filter_expr.specs.Meaning.{is_equal, is_within, passes, occurs_in, song_of, does_hold, any_passes, is_at};
+ghost use Rattle.std.specs.Prelude.{◌≡◌};
+ghost use Rattle.std.specs.List.{list_any};
+ghost use Rattle.filter_expr.specs.Looked.{is_like_of};
+ghost use Rattle.filter_expr.specs.Meaning.{is_absent, is_like, occurs_in, passes_empty, song_of, texts_for, does_hold, is_at};
 ghost use Rattle.filter_expr.specs.declared.case.Case.TheVariants.{Exact};
 
 use crate::subject::{Comparison, Subject};
 use crate::value::TestValue;
 use memchr::memmem;
 use song_db::{Place, SongRow};
-use wave_pcm::Tag;
+use song_files::Tags;
 
 /// Whether the part stands somewhere in the text.
 pub(crate) fn occurs_in(part: &str, text: &str) -> bool
@@ -18,34 +18,34 @@ pub(crate) fn occurs_in(part: &str, text: &str) -> bool
     memmem::find(text.as_bytes(), part.as_bytes()).is_some()
 }
 
-/// Whether a text of a row, or its absence, passes where the case counts.
-pub(crate) fn passes_exact(comparison: Comparison, value: &TestValue, text: Option<&str>) -> bool
-    ensures { result ≡ passes Exact comparison value.now (option_copied text.entry) }
+/// Whether a text is like a value that isn't empty where the case counts.
+fn is_like_exact(comparison: Comparison, value: &str, text: &str) -> bool
+    ensures { result ≡ is_like Exact comparison value.now text.now }
 {
     match comparison {
-        Comparison::Equals | Comparison::Pair => is_equal(value.text(), text),
-        Comparison::Contains => is_within(value.text(), text),
+        Comparison::Equals | Comparison::Pair => text == value,
+        Comparison::Contains => occurs_in(value, text),
     }
 }
 
-fn is_equal(value: &str, text: Option<&str>) -> bool
-    ensures { result ≡ is_equal Exact value.now (option_copied text.entry) }
+/// Whether the empty value passes.
+pub(crate) fn passes_empty(subject: Subject, comparison: Comparison, row: &SongRow) -> bool
+    ensures { result ≡ passes_empty comparison (texts_for subject (song_of row.now)) }
 {
-    match text {
-        None => value.is_empty(),
-        Some(text) => !value.is_empty() && text == value,
+    match comparison {
+        Comparison::Equals | Comparison::Pair => is_absent(subject, row),
+        Comparison::Contains => true,
     }
 }
 
-fn is_within(value: &str, text: Option<&str>) -> bool
-    ensures { result ≡ is_within Exact value.now (option_copied text.entry) }
+// Whether the song has no text that a test looks at.
+fn is_absent(subject: Subject, row: &SongRow) -> bool
+    ensures { result ≡ is_absent (texts_for subject (song_of row.now)) }
 {
-    if value.is_empty() {
-        return true;
-    }
-    match text {
-        None => false,
-        Some(text) => occurs_in(value, text),
+    match subject {
+        Subject::OfTag(tag) => row.tag(tag).is_none(),
+        Subject::Any => row.tags().is_empty(),
+        Subject::File => false,
     }
 }
 
@@ -58,37 +58,26 @@ pub(crate) fn does_hold_exact(
 ) -> bool
     ensures { result ≡ does_hold Exact subject comparison value.now (song_of row.now) }
 {
-    match subject {
-        Subject::OfTag(tag) => tag_passes_exact(comparison, value, row, tag),
-        Subject::Any => any_passes_exact(comparison, value, row),
-        Subject::File => passes_exact(comparison, value, Some(row.uri())),
-    }
-}
-
-// A row without the value is told by its keys, where they are looked for.
-fn tag_passes_exact(comparison: Comparison, value: &TestValue, row: &SongRow, tag: Tag) -> bool
-    ensures { result ≡ passes Exact comparison value.now (text_of row.now.tags tag) }
-{
-    if comparison == Comparison::Contains || value.text().is_empty() {
-        return passes_exact(comparison, value, row.tag(tag));
-    }
-    value.is_of(tag, row)
-}
-
-fn any_passes_exact(comparison: Comparison, value: &TestValue, row: &SongRow) -> bool
-    ensures { result ≡ any_passes Exact comparison value.now (six_texts row.now.tags) }
-{
-    let title = tag_passes_exact(comparison, value, row, Tag::Title);
-    let artist = tag_passes_exact(comparison, value, row, Tag::Artist);
-    let album = tag_passes_exact(comparison, value, row, Tag::Album);
-    let date = tag_passes_exact(comparison, value, row, Tag::Date);
-    let genre = tag_passes_exact(comparison, value, row, Tag::Genre);
-    let comment = tag_passes_exact(comparison, value, row, Tag::Comment);
     if value.text().is_empty() {
-        title && artist && album && date && genre && comment
-    } else {
-        title || artist || album || date || genre || comment
+        return passes_empty(subject, comparison, row);
     }
+    match subject {
+        Subject::File => is_like_exact(comparison, value.text(), row.uri()),
+        _ => one_is_like(subject, comparison, value.text(), row.tags()),
+    }
+}
+
+// Whether one of the texts of the subject's tags is like a value that isn't empty.
+fn one_is_like(subject: Subject, comparison: Comparison, value: &str, tags: &Tags) -> bool
+    ensures { result ≡ list_any (is_like_of Exact subject comparison value.now) tags.now }
+{
+    for at in 0..tags.len() {
+        let (tag, text) = tags.at(at);
+        if subject.is_of(tag) && is_like_exact(comparison, value, text) {
+            return true;
+        }
+    }
+    false
 }
 
 /// Whether the URI is the base or stands under it, or the base is empty.

@@ -1,5 +1,5 @@
 // The numbers of the songs that a filter denotes.
-ghost use Rattle.std.specs.Prelude.{◌≡◌, ◌<◌, ◌≤◌, true, length, count_by, filter, IfOk};
+ghost use Rattle.std.specs.Prelude.{◌≡◌, ◌<◌, ◌≤◌, true, length, filter, IfOk};
 ghost use Rattle.std.specs.List.{All};
 ghost use Rattle.song_db.specs.Limits.{MAX_ROWS};
 ghost use Rattle.song_db.specs.Row.{Row};
@@ -15,8 +15,8 @@ use crate::filter::Filter;
 use crate::value::TestValue;
 use no_memory::NoMemory;
 use song_db::{SongDb, SongRow};
+use song_files::Tag;
 use std::alloc::Global;
-use wave_pcm::Tag;
 
 /// Those of all rows.
 pub(crate) fn select_of_all(
@@ -72,19 +72,4 @@ fn matching_of(
         }
     }
     Ok(numbers)
-}
-
-/// How many rows have a value of a tag.
-pub(crate) fn count_with(rows: &[SongRow], tag: Tag, value: &TestValue) -> u64
-    requires { length rows.now ≤ MAX_ROWS }
-    ensures count { result ≡ count_by (has_value tag value.now) rows.now }
-    ensures few { result ≤ length rows.now }
-{
-    let mut count: u64 = 0;
-    for row in rows {
-        if value.is_of(tag, row) {
-            count += 1;
-        }
-    }
-    count
 }

@@ -1,15 +1,31 @@
 // What a test looks at, and how it compares.
-use wave_pcm::Tag;
+ghost use Rattle.std.specs.Prelude.{◌≡◌};
+ghost use Rattle.filter_expr.specs.Looked.{is_of};
+
+use song_files::Tag;
 
 /// What of a song a test looks at.
 #[derive(Clone, Copy, Debug, PartialEq, Eq)]
 pub enum Subject {
-    /// The text of a tag, which may be absent.
+    /// The texts of a tag, which may be absent.
     OfTag(Tag),
-    /// The texts of all six tags.
+    /// The texts of all tags.
     Any,
     /// The URI, which is never absent.
     File,
+}
+
+impl Subject {
+    /// Whether a test looks at the texts of a tag.
+    pub(crate) fn is_of(self, tag: Tag) -> bool
+        ensures { result ≡ is_of self tag }
+    {
+        match self {
+            Subject::OfTag(own) => tag == own,
+            Subject::Any => true,
+            Subject::File => false,
+        }
+    }
 }
 
 /// How a test compares a text with its value.

@@ -1,13 +1,10 @@
 // A test's value, as it was given and folded.
 ghost use Rattle.std.specs.Prelude.{◌≡◌, IfOk, string_bytes};
-ghost use Rattle.song_db.specs.Valued.{has_value};
 ghost use Rattle.filter_expr.specs.Folding.{folded};
 
 use caseless::default_case_fold_str;
-use song_db::{SongRow, TextKey};
 use std::alloc::{AllocError, Global};
 use std::marker::Model;
-use wave_pcm::Tag;
 
 /// What a text folds to under Unicode's default caseless folding.
 #[tactic(auto, unfolding(crate::specs::Folding::folded))]
@@ -17,24 +14,22 @@ pub(crate) fn fold(alloc: Global, text: &str) -> Result<String, AllocError>
     default_case_fold_str(alloc, text)
 }
 
-/// The value of a test, what it folds to, and its key, by which rows without it are told.
+/// The value of a test, and what it folds to.
 #[derive(Debug, Drop)]
 pub(crate) struct TestValue {
     text: String,
     folds_to: String,
-    key: TextKey,
 }
 
 impl Model for TestValue {
     ghost use Rattle.std.specs.Prelude.{◌≡◌, ℕ, List, string_bytes};
-    ghost use Rattle.song_db.specs.TextKey.{text_key};
     ghost use Rattle.filter_expr.specs.Folding.{folded};
 
     ghost Value = { List ℕ };
 
     ghost view = { λ v. string_bytes v.text };
 
-    ghost invariant = { λ v. (string_bytes v.folds_to ≡ folded (string_bytes v.text)) × (v.key ≡ text_key (string_bytes v.text)) };
+    ghost invariant = { λ v. string_bytes v.folds_to ≡ folded (string_bytes v.text) };
 }
 
 impl TestValue {
@@ -42,12 +37,7 @@ impl TestValue {
         ensures { IfOk result (λ value. value ≡ string_bytes text) }
     {
         let folds_to = fold(alloc, text.as_str())?;
-        let key = TextKey::of(text.as_str());
-        Ok(TestValue {
-            text,
-            folds_to,
-            key,
-        })
+        Ok(TestValue { text, folds_to })
     }
 
     pub(crate) fn text(&self) -> &str
@@ -60,12 +50,5 @@ impl TestValue {
         ensures { result.now ≡ folded self.now }
     {
         self.folds_to.as_str()
-    }
-
-    /// Whether the song's text of a tag is there, and is this one.
-    pub(crate) fn is_of(&self, tag: Tag, row: &SongRow) -> bool
-        ensures { result ≡ has_value tag self.now row.now }
-    {
-        row.has_value(tag, self.text.as_str(), self.key)
     }
 }

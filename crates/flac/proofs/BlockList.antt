@@ -2,8 +2,10 @@
 use Rattle.std.proofs.Common.{◌≡◌, ℕ, zero, suc, ◌+◌, ◌-◌, ◌<◌, ◌≤◌, List, [], ◌∷◌, ◌++◌, length, take, drop, arith, ap, ◌∙◌, sym, refl}
 use Rattle.std.proofs.Common.{Bool, true, false, Ok, Err, slice_range, subst, append_assoc}
 use Rattle.std.specs.Prelude.{Result, IfErr, nat_le, if◌then◌else◌}
+use Rattle.std.proofs.Common.{All}
 use Rattle.std.proofs.lemmas.Bool.Decides.{nat_tests}
-use Rattle.wave_pcm.proofs.Ranges.{range_is}
+use Rattle.std.proofs.lemmas.List.Elements.{All-same, All-cons, All-nil, All-head, All-tail}
+use Rattle.song_files.proofs.Ranges.{range_is}
 use Rattle.flac.specs.Blocks.{head_in, is_sound, sound, block_at, blocks_from}
 use Rattle.flac.specs.FlacError.{Refuses}
 use Rattle.flac.specs.Steps.{◌>>=◌, joined}
@@ -101,3 +103,8 @@ pub blocks_many : (n k : ℕ) (file : List ℕ) (at : ℕ) (xs : List BlockHead)
 blocks_many n k file at xs all many whole =
     let e : n - k ≡ 0 = omega arith in
     sym whole ∙ ap (λ m. joined xs (blocks_from m file at)) e ∙ ap (joined xs) (blocks_none file at)
+
+pub All_push : {X : Type 0} (P : X → Type 0) (xs ys : List X) (x : X) → ys ≡ xs ++ x ∷ [] → All P xs → P x → All P ys
+All_push P [] ys x push each here = All-same P ys (x ∷ []) push (All-cons P x [] here (All-nil P))
+All_push P (y ∷ xs) ys x push each here = All-same P ys (y ∷ (xs ++ x ∷ [])) push (All-cons P y (xs ++ x ∷ []) (All-head P y xs
+    each) (All_push P xs (xs ++ x ∷ []) x refl (All-tail P y xs each) here))

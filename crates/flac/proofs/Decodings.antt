@@ -1,10 +1,12 @@
 -- A frame that was decoded.
-use Rattle.std.proofs.Common.{◌≡◌, ℕ, zero, suc, ◌+◌, ◌*◌, ◌<◌, ◌≤◌, List, [], ◌∷◌, length, min, arith, ap, ◌∙◌, sym, refl, Bool, true, false}
+use Rattle.std.proofs.Common.{◌≡◌, ℕ, zero, suc, ◌+◌, ◌*◌, ◌<◌, ◌≤◌, List, [], ◌∷◌, length, take, min, arith, ap, ◌∙◌, sym, refl, Bool, true, false}
 use Rattle.std.proofs.Common.{Ok, Err, Some, None, subst}
+use Rattle.std.specs.Option.{option_or}
 use Rattle.std.specs.Prelude.{ℤ, Option, Result, IsErr, slice_get, nat_lt, nat_le, ◌==◌, ◌&&◌, if◌then◌else◌}
 use Rattle.flac_frames.specs.Frame.{Frame, Framed, frame_of}
 use Rattle.flac_frames.specs.declared.refusal.FrameError.{FrameError}
-use Rattle.flac.specs.Frames.{stream_of, has_format, belongs, accepted, frame_in, in_turn, side_by_side}
+use Rattle.flac.specs.Frames.{stream_of, has_format, belongs, accepted, frame_in, frame_room, next_frame, in_turn, side_by_side}
+use Rattle.flac.specs.Limits.{MAX_FRAME_BYTES}
 use Rattle.flac.specs.Reader.{AreDecoded, IsRefused}
 use Rattle.flac.specs.declared.decoding.Decoded.{Decoded}
 use Rattle.flac.specs.declared.stream_info.StreamInfo.{StreamInfo}
@@ -64,3 +66,39 @@ pub none_by : (info : StreamInfo) (bytes : List ℕ) (found : Option Decoded) (s
 none_by info bytes found samples none refused =
     subst (λ (f : Option Decoded). AreDecoded (frame_in info bytes) f samples) (sym none)
     (is_none (frame_in info bytes) samples (frame_is info bytes ∙ refused_frame info (length bytes) (frame_of (stream_of info) bytes) refused))
+
+next_is : (info : StreamInfo) (bytes : List ℕ)
+    → next_frame info bytes ≡ option_or (frame_in info (take (frame_room info) bytes)) (frame_in info (take MAX_FRAME_BYTES bytes))
+unfolding next_frame
+next_is info bytes = refl
+
+first_or : (o p : Option Framed) (decoded : Decoded) (samples : List (List ℤ)) → AreDecoded o (Some decoded) samples
+    → AreDecoded (option_or o p) (Some decoded) samples
+first_or None p decoded samples h = absurd h
+first_or (Some framed) p decoded samples h = h
+
+other_or : (o p : Option Framed) (found : Option Decoded) (before samples : List (List ℤ)) → AreDecoded o None before
+    → AreDecoded p found samples → AreDecoded (option_or o p) found samples
+other_or None p found before samples none h = h
+other_or (Some framed) p found before samples none h = absurd none
+
+-- a frame that STREAMINFO's bytes hold
+pub found_first : (info : StreamInfo) (bytes : List ℕ) (room : ℕ) (decoded : Decoded) (samples : List (List ℤ)) → room ≡ frame_room info
+    → AreDecoded (frame_in info (take room bytes)) (Some decoded) samples
+    → AreDecoded (next_frame info bytes) (Some decoded) samples
+found_first info bytes room decoded samples same h =
+    let first : AreDecoded (frame_in info (take (frame_room info) bytes)) (Some decoded) samples
+    = subst (λ n. AreDecoded (frame_in info (take n bytes)) (Some decoded) samples) same h in
+    subst (λ (o : Option Framed). AreDecoded o (Some decoded) samples) (sym (next_is info bytes)) (first_or (frame_in info (take (frame_room info) bytes)) (frame_in info (take MAX_FRAME_BYTES bytes)) decoded samples first)
+
+-- or one that is longer
+pub found_longer : (info : StreamInfo) (bytes : List ℕ) (room : ℕ) (found : Option Decoded) (before samples : List (List ℤ))
+    → room ≡ frame_room info
+    → AreDecoded (frame_in info (take room bytes)) None before
+    → AreDecoded (frame_in info (take MAX_FRAME_BYTES bytes)) found samples
+    → AreDecoded (next_frame info bytes) found samples
+found_longer info bytes room found before samples same none h =
+    let first : AreDecoded (frame_in info (take (frame_room info) bytes)) None before
+    = subst (λ n. AreDecoded (frame_in info (take n bytes)) None before) same none in
+    subst (λ (o : Option Framed). AreDecoded o found samples) (sym (next_is info bytes)) (other_or (frame_in info (take (frame_room info) bytes)) (frame_in info (take MAX_FRAME_BYTES bytes)) found
+    before samples first h)

@@ -4,7 +4,7 @@ use Rattle.std.specs.Prelude.{Result, nat_le, ◌==◌, ◌&&◌, codes, if◌th
 use Rattle.std.specs.Str.{bytes_eq}
 use Rattle.std.proofs.lemmas.Bool.Decides.{nat_tests}
 use Rattle.std.proofs.lemmas.List.{length-take}
-use Rattle.wave_pcm.proofs.Ranges.{range_is}
+use Rattle.song_files.proofs.Ranges.{range_is}
 use Rattle.flac.specs.Blocks.{blocks_from, behind_all}
 use Rattle.flac.specs.Comments.{CommentText, comments_of}
 use Rattle.flac.specs.Id3.{tag_len, stream_start}
@@ -41,10 +41,7 @@ marker_is file front start room read =
     ap (λ (xs : List ℕ). bytes_eq xs (codes "fLaC")) (read ∙ range_is file start 4)
     ∙ sym (ap (λ (b : Bool). b && bytes_eq (take 4 (drop start file)) (codes "fLaC")) e)
 
-abbrev behind_info : List ℕ → List BlockHead → StreamInfo → Result FlacHead FlacError
-behind_info file blocks info = comments_of file blocks >>= (λ comments. Ok (head_of file blocks info comments))
-
-reading_is : (file : List ℕ) (blocks : List BlockHead) → reading_of file blocks ≡ (info_of file blocks >>= behind_info file blocks)
+reading_is : (file : List ℕ) (blocks : List BlockHead) → reading_of file blocks ≡ (info_of file blocks >>= (λ info. Ok (head_of file blocks info)))
 unfolding reading_of
 reading_is file blocks = refl
 
@@ -52,24 +49,17 @@ abbrev the_head : StreamInfo → List CommentText → List PicturePlace → ℕ 
 the_head info comments pictures first = record { info = info; comments = comments; pictures = pictures; first_frame = first }
 
 pub reading_ok : (file : List ℕ) (blocks : List BlockHead) (info : StreamInfo) (comments kept : List CommentText)
-    (pictures listed : List PicturePlace) (first : ℕ) → info_of file blocks ≡ Ok info → comments_of file blocks ≡ Ok comments
+    (pictures listed : List PicturePlace) (first : ℕ) → info_of file blocks ≡ Ok info → comments ≡ comments_of file blocks
     → listed ≡ pictures_of file blocks → kept ≡ comments → pictures ≡ listed → first ≡ behind_all blocks
     → reading_of file blocks ≡ Ok (record { info = info; comments = kept; pictures = pictures; first_frame = first })
 reading_ok file blocks info comments kept pictures listed first found read shown same own place =
-    reading_is file blocks ∙ then_ok (info_of file blocks) (behind_info file blocks) info found
-    ∙ then_ok (comments_of file blocks) (λ cs. Ok (head_of file blocks info cs)) comments read
-    ∙ sym (ap (λ cs. Ok (the_head info cs pictures first)) same
-    ∙ ap (λ ps. Ok (the_head info comments ps first)) (own ∙ shown)
-    ∙ ap (λ at. Ok (the_head info comments (pictures_of file blocks) at)) place)
+    reading_is file blocks ∙ then_ok (info_of file blocks) (λ i. Ok (head_of file blocks i)) info found
+    ∙ sym (ap (λ cs. Ok (the_head info cs pictures first)) (same ∙ read)
+    ∙ ap (λ ps. Ok (the_head info (comments_of file blocks) ps first)) (own ∙ shown)
+    ∙ ap (λ at. Ok (the_head info (comments_of file blocks) (pictures_of file blocks) at)) place)
 
 pub no_info : (file : List ℕ) (blocks : List BlockHead) (e : FlacError) → info_of file blocks ≡ Err e → reading_of file blocks ≡ Err e
-no_info file blocks e refused = reading_is file blocks ∙ then_err (info_of file blocks) (behind_info file blocks) e refused
-
-pub no_comments : (file : List ℕ) (blocks : List BlockHead) (info : StreamInfo) (e : FlacError) → info_of file blocks ≡ Ok info
-    → comments_of file blocks ≡ Err e → reading_of file blocks ≡ Err e
-no_comments file blocks info e found refused =
-    reading_is file blocks ∙ then_ok (info_of file blocks) (behind_info file blocks) info found
-    ∙ then_err (comments_of file blocks) (λ cs. Ok (head_of file blocks info cs)) e refused
+no_info file blocks e refused = reading_is file blocks ∙ then_err (info_of file blocks) (λ i. Ok (head_of file blocks i)) e refused
 
 abbrev by_marker : Bool → List ℕ → ℕ → Result FlacHead FlacError
 by_marker b file start = if b then (blocks_from MAX_BLOCKS file (start + 4) >>= reading_of file) else Err NotFlac

@@ -3,9 +3,15 @@ use Rattle.std.proofs.Common.{◌≡◌, ℕ, ◌+◌, ◌-◌, ◌<◌, ◌≤�
 use Rattle.std.specs.Prelude.{nat_le}
 use Rattle.std.specs.Int.{w32, from_le_bytes, from_be_bytes}
 use Rattle.std.proofs.lemmas.List.{length-take, length-drop, take-take, drop-drop}
-use Rattle.wave_pcm.proofs.ChunkList.{le_bytes-take}
-use Rattle.wave_pcm.proofs.Ranges.{range_is, take-range, drop-range}
+use Rattle.song_files.proofs.Ranges.{range_is, take-range, drop-range}
 use Rattle.flac.specs.Numbers.{le32, be32}
+
+le_bytes-take : (xs : List ℕ) → from_le_bytes w32 (take 4 xs) ≡ from_le_bytes w32 xs
+le_bytes-take [] = refl
+le_bytes-take (a ∷ []) = refl
+le_bytes-take (a ∷ b ∷ []) = refl
+le_bytes-take (a ∷ b ∷ c ∷ []) = refl
+le_bytes-take (a ∷ b ∷ c ∷ d ∷ xs) = refl
 
 pub be_bytes-take : (xs : List ℕ) → be32 (take 4 xs) ≡ be32 xs
 be_bytes-take [] = refl

@@ -8,7 +8,7 @@ use Rattle.std.proofs.lemmas.List.{drop_all, take_at, drop_at, length-drop, leng
 use Rattle.std.proofs.lemmas.Bool.Decides.{nat_tests}
 use Rattle.flac_frames.specs.Frame.{Frame, Framed, frame_of}
 use Rattle.flac_frames.specs.declared.refusal.FrameError.{FrameError}
-use Rattle.flac.specs.Frames.{stream_of, belongs, accepted, frame_in, frame_room, frame_then, frames_after, frames_of, side_by_side, samples_in}
+use Rattle.flac.specs.Frames.{stream_of, belongs, accepted, next_frame, frame_then, frames_after, frames_of, side_by_side, samples_in}
 use Rattle.flac.specs.Reader.{AreDecoded, all_samples, IsPlace, AreHeld}
 use Rattle.flac.specs.declared.decoding.Decoded.{Decoded}
 use Rattle.flac.specs.declared.places.Place.{Place}
@@ -28,7 +28,7 @@ frames_after-drop info (suc skip) (b ∷ bytes) = frames_after-drop info skip by
 
 first_frame : (info : StreamInfo) (b : ℕ) (bytes : List ℕ)
     → frames_of info (b ∷ bytes)
-    ≡ frame_then (frame_in info (take (frame_room info) (b ∷ bytes))) (λ used. frames_after info (used - 1) bytes)
+    ≡ frame_then (next_frame info (b ∷ bytes)) (λ used. frames_after info (used - 1) bytes)
 unfolding frames_after
 first_frame info b bytes = refl
 
@@ -40,14 +40,14 @@ behind info used b bytes some =
 
 -- the first frame and those behind it
 pub frames_more : (info : StreamInfo) (bytes : List ℕ) (framed : Framed) → 0 < framed.used → framed.used ≤ length bytes
-    → frame_in info (take (frame_room info) bytes) ≡ Some framed
+    → next_frame info bytes ≡ Some framed
     → frames_of info bytes ≡ framed.frame ∷ frames_of info (drop framed.used bytes)
 frames_more info [] framed some within found = absurd (omega arith)
 frames_more info (b ∷ bytes) framed some within found =
     first_frame info b bytes ∙ ap (λ f. frame_then f (λ used. frames_after info (used - 1) bytes)) found
     ∙ ap (λ fs. framed.frame ∷ fs) (behind info framed.used b bytes some)
 
-pub frames_end : (info : StreamInfo) (bytes : List ℕ) → frame_in info (take (frame_room info) bytes) ≡ None → frames_of info bytes ≡ []
+pub frames_end : (info : StreamInfo) (bytes : List ℕ) → next_frame info bytes ≡ None → frames_of info bytes ≡ []
 frames_end info [] none = no_bytes info 0
 frames_end info (b ∷ bytes) none = first_frame info b bytes ∙ ap (λ f. frame_then f (λ used. frames_after info (used - 1) bytes)) none
 
@@ -59,13 +59,13 @@ unfolding samples_in
 samples_are info bytes = refl
 
 pub samples_more : (info : StreamInfo) (bytes : List ℕ) (framed : Framed) → 0 < framed.used → framed.used ≤ length bytes
-    → frame_in info (take (frame_room info) bytes) ≡ Some framed
+    → next_frame info bytes ≡ Some framed
     → samples_in info bytes ≡ side_by_side framed.frame.samples ++ samples_in info (drop framed.used bytes)
 samples_more info bytes framed some within found =
     samples_are info bytes ∙ ap sounds (frames_more info bytes framed some within found)
     ∙ sym (ap (λ ss. side_by_side framed.frame.samples ++ ss) (samples_are info (drop framed.used bytes)))
 
-pub samples_end : (info : StreamInfo) (bytes : List ℕ) → frame_in info (take (frame_room info) bytes) ≡ None → samples_in info bytes ≡ []
+pub samples_end : (info : StreamInfo) (bytes : List ℕ) → next_frame info bytes ≡ None → samples_in info bytes ≡ []
 samples_end info bytes none = samples_are info bytes ∙ ap sounds (frames_end info bytes none)
 
 pub samples_none : (info : StreamInfo) (bytes : List ℕ) → bytes ≡ [] → samples_in info bytes ≡ []
@@ -99,7 +99,7 @@ the_place sample offset = record { sample = sample; offset = offset }
 -- a frame at a place, and the place behind it
 pub held_is : (info : StreamInfo) (start : ℕ) (file : List ℕ) (at : Place) (framed : Framed) (count offset : ℕ)
     → IsPlace info start file at → 0 < framed.used → framed.used ≤ length (drop at.offset file)
-    → frame_in info (take (frame_room info) (drop at.offset file)) ≡ Some framed
+    → next_frame info (drop at.offset file) ≡ Some framed
     → length (side_by_side framed.frame.samples) ≡ info.channels * count → offset ≡ at.offset + framed.used
     → AreHeld info start file (side_by_side framed.frame.samples) (record { first = at.sample; count = count; offset = offset })
 held_is info start file at framed count offset is some within found size here =
@@ -127,7 +127,7 @@ none_is (Some framed) samples h = absurd h
 
 -- the frame that was decoded at a place
 pub held_by : (info : StreamInfo) (start : ℕ) (file : List ℕ) (at : Place) (frame : Option Framed) (decoded : Decoded)
-    (samples : List (List ℤ)) → frame ≡ frame_in info (take (frame_room info) (drop at.offset file)) → AreDecoded frame (Some decoded) samples
+    (samples : List (List ℤ)) → frame ≡ next_frame info (drop at.offset file) → AreDecoded frame (Some decoded) samples
     → IsPlace info start file at → 0 < decoded.used → at.offset + decoded.used ≤ length file → decoded.size ≡ info.channels * decoded.count
     → AreHeld info start file (side_by_side samples) (record {
       first = at.sample;

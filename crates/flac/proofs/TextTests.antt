@@ -9,7 +9,7 @@ use Rattle.std.proofs.lemmas.Bool.{false≢true}
 use Rattle.std.proofs.lemmas.Bool.Decides.{nat_tests}
 use Rattle.std.proofs.lemmas.List.{drop_all, length-take, length-take-le}
 use Rattle.std.proofs.lemmas.Str.{IsUtf8-from_ascii}
-use Rattle.wave_pcm.specs.Text.{is_tag_text}
+use Rattle.song_files.specs.Text.{is_tag_text}
 use Rattle.flac.proofs.Ranges.{length_range}
 use Rattle.flac.specs.Comments.{CommentText, name_in, value_in, is_printable, is_comment, comment_of}
 

@@ -2,6 +2,7 @@
 use Rattle.std.specs.Prelude.{ℕ, zero, suc, ◌-◌, ◌*◌, ◌==◌, ◌&&◌, nat_lt, nat_le, min, List, [], ◌∷◌, length, take, drop, ℤ, Bool}
 use Rattle.std.specs.Prelude.{Option, Some, None, Result, Ok, Err, if◌then◌else◌}
 use Rattle.std.specs.List.{flat_map}
+use Rattle.std.specs.Option.{option_or}
 use Rattle.flac_frames.specs.Frame.{Frame, Framed, frame_of}
 use Rattle.flac_frames.specs.declared.head.Channels.{Channels}
 use Rattle.flac_frames.specs.declared.head.Channels.TheVariants.{Mono, Stereo, LeftSide, SideRight, MidSide}
@@ -53,9 +54,13 @@ accepted info size (Err error) = None
 unfoldable pub frame_in : StreamInfo → List ℕ → Option Framed
 frame_in info bytes = accepted info (length bytes) (frame_of (stream_of info) bytes)
 
--- STREAMINFO tells how many bytes a frame has at most, or 0 where that isn't known
+-- within how many bytes a frame is looked for first: as many as STREAMINFO tells of, where that is known
 abbrev pub frame_room : StreamInfo → ℕ
 frame_room info = if info.max_frame == 0 then MAX_FRAME_BYTES else min info.max_frame MAX_FRAME_BYTES
+
+-- The frame at the front of these bytes. STREAMINFO may tell of too few bytes: a longer frame is one too.
+unfoldable pub next_frame : StreamInfo → List ℕ → Option Framed
+next_frame info bytes = option_or (frame_in info (take (frame_room info) bytes)) (frame_in info (take MAX_FRAME_BYTES bytes))
 
 -- what a frame and those behind it are
 abbrev pub frame_then : Option Framed → (ℕ → List Frame) → List Frame
@@ -67,7 +72,7 @@ unfoldable pub frames_after : StreamInfo → ℕ → List ℕ → List Frame
 frames_after info skip [] = []
 frames_after info (suc skip) (b ∷ bytes) = frames_after info skip bytes
 frames_after info zero (b ∷ bytes) =
-    frame_then (frame_in info (take (frame_room info) (b ∷ bytes))) (λ used. frames_after info (used - 1) bytes)
+    frame_then (next_frame info (b ∷ bytes)) (λ used. frames_after info (used - 1) bytes)
 
 -- the frames of these bytes
 abbrev pub frames_of : StreamInfo → List ℕ → List Frame

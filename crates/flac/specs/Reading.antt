@@ -2,7 +2,7 @@
 use Rattle.std.specs.Prelude.{ℕ, ◌+◌, ◌&&◌, nat_le, List, length, take, drop, Bool, codes, Result, Ok, Err, if◌then◌else◌}
 use Rattle.std.specs.Str.{bytes_eq}
 use Rattle.flac.specs.Blocks.{blocks_from, behind_all}
-use Rattle.flac.specs.Comments.{CommentText, comments_of}
+use Rattle.flac.specs.Comments.{comments_of}
 use Rattle.flac.specs.Id3.{stream_start}
 use Rattle.flac.specs.Limits.{MAX_BLOCKS}
 use Rattle.flac.specs.Pictures.{pictures_of}
@@ -18,10 +18,10 @@ use Rattle.flac.specs.declared.refusal.FlacError.TheVariants.{NotFlac}
 abbrev pub has_marker_at : List ℕ → ℕ → Bool
 has_marker_at file start = nat_le (start + 4) (length file) && bytes_eq (take 4 (drop start file)) (codes "fLaC")
 
-abbrev pub head_of : List ℕ → List BlockHead → StreamInfo → List CommentText → FlacHead
-head_of file blocks info comments = record {
+abbrev pub head_of : List ℕ → List BlockHead → StreamInfo → FlacHead
+head_of file blocks info = record {
   info = info;
-  comments = comments;
+  comments = comments_of file blocks;
   pictures = pictures_of file blocks;
   first_frame = behind_all
       blocks;
@@ -31,8 +31,7 @@ head_of file blocks info comments = record {
 unfoldable pub reading_of : List ℕ → List BlockHead → Result FlacHead FlacError
 reading_of file blocks = do
   info ← info_of file blocks
-  comments ← comments_of file blocks
-  Ok (head_of file blocks info comments)
+  Ok (head_of file blocks info)
 
 -- the blocks stand behind the marker
 abbrev pub reading_at : List ℕ → ℕ → Result FlacHead FlacError

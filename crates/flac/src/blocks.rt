@@ -1,13 +1,13 @@
 // The metadata blocks.
 ghost use Rattle.std.specs.Prelude.{◌≡◌, ◌+◌, ◌<◌, ◌≤◌, ◌^◌, length, IfOk, IfErr, Ok, All};
-ghost use Rattle.wave_pcm.specs.Source.{Grows, Keeps};
+ghost use Rattle.song_files.specs.Source.{Grows, Keeps};
 ghost use Rattle.flac.specs.Blocks.{head_in, sound, block_at, blocks_from, EndsBy, IsWithin};
 ghost use Rattle.flac.specs.FlacError.{Refuses};
 
 use crate::FlacError;
 use crate::read::read_bytes;
+use song_files::Source;
 use std::alloc::Global;
-use wave_pcm::Source;
 
 /// How many metadata blocks a file may have.
 pub const MAX_BLOCKS: usize = 65_536;

@@ -2,22 +2,22 @@
 ghost use Rattle.std.specs.Prelude.{◌≡◌, ◌==◌, ◌+◌, ◌<◌, ◌≤◌, ◌^◌, ◌++◌, length, take, drop, slice_range, ℕ, IfSome, IfOk, IfErr, OnOk, Ok, All};
 ghost use Rattle.std.specs.Prelude.{option_copied, option_to_list, vec_len, true, false, MatchOption, Some, None, if◌then◌else◌, position};
 ghost use Rattle.std.specs.List.{find};
-ghost use Rattle.wave_pcm.specs.Source.{Grows, Keeps};
-ghost use Rattle.wave_pcm.specs.Text.{is_tag_text};
+ghost use Rattle.song_files.specs.Source.{Grows, Keeps};
+ghost use Rattle.song_files.specs.Text.{is_tag_text};
 ghost use Rattle.flac.specs.Blocks.{body_of, EndsBy};
 ghost use Rattle.flac.specs.Comments.{name_in, value_in, is_printable, is_comment, comment_of, texts_in, kept_of};
 ghost use Rattle.flac.specs.Comments.{is_comments, comments_in, comments_of};
-ghost use Rattle.flac.specs.FlacError.{Refuses, Fails};
+ghost use Rattle.flac.specs.FlacError.{Fails};
 
 use crate::FlacError;
 use crate::blocks::BlockHead;
 use crate::fields::{NUMBER_LEN, read_count, read_text_len};
 use crate::read::read_bytes;
 use crate::text::printable_text;
+use song_files::{Source, is_tag_text};
 use std::alloc::{AllocError, Global};
 use std::marker::Model;
 use std::str;
-use wave_pcm::{Source, is_tag_text};
 
 /// How many comments of a file are kept.
 pub const MAX_COMMENTS: usize = 256;
@@ -196,7 +196,7 @@ fn add_comment<S: Source>(
     Ok(())
 }
 
-/// The comments among `count` fields that begin at `start`.
+/// The comments among `count` fields that begin at `start`, up to a field that doesn't end before `end`.
 fn list_comments<S: Source>(
     alloc: Global,
     source: &mut S,
@@ -206,17 +206,18 @@ fn list_comments<S: Source>(
 ) -> Result<Vec<Comment>, FlacError>
     requires { start ≤ end }
     ensures listed { S.honest source.old → end ≤ length (S.bytes source.old) →
-        IfOk result (λ comments. kept_of (texts_in count (slice_range (S.bytes source.old) start end)) ≡ Ok comments.items) }
-    ensures refused { S.honest source.old → end ≤ length (S.bytes source.old) →
-        IfErr result (Refuses (kept_of (texts_in count (slice_range (S.bytes source.old) start end))) (Grows (S.faults source.old)
-        (S.faults source.new))) }
+        IfOk result (λ comments. comments.items ≡ kept_of (texts_in count (slice_range (S.bytes source.old) start end))) }
+    ensures fault { S.honest source.old → end ≤ length (S.bytes source.old) →
+        IfErr result (Fails (Grows (S.faults source.old) (S.faults source.new))) }
     ensures kept { S.honest source.old → Keeps S.bytes S.honest S.faults S.steady source.old source.new }
 {
     let mut comments = Vec::new(alloc);
     let mut at = start;
     let mut left = count;
     'fields: while left > 0 {
-        let len = read_text_len(source, at, end)?;
+        let Some(len) = read_text_len(source, at, end)? else {
+            return Ok(comments);
+        };
         add_comment(alloc, source, at + NUMBER_LEN, len, &mut comments)?;
         at = at + NUMBER_LEN + len;
         left -= 1;
@@ -224,7 +225,7 @@ fn list_comments<S: Source>(
     Ok(comments)
 }
 
-/// The comments in the data of a block.
+/// The comments in the data of a block, those before the damage if it is damaged.
 fn read_block<S: Source>(
     alloc: Global,
     source: &mut S,
@@ -232,15 +233,19 @@ fn read_block<S: Source>(
 ) -> Result<Vec<Comment>, FlacError>
     requires { block.first + block.len < 2 ^ 64 }
     ensures listed { S.honest source.old → block.first + block.len ≤ length (S.bytes source.old) →
-        IfOk result (λ comments. comments_in (body_of (S.bytes source.old) block) ≡ Ok comments.items) }
-    ensures refused { S.honest source.old → block.first + block.len ≤ length (S.bytes source.old) →
-        IfErr result (Refuses (comments_in (body_of (S.bytes source.old) block)) (Grows (S.faults source.old) (S.faults source.new))) }
+        IfOk result (λ comments. comments.items ≡ comments_in (body_of (S.bytes source.old) block)) }
+    ensures fault { S.honest source.old → block.first + block.len ≤ length (S.bytes source.old) →
+        IfErr result (Fails (Grows (S.faults source.old) (S.faults source.new))) }
     ensures kept { S.honest source.old → Keeps S.bytes S.honest S.faults S.steady source.old source.new }
 {
     let end = block.first + block.len;
-    let vendor = read_text_len(source, block.first, end)?;
+    let Some(vendor) = read_text_len(source, block.first, end)? else {
+        return Ok(Vec::new(alloc));
+    };
     let at = block.first + NUMBER_LEN + vendor;
-    let count = read_count(source, at, end)?;
+    let Some(count) = read_count(source, at, end)? else {
+        return Ok(Vec::new(alloc));
+    };
     list_comments(alloc, source, count.min(MAX_FIELDS), at + NUMBER_LEN, end)
 }
 
@@ -261,9 +266,9 @@ pub fn read_comments<S: Source>(
 ) -> Result<Vec<Comment>, FlacError>
     requires { All (EndsBy end) blocks.now }
     ensures listed { S.honest source.old → end ≡ length (S.bytes source.old) →
-        IfOk result (λ comments. comments_of (S.bytes source.old) blocks.now ≡ Ok comments.items) }
-    ensures refused { S.honest source.old → end ≡ length (S.bytes source.old) →
-        IfErr result (Refuses (comments_of (S.bytes source.old) blocks.now) (Grows (S.faults source.old) (S.faults source.new))) }
+        IfOk result (λ comments. comments.items ≡ comments_of (S.bytes source.old) blocks.now) }
+    ensures fault { S.honest source.old → end ≡ length (S.bytes source.old) →
+        IfErr result (Fails (Grows (S.faults source.old) (S.faults source.new))) }
     ensures kept { S.honest source.old → Keeps S.bytes S.honest S.faults S.steady source.old source.new }
 {
     match first_comments(blocks) {

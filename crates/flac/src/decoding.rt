@@ -1,9 +1,9 @@
 // Frames of the stream, decoded.
 ghost use Rattle.std.specs.Prelude.{◌≡◌, ◌+◌, ◌-◌, ◌*◌, ◌<◌, ◌≤◌, ◌^◌, length, take, drop, IfOk, IfErr, IfSome, IsTrue, Ok, None, vec_len, slice_range};
 ghost use Rattle.std.specs.Prelude.{Result, option_copied, slice_get, ◌&&◌, ◌==◌, nat_lt, nat_le};
-ghost use Rattle.wave_pcm.specs.Source.{Grows, Keeps};
+ghost use Rattle.song_files.specs.Source.{Grows, Keeps};
 ghost use Rattle.flac.specs.FlacError.{Fails};
-ghost use Rattle.flac.specs.Frames.{channel_count, has_format, frame_in, frame_room, side_by_side};
+ghost use Rattle.flac.specs.Frames.{channel_count, has_format, frame_in, frame_room, next_frame, side_by_side};
 ghost use Rattle.flac.specs.Frames.{stream_of};
 ghost use Rattle.flac.specs.Reader.{AreDecoded, IsRefused};
 ghost use Rattle.flac_frames.specs.Decoder.{framed_as, samples_of};
@@ -13,7 +13,7 @@ ghost use Rattle.flac_frames.specs.declared.refusal.FrameError.{FrameError};
 use crate::read::read_bytes;
 use crate::{FlacError, StreamInfo};
 use flac_frames::{Channels, FrameDecoder, FrameError, FrameHead, FrameRead, Stream};
-use wave_pcm::Source;
+use song_files::Source;
 
 /// How many bytes a frame may have.
 pub const MAX_FRAME_BYTES: usize = 589_824;
@@ -169,6 +169,32 @@ fn read_front<S: Source>(
     Ok(count)
 }
 
+/// Decodes the frame that begins at `at` and has at most `room` bytes, if there is one.
+fn decode_within<S: Source>(
+    source: &mut S,
+    at: u64,
+    end: u64,
+    room: usize,
+    info: &StreamInfo,
+    buffer: &mut Vec<u8>,
+    decoder: &mut FrameDecoder,
+) -> Result<Option<Decoded>, FlacError>
+    requires order { at ≤ end }
+    requires fits { vec_len buffer.old ≡ MAX_FRAME_BYTES }
+    requires small { room ≤ MAX_FRAME_BYTES }
+    ensures frame { S.honest source.old → end ≡ length (S.bytes source.old) →
+        IfOk result (λ found. AreDecoded (frame_in info.now (take room (drop at (S.bytes source.old)))) found (samples_of decoder.new)) }
+    ensures within { IfOk result (λ found. IfSome found (λ d. (0 < d.used) × (at + d.used ≤ end))) }
+    ensures sized { IfOk result (λ found. IfSome found (λ d. d.size ≡ info.now.channels * d.count)) }
+    ensures buffer { vec_len buffer.new ≡ vec_len buffer.old }
+    ensures fault { S.honest source.old → end ≡ length (S.bytes source.old) →
+        IfErr result (Fails (Grows (S.faults source.old) (S.faults source.new))) }
+    ensures kept { S.honest source.old → Keeps S.bytes S.honest S.faults S.steady source.old source.new }
+{
+    let count = read_front(source, at, end, room, buffer.as_mut_slice())?;
+    decode(decoder, info, &buffer[..count])
+}
+
 /// Decodes the frame that begins at `at`, if there is one.
 pub fn decode_at<S: Source>(
     source: &mut S,
@@ -181,8 +207,7 @@ pub fn decode_at<S: Source>(
     requires order { at ≤ end }
     requires fits { vec_len buffer.old ≡ MAX_FRAME_BYTES }
     ensures frame { S.honest source.old → end ≡ length (S.bytes source.old) →
-        IfOk result (λ found. AreDecoded (frame_in info.now (take (frame_room info.now) (drop at (S.bytes source.old)))) found
-        (samples_of decoder.new)) }
+        IfOk result (λ found. AreDecoded (next_frame info.now (drop at (S.bytes source.old))) found (samples_of decoder.new)) }
     ensures within { IfOk result (λ found. IfSome found (λ d. (0 < d.used) × (at + d.used ≤ end))) }
     ensures sized { IfOk result (λ found. IfSome found (λ d. d.size ≡ info.now.channels * d.count)) }
     ensures buffer { vec_len buffer.new ≡ vec_len buffer.old }
@@ -190,6 +215,9 @@ pub fn decode_at<S: Source>(
         IfErr result (Fails (Grows (S.faults source.old) (S.faults source.new))) }
     ensures kept { S.honest source.old → Keeps S.bytes S.honest S.faults S.steady source.old source.new }
 {
-    let count = read_front(source, at, end, frame_room(info), buffer.as_mut_slice())?;
-    decode(decoder, info, &buffer[..count])
+    let room = frame_room(info);
+    if let Some(found) = decode_within(source, at, end, room, info, buffer, decoder)? {
+        return Ok(Some(found));
+    }
+    decode_within(source, at, end, MAX_FRAME_BYTES, info, buffer, decoder)
 }

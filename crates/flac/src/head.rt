@@ -1,6 +1,6 @@
 // The head of a FLAC file, read as a whole.
 ghost use Rattle.std.specs.Prelude.{◌≡◌, ◌+◌, ◌<◌, ◌≤◌, ◌^◌, length, IfOk, IfErr, IsErrOf, IsTrue, IsOkUnless, OnErr, Ok, Err, All, ℕ, ◌-◌, slice_get, IfSome};
-ghost use Rattle.wave_pcm.specs.Source.{Grows, Keeps};
+ghost use Rattle.song_files.specs.Source.{Grows, Keeps};
 ghost use Rattle.flac.specs.Blocks.{behind_all, EndsBy};
 ghost use Rattle.flac.specs.FlacError.{IsVerdict, Refuses};
 ghost use Rattle.flac.specs.Reading.{has_marker_at, reading_of, flac_reading};
@@ -12,8 +12,8 @@ use crate::id3::find_start;
 use crate::pictures::{Pictures, read_pictures};
 use crate::read::read_bytes;
 use crate::stream_info::{StreamInfo, read_stream_info};
+use song_files::Source;
 use std::alloc::Global;
-use wave_pcm::Source;
 
 /// How many bytes `fLaC` has.
 const MARKER_LEN: u64 = 4;
@@ -113,7 +113,7 @@ fn read_flac<S: Source>(alloc: Global, source: &mut S) -> Result<FlacHead, FlacE
 /// of the first VORBIS_COMMENT and the pictures are told. Of a picture only its place is read.
 ///
 /// An error leaves the source as any read does. `ReadFault` says nothing about the file, nor does `NoMemory`; each other error is the
-/// refusal that stands first: no FLAC file, blocks that are damaged or too many, STREAMINFO, the comments.
+/// refusal that stands first: no FLAC file, blocks that are damaged or too many, STREAMINFO.
 pub fn read_head<S: Source>(alloc: Global, source: &mut S) -> Result<FlacHead, FlacError>
     // What is answered is the one reading of the bytes.
     ensures head { S.honest source.old → IfOk result (λ head. flac_reading (S.bytes source.old) ≡ Ok head) }

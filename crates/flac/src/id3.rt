@@ -1,11 +1,11 @@
 // An ID3v2 tag in front of the stream.
 ghost use Rattle.std.specs.Prelude.{◌≡◌, ◌+◌, ◌<◌, ◌≤◌, ◌^◌, length, IfOk, OnErr, IsOkUnless};
-ghost use Rattle.wave_pcm.specs.Source.{Grows, Keeps};
+ghost use Rattle.song_files.specs.Source.{Grows, Keeps};
 ghost use Rattle.flac.specs.Id3.{tag_len, is_synchsafe, synchsafe, stream_start};
 
 use crate::FlacError;
 use crate::read::read_bytes;
-use wave_pcm::Source;
+use song_files::Source;
 
 /// How many bytes the head of a tag has, and a footer.
 const TAG_HEAD_LEN: u64 = 10;

@@ -1,7 +1,7 @@
 // The pictures of a file.
 ghost use Rattle.std.specs.Prelude.{◌≡◌, ◌+◌, ◌<◌, ◌≤◌, ◌^◌, ◌++◌, length, take, drop, slice_range, IfOk, IfErr, OnOk, Ok, All, vec_len};
 ghost use Rattle.std.specs.Prelude.{option_to_list, option_map, string_bytes, IfSome};
-ghost use Rattle.wave_pcm.specs.Source.{Grows, Keeps};
+ghost use Rattle.song_files.specs.Source.{Grows, Keeps};
 ghost use Rattle.flac.specs.Blocks.{body_of, EndsBy};
 ghost use Rattle.flac.specs.FlacError.{Refuses, Fails};
 ghost use Rattle.flac.specs.Numbers.{be32};
@@ -11,9 +11,9 @@ use crate::FlacError;
 use crate::blocks::BlockHead;
 use crate::read::read_bytes;
 use crate::text::printable_text;
+use song_files::Source;
 use std::alloc::{AllocError, Global};
 use std::marker::Model;
-use wave_pcm::Source;
 
 /// How many pictures of a file are kept.
 pub const MAX_PICTURES: usize = 16;

@@ -1,9 +1,9 @@
 // Reads that fill a buffer, with this crate's error.
 ghost use Rattle.std.specs.Prelude.{◌≡◌, ◌+◌, ◌^◌, ◌<◌, ◌≤◌, length, slice_range, OnOk, OnErr, IsOkUnless};
-ghost use Rattle.wave_pcm.specs.Source.{Grows, Keeps};
+ghost use Rattle.song_files.specs.Source.{Grows, Keeps};
 
 use crate::FlacError;
-use wave_pcm::Source;
+use song_files::{Source, read_exact};
 
 /// Fills the buffer with the bytes from `at` on. `ReadFault` leaves it filled in part.
 pub fn read_bytes<S: Source>(source: &mut S, at: u64, buffer: &mut [u8]) -> Result<(), FlacError>
@@ -14,8 +14,6 @@ pub fn read_bytes<S: Source>(source: &mut S, at: u64, buffer: &mut [u8]) -> Resu
         OnErr result (Grows (S.faults source.old) (S.faults source.new)) }
     ensures kept { S.honest source.old → Keeps S.bytes S.honest S.faults S.steady source.old source.new }
 {
-    match wave_pcm::read_exact(source, at, buffer) {
-        Ok(()) => Ok(()),
-        Err(_) => Err(FlacError::ReadFault),
-    }
+    read_exact(source, at, buffer)?;
+    Ok(())
 }

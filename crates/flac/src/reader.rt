@@ -1,7 +1,7 @@
 // Samples of a file, from any place on.
 ghost use Rattle.std.specs.Prelude.{◌≡◌, ◌+◌, ◌-◌, ◌*◌, ◌<◌, ◌≤◌, ◌^◌, length, take, drop, min, slice_range, IfOk, IfErr, OnErr, Ok, Err};
 ghost use Rattle.std.specs.Prelude.{IsErrOf, IsTrue, ◌↔◌, List, ℕ, ℤ, vec_len};
-ghost use Rattle.wave_pcm.specs.Source.{Grows, Keeps};
+ghost use Rattle.song_files.specs.Source.{Grows, Keeps};
 ghost use Rattle.flac.specs.FlacError.{Fails};
 
 use crate::decoding::{MAX_FRAME_BYTES, decode_at, size_of};
@@ -9,8 +9,8 @@ use crate::places::{Held, MAX_PLACES, Place, last_before, later, note};
 use crate::side_by_side::copy_flat;
 use crate::{FlacError, FlacHead, StreamInfo};
 use flac_frames::FrameDecoder;
+use song_files::Source;
 use std::alloc::{AllocError, Global};
-use wave_pcm::Source;
 
 /// Reads the samples of a file. It keeps the frame that was decoded last and the places of up to 1,024 frames.
 #[derive(Drop)]
@@ -34,6 +34,7 @@ impl FlacReader {
     /// Before anything is read of the file with this head.
     pub fn new(alloc: Global, head: &FlacHead) -> Result<FlacReader, FlacError>
         ensures samples { IfOk result (λ reader. (file : List ℕ) → samples_for reader file ≡ file_samples file head.now) }
+        ensures stream { IfOk result (λ reader. (channels_of reader ≡ head.now.info.channels) × (total_of reader ≡ head.now.info.samples)) }
         ensures knows { IfOk result (λ reader. (file : List ℕ) → IsReaderOf file reader) }
         ensures only { IfErr result (λ e. e ≡ FlacError.NoMemory) }
     {

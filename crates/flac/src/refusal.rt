@@ -1,8 +1,9 @@
 // Why a FLAC file is refused.
 ghost use Rattle.std.specs.Prelude.{◌≡◌};
 ghost use Rattle.flac.specs.FlacError.{number_of};
-ghost use Rattle.flac.specs.declared.refusal.FlacError.TheVariants.{NoMemory};
+ghost use Rattle.flac.specs.declared.refusal.FlacError.TheVariants.{NoMemory, ReadFault};
 
+use song_files::SourceFault;
 use std::alloc::{AllocError, AllocFailed};
 use thiserror::Error;
 
@@ -50,6 +51,14 @@ impl From<AllocError> for FlacError {
 
     fn from(_: AllocError) -> Self {
         FlacError::NoMemory
+    }
+}
+
+impl From<SourceFault> for FlacError {
+    ghost from_gives = { λ _ e. e ≡ ReadFault };
+
+    fn from(_: SourceFault) -> Self {
+        FlacError::ReadFault
     }
 }
 

@@ -1,6 +1,6 @@
 // What STREAMINFO tells.
 ghost use Rattle.std.specs.Prelude.{◌≡◌, ◌+◌, ◌<◌, ◌≤◌, ◌^◌, length, slice_get, IfOk, IfErr, IfSome, Ok, All};
-ghost use Rattle.wave_pcm.specs.Source.{Grows, Keeps};
+ghost use Rattle.song_files.specs.Source.{Grows, Keeps};
 ghost use Rattle.flac.specs.Blocks.{EndsBy};
 ghost use Rattle.flac.specs.FlacError.{Refuses};
 ghost use Rattle.flac.specs.StreamInfo.{info_in, judged, info_of};
@@ -9,7 +9,7 @@ use crate::FlacError;
 use crate::blocks::BlockHead;
 use crate::numbers::{be16_at, be24_at, be64_at};
 use crate::read::read_bytes;
-use wave_pcm::Source;
+use song_files::Source;
 
 /// The highest rate of a file, in samples a second.
 pub const MAX_RATE: u32 = 192_000;

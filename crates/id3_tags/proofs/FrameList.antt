@@ -5,9 +5,8 @@ use Rattle.std.specs.Prelude.{Option, option_to_list}
 use Rattle.std.specs.List.{flat_map}
 use Rattle.std.specs.Option.{option_map_or}
 use Rattle.std.proofs.lemmas.List.{append_assoc, append-nil, take_all}
-use Rattle.wave_pcm.proofs.PartList.{take_twice}
-use Rattle.wave_pcm.proofs.ChunkList.{take_front}
-use Rattle.wave_pcm.proofs.Ranges.{range_is}
+use Rattle.id3_tags.proofs.Takes.{take_twice, take_front}
+use Rattle.song_files.proofs.Ranges.{range_is}
 use Rattle.id3_tags.specs.Texts.{FrameText}
 use Rattle.id3_tags.specs.Pictures.{FramePicture, picture_of}
 use Rattle.id3_tags.specs.Frames.{gives_texts, texts_at, gives_picture, pictures_at, head_at, heads_in}

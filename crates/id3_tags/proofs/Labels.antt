@@ -3,7 +3,7 @@ use Rattle.std.proofs.Common.{◌≡◌, ℕ, ◌+◌, ◌<◌, ◌≤◌, List,
 use Rattle.std.proofs.Common.{◌∙◌, refl, arith}
 use Rattle.std.specs.Prelude.{◌==◌, if◌then◌else◌, remove}
 use Rattle.std.proofs.lemmas.List.{append_assoc, append-nil, take_all, take_at, drop_more, length_push, drop_all}
-use Rattle.wave_pcm.proofs.PartList.{take_twice}
+use Rattle.id3_tags.proofs.Takes.{take_twice}
 use Rattle.id3_tags.specs.Texts.{FrameText, labelled, described, is_described, texts_of, language_in, strings_of}
 
 pub labelled_cons : (id language description v : List ℕ) (values : List (List ℕ))

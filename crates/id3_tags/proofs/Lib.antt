@@ -4,6 +4,7 @@ pub mod Pushes
 pub mod Resyncs
 pub mod Splits
 pub mod Standing
+pub mod Takes
 pub mod Terminated
 pub mod Units
 pub mod Wholes

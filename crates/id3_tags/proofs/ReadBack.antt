@@ -8,7 +8,7 @@ use Rattle.std.specs.Str.{is_utf8}
 use Rattle.std.proofs.Math.Seq.{take-append-add}
 use Rattle.std.proofs.lemmas.Bool.{and_parts, or_cases, lt-ltb, le-ltb, ltb-true, leb-true, eqb-true}
 use Rattle.std.proofs.lemmas.List.{append_assoc, append-nil, length-append}
-use Rattle.wave_pcm.specs.Text.{is_tag_text, has_control}
+use Rattle.song_files.specs.Text.{is_tag_text, has_control}
 use Rattle.id3_tags.specs.Pictures.{FramePicture, picture_of}
 use Rattle.id3_tags.specs.Frames.{head_at, heads_in, texts_at, pictures_at}
 use Rattle.id3_tags.specs.TagHead.{head_in}

@@ -7,7 +7,7 @@ use Rattle.std.proofs.lemmas.Bool.Decides.{nat_tests}
 use Rattle.std.proofs.lemmas.List.Splits.{slice_split_first}
 use Rattle.std.specs.List.{onto_first}
 use Rattle.std.specs.Prelude.{not}
-use Rattle.wave_pcm.specs.Text.{is_tag_text}
+use Rattle.song_files.specs.Text.{is_tag_text}
 use Rattle.id3_tags.specs.Strings.{kept}
 
 some_at : (b : Bool) (n end : ℕ) → cond b (Some n) None ≡ Some end → (b ≡ true) × (n ≡ end)

@@ -1,7 +1,7 @@
 -- Bytes that stand in a file.
 use Rattle.std.proofs.Common.{◌≡◌, ℕ, ◌+◌, ◌≤◌, List, ◌++◌, length, take, drop, slice_range, sym, ap, ◌∙◌, arith}
 use Rattle.std.proofs.lemmas.List.{length-append, take_at, drop_at}
-use Rattle.wave_pcm.proofs.Ranges.{take-range, drop-range}
+use Rattle.song_files.proofs.Ranges.{take-range, drop-range}
 use Rattle.id3_tags.specs.Writing.{Stands}
 
 -- the front stands there

@@ -5,7 +5,7 @@ use Rattle.std.specs.Prelude.{◌==◌, ◌&&◌, ◌||◌, not, nat_le, codes, 
 use Rattle.std.specs.List.{flat_map, list_all}
 use Rattle.std.proofs.lemmas.Bool.{and_parts, or_cases, not-true, ne_eqb, le-leb, eqb-true, cases_Bool}
 use Rattle.std.proofs.lemmas.List.{nil_from_length}
-use Rattle.wave_pcm.specs.Text.{is_tag_text}
+use Rattle.song_files.specs.Text.{is_tag_text}
 use Rattle.id3_tags.specs.Frames.{is_id_byte}
 use Rattle.id3_tags.specs.Strings.{kept, strings_in, texts_in}
 use Rattle.id3_tags.specs.Texts.{is_text, is_comment, is_owned, is_described, labelled, described, language_in, strings_of}

@@ -6,7 +6,7 @@ use Rattle.std.specs.Prelude.{if◌then◌else◌}
 use Rattle.std.specs.List.{position_or_len}
 use Rattle.std.proofs.lemmas.Bool.{and_parts, lt-ltb}
 use Rattle.std.proofs.lemmas.List.{append_assoc, length-append, take_at, get_or-append-add}
-use Rattle.wave_pcm.specs.Text.{is_tag_text}
+use Rattle.song_files.specs.Text.{is_tag_text}
 use Rattle.id3_tags.specs.Strings.{kept, strings_in, texts_in, first_len}
 use Rattle.id3_tags.specs.Pictures.{FramePicture, mime_in, mime_len, description_len, first_text, picture_by, picture_of}
 use Rattle.id3_tags.specs.Writing.{has_no_zero, is_string, is_string_or_none}

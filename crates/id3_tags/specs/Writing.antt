@@ -2,7 +2,7 @@
 use Rattle.std.specs.Prelude.{◌≡◌, ℕ, ◌+◌, ◌/◌, ◌%◌, ◌==◌, List, [], ◌∷◌, ◌++◌, length, map, take, sum_by, Bool, not, ◌&&◌, ◌||◌, nat_lt}
 use Rattle.std.specs.Prelude.{nat_le, codes, Option, Some, option_to_list, slice_range, if◌then◌else◌}
 use Rattle.std.specs.List.{flat_map, list_all}
-use Rattle.wave_pcm.specs.Text.{is_tag_text}
+use Rattle.song_files.specs.Text.{is_tag_text}
 use Rattle.id3_tags.specs.Limits.{MAX_FRAMES, MAX_TEXTS, MAX_TEXT_LEN, MAX_SIZE}
 use Rattle.id3_tags.specs.Texts.{FrameText, is_text, is_comment, is_owned, is_described}
 use Rattle.id3_tags.specs.Pictures.{FramePicture}

@@ -1,6 +1,6 @@
 // The frames of a tag, read one behind the other.
 ghost use Rattle.std.specs.Prelude.{◌≡◌, ◌+◌, ◌<◌, ◌≤◌, ◌^◌, ◌++◌, take, length, slice_range, OnOk, IfOk, IfErr, IfSome};
-ghost use Rattle.wave_pcm.specs.Source.{Grows, Keeps};
+ghost use Rattle.song_files.specs.Source.{Grows, Keeps};
 ghost use Rattle.id3_tags.specs.TagError.{Fails};
 ghost use Rattle.id3_tags.specs.Frames.{head_len, head_at, data_of, texts_at, pictures_at, IsWithin, gives_texts, gives_picture};
 ghost use Rattle.id3_tags.specs.Reading.{tag_of_frames};
@@ -11,8 +11,8 @@ use crate::pictures::{is_picture, picture_of};
 use crate::texts::is_text;
 use crate::unsynchronisation::resynchronised;
 use crate::{Id3Tag, Pictures, TagError, Texts};
+use song_files::{Source, read_exact};
 use std::alloc::Global;
-use wave_pcm::{Source, read_exact};
 
 /// The bytes of the source in a range.
 pub fn read_bytes<S: Source>(
@@ -29,10 +29,8 @@ pub fn read_bytes<S: Source>(
     ensures count { IfOk result (λ bytes. length bytes.items ≡ len) }
 {
     let mut bytes = vec![in alloc; 0; len as usize]?;
-    match read_exact(source, first, &mut bytes) {
-        Ok(()) => Ok(bytes),
-        Err(_) => Err(TagError::ReadFault),
-    }
+    read_exact(source, first, &mut bytes)?;
+    Ok(bytes)
 }
 
 /// The head of the frame at `at`, if one stands there before `end`.

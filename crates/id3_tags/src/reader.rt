@@ -1,6 +1,6 @@
 // A tag, read as a whole.
 ghost use Rattle.std.specs.Prelude.{◌≡◌, ◌+◌, ◌<◌, ◌≤◌, ◌^◌, length, slice_range, Some, None, IfOk, IfErr, IsErrOf};
-ghost use Rattle.wave_pcm.specs.Source.{Grows, Keeps};
+ghost use Rattle.song_files.specs.Source.{Grows, Keeps};
 ghost use Rattle.id3_tags.specs.TagError.{Fails, Refuses};
 ghost use Rattle.id3_tags.specs.TagHead.{head_in};
 ghost use Rattle.id3_tags.specs.Reading.{empty_tag, frames_start, tag_behind, without_pictures, tag_of_whole, tag_by, tag_in};
@@ -13,8 +13,8 @@ use crate::numbers::{has_flag, plain_at, synchsafe_at};
 use crate::tag_head::{HEAD_LEN, TagHead, head_in};
 use crate::unsynchronisation::resynchronised;
 use crate::{Id3Tag, Pictures, TagError};
+use song_files::{MemSource, Source};
 use std::alloc::Global;
-use wave_pcm::{MemSource, Source};
 
 impl TagHead {
     /// Whether it is a tag of 2.2 that is compressed.

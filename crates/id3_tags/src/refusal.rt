@@ -1,8 +1,9 @@
 // Why a tag is not read or written.
 ghost use Rattle.std.specs.Prelude.{◌≡◌};
 ghost use Rattle.id3_tags.specs.TagError.{number_of};
-ghost use Rattle.id3_tags.specs.declared.refusal.TagError.TheVariants.{NoMemory};
+ghost use Rattle.id3_tags.specs.declared.refusal.TagError.TheVariants.{NoMemory, ReadFault};
 
+use song_files::SourceFault;
 use std::alloc::{AllocError, AllocFailed};
 use thiserror::Error;
 
@@ -38,6 +39,14 @@ impl From<AllocError> for TagError {
 
     fn from(_: AllocError) -> Self {
         TagError::NoMemory
+    }
+}
+
+impl From<SourceFault> for TagError {
+    ghost from_gives = { λ _ e. e ≡ ReadFault };
+
+    fn from(_: SourceFault) -> Self {
+        TagError::ReadFault
     }
 }
 

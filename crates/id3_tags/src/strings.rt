@@ -4,9 +4,9 @@ ghost use Rattle.std.specs.Prelude.{MatchOption, false};
 ghost use Rattle.id3_tags.specs.Strings.{kept, is_wide, wide_units, units_of, swapped, is_low_first, behind_mark, ordered, utf16_text};
 ghost use Rattle.id3_tags.specs.Strings.{texts_by_order, strings_in, texts_in, width, first_len};
 
+use song_files::is_tag_text;
 use std::alloc::{AllocError, Global};
 use std::str;
-use wave_pcm::is_tag_text;
 
 /// The mark of a string whose low bytes stand first, as it is read with the high byte first.
 const LOW_FIRST: u16 = 0xfffe;

@@ -1,10 +1,10 @@
 //! Tags that other programs made, what is written, and where memory or the source fails.
 use crate::{Id3Tag, PictureFront, TagError, TagText, TextFrame, read_tag, write_tag};
+use song_files::{FaultySource, MemSource, ReadTrouble, Source};
 use std::alloc::{AllocError, Global};
 use std::process::Abort;
 use std::str;
 use std::test::Fail;
-use wave_pcm::{FaultySource, MemSource, ReadTrouble, Source};
 
 // Tags and what they tell: the first six were made by mutagen 1.46, the next two by ffmpeg 5.1, the others by hand.
 const ROWS: [(&[u8], &str); 18] = [

@@ -10,8 +10,8 @@ use crate::frame_head::is_id;
 use crate::limits::MAX_TEXT_LEN;
 use crate::texts::{is_described, is_owned, is_text};
 use crate::writer::{PictureFront, TextFrame, text_data};
+use song_files::is_tag_text;
 use std::alloc::{AllocError, Global};
-use wave_pcm::is_tag_text;
 
 /// Whether no byte is zero.
 fn has_no_zero(bytes: &[u8]) -> bool

@@ -1,5 +1,6 @@
 -- Records decoded one after the other.
-use Rattle.std.proofs.Common.{◌≡◌, ℕ, ◌+◌, ◌-◌, ◌^◌, min, List, length, Result, Ok, Err, refl, sym, subst}
+use Rattle.std.proofs.Common.{◌≡◌, ℕ, ◌+◌, ◌-◌, ◌^◌, ◌<◌, ◌∙◌, ap, arith, min, List, [], ◌∷◌, length, get_or, drop, Result, Ok, Err, Some, refl, sym, subst}
+use Rattle.std.proofs.lemmas.List.{drop_more}
 use Rattle.state_codec.specs.SavedState.{SavedState}
 use Rattle.state_codec.specs.Answers.{GivesSaved}
 use Rattle.state_codec.specs.declared.refusal.CodecError.{CodecError}
@@ -7,7 +8,7 @@ use Rattle.state_codec.specs.declared.refusal.CodecError.TheVariants.{NoMemory, 
 use Rattle.live_stage.specs.declared.refusal.StartError.TheVariants.{Damaged}
 use Rattle.live_stage.specs.Decoding.{GivesState, snapshot_error}
 use Rattle.state_codec.specs.Reading.{saved_reading}
-use Rattle.live_stage.specs.Found.{records_reading, stored_reading}
+use Rattle.live_stage.specs.Found.{after_record, records_reading, stored_reading}
 
 -- these records are left, the state is the one before them, and the first one's gate has this offset, as far as offsets are counted
 pub record IsReadTo (layout counted : ℕ) (s : SavedState) (rest : List (List ℕ)) (all : Result SavedState ℕ) : Type 0 where
@@ -33,3 +34,22 @@ refused_snapshot layout snapshot records NoMemory gives = tt
 refused_snapshot layout snapshot records (BadOp at) gives = elim gives [ ]
 refused_snapshot layout snapshot records (BadSnapshot at) gives =
     subst (λ r. GivesState (Err (Damaged 32)) r) (sym (bad_snapshot layout snapshot records at gives)) refl
+
+one_more : (layout gate : ℕ) (body : List ℕ) (bodies : List (List ℕ)) (s after : SavedState) → after_record layout body s ≡ Some after
+    → records_reading layout gate (body ∷ bodies) s ≡ records_reading layout (gate + (5 + length body)) bodies after
+one_more layout gate body bodies s after gives = rw gives refl
+
+-- what is read behind one record more
+pub read_on : (layout counted place middle next : ℕ) (records : List (List ℕ)) (body : List ℕ) (s after : SavedState)
+    (all : Result SavedState ℕ) → place < length records → body ≡ get_or records place [] → after_record layout body s ≡ Some after
+    → middle ≡ min (counted + 5) (2 ^ 64 - 1) → next ≡ min (middle + length body) (2 ^ 64 - 1)
+    → IsReadTo layout counted s (drop place records) all → IsReadTo layout next after (drop (place + 1) records) all
+read_on layout counted place middle next records body s after all within is gives plus behind read =
+    let cut : drop place records ≡ body ∷ drop (place + 1) records =
+    drop_more records place [] within ∙ ap (λ b. b ∷ drop (place + 1) records) (sym is) in
+    record {
+      gate = read.gate + (5 + length body);
+      counts = omega (arith, read.counts, plus, behind);
+      is = read.is ∙ ap (λ rest. records_reading layout read.gate rest s) cut
+          ∙ one_more layout read.gate body (drop (place + 1) records) s after gives;
+    }

@@ -2,7 +2,7 @@
 use Rattle.std.specs.Prelude.{ℕ, suc, List, [], ◌++◌, true, false, not, nat_lt, length, Option, Some, None, Result, Ok, Err}
 use Rattle.std.specs.Prelude.{flat_map, unwrap_or, if◌then◌else◌}
 use Rattle.command_text.specs.AnswerNames.{listed_commands, tag_type_line, directory_line, database_lines}
-use Rattle.command_text.specs.AnswerSongs.{file_line, song_lines, shown_tags}
+use Rattle.command_text.specs.AnswerSongs.{file_line, song_lines}
 use Rattle.command_text.specs.AnswerStatus.{job_line}
 use Rattle.command_text.specs.declared.command.database.DatabaseCommand.{DatabaseCommand}
 use Rattle.command_text.specs.declared.command.database.DatabaseCommand.TheVariants as commands
@@ -15,7 +15,9 @@ use Rattle.song_db.specs.Row.{Row, row_at}
 use Rattle.song_db.specs.Walk.{Item, FolderAt, SongOf, walk_of}
 use Rattle.song_db.specs.declared.place.Place.{Place}
 use Rattle.state_codec.specs.Steps.{◌>>=◌}
-use Rattle.wave_pcm.specs.declared.tags.Tag.TheVariants.{Artist, Album}
+use Rattle.song_files.specs.TagSet.{tags_in}
+use Rattle.song_files.specs.declared.tag.Tag.TheVariants.{Artist, Album}
+use Rattle.song_files.specs.declared.tag_set.TheConstants.TagSet.{SIX}
 use Rattle.machine_core.specs.Lent.{lent}
 use Rattle.machine_core.specs.Meaning.{Meant, must, says, answers, begins}
 use Rattle.machine_core.specs.State.{MachineState}
@@ -80,7 +82,7 @@ database_meaning (commands.ListInfo path) m =
     let named = unwrap_or path [] in answers (info_at m.saved.songs named (row_at m.saved.songs named)) m
 database_meaning commands.NotCommands m = says [] m
 database_meaning commands.Stats m = says (statistics m.saved.songs) m
-database_meaning commands.TagTypes m = says (flat_map tag_type_line shown_tags) m
+database_meaning commands.TagTypes m = says (flat_map tag_type_line (tags_in SIX)) m
 database_meaning (commands.Update place) m = do
   free ← must (not m.job.runs) AlreadyUpdating
   begins (begun (next_job m.job.number) place) (job_line (next_job m.job.number)) m

@@ -22,7 +22,7 @@ use Rattle.song_db.specs.Row.{Row, row_at}
 use Rattle.state_codec.specs.Steps.{◌>>=◌}
 use Rattle.state_codec.specs.declared.op.Op.TheVariants.{List as OfLists}
 use Rattle.state_codec.specs.declared.op.list_op.ListOp.TheVariants as list_ops
-use Rattle.wave_pcm.specs.declared.tags.Tag.{Tag}
+use Rattle.song_files.specs.declared.tag.Tag.{Tag}
 use Rattle.machine_core.specs.Adding.{adds}
 use Rattle.machine_core.specs.Lists.{list_name}
 use Rattle.machine_core.specs.Meaning.{Meant, says, edits}

@@ -1,14 +1,14 @@
 // The lines of the commands of the database, one after the other.
-ghost use Rattle.std.specs.Prelude.{flat_map};
+ghost use Rattle.std.specs.Prelude.{[], flat_map, if◌then◌else◌};
 ghost use Rattle.command_text.specs.Answer.{Adds};
 ghost use Rattle.command_text.specs.AnswerNames.{tag_type_line};
-ghost use Rattle.command_text.specs.AnswerSongs.{shown_tags};
 ghost use Rattle.song_db.specs.Walk.{item_of};
+ghost use Rattle.song_files.specs.TagSet.{has_tag, tags_in};
 ghost use Rattle.machine_core.specs.Database.{detail_lines, item_lines};
 
 use command_text::{NoMemory, write_directory, write_file, write_song, write_tag_type};
 use song_db::{Listed, SongRow, Walk};
-use wave_pcm::Tag;
+use song_files::{TAG_COUNT, Tag, TagSet};
 
 /// How much is told of a song.
 #[derive(Clone, Copy, Debug)]
@@ -19,14 +19,25 @@ pub enum Detail {
     Songs,
 }
 
-// Adds the names of the six tags.
-pub(crate) fn write_tag_types(out: &mut Vec<u8>) -> Result<(), NoMemory>
-    ensures { Adds (flat_map tag_type_line shown_tags) result out.old out.new }
+// Adds the names of a set's tags.
+pub(crate) fn write_tag_types(out: &mut Vec<u8>, tags: TagSet) -> Result<(), NoMemory>
+    ensures { Adds (flat_map tag_type_line (tags_in tags)) result out.old out.new }
 {
-    for tag in Tag::ALL {
-        write_tag_type(out, tag)?;
+    for number in 0..TAG_COUNT {
+        write_if_in(out, tags, Tag::at(number))?;
     }
     Ok(())
+}
+
+// Adds the name of a tag, if the set has it.
+fn write_if_in(out: &mut Vec<u8>, tags: TagSet, tag: Tag) -> Result<(), NoMemory>
+    ensures { Adds (if has_tag tags tag then tag_type_line tag else []) result out.old out.new }
+{
+    if tags.contains(tag) {
+        write_tag_type(out, tag)
+    } else {
+        Ok(())
+    }
 }
 
 // Adds a song.

@@ -7,7 +7,7 @@ ghost use Rattle.machine_core.specs.Spans.{positions_in};
 
 use crate::span::Span;
 use command_text::{NoMemory, write_entry, write_place};
-use play_queue::Entry;
+use play_queue::Entries;
 use state_codec::Saved;
 
 // Adds the entry at a position, if one stands there.
@@ -21,8 +21,8 @@ pub(crate) fn write_position(
     let Some(entry) = saved.queue().get(position) else {
         return Ok(());
     };
-    match saved.songs().row_of(&entry.uri) {
-        Ok(row) => write_entry(out, row, position, entry),
+    match saved.songs().row_of(entry.uri) {
+        Ok(row) => write_entry(out, row, position, &entry),
         Err(_) => Ok(()),
     }
 }
@@ -52,7 +52,7 @@ pub(crate) fn write_positions(
 }
 
 // Adds the entry at a position by its position and id alone, if one stands there.
-fn write_place_at(out: &mut Vec<u8>, entries: &[Entry], position: usize) -> Result<(), NoMemory>
+fn write_place_at(out: &mut Vec<u8>, entries: &Entries, position: usize) -> Result<(), NoMemory>
     ensures { Adds (place_info entries.now position) result out.old out.new }
 {
     match entries.get(position) {
@@ -64,7 +64,7 @@ fn write_place_at(out: &mut Vec<u8>, entries: &[Entry], position: usize) -> Resu
 // Adds the entries at these positions by their positions and ids alone.
 pub(crate) fn write_places(
     out: &mut Vec<u8>,
-    entries: &[Entry],
+    entries: &Entries,
     positions: &[usize],
 ) -> Result<(), NoMemory>
     ensures { Adds (flat_map (place_info entries.now) positions.now) result out.old out.new }

@@ -1,37 +1,31 @@
 // The current entry, its row, and how long songs are.
-ghost use Rattle.std.specs.Prelude.{◌≡◌, ◌==◌, option_and_then};
-ghost use Rattle.std.specs.List.{find};
+ghost use Rattle.std.specs.Prelude.{◌≡◌, option_and_then, option_map};
 ghost use Rattle.std.specs.Option.{option_copied};
+ghost use Rattle.play_queue.specs.Shown.{shown};
 ghost use Rattle.player_core.specs.Order.{current_entry};
 ghost use Rattle.machine_core.specs.Followed.{current_row, entry_row};
 ghost use Rattle.machine_core.specs.Steps.{current_length, length_of, named_entry, named_length};
 
 use crate::machine::Machine;
-use play_queue::Entry;
+use play_queue::{Entries, EntryRef};
 use player_core::{Selector, SongLength};
 use song_db::SongRow;
 
-fn with_id(entries: &[Entry], id: u32) -> Option<&Entry>
-    ensures { option_copied result ≡ find (λ entry. entry.id == id) entries.now }
-{
-    entries.iter().find(|entry| entry.id == id)
-}
-
-pub(crate) fn current_entry(entries: &[Entry], current: Option<u32>) -> Option<&Entry>
-    ensures { option_copied result ≡ current_entry entries.now current }
+pub(crate) fn current_entry(entries: &Entries, current: Option<u32>) -> Option<EntryRef<'_>>
+    ensures { option_map shown result ≡ current_entry entries.now current }
 {
     match current {
-        Some(id) => with_id(entries, id),
+        Some(id) => entries.with_id(id),
         None => None,
     }
 }
 
-fn named_entry(entries: &[Entry], selector: Selector) -> Option<&Entry>
-    ensures { option_copied result ≡ named_entry selector entries.now }
+fn named_entry(entries: &Entries, selector: Selector) -> Option<EntryRef<'_>>
+    ensures { option_map shown result ≡ named_entry selector entries.now }
 {
     match selector {
         Selector::Position(position) => entries.get(position as usize),
-        Selector::Id(id) => with_id(entries, id),
+        Selector::Id(id) => entries.with_id(id),
     }
 }
 
@@ -53,11 +47,11 @@ fn length_of(row: Option<&SongRow>) -> SongLength
 
 impl Machine {
     // The row of an entry's song.
-    fn entry_row(&self, entry: Option<&Entry>) -> Option<&SongRow>
-        ensures { option_copied result ≡ option_and_then (entry_row self.now.saved.songs) (option_copied entry.entry) }
+    fn entry_row(&self, entry: Option<EntryRef<'_>>) -> Option<&SongRow>
+        ensures { option_copied result ≡ option_and_then (entry_row self.now.saved.songs) (option_map shown entry.entry) }
     {
         let entry = entry?;
-        match self.saved.songs().row_of(&entry.uri) {
+        match self.saved.songs().row_of(entry.uri) {
             Ok(row) => Some(row),
             Err(_) => None,
         }

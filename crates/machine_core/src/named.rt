@@ -2,6 +2,7 @@
 ghost use Rattle.std.specs.Prelude.{◌≡◌, ◌+◌, ◌≤◌, ◌++◌, [], length, Ok, IfOk, OnOk, OnErr};
 ghost use Rattle.std.specs.List.{range_with_len};
 ghost use Rattle.std.specs.Option.{option_to_list};
+ghost use Rattle.play_queue.specs.Shown.{shown};
 ghost use Rattle.song_db.specs.Limits.{MAX_ROWS};
 ghost use Rattle.song_db.specs.Query.{number_at};
 ghost use Rattle.state_codec.specs.Numbers.{MAX_COUNT};
@@ -11,7 +12,7 @@ ghost use Rattle.machine_core.specs.Named.{Finds, numbers_of, numbers_under, num
 use crate::machine::Machine;
 use crate::work::Failure;
 use command_text::CommandRefusal;
-use play_queue::Entry;
+use play_queue::{Entries, EntryRef};
 use song_db::{Place, SongDb, Uri};
 use state_codec::RowNumbers;
 use std::alloc::{AllocError, Global};
@@ -55,14 +56,14 @@ pub(crate) fn numbers_of(alloc: Global, songs: &SongDb, uris: &[Uri]) -> Result<
 pub(crate) fn numbers_of_entries(
     alloc: Global,
     songs: &SongDb,
-    entries: &[Entry],
+    entries: &Entries,
 ) -> Result<RowNumbers, Failure>
     requires { length entries.now ≤ MAX_COUNT }
     ensures { Finds (Ok (numbers_of songs.now (uris_of entries.now))) result }
 {
     let mut numbers = Vec::with_capacity(alloc, entries.len())?;
-    for entry in entries {
-        push_entry_number(songs, entry, &mut numbers)?;
+    for at in 0..entries.len() {
+        push_entry_number(songs, &entries.at(at), &mut numbers)?;
     }
     Ok(row_numbers(numbers))
 }
@@ -70,12 +71,12 @@ pub(crate) fn numbers_of_entries(
 // Adds the number of an entry's row, if it has one.
 fn push_entry_number(
     songs: &SongDb,
-    entry: &Entry,
+    entry: &EntryRef<'_>,
     numbers: &mut Vec<u32>,
 ) -> Result<(), AllocError>
-    ensures { OnOk result (numbers.new.items ≡ numbers.old.items ++ option_to_list (number_at songs.now entry.now.uri)) }
+    ensures { OnOk result (numbers.new.items ≡ numbers.old.items ++ option_to_list (number_at songs.now (shown entry.now).uri)) }
 {
-    if let Ok(number) = songs.number_of(&entry.uri) {
+    if let Ok(number) = songs.number_of(entry.uri) {
         numbers.push(number as u32)?;
     }
     Ok(())

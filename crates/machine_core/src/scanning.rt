@@ -160,5 +160,5 @@ fn current_row<'a>(saved: &'a Saved, player: &Player) -> Option<&'a SongRow>
     ensures { option_copied result ≡ current_row saved.now player.now }
 {
     let entry = current_entry(saved.queue().entries(), player.current())?;
-    saved.songs().row_of(&entry.uri).ok()
+    saved.songs().row_of(entry.uri).ok()
 }

@@ -13,7 +13,7 @@ use crate::machine::Machine;
 use crate::step_ops::{bytes_of, make_changes};
 use crate::told::failure_of;
 use crate::work::{Failure, MAX_REQUEST_BYTES, Work};
-use play_queue::Entry;
+use play_queue::Entries;
 use player_core::{Changes, PlaySettings, Player, PlayerError, Selector, SongLength};
 use std::alloc::Global;
 
@@ -36,7 +36,7 @@ pub enum PlayerStep {
 // The player makes the step.
 fn take_step(
     player: &mut Player,
-    entries: &[Entry],
+    entries: &Entries,
     settings: &PlaySettings,
     step: PlayerStep,
 ) -> Result<Changes, PlayerError>

@@ -1,6 +1,7 @@
 pub mod ByteLaws
 pub mod ConfigurationLaws
 pub mod ConsoleLaws
+pub mod FormatLaws
 pub mod InputLaws
 pub mod JobLaws
 pub mod LifeLaws

@@ -1,11 +1,12 @@
--- What a configuration says: a TOML table of texts and two switches.
-use Rattle.std.specs.Prelude.{ℕ, List, [], ◌∷◌, codes, Bool, true, false, ◌&&◌, ◌||◌, not, Option, Some, None, option_map, is_some, if◌then◌else◌}
+-- What a configuration says: a TOML table of texts, two switches and a list of formats.
+use Rattle.std.specs.Prelude.{ℕ, List, [], ◌∷◌, codes, Bool, true, false, ◌&&◌, ◌||◌, not, Option, Some, None, option_map, is_some, if◌then◌else◌, ◌+◌, ◌==◌, nat_le, suc}
 use Rattle.std.specs.Option.{option_and_then}
 use Rattle.std.specs.Result.{result_ok}
 use Rattle.std.specs.Str.{bytes_eq}
-use Rattle.toml.specs.Data.{Data, Members, no_members, member, get_member, as_str, as_bool}
+use Rattle.toml.specs.Data.{Data, string, Items, no_items, item, Members, no_members, member, get_member, as_array, as_str, as_bool}
 use Rattle.toml.specs.Parse.{parse_document}
 use Rattle.hex.specs.Hex.{decode_sized}
+use Rattle.as_wave.specs.declared.forms.Forms.{Forms}
 use Rattle.song_output.specs.declared.output.Form.{Form}
 use Rattle.song_output.specs.declared.output.Form.TheVariants.{Bare, Wave}
 
@@ -15,8 +16,8 @@ abbrev pub ◌>>=◌ : {A B : Type 0} → Option A → (A → Option B) → Opti
 (Some x) >>= f = f x
 None >>= f = None
 
--- The paths as they stand, the key of 32 bytes, where to listen and to play, where these are said, the form of the sound, whether a
--- translator stands before clients, and whether the log says more.
+-- The paths as they stand, the key of 32 bytes, where to listen and to play, where these are said, the form of the sound, which files are
+-- songs, whether a translator stands before clients, and whether the log says more.
 pub record Settings : Type 0 where
   pub music : List ℕ
   pub journal_a : List ℕ
@@ -26,6 +27,7 @@ pub record Settings : Type 0 where
   pub unix : Option (List ℕ)
   pub output : Option (List ℕ)
   pub form : Form
+  pub formats : Forms
   pub stock_clients : Bool
   pub debug : Bool
 
@@ -34,7 +36,8 @@ abbrev pub is_known : List ℕ → Bool
 is_known key =
     bytes_eq key (codes "music") || bytes_eq key (codes "journal_a") || bytes_eq key (codes "journal_b") || bytes_eq key (codes "key")
     || bytes_eq key (codes "tcp") || bytes_eq key (codes "unix") || bytes_eq key (codes "output")
-    || bytes_eq key (codes "form") || bytes_eq key (codes "stock_clients") || bytes_eq key (codes "debug")
+    || bytes_eq key (codes "form") || bytes_eq key (codes "formats") || bytes_eq key (codes "stock_clients")
+    || bytes_eq key (codes "debug")
 
 -- it has no key but these
 abbrev pub all_known : Members → Bool
@@ -77,6 +80,44 @@ form_if_there (Some value) = option_and_then form_of (as_str value)
 abbrev pub form_at : List ℕ → Members → Option Form
 form_at key members = form_if_there (get_member key members)
 
+-- a value is this text
+abbrev pub is_text : List ℕ → Data → Bool
+is_text name (string text) = bytes_eq text name
+is_text name _ = false
+
+-- how often a list has this text
+abbrev pub count_of : List ℕ → Items → ℕ
+count_of name no_items = 0
+count_of name (item value values) = if is_text name value then 1 + count_of name values else count_of name values
+
+-- how many values a list has
+abbrev pub value_count : Items → ℕ
+value_count no_items = 0
+value_count (item value values) = suc (value_count values)
+
+-- Each value is one of three names, none comes twice, and `wave` is there: WAVE files of 16-bit PCM are songs in any case.
+abbrev pub are_formats : Items → Bool
+are_formats values =
+    (count_of (codes "wave") values == 1)
+    && nat_le (count_of (codes "wave-pcm") values) 1
+    && nat_le (count_of (codes "flac") values) 1
+    && (value_count values == 1 + count_of (codes "wave-pcm") values + count_of (codes "flac") values)
+
+-- which other files a list of formats takes
+abbrev pub formats_in : Items → Option Forms
+formats_in values =
+    if are_formats values then
+    Some (record { wave_pcm = count_of (codes "wave-pcm") values == 1; flac = count_of (codes "flac") values == 1 })
+    else None
+
+-- the formats that may be there: no other files where there are none
+abbrev pub formats_if_there : Option Data → Option Forms
+formats_if_there None = Some (record { wave_pcm = false; flac = false })
+formats_if_there (Some value) = option_and_then formats_in (as_array value)
+
+abbrev pub formats_at : List ℕ → Members → Option Forms
+formats_at key members = formats_if_there (get_member key members)
+
 -- the switch that may be there: off where there is none
 abbrev pub switch_if_there : Option Data → Option Bool
 switch_if_there None = Some false
@@ -112,6 +153,7 @@ settings_of table = do
   unix ← optional_path_at (codes "unix") members
   output ← optional_text_at (codes "output") members
   form ← form_at (codes "form") members
+  formats ← formats_at (codes "formats") members
   stock_clients ← switch_at (codes "stock_clients") members
   debug ← switch_at (codes "debug") members
   if_two_files (record {
@@ -123,6 +165,7 @@ settings_of table = do
     unix = unix;
     output = output;
     form = form;
+    formats = formats;
     stock_clients = stock_clients;
     debug = debug;
   })
@@ -140,6 +183,7 @@ pub record ServeSettings : Type 0 where
   pub unix : Option (List ℕ)
   pub output : List ℕ
   pub form : Form
+  pub formats : Forms
   pub stock_clients : Bool
   pub debug : Bool
 
@@ -163,6 +207,7 @@ settings_to_serve s output =
       unix = s.unix;
       output = output;
       form = s.form;
+      formats = s.formats;
       stock_clients = s.stock_clients;
       debug = s.debug;
     })

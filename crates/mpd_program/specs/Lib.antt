@@ -3,6 +3,7 @@ pub mod Configuration
 pub mod Console
 pub mod Daemon
 pub mod Exit
+pub mod Library
 pub mod Lives
 pub mod Serving
 pub mod Status

@@ -2,8 +2,8 @@
 ghost use Rattle.std.specs.Prelude.{[]};
 
 use crate::daemon_clock::DaemonClock;
+use song_files::{FileStamp, Folder, FolderEntry, FolderFault};
 use std::alloc::Global;
-use wave_pcm::{Folder, FolderEntry, FolderFault};
 
 /// A folder of which each look is an update of the database by the clock: so whoever is told of what a scan found is told a later time.
 ///
@@ -32,6 +32,11 @@ impl<F: Folder> Folder for ClockedFolder<'_, F> {
     fn list(&mut self, alloc: Global, path: &str) -> Result<Option<Vec<FolderEntry>>, FolderFault> {
         self.clock.update();
         self.files.list(alloc, path)
+    }
+
+    fn look(&mut self, alloc: Global, path: &str) -> Result<Option<FileStamp>, FolderFault> {
+        self.clock.update();
+        self.files.look(alloc, path)
     }
 
     fn open(&mut self, alloc: Global, path: &str) -> Result<Option<F::File>, FolderFault> {

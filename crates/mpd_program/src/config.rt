@@ -1,17 +1,20 @@
-//! The configuration: a TOML document of texts and two switches.
-ghost use Rattle.std.specs.Prelude.{◌≡◌, ℕ, None, Some, IfOk, OnErr, IsErrOf, IsTrue, ◌↔◌, true, option_map, string_bytes};
+//! The configuration: a TOML document of texts, two switches and a list of formats.
+ghost use Rattle.std.specs.Prelude.{◌≡◌, ◌≤◌, ℕ, None, Some, IfOk, OnErr, IsErrOf, IsTrue, ◌↔◌, true, option_map, string_bytes};
+ghost use Rattle.std.specs.Prelude.{count_by, length};
 ghost use Rattle.std.specs.Option.{option_and_then};
 ghost use Rattle.toml.specs.Data.{get_member};
-ghost use Rattle.toml.specs.View.{table_view};
-ghost use Rattle.mpd_program.specs.Configuration.{is_known, all_known, settings_of, text_at, optional_text_at, optional_path_at, key_at, configuration};
-ghost use Rattle.mpd_program.specs.Configuration.{form_at, form_of, switch_at};
+ghost use Rattle.toml.specs.View.{items_view, table_view, view};
+ghost use Rattle.mpd_program.specs.Configuration.{is_known, all_known, settings_of, text_at, optional_text_at, optional_path_at, key_at};
+ghost use Rattle.mpd_program.specs.Configuration.{configuration};
+ghost use Rattle.mpd_program.specs.Configuration.{form_at, form_of, formats_at, formats_in, is_text, switch_at};
 ghost use Rattle.mpd_program.specs.declared.config.ConfigError.TheVariants as errors;
 
+use as_wave::Forms;
 use hex::FromHex;
 use song_output::Form;
 use std::alloc::{AllocError, Global};
 use std::marker::Model;
-use toml::Table;
+use toml::{Table, Value};
 
 /// Why there is no configuration.
 #[derive(Clone, Copy, Debug, PartialEq, Eq)]
@@ -52,6 +55,8 @@ pub struct Config {
     pub output: Option<String>,
     /// In which form: bare where the text says none.
     pub form: Form,
+    /// Which files are songs beside WAVE files of 16-bit PCM: none where the text doesn't say.
+    pub formats: Forms,
     /// Whether stock clients of MPD are served, by a translator: not where the text doesn't say.
     pub stock_clients: bool,
     /// Whether the log has a line for each file that a job left out: not where the text doesn't say.
@@ -73,6 +78,7 @@ impl Model for Config {
       unix = option_map string_bytes c.unix;
       output = option_map string_bytes c.output;
       form = c.form;
+      formats = c.formats;
       stock_clients = c.stock_clients;
       debug = c.debug;
     } };
@@ -107,6 +113,7 @@ impl Config {
         let unix = optional_path(alloc, table, "unix")?;
         let output = optional_text(alloc, table, "output")?;
         let form = form(table, "form")?;
+        let formats = formats(table, "formats")?;
         let stock_clients = switch(table, "stock_clients")?;
         let debug = switch(table, "debug")?;
         if journal_a.as_str() == journal_b.as_str() {
@@ -121,6 +128,7 @@ impl Config {
             unix,
             output,
             form,
+            formats,
             stock_clients,
             debug,
         })
@@ -139,8 +147,17 @@ fn is_known_key(key: &str) -> bool
         || key == "unix"
         || key == "output"
         || key == "form"
+        || key == "formats"
         || key == "stock_clients"
         || key == "debug"
+}
+
+/// Whether this text has formats, and they are none.
+pub(crate) fn has_bad_formats(alloc: Global, text: &str) -> bool {
+    match toml::table_from_str(alloc, text) {
+        Ok(table) => formats(&table, "formats").is_err(),
+        Err(_) => false,
+    }
 }
 
 /// A key of this text that no configuration may have, if it has one.
@@ -240,6 +257,61 @@ fn form(table: &Table, key: &str) -> Result<Form, ConfigError>
     };
     match form_named(text) {
         Some(form) => Ok(form),
+        None => Err(ConfigError::Bad),
+    }
+}
+
+// How many of these values are this text.
+fn count_of(values: &[Value], name: &str) -> usize
+    ensures count { result ≡ count_by (λ value. is_text name.now (view value)) values.now }
+    ensures within { result ≤ length values.now }
+{
+    let mut count = 0;
+    for value in values {
+        if value.as_str() == Some(name) {
+            count += 1;
+        }
+    }
+    count
+}
+
+// The forms of files that these values name, of which WAVE files of 16-bit PCM are one.
+#[tactic(auto, using(crate::proofs::FormatLaws::count_of_items, crate::proofs::FormatLaws::count_of_values))]
+fn formats_in(values: &[Value]) -> Option<Forms>
+    ensures { result ≡ formats_in (items_view values.now) }
+{
+    let wave = count_of(values, "wave");
+    let wave_pcm = count_of(values, "wave-pcm");
+    let flac = count_of(values, "flac");
+    if wave == 1 && wave_pcm <= 1 && flac <= 1 && values.len() == 1 + wave_pcm + flac {
+        return Some(Forms {
+            wave_pcm: wave_pcm == 1,
+            flac: flac == 1,
+        });
+    }
+    None
+}
+
+// The formats at a key that may be missing.
+fn formats(table: &Table, key: &str) -> Result<Forms, ConfigError>
+    ensures ok { IfOk result (λ formats. formats_at key.now (table_view table.now) ≡ Some formats) }
+    ensures bad { OnErr result (formats_at key.now (table_view table.now) ≡ None) }
+{
+    let value = match table.get(key) {
+        Some(value) => value,
+        None => {
+            return Ok(Forms {
+                wave_pcm: false,
+                flac: false,
+            });
+        }
+    };
+    let values = match value.as_array() {
+        Some(values) => values,
+        None => return Err(ConfigError::Bad),
+    };
+    match formats_in(values) {
+        Some(formats) => Ok(formats),
         None => Err(ConfigError::Bad),
     }
 }

@@ -15,10 +15,11 @@ use disk_model::Disk;
 use live_stage::{Live, Refused};
 use mpd_server::refusal_number;
 use serving::{Service, ending_with};
+use song_db::LibraryRules;
+use song_files::Folder;
 use std::alloc::Global;
 use std::fmt;
 use std::io::{Read, Write};
-use wave_pcm::Folder;
 
 /// The number of the first client.
 const FIRST_CLIENT: u64 = 1;
@@ -117,6 +118,7 @@ fn serve_life<D: Disk, F: Folder, R: Read, W: Write>(
     b: D,
     client: u64,
     folder: &mut F,
+    rules: LibraryRules,
     reader: &mut R,
     writer: &mut W,
 ) -> ClientEnd<D>
@@ -138,6 +140,7 @@ fn serve_life<D: Disk, F: Folder, R: Read, W: Write>(
         session: Session::new(alloc),
         client,
         folder,
+        rules,
         writer,
     };
     let served = service.serve_client(reader);
@@ -147,6 +150,7 @@ fn serve_life<D: Disk, F: Folder, R: Read, W: Write>(
         session: _session,
         client: _client,
         folder: _folder,
+        rules: _rules,
         writer: _writer,
     } = service;
     // As long as no disk failed, the files give its state.
@@ -207,7 +211,7 @@ fn ended<D>(ending: Ending, migrated: bool, last: ClientEnd<D>) -> ConsoleEnd<D>
 /// until a request closes it.
 ///
 /// Where a request began a job of the database, the job's scan over the folder follows at once: before the next request all of the
-/// folder, or of the part that was asked for, is read, and the job is over.
+/// folder, or of the part that was asked for, is read, by these rules, and the job is over.
 ///
 /// After a disk fault that client is closed, the journal is opened again, and a new client is served with what is left of the
 /// input. After a second one it gives up.
@@ -216,6 +220,7 @@ pub fn run_console<D: Disk, F: Folder, R: Read, W: Write>(
     a: D,
     b: D,
     folder: &mut F,
+    rules: LibraryRules,
     reader: &mut R,
     writer: &mut W,
 ) -> ConsoleEnd<D>
@@ -240,7 +245,7 @@ pub fn run_console<D: Disk, F: Folder, R: Read, W: Write>(
 
     ensures later { AreLater D.honest D.history D.faults a b result.a result.b }
 {
-    let first = serve_life(alloc, a, b, FIRST_CLIENT, folder, reader, writer);
+    let first = serve_life(alloc, a, b, FIRST_CLIENT, folder, rules, reader, writer);
     if !first.is_faulted() {
         let ending = first.ending();
         let migrated = first.migrated;
@@ -252,7 +257,7 @@ pub fn run_console<D: Disk, F: Folder, R: Read, W: Write>(
         a,
         b,
     } = first;
-    let second = serve_life(alloc, a, b, SECOND_CLIENT, folder, reader, writer);
+    let second = serve_life(alloc, a, b, SECOND_CLIENT, folder, rules, reader, writer);
     let migrated = migrated || second.migrated;
     ended(Ending::Faulted, migrated, second)
 }

@@ -8,6 +8,7 @@ use crate::console::Status;
 use crate::daemon_clock::DaemonClock;
 use crate::error_lines::{ErrorLines, LoopLog, say};
 use crate::exit::Exit;
+use crate::library::rules_of;
 use crate::listening::{listen_on_address, listen_on_path};
 use crate::music::Music;
 use crate::output::Output;
@@ -17,6 +18,7 @@ use crate::stop_flag::StopFlag;
 use crate::stopping_folder::StoppingFolder;
 use crate::tasks::{JournalFiles, open_made_files, tell_fault, tell_migration, tell_refusal, told};
 use crate::told_listener::ToldListener;
+use as_wave::{AsWave, Forms};
 use disk_model::FileDisk;
 use http_guard::{Guarded, GuardedListener, GuardedReady};
 use log::{Level, Log, Logged, warn};
@@ -184,21 +186,28 @@ fn ended(
     exit_of(end.status)
 }
 
-/// The songs at this path, until the flag is set.
+/// The songs of the configuration, as the WAVE files that they stand for.
+type Songs<'a> = AsWave<StoppingFolder<Music<'a>>>;
+
+/// The songs at this path, with files of these forms, until the flag is set.
 fn songs<'a>(
     rt: &'a HostRuntime,
     root: &str,
+    forms: Forms,
     stop: &StopFlag,
-) -> Result<StoppingFolder<Music<'a>>, AllocError> {
+) -> Result<Songs<'a>, AllocError> {
     let lines = ErrorLines::new(rt, stop.again()?);
     let music = Music::new(rt, root, Some(lines))?;
-    Ok(StoppingFolder::new(music, stop.again()?))
+    Ok(AsWave {
+        folder: StoppingFolder::new(music, stop.again()?),
+        forms,
+    })
 }
 
 /// What the daemon's threads work on.
 type DaemonWorkers<'a> = Workers<
-    StoppingFolder<Music<'a>>,
-    ClockedFolder<'a, StoppingFolder<Music<'a>>>,
+    Songs<'a>,
+    ClockedFolder<'a, Songs<'a>>,
     Output<'a>,
     StopFlag,
     LoopWaker,
@@ -222,9 +231,11 @@ fn begin<'a>(
 ) -> Result<(DaemonClients<'a>, DaemonWorkers<'a>), Exit> {
     let (clients, wake) = listen(rt, config, address, clock)?;
     let _cleared = output.clear();
+    let (root, forms) = (config.music.as_str(), config.formats);
     let workers = Workers {
-        sources: songs(rt, config.music.as_str(), &stop)?,
-        folder: ClockedFolder::new(songs(rt, config.music.as_str(), &stop)?, clock),
+        sources: songs(rt, root, forms, &stop)?,
+        folder: ClockedFolder::new(songs(rt, root, forms, &stop)?, clock),
+        rules: rules_of(forms),
         output: SoundOutput {
             writer: output,
             form: config.form,

@@ -1,27 +1,47 @@
 // The lock on a file that one program at a time writes.
-use std::fs::{File, TryLockError};
+use std::fs::{File, OpenOptions, TryLockError};
 use std::io::{self, ErrorKind};
+use std::os::unix::fs::OpenOptionsExt;
 
 /// A lock on a journal file, by which one program at a time has it open. It ends with the value, or with the process.
 #[derive(Drop)]
 pub struct FileLock {
     _file: File,
+    is_known: bool,
 }
 
 impl FileLock {
-    /// Locks the file at this path. It refuses `WouldBlock` where another program has locked it, or this one under another name.
-    /// Where the file system knows no locks, nothing is locked.
+    /// Locks the file at this path, which is made, empty and for its owner alone, where it is missing. It refuses `WouldBlock` where
+    /// another program has locked it, or this one under another name, and each other error of the system as it is, but that of a file
+    /// system that knows no locks.
+    ///
+    /// The file is opened for writing too: over a network (NFS) only so can it be locked.
     pub fn take(rt: &HostRuntime, path: &str) -> io::Result<FileLock> {
-        let file = File::open(rt, path)?;
-        lock(&file)?;
-        Ok(FileLock { _file: file })
+        let file = OpenOptions::new()
+            .read(true)
+            .write(true)
+            .create(true)
+            .mode(0o600)
+            .open(rt, path)?;
+        let is_known = lock(&file)?;
+        Ok(FileLock {
+            _file: file,
+            is_known,
+        })
+    }
+
+    /// Whether the file system knows locks: where it doesn't, nothing keeps another program away.
+    pub fn is_known(&self) -> bool {
+        self.is_known
     }
 }
 
-/// Locks a file for as long as it stays open, as `FileLock::take` does.
-pub fn lock(file: &File) -> io::Result<()> {
+/// Locks a file for as long as it stays open, and says whether its file system knows locks. Refused as `FileLock::take` says.
+pub fn lock(file: &File) -> io::Result<bool> {
     match file.try_lock() {
+        Ok(()) => Ok(true),
         Err(TryLockError::WouldBlock) => Err(ErrorKind::WouldBlock.into()),
-        Ok(()) | Err(TryLockError::Error(_)) => Ok(()),
+        Err(TryLockError::Error(error)) if error.kind() == ErrorKind::Unsupported => Ok(false),
+        Err(TryLockError::Error(error)) => Err(error),
     }
 }

@@ -51,10 +51,11 @@ fn lock_folder(rt: &HostRuntime, path: &str) -> Option<File> {
     }
     let file = File::open(rt, folder).ok()?;
     for _ in 0..TRIES {
-        if lock(&file).is_ok() {
-            return Some(file);
+        match lock(&file) {
+            Ok(_) => return Some(file),
+            Err(error) if error.kind() != ErrorKind::WouldBlock => return None,
+            Err(_) => thread::sleep(rt, Duration::from_millis(PAUSE)),
         }
-        thread::sleep(rt, Duration::from_millis(PAUSE));
     }
     None
 }

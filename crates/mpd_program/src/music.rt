@@ -3,10 +3,10 @@ ghost use Rattle.std.specs.Prelude.{[]};
 
 use crate::error_lines::ErrorLines;
 use mpd_server::TimedLimit;
+use song_files::{FileFolder, FileSource, FileStamp, Folder, FolderEntry, FolderFault};
 use std::alloc::{AllocError, Global};
 use std::fs::{self, File};
 use std::io;
-use wave_pcm::{FileFolder, FileSource, Folder, FolderEntry, FolderFault};
 
 /// How many lines there are at most within a minute.
 const MOST_LINES: u32 = 100;
@@ -149,6 +149,14 @@ impl Folder for Music<'_> {
             self.tell_folder(alloc, path);
         }
         listed
+    }
+
+    fn look(&mut self, alloc: Global, path: &str) -> Result<Option<FileStamp>, FolderFault> {
+        let looked = self.files.look(alloc, path);
+        if matches!(looked, Err(FolderFault::Source)) {
+            self.tell_file(alloc, path);
+        }
+        looked
     }
 
     fn open(&mut self, alloc: Global, path: &str) -> Result<Option<FileSource>, FolderFault> {

@@ -42,7 +42,7 @@ fn open_file(rt: &HostRuntime, path: &str) -> io::Result<File> {
         .create(true)
         .open(rt, path)?;
     if file.metadata()?.is_file() {
-        lock(&file)?;
+        let _is_known = lock(&file)?;
     }
     Ok(file)
 }

@@ -3,6 +3,7 @@ ghost use Rattle.std.specs.Prelude.{◌≡◌};
 ghost use Rattle.mpd_program.specs.Configuration.{serve_settings};
 
 use crate::config::Config;
+use as_wave::Forms;
 use song_output::Form;
 use std::marker::Model;
 
@@ -24,6 +25,8 @@ pub struct ServeConfig {
     pub output: String,
     /// In which form.
     pub form: Form,
+    /// Which files are songs beside WAVE files of 16-bit PCM.
+    pub formats: Forms,
     /// Whether stock clients of MPD are served, by a translator.
     pub stock_clients: bool,
     /// Whether the log has a line for each file that a job left out.
@@ -44,6 +47,7 @@ impl Model for ServeConfig {
       unix = option_map string_bytes c.unix;
       output = string_bytes c.output;
       form = c.form;
+      formats = c.formats;
       stock_clients = c.stock_clients;
       debug = c.debug;
     } };
@@ -64,6 +68,7 @@ impl ServeConfig {
             unix,
             output,
             form,
+            formats,
             stock_clients,
             debug,
         } = config;
@@ -84,6 +89,7 @@ impl ServeConfig {
             unix,
             output,
             form,
+            formats,
             stock_clients,
             debug,
         })

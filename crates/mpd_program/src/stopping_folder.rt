@@ -2,8 +2,8 @@
 ghost use Rattle.std.specs.Prelude.{[]};
 
 use crate::stop_flag::StopFlag;
+use song_files::{FileStamp, Folder, FolderEntry, FolderFault};
 use std::alloc::Global;
-use wave_pcm::{Folder, FolderEntry, FolderFault};
 
 /// A folder of which nothing more is listed or opened once the flag is set: each call fails then, so that a scan is soon over and keeps
 /// the songs that it has not read.
@@ -35,6 +35,13 @@ impl<F: Folder> Folder for StoppingFolder<F> {
             return Err(FolderFault::Source);
         }
         self.files.list(alloc, path)
+    }
+
+    fn look(&mut self, alloc: Global, path: &str) -> Result<Option<FileStamp>, FolderFault> {
+        if self.stop.is_set() {
+            return Err(FolderFault::Source);
+        }
+        self.files.look(alloc, path)
     }
 
     fn open(&mut self, alloc: Global, path: &str) -> Result<Option<F::File>, FolderFault> {

@@ -3,7 +3,7 @@ ghost use Rattle.std.specs.Prelude.{◌≡◌};
 ghost use Rattle.mpd_program.specs.Lives.{refusal_of, status_of};
 
 use crate::arguments::Task;
-use crate::config::{Config, ConfigError, unknown_key};
+use crate::config::{Config, ConfigError, has_bad_formats, unknown_key};
 use crate::console::{ConsoleEnd, Status, run_console};
 use crate::created::tell_created;
 use crate::daemon;
@@ -11,19 +11,22 @@ use crate::daemon_clock::DaemonClock;
 use crate::error_lines::{say, takes_line};
 use crate::exit::Exit;
 use crate::file_lock::FileLock;
+use crate::library::rules_of;
 use crate::look::look;
 use crate::music::Music;
+use as_wave::AsWave;
 use disk_model::{Disk, FileDisk, MemDisk};
 use live_stage::{LAYOUT, Live, Refused};
 use log::Log;
 use mpd_server::refusal_number;
+use song_db::LibraryRules;
+use song_files::{Folder, MemFolder};
 use std::fs::{self, File};
 use std::io::{self, ErrorKind, Read};
 use std::sync::Wait;
 use std::thread::Threads;
 use std::time::Clock;
 use stock_streams::StockTalk;
-use wave_pcm::{Folder, MemFolder};
 
 /// Does what the command line asks for, and says how the program ends.
 ///
@@ -88,15 +91,23 @@ fn read_config(rt: &HostRuntime, path: &str) -> Result<Config, Exit> {
     }
 }
 
-/// Says on standard error what a configuration is to have, and which key of this one none has.
+/// Says on standard error what a configuration is to have, which key of this one none has, and where its formats are none.
 fn tell_wanted(rt: &HostRuntime, path: &str, text: &str) {
     if let Some(key) = unknown_key(rt.alloc(), text) {
         say(rt, format_args!("{path}: {key:?} is an unknown key"));
     }
+    if has_bad_formats(rt.alloc(), text) {
+        say(
+            rt,
+            format_args!(
+                "{path}: formats is to be a list of \"wave\" and perhaps \"wave-pcm\", \"flac\", each once"
+            ),
+        );
+    }
     say(
         rt,
         format_args!(
-            "{path}: wanted are the texts music, journal_a, another journal_b, key (64 hexadecimal digits), perhaps tcp, unix (not empty), output, form (bare or wave), stock_clients and debug (true or false)"
+            "{path}: wanted are the texts music, journal_a, another journal_b, key (64 hexadecimal digits), perhaps tcp, unix (not empty), output, form (bare or wave), the list formats, stock_clients and debug (true or false)"
         ),
     );
 }
@@ -180,15 +191,29 @@ fn open_disk(rt: &HostRuntime, path: &str) -> io::Result<FileDisk<File>> {
     Ok(disk)
 }
 
-/// Opens and locks a journal file, and makes it, empty, where it is missing.
+/// Locks a journal file, and opens it behind that: its length is measured once nobody else writes it. It is made, empty, where it is
+/// missing.
+fn lock_and_open(rt: &HostRuntime, path: &str) -> io::Result<(FileDisk<File>, FileLock)> {
+    let lock = FileLock::take(rt, path)?;
+    let disk = open_disk(rt, path)?;
+    Ok((disk, lock))
+}
+
+/// Opens and locks a journal file. Where the file system knows no locks, that is said, and it is served all the same.
 fn open_file(rt: &HostRuntime, path: &str) -> Result<(FileDisk<File>, FileLock), Exit> {
     let fault = Exit::Ended(Status::DiskFault);
-    let disk = match open_disk(rt, path) {
-        Ok(disk) => disk,
-        Err(error) => return Err(told(rt, path, &error, fault)),
-    };
-    match FileLock::take(rt, path) {
-        Ok(lock) => Ok((disk, lock)),
+    match lock_and_open(rt, path) {
+        Ok((disk, lock)) => {
+            if !lock.is_known() {
+                say(
+                    rt,
+                    format_args!(
+                        "{path}: its file system knows no locks: nothing keeps a second daemon from it"
+                    ),
+                );
+            }
+            Ok((disk, lock))
+        }
         Err(error) if error.kind() == ErrorKind::WouldBlock => {
             say(
                 rt,
@@ -228,9 +253,15 @@ fn refused<D: Disk + Drop>(refused: Refused<D>) -> Exit
 }
 
 /// Serves one client on standard input and output over these disks and this folder.
-fn serve<D: Disk + Drop, F: Folder>(rt: &HostRuntime, a: D, b: D, folder: &mut F) -> ConsoleEnd<D> {
-    let alloc = rt.alloc();
-    run_console(alloc, a, b, folder, &mut rt.reader(), &mut io::writer(rt))
+fn serve<D: Disk + Drop, F: Folder>(
+    rt: &HostRuntime,
+    a: D,
+    b: D,
+    folder: &mut F,
+    rules: LibraryRules,
+) -> ConsoleEnd<D> {
+    let (mut reader, mut writer) = (rt.reader(), io::writer(rt));
+    run_console(rt.alloc(), a, b, folder, rules, &mut reader, &mut writer)
 }
 
 /// The same for a client that speaks all of MPD.
@@ -239,13 +270,14 @@ fn serve_stock<D: Disk + Drop, F: Folder>(
     a: D,
     b: D,
     folder: &mut F,
+    rules: LibraryRules,
 ) -> ConsoleEnd<D> {
     let alloc = rt.alloc();
     let clock = DaemonClock::new(rt);
     let talk = StockTalk::new(alloc, &clock);
     let mut reader = talk.reader(rt.reader());
     let mut writer = talk.writer(io::writer(rt));
-    run_console(alloc, a, b, folder, &mut reader, &mut writer)
+    run_console(alloc, a, b, folder, rules, &mut reader, &mut writer)
 }
 
 /// How the program ends after a console.
@@ -284,7 +316,8 @@ fn console_in_memory(rt: &HostRuntime) -> Result<(), Exit> {
     match Live::create(alloc, MemDisk::new(alloc), MemDisk::new(alloc), [0; 32]) {
         Ok(live) => {
             let (a, b) = live.into_disks();
-            exit_of(serve(rt, a, b, &mut MemFolder::new(alloc)).status)
+            let mut none = MemFolder::new(alloc);
+            exit_of(serve(rt, a, b, &mut none, LibraryRules::NAMED).status)
         }
         Err(error) => Err(refused(error)),
     }
@@ -296,6 +329,7 @@ fn console(rt: &HostRuntime, config: Config, translates: bool) -> Result<(), Exi
         music,
         journal_a,
         journal_b,
+        formats: forms,
         ..
     } = config;
     let JournalFiles {
@@ -303,11 +337,12 @@ fn console(rt: &HostRuntime, config: Config, translates: bool) -> Result<(), Exi
         b,
         locks: _locks,
     } = open_made_files(rt, journal_a.as_str(), journal_b.as_str())?;
-    let mut music = Music::new(rt, music.as_str(), None)?;
+    let folder = Music::new(rt, music.as_str(), None)?;
+    let mut songs = AsWave { folder, forms };
     let end = if translates {
-        serve_stock(rt, a, b, &mut music)
+        serve_stock(rt, a, b, &mut songs, rules_of(forms))
     } else {
-        serve(rt, a, b, &mut music)
+        serve(rt, a, b, &mut songs, rules_of(forms))
     };
     if end.migrated {
         tell_migration(rt);

@@ -1,10 +1,10 @@
 // The folder of one job, of which no more than so much is read.
 ghost use Rattle.std.specs.Prelude.{◌≡◌, ◌+◌, ◌<◌, ◌≤◌, Ok, Err, Some, None, IfOk, IfSome, IsOkUnless, MatchOption};
-ghost use Rattle.wave_pcm.specs.Folder.{bytes_at};
-ghost use Rattle.wave_pcm.specs.Listing.{IsListing, IsNoFile, entries_of};
+ghost use Rattle.song_files.specs.Folder.{bytes_at, stamp_at};
+ghost use Rattle.song_files.specs.Listing.{IsListing, IsNoFile, entries_of};
 
+use song_files::{FileStamp, Folder, FolderEntry, FolderFault};
 use std::alloc::Global;
-use wave_pcm::{Folder, FolderEntry, FolderFault};
 
 /// How many folders a job reads at most: as many as there may be songs.
 pub const MAX_LISTINGS: u32 = 65_536;
@@ -87,6 +87,17 @@ impl<F: Folder> Folder for JobFolder<'_, F> {
             Ok(()) => self.files.list(alloc, path),
             Err(fault) => Err(fault),
         }
+    }
+
+    fn look(&mut self, alloc: Global, path: &str) -> Result<Option<FileStamp>, FolderFault>
+        ensures uncounted { self.new.visits ≡ self.old.visits }
+        ensures stamp { F.honest self.old.files.now →
+            IfOk result (λ stamp. stamp ≡ stamp_at (F.files self.old.files.now) path.now) }
+        ensures steady { ⊥ → IsOkUnless result FolderFault.NoMemory × ⊥ }
+        ensures honest { F.honest self.old.files.now → F.honest self.new.files.now }
+        ensures files { F.honest self.old.files.now → F.files self.new.files.now ≡ F.files self.old.files.now }
+    {
+        self.files.look(alloc, path)
     }
 
     fn open(&mut self, alloc: Global, path: &str) -> Result<Option<F::File>, FolderFault>

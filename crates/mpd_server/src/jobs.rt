@@ -4,23 +4,28 @@ ghost use Rattle.std.specs.Prelude.{◌≡◌};
 use crossbeam_channel::Sender;
 use disk_model::Disk;
 use live_stage::LiveError;
-use song_db::ScanOrder;
+use song_db::{LibraryRules, ScanOrder};
 use stage_workers::SharedStage;
 use std::alloc::Global;
 use std::sync::Wait;
 use std::sync::ledger::Ledger;
 
-/// Hands each job to the scan once.
+/// Hands each job to the scan once, by the rules of the library.
 #[derive(Drop)]
 pub(crate) struct Jobs {
     orders: Sender<ScanOrder>,
+    rules: LibraryRules,
     // The job that was handed over last; 0 is none.
     sent: u32,
 }
 
 impl Jobs {
-    pub(crate) fn new(orders: Sender<ScanOrder>) -> Jobs {
-        Jobs { orders, sent: 0 }
+    pub(crate) fn new(orders: Sender<ScanOrder>, rules: LibraryRules) -> Jobs {
+        Jobs {
+            orders,
+            rules,
+            sent: 0,
+        }
     }
 
     /// Hands over the job that runs, if one does that was not handed over yet, and doesn't wait for the scan. Where memory is refused it
@@ -40,7 +45,7 @@ impl Jobs {
         match stage.scan_order(rt, alloc) {
             Ok(Some(order)) => {
                 let job = order.job();
-                if self.orders.send(rt, order).is_ok() {
+                if self.orders.send(rt, order.with_rules(self.rules)).is_ok() {
                     self.sent = job;
                 }
                 Ok(())

@@ -14,6 +14,7 @@ use live_stage::{Live, Receipt};
 use log::{Log, warn};
 use mio_clients::{Clients, Listener, Ready, Stream};
 use song_db::ScanOrder;
+use song_files::Folder;
 use song_output::{OpenGate, SoundOutput};
 use stage_workers::{
     Blanks, Kind, Pass, PassesSpent, SharedStage, Wake, Worker, player_worker, scan_worker,
@@ -26,7 +27,6 @@ use std::sync::ledger::{Blank, Ledger};
 use std::thread;
 use std::thread::{JoinHandle, Scope, Threads};
 use std::time::Clock;
-use wave_pcm::Folder;
 
 // A pass of each kind.
 #[derive(Drop)]
@@ -328,7 +328,7 @@ where
     let mut back = (None, None);
     if let Ok(passes) = Passes::of(rt, &stage) {
         let ends = Ends::none();
-        let jobs = (Jobs::new(sender), orders);
+        let jobs = (Jobs::new(sender, signals.rules), orders);
         let tools = (tools, signals, &ends);
         let worked = work(rt, alloc, &stage, passes, clients, tools, jobs);
         is_ended = worked.turns.is_ended;

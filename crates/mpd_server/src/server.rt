@@ -8,13 +8,13 @@ use crate::workers::{Stop, Workers};
 use disk_model::Disk;
 use log::{Log, warn};
 use mio_clients::{Clients, Listener, Ready, Stream};
+use song_files::Folder;
 use stage_workers::Wake;
 use std::alloc::Global;
 use std::io::Write;
 use std::sync::Wait;
 use std::thread::Threads;
 use std::time::Clock;
-use wave_pcm::Folder;
 
 /// Serves clients over an opened journal until one of them ends the daemon; songs are played and scanned meanwhile, in two threads.
 ///

@@ -1,12 +1,15 @@
 // What a job of the database came to, for the log.
 use crate::job_folder::{MAX_LISTINGS, MAX_OPENINGS, Visits};
 use crate::line_limit::TimedLimit;
+use as_wave::{FRONT_LEN, FileKind, describe};
 use log::{Level, Log, debug, info, log_enabled, warn};
-use song_db::{MAX_ROWS, ScanOrder, Uri};
+use song_db::{LibraryRules, MAX_ROWS, ScanOrder, Uri};
+use song_files::{FileStamp, Folder, FolderEntry, FolderFault, Source, read_exact};
+use song_head::read_song;
 use stage_workers::{ScanFolder, Scanned};
 use std::alloc::{AllocError, Global};
 use std::time::Clock;
-use wave_pcm::{Folder, FolderEntry, FolderFault, WaveError, read_head};
+use wave_pcm::WaveError;
 
 /// How many jobs are told at most within ten seconds.
 const MOST_TOLD: u32 = 10;
@@ -91,6 +94,8 @@ pub(crate) struct TalliedFolder<'a, F, R> {
     rt: &'a R,
     files: F,
     visits: Visits,
+    // Of the job that runs, or ran last.
+    rules: LibraryRules,
     // While a job runs; where memory for what is noted is wanting, nothing is said of what the job came to.
     before: Option<Before>,
     tally: Tally,
@@ -110,6 +115,7 @@ impl<'a, F, R> TalliedFolder<'a, F, R> {
             rt,
             files,
             visits: Visits::NONE,
+            rules: LibraryRules::NAMED,
             before: None,
             tally: Tally::NONE,
             unlisted: None,
@@ -123,6 +129,7 @@ impl<'a, F, R> TalliedFolder<'a, F, R> {
             rt: _,
             files,
             visits: _,
+            rules: _,
             before: _,
             tally: _,
             unlisted: _,
@@ -168,7 +175,7 @@ impl<F: Folder, R: Log> TalliedFolder<'_, F, R> {
     }
 
     // A file was read that is no song.
-    fn note_refusal(&mut self, path: &str, refusal: WaveError) {
+    fn note_refusal<S: Source>(&mut self, path: &str, source: &mut S, refusal: WaveError) {
         match refusal {
             WaveError::NoMemory => {
                 self.before = None;
@@ -184,7 +191,16 @@ impl<F: Folder, R: Log> TalliedFolder<'_, F, R> {
             }
             _ => self.tally.broken = self.tally.broken.saturating_add(1),
         }
-        debug!(self.rt; "left out: {path}: {refusal}{}", beside(refusal));
+        if !log_enabled!(self.rt; Level::Debug) {
+            return;
+        }
+        match kind_beside(source, refusal) {
+            Some(FileKind::Flac) if self.rules.endings.flac => debug!(self.rt;
+                "left out: {path}: FLAC that is broken, has no length or more than two channels"
+            ),
+            Some(kind) => debug!(self.rt; "left out: {path}: {refusal} ({kind})"),
+            None => debug!(self.rt; "left out: {path}: {refusal}{}", beside(refusal)),
+        }
     }
 
     // A file was read that is a song.
@@ -210,9 +226,9 @@ impl<F: Folder, R: Log> TalliedFolder<'_, F, R> {
     ) -> Result<Option<F::File>, FolderFault> {
         match opened {
             Ok(Some(mut source)) => {
-                match read_head(alloc, &mut source) {
+                match read_song(alloc, &mut source, self.rules.reading) {
                     Ok(_) => self.note_song(path),
-                    Err(refusal) => self.note_refusal(path, refusal),
+                    Err(refusal) => self.note_refusal(path, &mut source, refusal),
                 }
                 Ok(Some(source))
             }
@@ -312,6 +328,10 @@ impl<F: Folder, R: Log> Folder for TalliedFolder<'_, F, R> {
         listed
     }
 
+    fn look(&mut self, alloc: Global, path: &str) -> Result<Option<FileStamp>, FolderFault> {
+        self.files.look(alloc, path)
+    }
+
     fn open(&mut self, alloc: Global, path: &str) -> Result<Option<F::File>, FolderFault> {
         let opened = match self.visits.count_file() {
             Ok(()) => self.files.open(alloc, path),
@@ -326,6 +346,7 @@ impl<F: Folder, R: Log> Folder for TalliedFolder<'_, F, R> {
 impl<F: Folder, R: Log + Clock> ScanFolder for TalliedFolder<'_, F, R> {
     fn begin_job(&mut self, alloc: Global, order: &ScanOrder) {
         self.visits = Visits::NONE;
+        self.rules = order.rules();
         self.before = Before::of(alloc, order).ok();
         self.tally = Tally::NONE;
     }
@@ -344,6 +365,20 @@ impl<F: Folder, R: Log + Clock> ScanFolder for TalliedFolder<'_, F, R> {
             }
         }
     }
+}
+
+// What a file is by its front, where that says more than its refusal does.
+fn kind_beside<S: Source>(source: &mut S, refusal: WaveError) -> Option<FileKind> {
+    let mut front = [0; FRONT_LEN];
+    let count = source.len().min(FRONT_LEN as u64) as usize;
+    read_exact(source, 0, &mut front[..count]).ok()?;
+    let kind = describe(&front);
+    let says_more = match refusal {
+        WaveError::NotWave => !matches!(kind, FileKind::Wave { .. } | FileKind::Other),
+        WaveError::Unsupported { tag, .. } => tag != 1 && matches!(kind, FileKind::Wave { .. }),
+        _ => false,
+    };
+    if says_more { Some(kind) } else { None }
 }
 
 // What a refusal doesn't say of a file whose format is one that is played.

@@ -1,4 +1,5 @@
 // What a daemon's threads work on besides its journal.
+use song_db::LibraryRules;
 use song_output::SoundOutput;
 
 /// Ends what the workers wait for.
@@ -27,6 +28,8 @@ pub struct Workers<F, G, W, H, K> {
     pub sources: F,
     /// The songs that the scan reads.
     pub folder: G,
+    /// By which rules it finds and reads them.
+    pub rules: LibraryRules,
     /// Where the sound goes, and in which form.
     pub output: SoundOutput<W>,
     /// What ends the waits of these.
@@ -43,9 +46,10 @@ pub(crate) struct Tools<F, G, W> {
     pub(crate) output: SoundOutput<W>,
 }
 
-// What ends waits, of the threads and of the loop.
+// What stays in the thread of the loop: what ends waits, of the threads and of the loop, and the rules that jobs are given.
 #[derive(Drop)]
 pub(crate) struct Signals<H, K> {
+    pub(crate) rules: LibraryRules,
     pub(crate) stop: H,
     pub(crate) wake: K,
 }
@@ -56,6 +60,7 @@ impl<F, G, W, H, K> Workers<F, G, W, H, K> {
         let Workers {
             sources,
             folder,
+            rules,
             output,
             stop,
             wake,
@@ -66,7 +71,7 @@ impl<F, G, W, H, K> Workers<F, G, W, H, K> {
                 folder,
                 output,
             },
-            Signals { stop, wake },
+            Signals { rules, stop, wake },
         )
     }
 }

@@ -10,7 +10,7 @@ use Rattle.play_queue.specs.Entries.{deleted, moved}
 use Rattle.play_queue.specs.Restamp.{exchanged}
 
 -- two ranges that follow each other
-pub block-block : (xs : List Entry) (low middle high : ℕ) → low ≤ middle → middle ≤ high
+pub block-block : {T : Type 0} (xs : List T) (low middle high : ℕ) → low ≤ middle → middle ≤ high
     → slice_range xs low high ≡ slice_range xs low middle ++ slice_range xs middle high
 block-block xs low middle high first second =
     let n : ℕ = middle - low in
@@ -23,7 +23,7 @@ block-block xs low middle high first second =
     rw whole (sym (take-append-drop n (take (n + m) (drop low xs))) ∙ ap (λ l. l ++ drop n (take (n + m) (drop low xs))) front
     ∙ ap (λ l. take n (drop low xs) ++ l) back)
 
-pub exchanged-made : (xs : List Entry) (low middle high : ℕ) (ys : List Entry) → low ≤ middle → middle ≤ high → high ≤ length xs
+pub exchanged-made : {T : Type 0} (xs : List T) (low middle high : ℕ) (ys : List T) → low ≤ middle → middle ≤ high → high ≤ length xs
     → ys ≡ drop (middle - low) (slice_range xs low high) ++ take (middle - low) (slice_range xs low high)
     → put_mid low (high - low) xs ys ≡ exchanged xs low middle high
 exchanged-made xs low middle high ys first second within made =
@@ -40,7 +40,7 @@ exchanged-made xs low middle high ys first second within made =
     rw (turned, rest) (refl)
 
 -- the list in four parts
-pub in_parts : (xs : List Entry) (low middle high : ℕ) → low ≤ middle → middle ≤ high
+pub in_parts : {T : Type 0} (xs : List T) (low middle high : ℕ) → low ≤ middle → middle ≤ high
     → xs ≡ take low xs ++ ((slice_range xs low middle ++ slice_range xs middle high) ++ drop high xs)
 in_parts xs low middle high first second = split_between xs low high (omega arith)
     ∙ ap (λ l. take low xs ++ (l ++ drop high xs)) (block-block xs low middle high first second)

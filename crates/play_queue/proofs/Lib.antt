@@ -4,7 +4,10 @@ pub mod Blocks
 pub mod Bounds
 pub mod Built
 mod Compacted
+pub mod DrawnIds
 pub mod Exchanged
+pub mod Found
+pub mod InOrder
 pub mod Kept
 mod Located
 mod Marked
@@ -15,6 +18,7 @@ pub mod Searched
 pub mod Prioritized
 pub mod Ruling
 pub mod Sound
+pub mod Stamped
 pub mod Versions
 pub mod Where
 pub mod WordOrder

@@ -1,16 +1,13 @@
 -- Ids that differ still do so in another order, and without some of them.
 use Rattle.std.proofs.Common.{◌≡◌, ◌≢◌, ℕ, ◌+◌, ◌<◌, ◌≤◌, List, ◌++◌, length, get_or, ◌⊎◌, inl, inr, refl, sym, arith}
-use Rattle.std.specs.List.{AllPairs, swap}
+use Rattle.std.specs.List.{swap}
 use Rattle.std.specs.List.Sorted.{IsPermutation}
 use Rattle.std.proofs.lemmas.Bool.{cases_eq, cases_lt}
 use Rattle.std.proofs.lemmas.List.{get_or_append_left, get_or_default, get_or-append-add, length-append, map-append}
 use Rattle.std.proofs.lemmas.List.Edits.{swapped_from_swap, length-swap, Swapped}
 use Rattle.std.proofs.lemmas.List.Sorted.{IsPermutation-keeps, IsPermutation-map}
 use Rattle.play_queue.specs.declared.entry.Entry.{Entry}
-use Rattle.play_queue.specs.Queue.{ids_of, HaveOwnIds}
-
-abbrev pub AllDiffer : List ℕ → Type 0
-AllDiffer ids = AllPairs (λ one other. one ≢ other) ids
+use Rattle.play_queue.specs.Queue.{AllDiffer, ids_of, HaveOwnIds}
 
 pub differ_at : (ids : List ℕ) (i j : ℕ) → AllDiffer ids → i < length ids → j < length ids → i ≢ j → get_or ids i 0 ≢ get_or ids j 0
 differ_at ids i j own in_i in_j apart same = by_cases (cases_lt i j)

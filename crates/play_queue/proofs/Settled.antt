@@ -1,155 +1,35 @@
 -- Entries that were sorted with words in place of their stamps, and have their stamps or a new one again, are those that a shuffle gives.
-use Rattle.std.proofs.Common.{◌≡◌, ℕ, zero, suc, ◌+◌, ◌-◌, ◌<◌, ◌≤◌, Bool, true, false, cond, ◌==◌, List, [], ◌∷◌, ◌++◌, length, get_or}
-use Rattle.std.proofs.Common.{set, map, take, drop, slice_range, length-drop, refl, sym, ap, ◌∙◌, arith}
-use Rattle.std.specs.List.{zip}
+use Rattle.std.proofs.Common.{◌≡◌, ℕ, suc, ◌+◌, ◌-◌, ◌≤◌, Bool, true, false, cond, ◌==◌, List, [], ◌∷◌, ◌++◌, length, get_or}
+use Rattle.std.proofs.Common.{map, take, drop, slice_range, length-drop, refl, sym, ap, ◌∙◌, arith}
 use Rattle.std.specs.List.Sorted.{IsPermutation}
 use Rattle.std.proofs.lemmas.Bool.{eq-eqb, eqb-true}
-use Rattle.std.proofs.lemmas.List.{length-append, length-map, length-take-le, get_or-map, map-append, take_at, drop_at, append_assoc}
+use Rattle.std.proofs.lemmas.List.{length-append, length-map, length-take-le, get_or-map, map-append, take_at, drop_at, append_assoc, take-map, drop-map}
 use Rattle.std.proofs.lemmas.List.{same_lists}
 use Rattle.std.proofs.lemmas.List.Edits.{split_between, length-between}
 use Rattle.std.proofs.lemmas.List.Sorted.{length_permutation}
 use Rattle.play_queue.specs.declared.entry.Entry.{Entry}
 use Rattle.play_queue.specs.Limits.{MAX_VERSION}
 use Rattle.play_queue.specs.Queue.{HaveOwnIds, ids_of, with_stamp}
-use Rattle.play_queue.specs.Shuffle.{goes_first, put_in, in_word_order, sorted_by_words, shuffled, stamped_moved, restamped_moved}
-use Rattle.play_queue.specs.Shuffle.{stamps_of, with_stamps, settled_one, settled, sorted_anew, shuffled_anew, begun_again}
+use Rattle.play_queue.specs.Shuffle.{sorted_by_words, shuffled, stamped_moved, restamped_moved}
+use Rattle.play_queue.specs.Shuffle.{stamps_of, with_stamps, sorted_anew, shuffled_anew, begun_again}
 use Rattle.play_queue.proofs.Moved.{SameById, same_by_id, sorted-permutes, shuffled-block}
-use Rattle.play_queue.proofs.WordOrder.{Drawn}
+use Rattle.play_queue.proofs.Stamped.{own-stamps, take-with_stamps, drop-with_stamps}
 
--- the code's steps: one more position
-pub with_stamps-more : (stamps : List ℕ) (entries : List Entry) (i : ℕ) (d : Entry) → i < length stamps → length stamps ≡ length entries
-    → set (with_stamps (take i stamps) entries) i (with_stamp (get_or stamps i 0) (get_or (with_stamps (take i stamps) entries) i d))
-    ≡ with_stamps (take (i + 1) stamps) entries
-with_stamps-more [] entries i d within long = absurd (omega arith)
-with_stamps-more (stamp ∷ stamps) [] i d within long = absurd (omega arith)
-with_stamps-more (stamp ∷ stamps) (entry ∷ entries) zero d within long = refl
-with_stamps-more (stamp ∷ stamps) (entry ∷ entries) (suc i) d within long =
-    let rest = with_stamps-more stamps entries i d (omega arith) (omega arith) in
-    ap (λ l. with_stamp stamp entry ∷ l) rest ∙ ap (λ n. with_stamps (take n (stamp ∷ stamps)) (entry ∷ entries)) (one_more i)
-  where
-    one_more : (k : ℕ) → suc (k + 1) ≡ suc k + 1
-    one_more k = omega arith
-
-pub settled-more : (ids owns : List ℕ) (stamp : ℕ) (entries : List Entry) (i : ℕ) (d : Entry) → i < length ids
-    → length ids ≡ length entries → length owns ≡ length entries
-    → set (settled (take i ids) (take i owns) stamp entries) i
-    (settled_one (get_or ids i 0) (get_or owns i 0) stamp (get_or (settled (take i ids) (take i owns) stamp entries) i d))
-    ≡ settled (take (i + 1) ids) (take (i + 1) owns) stamp entries
-settled-more [] owns stamp entries i d within long also = absurd (omega arith)
-settled-more (id ∷ ids) [] stamp entries i d within long also = absurd (omega arith)
-settled-more (id ∷ ids) (own ∷ owns) stamp [] i d within long also = absurd (omega arith)
-settled-more (id ∷ ids) (own ∷ owns) stamp (entry ∷ entries) zero d within long also = refl
-settled-more (id ∷ ids) (own ∷ owns) stamp (entry ∷ entries) (suc i) d within long also =
-    let rest = settled-more ids owns stamp entries i d (omega arith) (omega arith) (omega arith) in
-    ap (λ l. settled_one id own stamp entry ∷ l) rest
-    ∙ ap (λ n. settled (take n (id ∷ ids)) (take n (own ∷ owns)) stamp (entry ∷ entries)) (one_more i)
-  where
-    one_more : (k : ℕ) → suc (k + 1) ≡ suc k + 1
-    one_more k = omega arith
-
--- entries but for their stamps, which no sort by words looks at
-abbrev pub unstamped : List Entry → List Entry
-unstamped entries = map (with_stamp 0) entries
-
-abbrev strip : Drawn → Drawn
-strip drawn = (drawn.0, with_stamp 0 drawn.1)
-
-zip-strip : (words : List ℕ) (entries : List Entry) → zip words (unstamped entries) ≡ map strip (zip words entries)
-zip-strip [] entries = refl
-zip-strip (word ∷ words) [] = refl
-zip-strip (word ∷ words) (entry ∷ entries) = ap (λ rest. (word, with_stamp 0 entry) ∷ rest) (zip-strip words entries)
-
-put_in-strip : (drawn : Drawn) (others : List Drawn) → put_in (strip drawn) (map strip others) ≡ map strip (put_in drawn others)
-put_in-strip drawn [] = refl
-put_in-strip drawn (other ∷ others) = of (put_in-strip drawn others) (goes_first drawn other)
-  where
-    of : put_in (strip drawn) (map strip others) ≡ map strip (put_in drawn others) → (b : Bool)
-        → cond b (strip drawn ∷ (strip other ∷ map strip others)) (strip other ∷ put_in (strip drawn) (map strip others))
-        ≡ map strip (cond b (drawn ∷ (other ∷ others)) (other ∷ put_in drawn others))
-    of rest true = refl
-    of rest false = ap (λ l. strip other ∷ l) rest
-
-in_order-strip : (drawn : List Drawn) → in_word_order (map strip drawn) ≡ map strip (in_word_order drawn)
-in_order-strip [] = refl
-in_order-strip (one ∷ others) = ap (put_in (strip one)) (in_order-strip others) ∙ put_in-strip one (in_word_order others)
-
-seconds-strip : (drawn : List Drawn) → map (λ (d : Drawn). d.1) (map strip drawn) ≡ unstamped (map (λ (d : Drawn). d.1) drawn)
-seconds-strip [] = refl
-seconds-strip (one ∷ others) = ap (λ rest. with_stamp 0 one.1 ∷ rest) (seconds-strip others)
-
-sorted-unstamped : (words : List ℕ) (entries : List Entry)
-    → unstamped (sorted_by_words words entries) ≡ sorted_by_words words (unstamped entries)
-sorted-unstamped words entries =
-    sym (seconds-strip (in_word_order (zip words entries)))
-    ∙ ap (map (λ (d : Drawn). d.1))
-    (sym (in_order-strip (zip words entries)) ∙ ap in_word_order (sym (zip-strip words entries)))
-
--- entries with other stamps
-unstamped-with_stamps : (stamps : List ℕ) (entries : List Entry) → unstamped (with_stamps stamps entries) ≡ unstamped entries
-unstamped-with_stamps [] entries = refl
-unstamped-with_stamps (stamp ∷ stamps) [] = refl
-unstamped-with_stamps (stamp ∷ stamps) (entry ∷ entries) =
-    ap (λ rest. with_stamp 0 entry ∷ rest) (unstamped-with_stamps stamps entries)
-
-stamps-with_stamps : (stamps : List ℕ) (entries : List Entry) → length stamps ≡ length entries
-    → stamps_of (with_stamps stamps entries) ≡ stamps
-stamps-with_stamps [] [] long = refl
-stamps-with_stamps [] (entry ∷ entries) long = absurd (omega arith)
-stamps-with_stamps (stamp ∷ stamps) [] long = absurd (omega arith)
-stamps-with_stamps (stamp ∷ stamps) (entry ∷ entries) long = ap (λ rest. stamp ∷ rest) (stamps-with_stamps stamps entries (omega arith))
-
-pub ids-with_stamps : (stamps : List ℕ) (entries : List Entry) → ids_of (with_stamps stamps entries) ≡ ids_of entries
-ids-with_stamps [] entries = refl
-ids-with_stamps (stamp ∷ stamps) [] = refl
-ids-with_stamps (stamp ∷ stamps) (entry ∷ entries) = ap (λ rest. entry.id ∷ rest) (ids-with_stamps stamps entries)
-
-pub length-with_stamps : (stamps : List ℕ) (entries : List Entry) → length (with_stamps stamps entries) ≡ length entries
-length-with_stamps [] entries = refl
-length-with_stamps (stamp ∷ stamps) [] = refl
-length-with_stamps (stamp ∷ stamps) (entry ∷ entries) = ap suc (length-with_stamps stamps entries)
-
-sorted-marked : (words : List ℕ) (entries : List Entry) → length words ≡ length entries
-    → unstamped (sorted_by_words (stamps_of (with_stamps words entries)) (with_stamps words entries))
-    ≡ unstamped (sorted_by_words words entries)
-sorted-marked words entries long =
-    let marked : List Entry = with_stamps words entries in
-    sorted-unstamped (stamps_of marked) marked
-    ∙ ap (λ drawn. sorted_by_words drawn (unstamped marked)) (stamps-with_stamps words entries long)
-    ∙ ap (sorted_by_words words) (unstamped-with_stamps words entries)
-    ∙ sym (sorted-unstamped words entries)
-
--- what is settled has the stamps that the rule gives
-settled-is : (befores afters others : List Entry) (stamp : ℕ) → length befores ≡ length afters → SameById befores afters
-    → unstamped others ≡ unstamped afters
-    → settled (ids_of befores) (stamps_of befores) stamp others ≡ stamped_moved (ids_of befores) stamp afters
-settled-is [] [] [] stamp long same alike = refl
-settled-is [] [] (other ∷ others) stamp long same alike = absurd (omega (arith, ap length alike))
-settled-is [] (after ∷ afters) others stamp long same alike = absurd (omega arith)
-settled-is (before ∷ befores) [] others stamp long same alike = absurd (omega arith)
-settled-is (before ∷ befores) (after ∷ afters) [] stamp long same alike = absurd (omega (arith, ap length alike))
-settled-is (before ∷ befores) (after ∷ afters) (other ∷ others) stamp long same alike =
-    let first : with_stamp 0 other ≡ with_stamp 0 after = ap (λ l. get_or l 0 other) alike in
-    let behind : unstamped others ≡ unstamped afters = ap (λ l. drop 1 l) alike in
-    let rest : settled (ids_of befores) (stamps_of befores) stamp others ≡ stamped_moved (ids_of befores) stamp afters =
-    settled-is befores afters others stamp (omega arith) (λ k d within is. same (suc k) d (omega arith) is) behind in
-    let head : settled_one before.id before.stamp stamp other ≡ settled_one before.id before.stamp stamp after =
-    ap (settled_one before.id before.stamp stamp) first in
-    ap (λ entry. entry ∷ settled (ids_of befores) (stamps_of befores) stamp others) (head ∙ of (after.id == before.id) refl)
+-- stamps that stay at their positions make no difference where those of moved entries are new
+moved-with_stamps : (befores afters : List Entry) (stamp : ℕ) → length befores ≡ length afters → SameById befores afters
+    → stamped_moved (ids_of befores) stamp (with_stamps (stamps_of befores) afters) ≡ stamped_moved (ids_of befores) stamp afters
+moved-with_stamps [] [] stamp long same = refl
+moved-with_stamps [] (after ∷ afters) stamp long same = absurd (omega arith)
+moved-with_stamps (before ∷ befores) [] stamp long same = absurd (omega arith)
+moved-with_stamps (before ∷ befores) (after ∷ afters) stamp long same =
+    let rest = moved-with_stamps befores afters stamp (omega arith) (λ k d within is. same (suc k) d (omega arith) is) in
+    ap (λ entry. entry ∷ stamped_moved (ids_of befores) stamp (with_stamps (stamps_of befores) afters)) (of (after.id == before.id) refl)
     ∙ ap (λ l. cond (after.id == before.id) after (with_stamp stamp after) ∷ l) rest
   where
     of : (b : Bool) → (after.id == before.id) ≡ b
-        → with_stamp (cond b before.stamp stamp) after ≡ cond b after (with_stamp stamp after)
+        → cond b (with_stamp before.stamp after) (with_stamp stamp after) ≡ cond b after (with_stamp stamp after)
     of true is = ap (λ (e : Entry). with_stamp e.stamp after) (same 0 after (omega arith) (eqb-true after.id before.id is))
     of false other_id = refl
-
-pub settled-sorted : (words : List ℕ) (stamp : ℕ) (entries : List Entry) → HaveOwnIds entries → length words ≡ length entries
-    → settled (ids_of entries) (stamps_of entries) stamp
-    (sorted_by_words (stamps_of (with_stamps words entries)) (with_stamps words entries)) ≡ sorted_anew words stamp entries
-settled-sorted words stamp entries own long =
-    let afters : List Entry = sorted_by_words words entries in
-    let moved : IsPermutation entries afters = sorted-permutes words entries long in
-    settled-is entries afters (sorted_by_words (stamps_of (with_stamps words entries)) (with_stamps words entries)) stamp
-    (sym (length_permutation entries afters moved)) (same_by_id entries afters own moved) (sorted-marked words entries long)
 
 -- what the stamps that the rule gives leave as it was
 ids-stamped_moved : (ids : List ℕ) (stamp : ℕ) (entries : List Entry) → ids_of (stamped_moved ids stamp entries) ≡ ids_of entries
@@ -319,3 +199,38 @@ anew-restamped version start end words entries forward within drawn = of (versio
         (take start news ++ (stamped_moved (ids_of befores) stamp (slice_range news start end) ++ drop end news))
     of true = begun
     of false = cut
+
+-- what the code makes: a sort under the stamps of the positions, and then a new stamp for the entries that have moved
+pub anew-made : (entries : List Entry) (start end : ℕ) (words : List ℕ) (stamp : ℕ) → HaveOwnIds (slice_range entries start end)
+    → start ≤ end → end ≤ length entries → length words ≡ end - start → (sorted : List Entry)
+    → sorted ≡ with_stamps (stamps_of entries) (shuffled entries start end words)
+    → take start sorted ++ (stamped_moved (ids_of (slice_range entries start end)) stamp (slice_range sorted start end) ++ drop end sorted)
+    ≡ shuffled_anew entries start end words stamp
+anew-made entries start end words stamp own forward within drawn sorted is =
+    let befores : List Entry = slice_range entries start end in
+    let afters : List Entry = sorted_by_words words befores in
+    let stamps : List ℕ = stamps_of entries in
+    let news : List Entry = shuffled entries start end words in
+    let long : length befores ≡ end - start = length-between entries start end within in
+    let moved : IsPermutation befores afters = sorted-permutes words befores (drawn ∙ sym long) in
+    let long_front : length (take start entries) ≡ start = length-take-le start entries (omega arith) in
+    let long_afters : length afters ≡ end - start = long_sorted words entries start end forward within drawn in
+    let front : take start sorted ≡ take start entries =
+    ap (take start) is ∙ take-with_stamps start stamps news
+    ∙ ap (with_stamps (take start stamps)) (take_at (take start entries) (afters ++ drop end entries) start long_front)
+    ∙ sym (take-with_stamps start stamps entries) ∙ ap (take start) (own-stamps entries) in
+    let back : drop end sorted ≡ drop end entries =
+    ap (λ l. drop end l) is ∙ drop-with_stamps end stamps news
+    ∙ ap (with_stamps (drop end stamps))
+    (behind_middle (take start entries) afters (drop end entries) start end forward long_front long_afters)
+    ∙ sym (drop-with_stamps end stamps entries) ∙ ap (λ l. drop end l) (own-stamps entries) in
+    let own_block : take (end - start) (drop start stamps) ≡ stamps_of befores = simp (take-map, drop-map) in
+    let middle : slice_range sorted start end ≡ with_stamps (stamps_of befores) afters =
+    ap (λ l. take (end - start) (drop start l)) is
+    ∙ ap (take (end - start)) (drop-with_stamps start stamps news)
+    ∙ take-with_stamps (end - start) (drop start stamps) (drop start news)
+    ∙ ap (λ l. with_stamps l (slice_range news start end)) own_block
+    ∙ ap (with_stamps (stamps_of befores)) (in_middle (take start entries) afters (drop end entries) start end long_front long_afters) in
+    rw (front, back, middle)
+    (ap (λ l. take start entries ++ (l ++ drop end entries))
+    (moved-with_stamps befores afters stamp (long ∙ sym long_afters) (same_by_id befores afters own moved)))

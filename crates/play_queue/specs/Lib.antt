@@ -11,5 +11,7 @@ pub mod Ranges
 pub mod Refusal
 pub mod Refused
 pub mod Restamp
+pub mod Shown
 pub mod Shuffle
+pub mod Songs
 pub mod Target

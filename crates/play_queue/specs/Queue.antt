@@ -24,9 +24,13 @@ pub record IsEntry (next_id version : ℕ) (entry : Entry) : Type 0 where
 abbrev pub ids_of : List Entry → List ℕ
 ids_of entries = map (λ entry. entry.id) entries
 
+-- no number stands there twice
+abbrev pub AllDiffer : List ℕ → Type 0
+AllDiffer ids = AllPairs (λ one other. one ≢ other) ids
+
 -- no two entries have the same id
 abbrev pub HaveOwnIds : List Entry → Type 0
-HaveOwnIds entries = AllPairs (λ one other. one ≢ other) (ids_of entries)
+HaveOwnIds entries = AllDiffer (ids_of entries)
 
 -- what every queue keeps
 pub record IsQueue (queue : QueueState) : Type 0 where

@@ -24,13 +24,15 @@ restamped_pair version one other entries =
     else stamped_where (λ at. at == one || at == other) (version + 1) entries
 
 -- the entries of some URIs get the stamp
+abbrev pub marked_one : Uris → ℕ → Entry → Entry
+marked_one uris stamp entry = if is_among uris entry.uri then with_stamp stamp entry else entry
+
 abbrev pub marked : Uris → ℕ → List Entry → List Entry
-marked uris stamp entries = map (λ entry. if is_among uris entry.uri then with_stamp stamp entry else entry) entries
+marked uris stamp entries = map (marked_one uris stamp) entries
 
 -- two blocks that follow each other change places
-abbrev pub exchanged : List Entry → ℕ → ℕ → ℕ → List Entry
-exchanged entries low middle high =
-    take low entries ++ ((slice_range entries middle high ++ slice_range entries low middle) ++ drop high entries)
+abbrev pub exchanged : {T : Type 0} → List T → ℕ → ℕ → ℕ → List T
+exchanged list low middle high = take low list ++ ((slice_range list middle high ++ slice_range list low middle) ++ drop high list)
 
 abbrev pub restamped_batch : ℕ → ℕ → Uris → List Entry → List Entry
 restamped_batch version first changed entries =

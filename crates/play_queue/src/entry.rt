@@ -30,3 +30,12 @@ impl Entry {
         })
     }
 }
+
+/// An entry of the queue as it is looked at: its parts lie apart.
+#[derive(Clone, Copy, Debug)]
+pub struct EntryRef<'a> {
+    pub id: u32,
+    pub uri: &'a RowUri,
+    pub priority: u8,
+    pub stamp: u32,
+}

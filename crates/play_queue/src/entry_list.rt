@@ -1,20 +1,21 @@
 // The entries in order, with what stands beside them for look-ups and changes.
-ghost use Rattle.std.specs.Prelude.{◌≡◌, ℕ, ◌<◌, ◌≤◌, ◌+◌, ◌-◌, ◌^◌, ◌==◌, [], ◌++◌, length, take, drop, swap, position, Some};
-ghost use Rattle.std.specs.Prelude.{IfOk, OnOk, OnErr, IfSome, slice_get};
-ghost use Rattle.std.specs.Option.{option_copied};
+ghost use Rattle.std.specs.Prelude.{◌≡◌, ℕ, ◌<◌, ◌≤◌, ◌+◌, ◌-◌, ◌^◌, ◌==◌, [], ◌∷◌, ◌++◌, false, length, take, drop, swap};
+ghost use Rattle.std.specs.Prelude.{IfOk, OnOk, OnErr, slice_get};
+ghost use Rattle.std.specs.List.{All, list_any};
+ghost use Rattle.std.specs.Option.{option_map};
 ghost use Rattle.play_queue.specs.Entries.{deleted, added, new_entries, kept};
 ghost use Rattle.play_queue.specs.Latest.{later_than};
 ghost use Rattle.play_queue.specs.Queue.{HaveOwnIds, ruled};
 ghost use Rattle.play_queue.specs.Restamp.{AreRanges, exchanged, next_version, reprioritized, restamped, restamped_batch, restamped_pair};
+ghost use Rattle.play_queue.specs.Shown.{shown};
 ghost use Rattle.play_queue.specs.Shuffle.{shuffled};
 
-use crate::editing::{delete, exchange, insert_all};
-use crate::entry::Entry;
-use crate::hints::Hints;
-use crate::latest::{BLOCKS, later_than, latest_of};
+use crate::entries::Entries;
+use crate::entry::{Entry, EntryRef};
+use crate::latest::{BLOCKS, later_than, raise_latest};
 use crate::limits::{MAX_ENTRIES, MAX_VERSION};
 use crate::priority::prioritize;
-use crate::rows::{keep_others, restamp_batch};
+use crate::rows::restamp_batch;
 use crate::shuffling::shuffle;
 use crate::stamping::{restamp, restamp_pair};
 use crate::uris::SortedUris;
@@ -24,14 +25,13 @@ use std::fmt;
 use std::marker::Model;
 
 /// The entries of a queue in order, at most 65,536. Beside them stand the latest stamps of blocks of positions, so that
-/// what has changed is found without a look at what hasn't, and hints to where the entry with an id stands.
+/// what has changed is found without a look at what hasn't.
 ///
 /// Each edit takes the queue's version, stamps what has changed, and answers the new version.
 #[derive(Drop)]
 pub(crate) struct EntryList {
-    entries: Vec<Entry>,
+    entries: Entries,
     latest: [u32; BLOCKS],
-    hints: Hints,
 }
 
 impl Model for EntryList {
@@ -41,14 +41,14 @@ impl Model for EntryList {
 
     ghost Value = { List Entry };
 
-    ghost view = { λ l. l.entries.items };
+    ghost view = { λ l. l.entries };
 
-    ghost invariant = { λ l. AreKept l.latest l.entries.items };
+    ghost invariant = { λ l. AreKept l.latest l.entries };
 }
 
 impl fmt::Debug for EntryList {
     fn fmt<W: fmt::Write>(&self, f: &mut fmt::Formatter<W>) -> fmt::Result {
-        f.debug_list().entries(self.entries.as_slice()).finish()
+        fmt::Debug::fmt(&self.entries, f)
     }
 }
 
@@ -58,24 +58,33 @@ impl EntryList {
         ensures { result ≡ [] }
     {
         EntryList {
-            entries: Vec::new(alloc),
+            entries: Entries::new(alloc),
             latest: [0; BLOCKS],
-            hints: Hints::new(alloc),
         }
     }
 
-    // These entries, with the memory of these hints.
-    pub(crate) fn from_parts(entries: Vec<Entry>, mut hints: Hints) -> EntryList
-        requires { length entries.items ≤ MAX_ENTRIES }
-        ensures { result ≡ entries.items }
+    // Adds an entry at the end. The memory is taken before anything changes.
+    pub(crate) fn push(&mut self, entry: Entry) -> Result<(), AllocError>
+        requires few { length self.old < MAX_ENTRIES }
+        requires fresh { list_any (λ other. other.id == entry.id) self.old ≡ false }
+        ensures ok { OnOk result (self.new ≡ self.old ++ entry ∷ []) }
+        ensures err { OnErr result (self.new ≡ self.old) }
     {
-        hints.note(&entries, 0, entries.len());
-        let latest = latest_of(&entries);
-        EntryList {
-            entries,
-            latest,
-            hints,
-        }
+        let at = self.entries.len();
+        let stamp = entry.stamp;
+        self.entries.push(entry)?;
+        raise_latest(&mut self.latest, at, at + 1, stamp);
+        Ok(())
+    }
+
+    // The same entries once more, in memory of their own.
+    pub(crate) fn try_clone(&self, alloc: Global) -> Result<EntryList, AllocError>
+        ensures { IfOk result (λ copy. copy ≡ self.now) }
+    {
+        Ok(EntryList {
+            entries: self.entries.try_clone(alloc)?,
+            latest: self.latest,
+        })
     }
 
     pub(crate) fn len(&self) -> usize
@@ -91,29 +100,16 @@ impl EntryList {
         self.entries.is_empty()
     }
 
-    pub(crate) fn get(&self, at: usize) -> Option<&Entry>
-        ensures { option_copied result ≡ slice_get self.now at }
+    pub(crate) fn get(&self, at: usize) -> Option<EntryRef<'_>>
+        ensures { option_map shown result ≡ slice_get self.now at }
     {
         self.entries.get(at)
     }
 
-    pub(crate) fn as_slice(&self) -> &[Entry]
+    pub(crate) fn entries(&self) -> &Entries
         ensures { result.now ≡ self.now }
     {
-        self.entries.as_slice()
-    }
-
-    // The position of the entry with an id: near where it was last seen, or else by a walk through all.
-    pub(crate) fn pos_of(&self, id: u32) -> Option<usize>
-        requires { HaveOwnIds self.now }
-        ensures found { result ≡ position (λ entry. entry.id == id) self.now }
-        ensures within { IfSome result (λ at. at < length self.now) }
-    {
-        let (start, end) = self.hints.around(id, self.entries.len());
-        match find_between(&self.entries, start, end, id) {
-            Some(at) => Some(at),
-            None => self.entries.iter().position(|entry| entry.id == id),
-        }
+        &self.entries
     }
 
     // The positions of the entries with a stamp later than a version, rising.
@@ -131,8 +127,7 @@ impl EntryList {
         ensures version { result ≡ next_version version }
         ensures entries { self.new ≡ restamped version start (length (deleted self.old start end)) (deleted self.old start end) }
     {
-        delete(&mut self.entries, start, end);
-        self.hints.delete(&self.entries, start, end);
+        self.entries.delete(start, end);
         let left = self.entries.len();
         restamp(&mut self.entries, &mut self.latest, start, left, version)
     }
@@ -146,9 +141,7 @@ impl EntryList {
         ensures version { result ≡ next_version version }
         ensures entries { self.new ≡ restamped version low high (exchanged self.old low middle high) }
     {
-        exchange(&mut self.entries, low, middle, high);
-        self.hints
-            .exchange(&self.entries, low, low + (high - middle), high);
+        self.entries.exchange(low, middle, high);
         restamp(&mut self.entries, &mut self.latest, low, high, version)
     }
 
@@ -161,8 +154,6 @@ impl EntryList {
         ensures entries { self.new ≡ restamped_pair version one other (swap self.old one other) }
     {
         self.entries.swap(one, other);
-        self.hints.note(&self.entries, one, one + 1);
-        self.hints.note(&self.entries, other, other + 1);
         restamp_pair(&mut self.entries, &mut self.latest, one, other, version)
     }
 
@@ -185,7 +176,7 @@ impl EntryList {
             ≡ ruled (record { entries = self.old; version = version; next_id = next_id }) (shuffled self.old start end words.now) []) }
         ensures err { OnErr result (self.new ≡ self.old) }
     {
-        let later = shuffle(
+        shuffle(
             alloc,
             &mut self.entries,
             &mut self.latest,
@@ -193,10 +184,7 @@ impl EntryList {
             end,
             words,
             version,
-        )?;
-        self.hints
-            .slide(&self.entries, 0, self.entries.len(), end - start);
-        Ok(later)
+        )
     }
 
     // Takes out all.
@@ -220,18 +208,15 @@ impl EntryList {
         requires in_range { at ≤ length self.old }
         requires few { length self.old + length uris.items ≤ MAX_ENTRIES }
         requires ids { first + length uris.items < 2 ^ 32 }
+        requires fresh { All (λ entry. entry.id < first) self.old }
         requires within { version ≤ MAX_VERSION }
         ensures version { IfOk result (λ later. later ≡ next_version version) }
         ensures entries { let after = added self.old at (new_entries first uris.items) in
             OnOk result (self.new ≡ restamped version at (length after) after) }
         ensures err { OnErr result (self.new ≡ self.old) }
     {
-        let count = uris.len();
-        self.entries.reserve(count)?;
-        self.hints.reserve(count)?;
-        insert_all(&mut self.entries, at, first, uris);
+        self.entries.insert(at, first, uris)?;
         let left = self.entries.len();
-        self.hints.add(&self.entries, at, at + count);
         Ok(restamp(&mut self.entries, &mut self.latest, at, left, version))
     }
 
@@ -269,27 +254,7 @@ impl EntryList {
         ensures version { result ≡ next_version version }
         ensures entries { self.new ≡ restamped_batch version first changed.now (take first self.old ++ kept (drop first self.old) dropped.now) }
     {
-        let before = self.entries.len();
-        keep_others(&mut self.entries, first, dropped);
-        let left = self.entries.len();
-        self.hints
-            .slide(&self.entries, 0, left, before.saturating_sub(left));
+        self.entries.keep_others(first, dropped);
         restamp_batch(&mut self.entries, &mut self.latest, first, changed, version)
     }
-}
-
-// The position of the entry with an id, if it stands in a range.
-fn find_between(entries: &[Entry], start: usize, end: usize, id: u32) -> Option<usize>
-    requires forward { start ≤ end }
-    requires in_range { end ≤ length entries.now }
-    requires own_ids { HaveOwnIds entries.now }
-    ensures found { IfSome result (λ at. position (λ entry. entry.id == id) entries.now ≡ Some at) }
-    ensures within { IfSome result (λ at. at < length entries.now) }
-{
-    for at in start..end {
-        if entries[at].id == id {
-            return Some(at);
-        }
-    }
-    None
 }

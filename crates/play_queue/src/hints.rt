@@ -1,7 +1,6 @@
 // Where entries were last seen, by their ids. No contract sees it: what isn't found there is looked for everywhere.
 ghost use Rattle.std.specs.Prelude.{◌≤◌, length};
 
-use crate::entry::Entry;
 use crate::limits::MAX_ENTRIES;
 use std::alloc::{AllocError, Global};
 
@@ -36,69 +35,69 @@ impl Hints {
     }
 
     // Notes where the entries of a range stand.
-    pub(crate) fn note(&mut self, entries: &[Entry], start: usize, end: usize)
-        requires few { length entries.now ≤ MAX_ENTRIES }
-        requires in_range { end ≤ length entries.now }
+    pub(crate) fn note(&mut self, ids: &[u32], start: usize, end: usize)
+        requires few { length ids.now ≤ MAX_ENTRIES }
+        requires in_range { end ≤ length ids.now }
     {
         for at in start..end {
-            if let Some(place) = self.places.get_mut(entries[at].id as usize % PLACES) {
+            if let Some(place) = self.places.get_mut(ids[at] as usize % PLACES) {
                 *place = at as u16;
             }
         }
     }
 
     // The entries of a range have slid by so many positions at most, but for those that were noted where they stand.
-    pub(crate) fn slide(&mut self, entries: &[Entry], start: usize, end: usize, by: usize)
-        requires few { length entries.now ≤ MAX_ENTRIES }
-        requires in_range { end ≤ length entries.now }
+    pub(crate) fn slide(&mut self, ids: &[u32], start: usize, end: usize, by: usize)
+        requires few { length ids.now ≤ MAX_ENTRIES }
+        requires in_range { end ≤ length ids.now }
     {
         if REACH < by {
-            self.note(entries, start, end);
+            self.note(ids, start, end);
             return;
         }
         self.slid = self.slid.saturating_add(by);
         if REACH < self.slid {
-            self.note(entries, 0, entries.len());
+            self.note(ids, 0, ids.len());
             self.slid = 0;
         }
     }
 
     // The entries of a range have been added.
-    pub(crate) fn add(&mut self, entries: &[Entry], start: usize, end: usize)
-        requires few { length entries.now ≤ MAX_ENTRIES }
+    pub(crate) fn add(&mut self, ids: &[u32], start: usize, end: usize)
+        requires few { length ids.now ≤ MAX_ENTRIES }
         requires forward { start ≤ end }
-        requires in_range { end ≤ length entries.now }
+        requires in_range { end ≤ length ids.now }
     {
-        self.note(entries, start, end);
-        if end < entries.len() {
-            self.slide(entries, end, entries.len(), end - start);
+        self.note(ids, start, end);
+        if end < ids.len() {
+            self.slide(ids, end, ids.len(), end - start);
         }
     }
 
     // Those that stood in a range have been taken out.
-    pub(crate) fn delete(&mut self, entries: &[Entry], start: usize, end: usize)
-        requires few { length entries.now ≤ MAX_ENTRIES }
+    pub(crate) fn delete(&mut self, ids: &[u32], start: usize, end: usize)
+        requires few { length ids.now ≤ MAX_ENTRIES }
         requires forward { start ≤ end }
     {
-        if start < entries.len() {
-            self.slide(entries, start, entries.len(), end - start);
+        if start < ids.len() {
+            self.slide(ids, start, ids.len(), end - start);
         }
     }
 
     // Two blocks have changed places; they meet at `middle` now.
-    pub(crate) fn exchange(&mut self, entries: &[Entry], low: usize, middle: usize, high: usize)
-        requires few { length entries.now ≤ MAX_ENTRIES }
+    pub(crate) fn exchange(&mut self, ids: &[u32], low: usize, middle: usize, high: usize)
+        requires few { length ids.now ≤ MAX_ENTRIES }
         requires low_block { low ≤ middle }
         requires high_block { middle ≤ high }
-        requires in_range { high ≤ length entries.now }
+        requires in_range { high ≤ length ids.now }
     {
         let shorter = (middle - low).min(high - middle);
         if shorter <= REACH {
             // The shorter one stands at one of the ends.
-            self.note(entries, low, low + shorter);
-            self.note(entries, high - shorter, high);
+            self.note(ids, low, low + shorter);
+            self.note(ids, high - shorter, high);
         }
-        self.slide(entries, low, high, shorter);
+        self.slide(ids, low, high, shorter);
     }
 
     // The range of positions, below `len`, where an entry with this id most likely stands.

@@ -2,7 +2,7 @@
 ghost use Rattle.std.specs.Prelude.{◌≡◌, ◌≤◌, ◌++◌, length, slice_range, IfOk, OnOk};
 ghost use Rattle.play_queue.specs.Latest.{AreLatest, AreRaised, Between, later_than};
 
-use crate::entry::Entry;
+use crate::entries::Entries;
 use crate::limits::MAX_ENTRIES;
 use std::alloc::{AllocError, Global};
 
@@ -24,22 +24,10 @@ pub(crate) fn raise_latest(latest: &mut [u32; BLOCKS], start: usize, end: usize,
     }
 }
 
-// The latest stamps of the blocks of these entries.
-pub(crate) fn latest_of(entries: &[Entry]) -> [u32; BLOCKS]
-    requires { length entries.now ≤ MAX_ENTRIES }
-    ensures { AreLatest result entries.now }
-{
-    let mut latest = [0; BLOCKS];
-    for at in 0..entries.len() {
-        raise_latest(&mut latest, at, at + 1, entries[at].stamp);
-    }
-    latest
-}
-
 // The positions of the entries with a stamp later than a version.
 pub(crate) fn later_than(
     alloc: Global,
-    entries: &[Entry],
+    entries: &Entries,
     latest: &[u32; BLOCKS],
     version: u32,
 ) -> Result<Vec<usize>, AllocError>
@@ -61,7 +49,7 @@ pub(crate) fn later_than(
 // Adds those of a range.
 fn push_later(
     positions: &mut Vec<usize>,
-    entries: &[Entry],
+    entries: &Entries,
     start: usize,
     end: usize,
     version: u32,
@@ -71,7 +59,7 @@ fn push_later(
     ensures { OnOk result (positions.new.items ≡ positions.old.items ++ later_than version start (slice_range entries.now start end)) }
 {
     for at in start..end {
-        if version < entries[at].stamp {
+        if version < entries.stamp(at) {
             positions.push(at)?;
         }
     }

@@ -1,7 +1,8 @@
 //! The queue: entries with ids, their order, and the version and stamps by which clients see what has changed.
 #![tactic(auto)]
 
-mod editing;
+mod drawn;
+pub mod entries;
 pub mod entry;
 mod entry_list;
 mod hints;
@@ -15,11 +16,14 @@ pub mod ranges;
 pub mod refusal;
 mod rows;
 mod shuffling;
+mod song;
+mod song_list;
 mod stamping;
 pub mod target;
 pub mod uris;
 
-pub use entry::Entry;
+pub use entries::Entries;
+pub use entry::{Entry, EntryRef};
 pub use limits::{MAX_ENTRIES, MAX_ID, MAX_VERSION};
 pub use queue::{Queue, QueueBuilder};
 pub use ranges::Ranges;

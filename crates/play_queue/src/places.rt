@@ -7,14 +7,14 @@ ghost use Rattle.std.specs.Option.{option_or};
 ghost use Rattle.std.specs.Ordering.{nat_cmp};
 ghost use Rattle.play_queue.specs.Positions.{position_of};
 
-use crate::entry::Entry;
+use crate::entries::Entries;
 use std::alloc::{AllocError, Global};
 use std::collections::HashMap;
 
 // The positions of the entries that have one of these ids, by one pass over the entries.
 pub(crate) fn places_of(
     alloc: Global,
-    entries: &[Entry],
+    entries: &Entries,
     ids: &[u32],
 ) -> Result<HashMap<u32, usize>, AllocError>
     ensures { IfOk result (λ places. (id : ℕ) → list_any (λ other. other == id) ids.now ≡ true
@@ -23,8 +23,9 @@ pub(crate) fn places_of(
     let mut sorted: Vec<u32> = ids.iter().copied().collect(alloc)?;
     sorted.sort_unstable();
     let mut places = HashMap::new(alloc);
-    for at in 0..entries.len() {
-        let id = entries[at].id;
+    let order = entries.ids();
+    for at in 0..order.len() {
+        let id = order[at];
         if has_id(&sorted, id) {
             note(&mut places, id, at)?;
         }

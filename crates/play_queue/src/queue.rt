@@ -9,7 +9,6 @@ ghost use Rattle.play_queue.specs.Refused.{range_refusal, move_refusal, swap_ref
 ghost use Rattle.play_queue.specs.Restamp.{exchanged};
 ghost use Rattle.play_queue.specs.Shuffle.{shuffled};
 
-use crate::entry::Entry;
 use crate::entry_list::EntryList;
 use crate::priority::has_other;
 use crate::ranges::Ranges;
@@ -188,7 +187,7 @@ impl Queue {
     {
         self.check_prio(ranges)?;
         let merged = ranges.merged();
-        if has_other(self.entries.as_slice(), merged, priority) {
+        if has_other(self.entries.entries(), merged, priority) {
             self.version = self.entries.prioritize(merged, priority, self.version);
         }
         Ok(())
@@ -218,8 +217,8 @@ impl Queue {
         if dropped.is_empty() && changed.is_empty() {
             return;
         }
-        let first = before_first(self.entries.as_slice(), dropped);
-        if first < self.entries.len() || has_any(&self.entries.as_slice()[..first], changed) {
+        let first = before_first(self.entries.entries(), dropped);
+        if first < self.entries.len() || has_any(self.entries.entries(), first, changed) {
             self.version = self
                 .entries
                 .follow_batch(first, dropped, changed, self.version);

@@ -35,6 +35,13 @@ pub staying-stays : (block : Block) (dropped : Uris) (at : ℕ) (entry : Entry) 
 staying-stays block dropped at entry entries within is stays =
     sym (ap (λ l. first_id (staying block dropped at l)) (cut at entry entries within is) ∙ rw stays refl)
 
+-- the first that stays stands behind one that leaves
+pub staying-leaves : (block : Block) (dropped : Uris) (at : ℕ) (entry : Entry) (entries : List Entry) → at < length entries
+    → entry ≡ get_or entries at entry → takes block dropped at entry ≡ true
+    → first_id (staying block dropped (at + 1) (drop (at + 1) entries)) ≡ first_id (staying block dropped at (drop at entries))
+staying-leaves block dropped at entry entries within is leaves =
+    sym (ap (λ l. first_id (staying block dropped at l)) (cut at entry entries within is) ∙ rw leaves refl)
+
 -- all count in a new round
 pub counted-all : (current : ℕ) (played : List ℕ) (entries : List Entry) → filter (is_counted true current played) entries ≡ entries
 counted-all current played [] = refl

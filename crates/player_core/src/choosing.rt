@@ -1,5 +1,6 @@
 // The choice of the next song.
 ghost use Rattle.std.specs.Prelude.{◌≡◌, ◌<◌, length};
+ghost use Rattle.play_queue.specs.Shown.{shown};
 ghost use Rattle.player_core.specs.RandomOrder.{goes_before};
 ghost use Rattle.player_core.specs.Staying.{all_staying, staying_behind};
 ghost use Rattle.player_core.specs.Choice.{least, is_left, round_again, in_row, at_random, chosen, first_chosen};
@@ -7,12 +8,13 @@ ghost use Rattle.player_core.specs.Candidates.{is_first, is_counted, counted};
 
 use crate::block::Block;
 use crate::choice::Choice;
-use crate::round_words::RoundWords;
+use crate::placing::behind;
+use crate::round_words::WordTable;
 use crate::settings::PlaySettings;
 use crate::staying::{first_staying, takes};
 use crate::words::next_order;
 use indexmap::IndexSet;
-use play_queue::Entry;
+use play_queue::{Entries, EntryRef};
 use song_db::Uri;
 
 // An entry as it is drawn: its id, its priority, its word.
@@ -43,15 +45,15 @@ fn is_first(drawn: Drawn, best: Option<Drawn>) -> bool
 }
 
 // Whether the entry is neither the current one nor played.
-fn is_left(current: u32, played: &IndexSet<u32>, entry: &Entry) -> bool
-    ensures { result ≡ is_left current played.now.keys entry.now }
+fn is_left(current: u32, played: &IndexSet<u32>, entry: &EntryRef<'_>) -> bool
+    ensures { result ≡ is_left current played.now.keys (shown entry.now) }
 {
     !(entry.id == current || played.contains(&entry.id))
 }
 
 // Whether the entry counts: all do in a new round.
-fn is_counted(is_new: bool, current: u32, played: &IndexSet<u32>, entry: &Entry) -> bool
-    ensures { result ≡ is_counted is_new current played.now.keys entry.now }
+fn is_counted(is_new: bool, current: u32, played: &IndexSet<u32>, entry: &EntryRef<'_>) -> bool
+    ensures { result ≡ is_counted is_new current played.now.keys (shown entry.now) }
 {
     is_new || is_left(current, played, entry)
 }
@@ -61,24 +63,25 @@ fn is_counted(is_new: bool, current: u32, played: &IndexSet<u32>, entry: &Entry)
 //
 // A look into the played list is made only for an entry that goes before the best so far.
 fn least(
-    entries: &[Entry],
+    entries: &Entries,
     block: Block,
     dropped: &[Uri],
     draw: Draw,
     is_new: bool,
     current: u32,
     played: &IndexSet<u32>,
+    words: &mut WordTable,
 ) -> Option<u32>
     ensures { result ≡ least draw.key draw.order (counted is_new current played.now.keys (all_staying block dropped.now entries.now)) }
 {
-    let mut words = RoundWords::new(draw.key, draw.order);
+    words.turn_to(draw.key, draw.order, entries.len());
     let mut best = None;
     for at in (0..entries.len()).rev() {
-        let entry = &entries[at];
+        let entry = entries.at(at);
         let drawn = (entry.id, entry.priority, words.word(entry.id));
         if is_first(drawn, best)
-            && !takes(block, dropped, at, entry)
-            && is_counted(is_new, current, played, entry)
+            && !takes(block, dropped, at, &entry)
+            && is_counted(is_new, current, played, &entry)
         {
             best = Some(drawn);
         }
@@ -93,11 +96,12 @@ pub(crate) const NOTHING: Choice = Choice {
 
 // The choice that begins a new random round, of all entries that stay.
 fn again(
-    entries: &[Entry],
+    entries: &Entries,
     settings: &PlaySettings,
     block: Block,
     dropped: &[Uri],
     played: &IndexSet<u32>,
+    words: &mut WordTable,
 ) -> Choice
     ensures { result ≡ round_again settings.now (all_staying block dropped.now entries.now) }
 {
@@ -106,7 +110,7 @@ fn again(
         key: settings.key,
         order,
     };
-    match least(entries, block, dropped, draw, true, 0, played) {
+    match least(entries, block, dropped, draw, true, 0, played, words) {
         Some(id) => Choice {
             id: Some(id),
             order: Some(order),
@@ -117,12 +121,13 @@ fn again(
 
 // The choice in a random round: what is left of it, else with repeat a new round.
 fn at_random(
-    entries: &[Entry],
+    entries: &Entries,
     settings: &PlaySettings,
     block: Block,
     dropped: &[Uri],
     current: u32,
     played: &IndexSet<u32>,
+    words: &mut WordTable,
 ) -> Choice
     ensures { result ≡ at_random settings.now current played.now.keys (all_staying block dropped.now entries.now) }
 {
@@ -130,14 +135,14 @@ fn at_random(
         key: settings.key,
         order: settings.order,
     };
-    match least(entries, block, dropped, draw, false, current, played) {
+    match least(entries, block, dropped, draw, false, current, played, words) {
         Some(id) => Choice {
             id: Some(id),
             order: None,
         },
         None => {
             if settings.options.repeat {
-                again(entries, settings, block, dropped, played)
+                again(entries, settings, block, dropped, played, words)
             } else {
                 NOTHING
             }
@@ -146,11 +151,11 @@ fn at_random(
 }
 
 // The choice without random: the next entry that stays, else with repeat the first.
-fn in_row(entries: &[Entry], repeat: bool, block: Block, dropped: &[Uri], at: usize) -> Choice
+fn in_row(entries: &Entries, repeat: bool, block: Block, dropped: &[Uri], at: usize) -> Choice
     requires { at < length entries.now }
     ensures { result ≡ in_row repeat (staying_behind block dropped.now at entries.now) (all_staying block dropped.now entries.now) }
 {
-    match first_staying(entries, block, dropped, at + 1) {
+    match first_staying(entries, block, dropped, behind(entries, at)) {
         Some(id) => Choice {
             id: Some(id),
             order: None,
@@ -170,19 +175,20 @@ fn in_row(entries: &[Entry], repeat: bool, block: Block, dropped: &[Uri], at: us
 
 // The next song after the current entry, which stands at a position.
 pub(crate) fn choose(
-    entries: &[Entry],
+    entries: &Entries,
     settings: &PlaySettings,
     block: Block,
     dropped: &[Uri],
     played: &IndexSet<u32>,
     at: usize,
     current: u32,
+    words: &mut WordTable,
 ) -> Choice
     requires { at < length entries.now }
     ensures { result ≡ chosen settings.now entries.now block dropped.now played.now.keys at current }
 {
     if settings.options.random {
-        at_random(entries, settings, block, dropped, current, played)
+        at_random(entries, settings, block, dropped, current, played, words)
     } else {
         in_row(entries, settings.options.repeat, block, dropped, at)
     }
@@ -190,14 +196,15 @@ pub(crate) fn choose(
 
 // The song that is played first.
 pub(crate) fn choose_first(
-    entries: &[Entry],
+    entries: &Entries,
     settings: &PlaySettings,
     played: &IndexSet<u32>,
+    words: &mut WordTable,
 ) -> Choice
     ensures { result ≡ first_chosen settings.now entries.now }
 {
     if settings.options.random {
-        again(entries, settings, Block::NONE, &[], played)
+        again(entries, settings, Block::NONE, &[], played, words)
     } else {
         Choice {
             id: first_staying(entries, Block::NONE, &[], 0),

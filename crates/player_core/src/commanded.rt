@@ -1,25 +1,19 @@
 // What the commands of playback name and start.
-ghost use Rattle.std.specs.Prelude.{◌≡◌, ◌<◌, ◌==◌, length};
-ghost use Rattle.std.specs.List.{list_any};
+ghost use Rattle.std.specs.Prelude.{◌≡◌, ◌<◌, length};
 ghost use Rattle.player_core.specs.Commands.{named, begun, to_resume, last_or, in_front};
 
 use crate::choice::Choice;
 use crate::choosing::choose_first;
 use crate::refusal::PlayerError;
+use crate::round_words::WordTable;
 use crate::selector::Selector;
 use crate::settings::PlaySettings;
 use crate::words::next_order;
 use indexmap::IndexSet;
-use play_queue::Entry;
-
-fn has_id(entries: &[Entry], id: u32) -> bool
-    ensures { result ≡ list_any (λ entry. entry.id == id) entries.now }
-{
-    entries.iter().any(|entry| entry.id == id)
-}
+use play_queue::Entries;
 
 // The id of the entry that is named.
-pub(crate) fn named(entries: &[Entry], selector: Selector) -> Result<u32, PlayerError>
+pub(crate) fn named(entries: &Entries, selector: Selector) -> Result<u32, PlayerError>
     ensures { result ≡ named selector entries.now }
 {
     match selector {
@@ -28,7 +22,7 @@ pub(crate) fn named(entries: &[Entry], selector: Selector) -> Result<u32, Player
             None => Err(PlayerError::BadIndex),
         },
         Selector::Id(id) => {
-            if has_id(entries, id) {
+            if entries.has_id(id) {
                 Ok(id)
             } else {
                 Err(PlayerError::NoSuchSong)
@@ -53,10 +47,11 @@ pub(crate) fn begun(settings: &PlaySettings, current: Option<u32>, id: u32) -> C
 }
 
 pub(crate) fn to_resume(
-    entries: &[Entry],
+    entries: &Entries,
     settings: &PlaySettings,
     current: Option<u32>,
     played: &IndexSet<u32>,
+    words: &mut WordTable,
 ) -> Choice
     ensures { result ≡ to_resume settings.now entries.now current }
 {
@@ -65,7 +60,7 @@ pub(crate) fn to_resume(
             id: Some(id),
             order: None,
         },
-        None => choose_first(entries, settings, played),
+        None => choose_first(entries, settings, played, words),
     }
 }
 
@@ -80,14 +75,14 @@ pub(crate) fn last_left(played: &IndexSet<u32>, other: u32) -> u32
 }
 
 // The id in front of the current one; at position 0 the last one with repeat, else the current one.
-pub(crate) fn in_front(entries: &[Entry], repeat: bool, at: usize, current: u32) -> u32
+pub(crate) fn in_front(entries: &Entries, repeat: bool, at: usize, current: u32) -> u32
     requires { at < length entries.now }
     ensures { result ≡ in_front repeat entries.now at current }
 {
     if at > 0 {
-        entries[at - 1].id
+        entries.at(at - 1).id
     } else if repeat {
-        entries[entries.len() - 1].id
+        entries.at(entries.len() - 1).id
     } else {
         current
     }

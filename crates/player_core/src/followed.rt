@@ -8,21 +8,23 @@ use crate::block::Block;
 use crate::choice::Choice;
 use crate::choosing::{NOTHING, choose};
 use crate::options::Single;
+use crate::placing::behind;
 use crate::played::go_on;
 use crate::playing::{PlayState, Playing};
+use crate::round_words::WordTable;
 use crate::settings::PlaySettings;
 use indexmap::IndexSet;
-use play_queue::Entry;
+use play_queue::Entries;
 
 // The block of the entry that leaves under consume.
-pub(crate) fn consumed(consume: bool, at: usize) -> Block
-    requires { at < usize.MAX }
+pub(crate) fn consumed(entries: &Entries, consume: bool, at: usize) -> Block
+    requires { at < length entries.now }
     ensures { result ≡ consumed consume at }
 {
     if consume {
         Block {
             start: at,
-            end: at + 1,
+            end: behind(entries, at),
         }
     } else {
         Block::NONE
@@ -46,12 +48,13 @@ fn after_single(consume: bool, repeat: bool, current: u32) -> Option<Choice>
 
 // What is started after the current entry; none where the player stops and the song stays current.
 pub(crate) fn followed_by(
-    entries: &[Entry],
+    entries: &Entries,
     settings: &PlaySettings,
     single: Single,
     played: &IndexSet<u32>,
     at: usize,
     current: u32,
+    words: &mut WordTable,
 ) -> Option<Choice>
     requires { at < length entries.now }
     ensures { result ≡ followed_by settings.now single entries.now played.now.keys at current }
@@ -59,8 +62,8 @@ pub(crate) fn followed_by(
     let options = settings.options;
     match single {
         Single::Off => {
-            let block = consumed(is_on(options.consume), at);
-            Some(choose(entries, settings, block, &[], played, at, current))
+            let block = consumed(entries, is_on(options.consume), at);
+            Some(choose(entries, settings, block, &[], played, at, current, words))
         }
         Single::On | Single::Oneshot => {
             after_single(is_on(options.consume), options.repeat, current)

@@ -4,6 +4,7 @@ ghost use Rattle.player_core.specs.Player.{PlayerState};
 ghost use Rattle.player_core.specs.declared.playing.PlayState.TheVariants.{Stop};
 
 use crate::playing::{PlayState, Playing};
+use crate::round_words::WordTable;
 use indexmap::IndexSet;
 use std::alloc::{AllocError, Global};
 use std::marker::Model;
@@ -27,6 +28,8 @@ mod starting;
 pub struct Player {
     playing: Playing,
     played: IndexSet<u32>,
+    // What is kept of the words of the random round. No contract sees it.
+    words: WordTable,
 }
 
 impl Model for Player {
@@ -51,6 +54,7 @@ impl Player {
                 error: None,
             },
             played: IndexSet::new(alloc),
+            words: WordTable::new(alloc, [0; 32], 0),
         }
     }
 
@@ -71,6 +75,7 @@ impl Player {
                 error,
             },
             played: self.played.clone()?,
+            words: WordTable::new(alloc, [0; 32], 0),
         })
     }
 }

@@ -8,7 +8,7 @@ use crate::block::Block;
 use crate::played::remove;
 use crate::staying::takes;
 use indexmap::IndexSet;
-use play_queue::Entry;
+use play_queue::Entries;
 use song_db::Uri;
 use std::alloc::AllocError;
 
@@ -16,7 +16,7 @@ use std::alloc::AllocError;
 const MANY: usize = 8;
 
 // Between which positions entries leave: in the block, and anywhere where URIs are dropped.
-fn reach(entries: &[Entry], block: Block, dropped: &[Uri]) -> Block
+fn reach(entries: &Entries, block: Block, dropped: &[Uri]) -> Block
     ensures { Reaches block dropped.now entries.now result }
 {
     let end = entries.len();
@@ -33,7 +33,7 @@ fn reach(entries: &[Entry], block: Block, dropped: &[Uri]) -> Block
 // The ids of the entries that leave the queue leave the list. It costs the block, and a pass over the entries
 // only where URIs are dropped; where many ids may leave, it costs the list once more, else the list for each id
 // that leaves it. Where no memory is to be had for the ids, it goes on without.
-pub(crate) fn leave(played: &mut IndexSet<u32>, entries: &[Entry], block: Block, dropped: &[Uri])
+pub(crate) fn leave(played: &mut IndexSet<u32>, entries: &Entries, block: Block, dropped: &[Uri])
     ensures ids { played.new.keys ≡ left_by block dropped.now 0 entries.now played.old.keys }
     ensures room { spare played.old ≤ spare played.new }
 {
@@ -55,7 +55,7 @@ pub(crate) fn leave(played: &mut IndexSet<u32>, entries: &[Entry], block: Block,
 // They leave one by one.
 fn leave_each(
     played: &mut IndexSet<u32>,
-    entries: &[Entry],
+    entries: &Entries,
     within: Block,
     block: Block,
     dropped: &[Uri],
@@ -65,8 +65,8 @@ fn leave_each(
     ensures room { spare played.old ≤ spare played.new }
 {
     for at in within.start..within.end {
-        let entry = &entries[at];
-        if takes(block, dropped, at, entry) {
+        let entry = entries.at(at);
+        if takes(block, dropped, at, &entry) {
             remove(played, entry.id);
         }
     }
@@ -75,7 +75,7 @@ fn leave_each(
 // Those ids of the list whose entries leave.
 fn leaving(
     played: &IndexSet<u32>,
-    entries: &[Entry],
+    entries: &Entries,
     within: Block,
     block: Block,
     dropped: &[Uri],
@@ -86,8 +86,8 @@ fn leaving(
 {
     let mut ids = IndexSet::new(*played.allocator());
     for at in within.start..within.end {
-        let entry = &entries[at];
-        if played.contains(&entry.id) && takes(block, dropped, at, entry) {
+        let entry = entries.at(at);
+        if played.contains(&entry.id) && takes(block, dropped, at, &entry) {
             let _ = ids.insert(entry.id)?;
         }
     }

@@ -12,11 +12,11 @@ use std::marker::Model;
 // How many words are made at once.
 const MADE: u32 = 64;
 
-// How many of them are kept beside each other at most, half a megabyte.
+// How many of them are kept beside each other at most, 600 KiB.
 const MOST_ROUNDS: usize = 2_048;
 
 // The words of a round, the last ones that were made kept.
-#[derive(Drop)]
+#[derive(Debug, Drop)]
 pub(crate) struct RoundWords {
     key: [u8; 32],
     order: u64,
@@ -68,16 +68,19 @@ impl RoundWords {
     }
 }
 
-// The words of a round for ids in any order: those that were made are kept at a place that the ids give.
-#[derive(Drop)]
+// The words of a round for ids in any order: those that were made are kept at a place that the ids give. Where no memory is to be had for
+// them, the last ones alone are kept.
+#[derive(Debug, Drop)]
 pub(crate) struct WordTable {
+    alloc: Global,
     key: [u8; 32],
     order: u64,
+    last: RoundWords,
     rounds: Vec<RoundWords>,
 }
 
 impl Model for WordTable {
-    ghost use Rattle.std.specs.Prelude.{◌≡◌, ◌<◌, length};
+    ghost use Rattle.std.specs.Prelude.{◌≡◌};
     ghost use Rattle.std.specs.List.{All};
     ghost use Rattle.player_core.specs.Words.{Round};
 
@@ -85,22 +88,40 @@ impl Model for WordTable {
 
     ghost view = { λ t. record { key = t.key; order = t.order } };
 
-    ghost invariant = { λ t. (0 < length t.rounds.items)
+    ghost invariant = { λ t. (t.last ≡ record { key = t.key; order = t.order })
         × All (λ round. round ≡ record { key = t.key; order = t.order }) t.rounds.items };
 }
 
 impl WordTable {
-    // Room for the words of so many ids that follow each other, and for as many again.
-    pub(crate) fn new(
-        alloc: Global,
-        key: [u8; 32],
-        order: u64,
-        ids: usize,
-    ) -> Result<WordTable, AllocError>
-        ensures { IfOk result (λ table. table ≡ record { key = key; order = order }) }
+    // No word is made yet, and no memory taken.
+    pub(crate) fn new(alloc: Global, key: [u8; 32], order: u64) -> WordTable
+        ensures { result ≡ record { key = key; order = order } }
     {
-        let rounds = rounds_for(alloc, key, order, ids)?;
-        Ok(WordTable { key, order, rounds })
+        WordTable {
+            alloc,
+            key,
+            order,
+            last: RoundWords::new(key, order),
+            rounds: Vec::new(alloc),
+        }
+    }
+
+    // Turns to a round, of which words that were made are kept, with room for the words of so many ids that follow each other, and for as
+    // many again, if there is memory for them.
+    pub(crate) fn turn_to(&mut self, key: [u8; 32], order: u64, ids: usize)
+        ensures { self.new ≡ record { key = key; order = order } }
+    {
+        let count = count_for(ids);
+        if self.order == order && self.key == key && count <= self.rounds.len() {
+            return;
+        }
+        self.rounds = match rounds_for(self.alloc, key, order, count) {
+            Ok(rounds) => rounds,
+            Err(_) => Vec::new(self.alloc),
+        };
+        self.last = RoundWords::new(key, order);
+        self.key = key;
+        self.order = order;
     }
 
     // The word of an id.
@@ -108,7 +129,22 @@ impl WordTable {
         ensures word { result ≡ word self.old.key self.old.order id }
         ensures round { self.new ≡ self.old }
     {
-        word_in(&mut self.rounds, id)
+        if self.rounds.is_empty() {
+            self.last.word(id)
+        } else {
+            word_in(&mut self.rounds, id)
+        }
+    }
+}
+
+// How many are kept for the words of so many ids: more than they need, so that a queue that grows seldom needs more of them.
+fn count_for(ids: usize) -> usize {
+    if ids <= 512 {
+        MOST_ROUNDS / 64
+    } else if ids <= 8_192 {
+        MOST_ROUNDS / 8
+    } else {
+        MOST_ROUNDS
     }
 }
 
@@ -116,15 +152,12 @@ fn rounds_for(
     alloc: Global,
     key: [u8; 32],
     order: u64,
-    ids: usize,
+    count: usize,
 ) -> Result<Vec<RoundWords>, AllocError>
-    ensures some { IfOk result (λ rounds. 0 < length rounds.items) }
-    ensures round { IfOk result (λ rounds. All (λ round. round ≡ record { key = key; order = order }) rounds.items) }
+    ensures { IfOk result (λ rounds. All (λ round. round ≡ record { key = key; order = order }) rounds.items) }
 {
-    let count = (ids / 32 + 2).min(MOST_ROUNDS);
     let mut rounds = Vec::with_capacity(alloc, count)?;
-    rounds.push(RoundWords::new(key, order))?;
-    for _ in 1..count {
+    for _ in 0..count {
         rounds.push(RoundWords::new(key, order))?;
     }
     Ok(rounds)
@@ -136,7 +169,10 @@ fn word_in(rounds: &mut Vec<RoundWords>, id: u32) -> u32
     ensures word { (round : Round) → All (λ other. other ≡ round) rounds.old.items → result ≡ word round.key round.order id }
     ensures rounds { rounds.new.items ≡ rounds.old.items }
 {
-    let at = (id / MADE) as usize % rounds.len();
+    let at = (id / MADE) as usize % MOST_ROUNDS;
+    let len = rounds.len();
+    // Most often there are all, and no division is made.
+    let at = if at < len { at } else { at % len };
     rounds[at].word(id)
 }
 

@@ -4,8 +4,9 @@ ghost use Rattle.std.specs.Option.{ForSome};
 ghost use Rattle.player_core.specs.Shown.{shown};
 
 use crate::player::Player;
+use crate::round_words::WordTable;
 use crate::settings::PlaySettings;
-use play_queue::Entry;
+use play_queue::Entries;
 use std::marker::Model;
 
 /// What `status` shows of the player and the queue together.
@@ -19,10 +20,13 @@ pub struct Shown {
 }
 
 /// What is shown, kept until the queue, the options, the played list, the current song or the order number
-/// change: the choice of the next song in random mode costs a word for each entry.
+/// change: the choice of the next song in random mode costs a look at each
+/// id. Words of the random round that were drawn are kept longer.
 #[derive(Debug, Drop)]
 pub struct KeptNext {
     kept: Option<Shown>,
+    // What is kept of the words of the random round. No contract sees it.
+    words: Option<WordTable>,
 }
 
 impl Model for KeptNext {
@@ -32,8 +36,6 @@ impl Model for KeptNext {
     ghost Value = { Option Shown };
 
     ghost view = { λ k. k.kept };
-
-    ghost inverse = { λ v. record { kept = v } };
 }
 
 impl KeptNext {
@@ -41,7 +43,10 @@ impl KeptNext {
     pub fn new() -> KeptNext
         ensures { result ≡ None }
     {
-        KeptNext { kept: None }
+        KeptNext {
+            kept: None,
+            words: None,
+        }
     }
 
     /// Something has changed.
@@ -52,7 +57,7 @@ impl KeptNext {
     }
 
     /// What is shown, in constant time where it is kept.
-    pub fn look(&mut self, player: &Player, entries: &[Entry], settings: &PlaySettings) -> Shown
+    pub fn look(&mut self, player: &Player, entries: &Entries, settings: &PlaySettings) -> Shown
         requires right { ForSome self.old (λ kept. kept ≡ shown entries.now settings.now player.now) }
         ensures shown { result ≡ shown entries.now settings.now player.now }
         ensures kept { self.new ≡ Some (shown entries.now settings.now player.now) }
@@ -60,7 +65,12 @@ impl KeptNext {
         if let Some(kept) = self.kept {
             return kept;
         }
-        let made = player.shown(entries, settings);
+        let mut words = match self.words.take() {
+            Some(words) => words,
+            None => player.words_apart(settings),
+        };
+        let made = player.shown_by(entries, settings, &mut words);
+        self.words = Some(words);
         self.kept = Some(made);
         made
     }

@@ -1,10 +1,11 @@
 // What leaves the queue in one edit, and what stays.
 ghost use Rattle.std.specs.Prelude.{◌≡◌, ◌≤◌, length, drop};
 ghost use Rattle.play_queue.specs.Entries.{is_among};
+ghost use Rattle.play_queue.specs.Shown.{shown};
 ghost use Rattle.player_core.specs.Staying.{takes, staying, first_id};
 
 use crate::block::Block;
-use play_queue::Entry;
+use play_queue::{Entries, EntryRef};
 use song_db::Uri;
 
 fn is_among(uris: &[Uri], uri: &Uri) -> bool
@@ -14,15 +15,15 @@ fn is_among(uris: &[Uri], uri: &Uri) -> bool
 }
 
 // Whether the entry at a position leaves: it stands in the block, or its URI is dropped.
-pub(crate) fn takes(block: Block, dropped: &[Uri], at: usize, entry: &Entry) -> bool
-    ensures { result ≡ takes block dropped.now at entry.now }
+pub(crate) fn takes(block: Block, dropped: &[Uri], at: usize, entry: &EntryRef<'_>) -> bool
+    ensures { result ≡ takes block dropped.now at (shown entry.now) }
 {
     (block.start <= at && at < block.end) || is_among(dropped, entry.uri.as_uri())
 }
 
 // The id of the first entry from a position on that stays.
 pub(crate) fn first_staying(
-    entries: &[Entry],
+    entries: &Entries,
     block: Block,
     dropped: &[Uri],
     from: usize,
@@ -31,8 +32,8 @@ pub(crate) fn first_staying(
     ensures { result ≡ first_id (staying block dropped.now from (drop from entries.now)) }
 {
     for at in from..entries.len() {
-        let entry = &entries[at];
-        if !takes(block, dropped, at, entry) {
+        let entry = entries.at(at);
+        if !takes(block, dropped, at, &entry) {
             return Some(entry.id);
         }
     }

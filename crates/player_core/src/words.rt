@@ -1,9 +1,10 @@
 // The words by which entries are put in random order.
-ghost use Rattle.std.specs.Prelude.{◌≡◌, map, IfOk};
+ghost use Rattle.std.specs.Prelude.{◌≡◌, ◌≤◌, length, map, IfOk};
+ghost use Rattle.play_queue.specs.Entries.{block};
 ghost use Rattle.player_core.specs.Words.{word, next_order};
 
 use crate::round_words::WordTable;
-use play_queue::Entry;
+use play_queue::Entries;
 use rand_chacha::ChaCha8Rng;
 use rand_core::SeedableRng;
 use rand_core::utils::NextWord;
@@ -19,20 +20,27 @@ pub fn word(key: [u8; 32], order: u64, id: u32) -> u32
     words.next_word()
 }
 
-/// The words of entries, in their order, as a shuffle of them takes. Beside them it takes memory for words that were made: entries whose
-/// ids lie near each other share them, however far apart they stand.
+/// The words of the entries from `start` up to, but not including, `end`, in their order, as a shuffle of them takes. Where there is
+/// memory for words that were made, entries whose ids lie near each other share them, however far apart they stand.
 pub fn words_of(
     alloc: Global,
     key: [u8; 32],
     order: u64,
-    entries: &[Entry],
+    entries: &Entries,
+    start: usize,
+    end: usize,
 ) -> Result<Vec<u32>, AllocError>
-    ensures { IfOk result (λ words. words.items ≡ map (λ entry. word key order entry.id) entries.now) }
+    requires forward { start ≤ end }
+    requires in_range { end ≤ length entries.now }
+    ensures { IfOk result (λ words. words.items ≡ map (λ entry. word key order entry.id) (block entries.now start end)) }
 {
-    let mut table = WordTable::new(alloc, key, order, entries.len())?;
-    let mut words = Vec::with_capacity(alloc, entries.len())?;
-    for entry in entries {
-        words.push(table.word(entry.id))?;
+    let ids = entries.ids();
+    let part = &ids[start..end];
+    let mut table = WordTable::new(alloc, key, order);
+    table.turn_to(key, order, part.len());
+    let mut words = Vec::with_capacity(alloc, part.len())?;
+    for id in part {
+        words.push(table.word(*id))?;
     }
     Ok(words)
 }

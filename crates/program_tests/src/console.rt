@@ -3,11 +3,12 @@ use crate::assertions::{equal, same_bytes};
 use disk_model::{Disk, Fuse, FuseDisk, MemDisk};
 use live_stage::{Live, Refused};
 use mpd_program::{ConsoleEnd, Ending, Status, run_console};
+use song_db::LibraryRules;
+use song_files::{Folder, MemFolder};
 use std::alloc::Global;
 use std::io::{self, Read, Write};
 use std::process::Abort;
 use std::test::Fail;
-use wave_pcm::{Folder, MemFolder};
 
 /// The disks of a fresh journal.
 pub fn fresh_disks(alloc: Global) -> Result<(MemDisk, MemDisk), Refused<MemDisk>> {
@@ -23,7 +24,7 @@ pub fn run<D: Disk, F: Folder>(
     reader: &mut impl Read,
     writer: &mut impl Write,
 ) -> ConsoleEnd<D> {
-    run_console(alloc, a, b, folder, reader, writer)
+    run_console(alloc, a, b, folder, LibraryRules::NAMED, reader, writer)
 }
 
 // An input that gives a line with each read, and fails at the read of this number.

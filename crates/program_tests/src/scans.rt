@@ -5,11 +5,11 @@ use crate::assertions::equal;
 use crate::console::{fresh_disks, run};
 use disk_model::{Disk, Fuse, FuseDisk, MemDisk};
 use mpd_program::{ConsoleEnd, Ending, Status};
+use song_files::{FaultyFolder, FileStamp, Folder, FolderEntry, FolderFault, MemFolder, MemSource};
 use std::alloc::Global;
 use std::io::Read;
 use std::process::Abort;
 use std::test::Fail;
-use wave_pcm::{FaultyFolder, Folder, FolderEntry, FolderFault, MemFolder, MemSource};
 
 // A song of two frames, with a title and an artist.
 const SONG: &[u8] =
@@ -56,6 +56,10 @@ impl Folder for BrokenFolder {
 
     fn list(&mut self, alloc: Global, path: &str) -> Result<Option<Vec<FolderEntry>>, FolderFault> {
         self.folder.list(alloc, path)
+    }
+
+    fn look(&mut self, alloc: Global, path: &str) -> Result<Option<FileStamp>, FolderFault> {
+        self.folder.look(alloc, path)
     }
 
     fn open(&mut self, alloc: Global, path: &str) -> Result<Option<Self::File>, FolderFault> {

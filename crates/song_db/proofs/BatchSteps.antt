@@ -6,9 +6,10 @@ use Rattle.std.specs.List.{list_any}
 use Rattle.std.specs.Str.{bytes_eq}
 use Rattle.std.specs.Option.{option_and_then}
 use Rattle.std.proofs.lemmas.List.Elements.{All-push, All-weaker, All-same, All-nil}
-use Rattle.wave_pcm.specs.Folder.{File, bytes_at}
-use Rattle.wave_pcm.specs.declared.folder.FolderFault.{FolderFault}
-use Rattle.wave_pcm.specs.declared.folder.FolderFault.TheVariants.{Source, NoMemory}
+use Rattle.song_files.specs.Folder.{bytes_at}
+use Rattle.song_files.specs.declared.folder.FolderFault.{FolderFault}
+use Rattle.song_files.specs.declared.folder.FolderFault.TheVariants.{Source, NoMemory}
+use Rattle.song_db.specs.declared.rules.LibraryRules.{LibraryRules}
 use Rattle.song_db.specs.declared.change.RowChange.{RowChange}
 use Rattle.song_db.specs.declared.change.RowChange.TheVariants.{Put, Drop}
 use Rattle.song_db.specs.declared.refusal.SongDbError.{SongDbError}
@@ -17,10 +18,11 @@ use Rattle.song_db.specs.declared.scan.found.Found.{Found}
 use Rattle.song_db.specs.declared.scan.found.Found.TheVariants.{Song, Kept, NoSong}
 use Rattle.song_db.specs.Batch.{IsBatch, IsRead, after_listing, after_own}
 use Rattle.song_db.specs.Found.{IsOf, IsSongIn, changes_of, still_droppable, without}
+use Rattle.song_db.specs.Music.{Music, song_at, song_in}
 use Rattle.song_db.specs.Place.{is_below}
 use Rattle.song_db.specs.Row.{Row}
 use Rattle.song_db.proofs.Folders.{filter_all}
-use Rattle.song_db.specs.Scan.{is_sought, puts_of, drops_of, is_among, ArePartOf, song_in, song_at, AreSongs}
+use Rattle.song_db.specs.Scan.{is_sought, puts_of, drops_of, is_among, ArePartOf, AreSongs}
 
 pub puts-append : (xs ys : List RowChange) → puts_of (xs ++ ys) ≡ puts_of xs ++ puts_of ys
 puts-append [] ys = refl
@@ -68,9 +70,9 @@ not_among_others uri (u ∷ uris) = by_cases (bytes_eq uri u) refl (not_among_ot
     by_cases false told after = rw told after
 
 -- some more are kept
-pub batch_kept : (test : List ℕ → Bool) (place : Option (List ℕ)) (start droppable : List (List ℕ)) (changes : List RowChange)
-    → IsBatch place start droppable changes → IsBatch place start (filter test droppable) changes
-batch_kept test place start droppable changes batch =
+pub batch_kept : (test : List ℕ → Bool) (rules : LibraryRules) (place : Option (List ℕ)) (start droppable : List (List ℕ)) (changes : List RowChange)
+    → IsBatch rules place start droppable changes → IsBatch rules place start (filter test droppable) changes
+batch_kept test rules place start droppable changes batch =
     record {
       no_drop = batch.no_drop;
       sought = batch.sought;
@@ -79,92 +81,92 @@ batch_kept test place start droppable changes batch =
           row.uri ≡ false) (λ row. not_among_part test row.uri droppable) (puts_of changes) batch.read_stay;
     }
 
-batch_put : (place : Option (List ℕ)) (start droppable : List (List ℕ)) (changes : List RowChange) (row : Row)
-    → IsBatch place start droppable changes → is_sought place row.uri ≡ true → is_among droppable row.uri ≡ false
-    → IsBatch place start droppable (changes ++ Put row ∷ [])
-batch_put place start droppable changes row batch within stays =
+batch_put : (rules : LibraryRules) (place : Option (List ℕ)) (start droppable : List (List ℕ)) (changes : List RowChange) (row : Row)
+    → IsBatch rules place start droppable changes → is_sought rules place row.uri ≡ true → is_among droppable row.uri ≡ false
+    → IsBatch rules place start droppable (changes ++ Put row ∷ [])
+batch_put rules place start droppable changes row batch within stays =
     record {
       no_drop = drops-append changes (Put row ∷ []) ∙ append-nil (drops_of changes) ∙ batch.no_drop;
-      sought = All-same (λ (r : Row). is_sought place r.uri ≡ true) _ _ (puts-append changes (Put row ∷ [])) (All-push (λ (r :
-          Row). is_sought place r.uri ≡ true) (puts_of changes) row batch.sought within);
+      sought = All-same (λ (r : Row). is_sought rules place r.uri ≡ true) _ _ (puts-append changes (Put row ∷ [])) (All-push (λ (r :
+          Row). is_sought rules place r.uri ≡ true) (puts_of changes) row batch.sought within);
       left = batch.left;
       read_stay = All-same (λ (r : Row). is_among droppable r.uri ≡ false) _ _ (puts-append changes (Put row ∷ [])) (All-push (λ (r
           : Row). is_among droppable r.uri ≡ false) (puts_of changes) row batch.read_stay stays);
     }
 
-pub batch_settled : (place : Option (List ℕ)) (start droppable : List (List ℕ)) (changes : List RowChange) (uri : List ℕ) (found :
-    Found) → IsBatch place start droppable changes → is_sought place uri ≡ true → IsOf uri found
-    → IsBatch place start (still_droppable found droppable) (changes ++ changes_of found)
-batch_settled place start droppable changes uri (Song row) batch within of =
-    batch_put place start (without row.uri droppable) changes row (batch_kept (λ known. not (bytes_eq row.uri known)) place start
-    droppable changes batch) (ap (is_sought place) of ∙ within) (not_among_others row.uri droppable)
-batch_settled place start droppable changes uri (Kept kept) batch within of =
-    rw (append-nil changes) (batch_kept (λ known. not (bytes_eq kept known)) place start droppable changes batch)
-batch_settled place start droppable changes uri NoSong batch within of = rw (append-nil changes) batch
+pub batch_settled : (rules : LibraryRules) (place : Option (List ℕ)) (start droppable : List (List ℕ)) (changes : List RowChange) (uri : List ℕ) (found :
+    Found) → IsBatch rules place start droppable changes → is_sought rules place uri ≡ true → IsOf uri found
+    → IsBatch rules place start (still_droppable found droppable) (changes ++ changes_of found)
+batch_settled rules place start droppable changes uri (Song row) batch within of =
+    batch_put rules place start (without row.uri droppable) changes row (batch_kept (λ known. not (bytes_eq row.uri known)) rules place start
+    droppable changes batch) (ap (is_sought rules place) of ∙ within) (not_among_others row.uri droppable)
+batch_settled rules place start droppable changes uri (Kept kept) batch within of =
+    rw (append-nil changes) (batch_kept (λ known. not (bytes_eq kept known)) rules place start droppable changes batch)
+batch_settled rules place start droppable changes uri NoSong batch within of = rw (append-nil changes) batch
 
 pub songs_settled : {S : Type 0} (bytes : S → List ℕ) (honest : S
-    → Type 0) (files : List File) (uri : List ℕ) (changes : List RowChange) (opened : Result (Option S) FolderFault) (found :
+    → Type 0) (music : Music) (uri : List ℕ) (changes : List RowChange) (opened : Result (Option S) FolderFault) (found :
     Found) (answer : Result Found SongDbError) → answer ≡ Ok found
-    → IfOk opened (λ file. MatchOption file (bytes_at files uri ≡ None) (λ source. (bytes_at files uri ≡ Some (bytes source)) ×
+    → IfOk opened (λ file. MatchOption file (bytes_at music.files uri ≡ None) (λ source. (bytes_at music.files uri ≡ Some (bytes source)) ×
     honest source))
     → (opened ≡ Err Source → answer ≡ Ok (Kept uri)) → (opened ≡ Ok None → answer ≡ Ok NoSong) → (opened ≡ Err NoMemory
     → answer ≡ Err MemoryRefused)
-    → IsOf uri found → ((source : S) → opened ≡ Ok (Some source) → honest source → IsSongIn uri (bytes source) found)
-    → AreSongs files changes → AreSongs files (changes ++ changes_of found)
-songs_settled bytes honest files uri changes opened NoSong answer is told fault none memory of song before = rw (append-nil changes) before
-songs_settled bytes honest files uri changes opened (Kept kept) answer is told fault none memory of song before = rw (append-nil
+    → IsOf uri found → ((source : S) → opened ≡ Ok (Some source) → honest source → IsSongIn music.rules uri (bytes source) found)
+    → AreSongs music changes → AreSongs music (changes ++ changes_of found)
+songs_settled bytes honest music uri changes opened NoSong answer is told fault none memory of song before = rw (append-nil changes) before
+songs_settled bytes honest music uri changes opened (Kept kept) answer is told fault none memory of song before = rw (append-nil
     changes) before
-songs_settled bytes honest files uri changes (Err Source) (Song row) answer is told fault none memory of song before = absurd (cc
+songs_settled bytes honest music uri changes (Err Source) (Song row) answer is told fault none memory of song before = absurd (cc
     (fault refl))
-songs_settled bytes honest files uri changes (Err NoMemory) (Song row) answer is told fault none memory of song before = absurd (cc
+songs_settled bytes honest music uri changes (Err NoMemory) (Song row) answer is told fault none memory of song before = absurd (cc
     (memory refl))
-songs_settled bytes honest files uri changes (Ok None) (Song row) answer is told fault none memory of song before = absurd (cc (none refl))
-songs_settled bytes honest files uri changes (Ok (Some source)) (Song row) answer is told fault none memory of song before =
-    All-same (λ (r : Row). song_at files r.uri ≡ Some r) _ _ (puts-append changes (Put row ∷ [])) (All-push (λ (r : Row). song_at
-    files r.uri ≡ Some r) (puts_of changes) row before
-    (ap (song_at files) of ∙ ap (option_and_then (song_in uri)) told.0 ∙ (song source refl told.1).0))
+songs_settled bytes honest music uri changes (Ok None) (Song row) answer is told fault none memory of song before = absurd (cc (none refl))
+songs_settled bytes honest music uri changes (Ok (Some source)) (Song row) answer is told fault none memory of song before =
+    All-same (λ (r : Row). song_at music r.uri ≡ Some r) _ _ (puts-append changes (Put row ∷ [])) (All-push (λ (r : Row). song_at
+    music r.uri ≡ Some r) (puts_of changes) row before
+    (ap (song_at music) of ∙ ap (option_and_then (song_in music.rules uri)) told.0 ∙ (song source refl told.1).0))
 
-pub batch_listed : {A : Type 0} (place : Option (List ℕ)) (start droppable : List (List ℕ)) (changes : List RowChange) (folder :
-    List ℕ) (listing : Result A FolderFault) → IsBatch place start droppable changes
-    → IsBatch place start (after_listing folder listing droppable) changes
-batch_listed place start droppable changes folder (Ok entries) batch = batch
-batch_listed place start droppable changes folder (Err fault) batch = batch_kept (λ known. not (is_below folder known)) place
+pub batch_listed : {A : Type 0} (rules : LibraryRules) (place : Option (List ℕ)) (start droppable : List (List ℕ)) (changes : List RowChange) (folder :
+    List ℕ) (listing : Result A FolderFault) → IsBatch rules place start droppable changes
+    → IsBatch rules place start (after_listing folder listing droppable) changes
+batch_listed rules place start droppable changes folder (Ok entries) batch = batch
+batch_listed rules place start droppable changes folder (Err fault) batch = batch_kept (λ known. not (is_below folder known)) rules place
     start droppable changes batch
 
 filter_none : (uris : List (List ℕ)) → filter (λ _. false) uris ≡ []
 filter_none [] = refl
 filter_none (uri ∷ uris) = filter_none uris
 
-pub batch_all_kept : (place : Option (List ℕ)) (start droppable : List (List ℕ)) (changes : List RowChange)
-    → IsBatch place start droppable changes → IsBatch place start [] changes
-batch_all_kept place start droppable changes batch = rw (filter_none droppable) at (batch_kept (λ _. false) place start droppable
+pub batch_all_kept : (rules : LibraryRules) (place : Option (List ℕ)) (start droppable : List (List ℕ)) (changes : List RowChange)
+    → IsBatch rules place start droppable changes → IsBatch rules place start [] changes
+batch_all_kept rules place start droppable changes batch = rw (filter_none droppable) at (batch_kept (λ _. false) rules place start droppable
     changes batch)
 
-pub batch_own : {A : Type 0} (place : Option (List ℕ)) (start droppable : List (List ℕ)) (changes : List RowChange) (listing :
-    Result A FolderFault) → IsBatch place start droppable changes → IsBatch place start (after_own listing droppable) changes
-batch_own place start droppable changes (Ok entries) batch = batch
-batch_own place start droppable changes (Err fault) batch = batch_all_kept place start droppable changes batch
+pub batch_own : {A : Type 0} (rules : LibraryRules) (place : Option (List ℕ)) (start droppable : List (List ℕ)) (changes : List RowChange) (listing :
+    Result A FolderFault) → IsBatch rules place start droppable changes → IsBatch rules place start (after_own listing droppable) changes
+batch_own rules place start droppable changes (Ok entries) batch = batch
+batch_own rules place start droppable changes (Err fault) batch = batch_all_kept rules place start droppable changes batch
 
 -- a batch before its first step
-pub batch_none : (place : Option (List ℕ)) (start : List (List ℕ)) (changes : List RowChange) → changes ≡ []
-    → IsBatch place start start changes
-batch_none place start changes none =
+pub batch_none : (rules : LibraryRules) (place : Option (List ℕ)) (start : List (List ℕ)) (changes : List RowChange) → changes ≡ []
+    → IsBatch rules place start start changes
+batch_none rules place start changes none =
     rw none
     (record {
       no_drop = refl;
-      sought = All-nil (λ (row : Row). is_sought place row.uri ≡ true);
+      sought = All-nil (λ (row : Row). is_sought rules place row.uri ≡ true);
       left = (λ _. true, sym (filter_all start));
       read_stay = All-nil (λ (row : Row). is_among start row.uri ≡ false);
     })
 
 -- a batch that was filled up with drops
-pub batch_read : (place : Option (List ℕ)) (start droppable after : List (List ℕ)) (changes whole : List RowChange)
-    → IsBatch place start droppable changes → drops_of whole ++ after ≡ drops_of changes ++ droppable
-    → puts_of whole ≡ puts_of changes → IsRead place start after whole
-batch_read place start droppable after changes whole batch drops puts =
+pub batch_read : (rules : LibraryRules) (place : Option (List ℕ)) (start droppable after : List (List ℕ)) (changes whole : List RowChange)
+    → IsBatch rules place start droppable changes → drops_of whole ++ after ≡ drops_of changes ++ droppable
+    → puts_of whole ≡ puts_of changes → IsRead rules place start after whole
+batch_read rules place start droppable after changes whole batch drops puts =
     let rest : drops_of whole ++ after ≡ droppable = drops ∙ ap (λ l. l ++ droppable) batch.no_drop in
     record {
-      sought = All-same (λ (row : Row). is_sought place row.uri ≡ true) _ _ puts batch.sought;
+      sought = All-same (λ (row : Row). is_sought rules place row.uri ≡ true) _ _ puts batch.sought;
       drops = (batch.left.0, rest ∙ batch.left.1);
       read_stay = rw rest (All-same (λ (row : Row). is_among droppable row.uri ≡ false) _ _ puts batch.read_stay);
     }

@@ -6,13 +6,13 @@ use Rattle.std.specs.List.{list_any}
 use Rattle.std.specs.Str.{bytes_eq}
 use Rattle.std.proofs.lemmas.List.Sums.{sum_by-cons, sum_by-append}
 use Rattle.std.proofs.lemmas.Slice.Eq.{bytes_eq-Decides}
-use Rattle.wave_pcm.specs.Folder.{File}
 use Rattle.song_db.specs.declared.change.RowChange.{RowChange}
 use Rattle.song_db.specs.declared.change.RowChange.TheVariants.{Put}
+use Rattle.song_db.specs.Music.{Music, song_at}
 use Rattle.song_db.specs.Name.{is_song}
 use Rattle.song_db.specs.Pending.{Pending, covers, times_pending}
 use Rattle.song_db.specs.Row.{Row}
-use Rattle.song_db.specs.Scan.{is_in, is_sought, is_among, puts_of, times_put, has_song, has_row, song_at}
+use Rattle.song_db.specs.Scan.{is_in, is_sought, is_among, puts_of, times_put, has_song, has_row}
 use Rattle.song_db.specs.Uri.{is_uri}
 use Rattle.song_db.proofs.BatchSteps.{puts-append}
 
@@ -82,16 +82,16 @@ among_filter test uri (x ∷ xs) = by_cases (bytes_eq uri x) refl (test x) refl 
     by_cases false told false fails rest = rest
 
 -- what it is to be a song that a job seeks
-pub record AreParts (files : List File) (place : Option (List ℕ)) (uri : List ℕ) : Type 0 where
+pub record AreParts (music : Music) (place : Option (List ℕ)) (uri : List ℕ) : Type 0 where
   pub form : is_uri uri ≡ true
-  pub sought : is_sought place uri ≡ true
+  pub sought : is_sought music.rules place uri ≡ true
   pub within : is_in place uri ≡ true
-  pub name : is_song uri ≡ true
-  pub row : has_row (song_at files uri) ≡ true
+  pub name : is_song music.rules uri ≡ true
+  pub row : has_row (song_at music uri) ≡ true
 
-pub song_parts : (files : List File) (place : Option (List ℕ)) (uri : List ℕ) → has_song files place uri ≡ true → AreParts files place uri
-song_parts files place uri song =
-    let first = both (is_uri uri) (is_sought place uri && has_row (song_at files uri)) song in
-    let next = both (is_sought place uri) (has_row (song_at files uri)) first.1 in
-    let sought = both (is_in place uri) (is_song uri) next.0 in
+pub song_parts : (music : Music) (place : Option (List ℕ)) (uri : List ℕ) → has_song music place uri ≡ true → AreParts music place uri
+song_parts music place uri song =
+    let first = both (is_uri uri) (is_sought music.rules place uri && has_row (song_at music uri)) song in
+    let next = both (is_sought music.rules place uri) (has_row (song_at music uri)) first.1 in
+    let sought = both (is_in place uri) (is_song music.rules uri) next.0 in
     record { form = first.0; sought = next.0; within = sought.0; name = sought.1; row = next.1 }

@@ -6,27 +6,27 @@ use Rattle.std.specs.List.{All}
 use Rattle.std.specs.Str.{bytes_eq}
 use Rattle.std.proofs.lemmas.List.Elements.{All-append, All-head, All-tail, All-nil, All-same}
 use Rattle.std.proofs.lemmas.List.Folds.{list_any-append}
-use Rattle.wave_pcm.specs.Folder.{File}
 use Rattle.song_db.specs.declared.change.RowChange.{RowChange}
 use Rattle.song_db.specs.Difference.{begun, IsStep, IsScan, joined, ScansTellTheDifference}
+use Rattle.song_db.specs.Music.{Music, music_of, song_at}
 use Rattle.song_db.specs.Pending.{times_pending, own_pending}
 use Rattle.song_db.specs.Place.{is_below}
 use Rattle.song_db.specs.Row.{Row}
-use Rattle.song_db.specs.Scan.{Progress, ArePartOf, AreSongs, IsCareful, puts_of, drops_of, has_song, is_among, times_put, song_at}
+use Rattle.song_db.specs.Scan.{Progress, ArePartOf, AreSongs, IsCareful, puts_of, drops_of, has_song, is_among, times_put}
 use Rattle.song_db.proofs.BatchSteps.{puts-append, drops-append}
 use Rattle.song_db.proofs.Below.{below_short}
 use Rattle.song_db.proofs.Counts.{song_parts, count-cons, count-append, same_bytes, both, among_filter}
 use Rattle.song_db.proofs.OwnSteps.{own_times, root_times}
 
-pub record Sums (files : List File) (place : Option (List ℕ)) (before after : Progress) (changes : List RowChange) : Type 0 where
+pub record Sums (music : Music) (place : Option (List ℕ)) (before after : Progress) (changes : List RowChange) : Type 0 where
   pub less : (uri : List ℕ) → times_put changes uri + times_pending after.pending uri ≤ times_pending before.pending uri
-  pub more : (uri : List ℕ) → has_song files place uri ≡ true
+  pub more : (uri : List ℕ) → has_song music place uri ≡ true
       → times_pending before.pending uri ≤ times_put changes uri + times_pending after.pending uri
-  pub puts : All (λ (row : Row). has_song files place row.uri ≡ true) (puts_of changes)
-  pub songs : AreSongs files changes
+  pub puts : All (λ (row : Row). has_song music place row.uri ≡ true) (puts_of changes)
+  pub songs : AreSongs music changes
   pub parts : (uri : List ℕ) → is_among (drops_of changes ++ after.droppable) uri ≡ true → is_among before.droppable uri ≡ true
-  pub none : All (λ uri. has_song files place uri ≡ false) (drops_of changes)
-  pub gone : (uri : List ℕ) → has_song files place uri ≡ false → is_among before.droppable uri ≡ true
+  pub none : All (λ uri. has_song music place uri ≡ false) (drops_of changes)
+  pub gone : (uri : List ℕ) → has_song music place uri ≡ false → is_among before.droppable uri ≡ true
       → is_among (drops_of changes ++ after.droppable) uri ≡ true
 
 among-append : (xs ys : List (List ℕ)) (uri : List ℕ) → is_among (xs ++ ys) uri ≡ (is_among xs uri || is_among ys uri)
@@ -56,32 +56,32 @@ put-append xs ys uri = ap (count_by (λ (r : Row). bytes_eq uri r.uri)) (puts-ap
 three : (xs ys : List RowChange) (left : List (List ℕ)) → drops_of (xs ++ ys) ++ left ≡ drops_of xs ++ (drops_of ys ++ left)
 three xs ys left = ap (λ l. l ++ left) (drops-append xs ys) ∙ append_assoc (drops_of xs) (drops_of ys) left
 
-no_answer : (files : List File) (place : Option (List ℕ)) (before : Progress) → Sums files place before before []
-no_answer files place before =
+no_answer : (music : Music) (place : Option (List ℕ)) (before : Progress) → Sums music place before before []
+no_answer music place before =
     record {
       less = λ uri. omega arith;
       more = λ uri song. omega arith;
-      puts = All-nil (λ (row : Row). has_song files place row.uri ≡ true);
-      songs = All-nil (λ (row : Row). song_at files row.uri ≡ Some row);
+      puts = All-nil (λ (row : Row). has_song music place row.uri ≡ true);
+      songs = All-nil (λ (row : Row). song_at music row.uri ≡ Some row);
       parts = λ uri among. among;
-      none = All-nil (λ uri. has_song files place uri ≡ false);
+      none = All-nil (λ uri. has_song music place uri ≡ false);
       gone = λ uri none among. among;
     }
 
-one_answer : (files : List File) (place : Option (List ℕ)) (before next after : Progress) (changes more : List RowChange)
-    → before.place ≡ place
-    → IsCareful files place before.pending before.droppable → IsStep files before next changes → Sums files place next after more
-    → Sums files place before after (changes ++ more)
-one_answer files place before next after changes more same careful step rest =
-    let puts : All (λ (row : Row). has_song files place row.uri ≡ true) (puts_of changes) = rw same at step.read.puts in
-    let drops : All (λ uri. has_song files place uri ≡ false) (drops_of changes) = (rw same at step.read.drops) careful in
+one_answer : (music : Music) (place : Option (List ℕ)) (before next after : Progress) (changes more : List RowChange)
+    → before.place ≡ place → before.rules ≡ music.rules
+    → IsCareful music place before.pending before.droppable → IsStep music.files before next changes → Sums music place next after more
+    → Sums music place before after (changes ++ more)
+one_answer music place before next after changes more same own careful step rest =
+    let puts : All (λ (row : Row). has_song music place row.uri ≡ true) (puts_of changes) = rw (same, own) at step.read.puts in
+    let drops : All (λ uri. has_song music place uri ≡ false) (drops_of changes) = (rw (same, own) at step.read.drops) careful in
     record {
       less = λ uri. omega (arith, step.read.read uri, rest.less uri, put-append changes more uri);
-      more = λ uri song. omega (arith, step.whole.read uri (rw same song), rest.more uri song, put-append changes more uri);
-      puts = All-same (λ (row : Row). has_song files place row.uri ≡ true) _ _ (puts-append changes more)
-          (All-append (λ (row : Row). has_song files place row.uri ≡ true) (puts_of changes) (puts_of more) puts rest.puts);
-      songs = All-same (λ (row : Row). song_at files row.uri ≡ Some row) _ _ (puts-append changes more)
-          (All-append (λ (row : Row). song_at files row.uri ≡ Some row) (puts_of changes) (puts_of more) step.read.songs rest.songs);
+      more = λ uri song. omega (arith, step.whole.read uri (rw (same, own) song), rest.more uri song, put-append changes more uri);
+      puts = All-same (λ (row : Row). has_song music place row.uri ≡ true) _ _ (puts-append changes more)
+          (All-append (λ (row : Row). has_song music place row.uri ≡ true) (puts_of changes) (puts_of more) puts rest.puts);
+      songs = All-same (λ (row : Row). song_at music row.uri ≡ Some row) _ _ (puts-append changes more)
+          (All-append (λ (row : Row). song_at music row.uri ≡ Some row) (puts_of changes) (puts_of more) (rw own at step.read.songs) rest.songs);
       parts = λ uri among. part_among (drops_of changes ++ next.droppable) before.droppable uri step.drops
           (among-append (drops_of changes) next.droppable uri
           ∙ either (is_among (drops_of changes) uri) (is_among (drops_of more ++ after.droppable) uri)
@@ -89,33 +89,34 @@ one_answer files place before next after changes more same careful step rest =
           ∙ among-append (drops_of changes) (drops_of more ++ after.droppable) uri) ∙ among)
           (λ left. or_left (is_among (drops_of changes) uri) (is_among next.droppable uri) left)
           (λ right. or_right (is_among (drops_of changes) uri) (is_among next.droppable uri) (rest.parts uri right)));
-      none = All-same (λ uri. has_song files place uri ≡ false) _ _ (drops-append changes more)
-          (All-append (λ uri. has_song files place uri ≡ false) (drops_of changes) (drops_of more) drops rest.none);
+      none = All-same (λ uri. has_song music place uri ≡ false) _ _ (drops-append changes more)
+          (All-append (λ uri. has_song music place uri ≡ false) (drops_of changes) (drops_of more) drops rest.none);
       gone = λ uri none among.
           ap (λ l. is_among l uri) (three changes more after.droppable)
           ∙ among-append (drops_of changes) (drops_of more ++ after.droppable) uri
           ∙ either (is_among (drops_of changes) uri) (is_among next.droppable uri)
-          (sym (among-append (drops_of changes) next.droppable uri) ∙ step.whole.gone uri (rw same none) among)
+          (sym (among-append (drops_of changes) next.droppable uri) ∙ step.whole.gone uri (rw (same, own) none) among)
           (λ left. or_left (is_among (drops_of changes) uri) (is_among (drops_of more ++ after.droppable) uri) left)
           (λ right. or_right (is_among (drops_of changes) uri) (is_among (drops_of more ++ after.droppable) uri)
           (rest.gone uri none right));
     }
 
-all_answers : (files : List File) (place : Option (List ℕ)) (before after : Progress) (answers : List (List RowChange))
-    → before.place ≡ place
-    → IsCareful files place before.pending before.droppable → IsScan files before answers after
-    → Sums files place before after (joined answers)
-all_answers files place before after [] same careful scan = rw (← scan) (no_answer files place before)
-all_answers files place before after (changes ∷ answers) same careful (next, step, rest) =
-    one_answer files place before next after changes (joined answers) same careful step
-    (all_answers files place next after answers (step.order.place ∙ same) (rw same at (step.read.careful (rw same careful))) rest)
+all_answers : (music : Music) (place : Option (List ℕ)) (before after : Progress) (answers : List (List RowChange))
+    → before.place ≡ place → before.rules ≡ music.rules
+    → IsCareful music place before.pending before.droppable → IsScan music.files before answers after
+    → Sums music place before after (joined answers)
+all_answers music place before after [] same own careful scan = rw (← scan) (no_answer music place before)
+all_answers music place before after (changes ∷ answers) same own careful (next, step, rest) =
+    one_answer music place before next after changes (joined answers) same own careful step
+    (all_answers music place next after answers (step.order.place ∙ same) (step.order.rules ∙ own)
+    (rw (same, own) at (step.read.careful (rw (same, own) careful))) rest)
 
 -- the job's place has each of its songs once
-one_time : (files : List File) (place : Option (List ℕ)) (uri : List ℕ) → has_song files place uri ≡ true
+one_time : (music : Music) (place : Option (List ℕ)) (uri : List ℕ) → has_song music place uri ≡ true
     → times_pending (own_pending place) uri ≡ 1
-one_time files None uri song = root_times uri
-one_time files (Some own) uri song =
-    own_times own uri ∙ by_cases (bytes_eq uri own) refl (is_below own uri) refl (song_parts files (Some own) uri song).within
+one_time music None uri song = root_times uri
+one_time music (Some own) uri song =
+    own_times own uri ∙ by_cases (bytes_eq uri own) refl (is_below own uri) refl (song_parts music (Some own) uri song).within
   where
     by_cases : (a : Bool) → bytes_eq uri own ≡ a → (b : Bool) → is_below own uri ≡ b → (a || b) ≡ true
         → ◌≡◌ {A = ℕ} (cond a 1 0 + cond b 1 0) 1
@@ -127,34 +128,34 @@ one_time files (Some own) uri song =
     by_cases false other true under h = refl
     by_cases false other false under h = absurd (cc)
 
-none_put : (files : List File) (place : Option (List ℕ)) (uri : List ℕ) (rows : List Row) → has_song files place uri ≡ false
-    → All (λ (row : Row). has_song files place row.uri ≡ true) rows
+none_put : (music : Music) (place : Option (List ℕ)) (uri : List ℕ) (rows : List Row) → has_song music place uri ≡ false
+    → All (λ (row : Row). has_song music place row.uri ≡ true) rows
     → count_by (λ (row : Row). bytes_eq uri row.uri) rows ≡ 0
-none_put files place uri [] none puts = refl
-none_put files place uri (row ∷ rows) none puts =
-    by_cases (bytes_eq uri row.uri) refl (All-head (λ (r : Row). has_song files place r.uri ≡ true) row rows puts)
-    (none_put files place uri rows none (All-tail (λ (r : Row). has_song files place r.uri ≡ true) row rows puts))
+none_put music place uri [] none puts = refl
+none_put music place uri (row ∷ rows) none puts =
+    by_cases (bytes_eq uri row.uri) refl (All-head (λ (r : Row). has_song music place r.uri ≡ true) row rows puts)
+    (none_put music place uri rows none (All-tail (λ (r : Row). has_song music place r.uri ≡ true) row rows puts))
   where
-    by_cases : (b : Bool) → bytes_eq uri row.uri ≡ b → has_song files place row.uri ≡ true
+    by_cases : (b : Bool) → bytes_eq uri row.uri ≡ b → has_song music place row.uri ≡ true
         → count_by (λ (r : Row). bytes_eq uri r.uri) rows ≡ 0
         → count_by (λ (r : Row). bytes_eq uri r.uri) (row ∷ rows) ≡ 0
     by_cases true same song rest =
-        absurd (let k : true ≡ false = sym song ∙ ap (has_song files place) (sym (same_bytes uri row.uri same)) ∙ none in cc)
+        absurd (let k : true ≡ false = sym song ∙ ap (has_song music place) (sym (same_bytes uri row.uri same)) ∙ none in cc)
     by_cases false other song rest =
         let n : ◌≡◌ {A = ℕ} (cond (bytes_eq uri row.uri) 1 0) 0 = rw other refl in
         omega (arith, count-cons (λ (r : Row). bytes_eq uri r.uri) row rows, n, rest)
 
-none_among : (files : List File) (place : Option (List ℕ)) (uri : List ℕ) (drops : List (List ℕ)) → has_song files place uri ≡ true
-    → All (λ u. has_song files place u ≡ false) drops → is_among drops uri ≡ false
-none_among files place uri [] song none = refl
-none_among files place uri (x ∷ xs) song none =
-    by_cases (bytes_eq uri x) refl (All-head (λ u. has_song files place u ≡ false) x xs none)
-    (none_among files place uri xs song (All-tail (λ u. has_song files place u ≡ false) x xs none))
+none_among : (music : Music) (place : Option (List ℕ)) (uri : List ℕ) (drops : List (List ℕ)) → has_song music place uri ≡ true
+    → All (λ u. has_song music place u ≡ false) drops → is_among drops uri ≡ false
+none_among music place uri [] song none = refl
+none_among music place uri (x ∷ xs) song none =
+    by_cases (bytes_eq uri x) refl (All-head (λ u. has_song music place u ≡ false) x xs none)
+    (none_among music place uri xs song (All-tail (λ u. has_song music place u ≡ false) x xs none))
   where
-    by_cases : (b : Bool) → bytes_eq uri x ≡ b → has_song files place x ≡ false → is_among xs uri ≡ false
+    by_cases : (b : Bool) → bytes_eq uri x ≡ b → has_song music place x ≡ false → is_among xs uri ≡ false
         → (bytes_eq uri x || is_among xs uri) ≡ false
     by_cases true same lacks rest =
-        absurd (let k : true ≡ false = sym song ∙ ap (has_song files place) (same_bytes uri x same) ∙ lacks in cc)
+        absurd (let k : true ≡ false = sym song ∙ ap (has_song music place) (same_bytes uri x same) ∙ lacks in cc)
     by_cases false other lacks rest = rw other rest
 
 and_false : (b : Bool) → (b && false) ≡ false
@@ -171,33 +172,36 @@ same_truth false true to back = back refl
 same_truth false false to back = refl
 
 pub scans_tell : ScansTellTheDifference
-scans_tell files job place known answers end scan over =
+scans_tell files job rules place known answers end scan over =
     record {
-      puts = λ uri. puts uri (has_song files place uri) refl;
+      puts = λ uri. puts uri (has_song music place uri) refl;
       songs = sums.songs;
       drops =
-          λ uri. drops uri (has_song files place uri) refl;
+          λ uri. drops uri (has_song music place uri) refl;
     }
   where
-    careful : IsCareful files place (own_pending place) known
-    careful uri song among = omega (arith, one_time files place uri song)
+    music : Music
+    music = music_of rules files
 
-    sums : Sums files place (begun job place known) end (joined answers)
-    sums = all_answers files place (begun job place known) end answers refl careful scan
+    careful : IsCareful music place (own_pending place) known
+    careful uri song among = omega (arith, one_time music place uri song)
+
+    sums : Sums music place (begun job rules place known) end (joined answers)
+    sums = all_answers music place (begun job rules place known) end answers refl refl careful scan
 
     left : (uri : List ℕ) → times_pending end.pending uri ≡ 0
     left uri = ap (λ ps. times_pending ps uri) over.pending
 
-    puts : (uri : List ℕ) (b : Bool) → has_song files place uri ≡ b → times_put (joined answers) uri ≡ (if b then 1 else 0)
-    puts uri true song = omega (arith, sums.less uri, sums.more uri song, left uri, one_time files place uri song)
-    puts uri false none = none_put files place uri (puts_of (joined answers)) none sums.puts
+    puts : (uri : List ℕ) (b : Bool) → has_song music place uri ≡ b → times_put (joined answers) uri ≡ (if b then 1 else 0)
+    puts uri true song = omega (arith, sums.less uri, sums.more uri song, left uri, one_time music place uri song)
+    puts uri false none = none_put music place uri (puts_of (joined answers)) none sums.puts
 
     whole : drops_of (joined answers) ++ end.droppable ≡ drops_of (joined answers)
     whole = ap (λ l. drops_of (joined answers) ++ l) over.droppable ∙ append-nil (drops_of (joined answers))
 
-    drops : (uri : List ℕ) (b : Bool) → has_song files place uri ≡ b
+    drops : (uri : List ℕ) (b : Bool) → has_song music place uri ≡ b
         → is_among (drops_of (joined answers)) uri ≡ (is_among known uri && not b)
-    drops uri true song = none_among files place uri (drops_of (joined answers)) song sums.none ∙ sym (and_false (is_among known uri))
+    drops uri true song = none_among music place uri (drops_of (joined answers)) song sums.none ∙ sym (and_false (is_among known uri))
     drops uri false none =
         same_truth (is_among (drops_of (joined answers)) uri) (is_among known uri)
         (λ among. sums.parts uri (ap (λ l. is_among l uri) whole ∙ among))

@@ -1,12 +1,12 @@
 -- Texts that are put in one after the other: which are there, and that no other list rises with the same ones.
-use Rattle.std.proofs.Common.{◌≡◌, ◌⊎◌, inl, inr, ℕ, zero, suc, ◌<◌, Bool, true, false, List, [], ◌∷◌, length, cond}
+use Rattle.std.proofs.Common.{◌≡◌, ◌⊎◌, inl, inr, ℕ, zero, suc, ◌<◌, Bool, true, false, List, [], ◌∷◌, ◌++◌, length, cond}
 use Rattle.std.proofs.Common.{Option, Some, None, BTreeSet, refl, sym, ap, ◌∙◌, arith, filter}
 use Rattle.std.specs.Prelude.{slice_index_or}
 use Rattle.std.specs.BTreeSet as sorted
 use Rattle.std.specs.declared.cmp.Ordering.{Ordering}
 use Rattle.std.specs.declared.cmp.Ordering.TheVariants.{Less, Equal, Greater}
 use Rattle.std.specs.Cmp.Lexicographic.{nat_list_cmp_total}
-use Rattle.std.specs.List.{Contains, cons_option, filter_map}
+use Rattle.std.specs.List.{Contains, cons_option, filter_map, flat_map}
 use Rattle.std.specs.List.Sorted.{IsStrictlySortedBy}
 use Rattle.std.specs.Ordering.{is_eq, match_ordering}
 use Rattle.std.proofs.lemmas.Map.Lookups.{btree_set_from_contains}
@@ -21,21 +21,21 @@ use Rattle.song_db.specs.Replaced.{IsRising, replaced}
 use Rattle.song_db.specs.Row.{Row}
 use Rattle.song_db.proofs.Batches.{rising_replaced}
 use Rattle.song_db.proofs.Rising.{texts}
-use Rattle.wave_pcm.specs.Tag.{text_of}
-use Rattle.wave_pcm.specs.declared.tags.Tag.{Tag}
+use Rattle.song_files.specs.Tags.{texts_of}
+use Rattle.song_files.specs.declared.tag.Tag.{Tag}
 
 -- ---- what a list has
 
 first : {X : Type 0} (x : X) (xs : List X) → Contains (x ∷ xs) x
 first x xs = (0, omega arith, refl)
 
-behind : {X : Type 0} (x : X) (xs : List X) (y : X) → Contains xs y → Contains (x ∷ xs) y
+pub behind : {X : Type 0} (x : X) (xs : List X) (y : X) → Contains xs y → Contains (x ∷ xs) y
 behind x xs y there = let within : there.0 < length xs = there.1 in (suc there.0, omega arith, there.2)
 
 none_in_nothing : {X : Type 0} (y : X) → Contains [] y → ⊥
 none_in_nothing y there = let within : there.0 < 0 = there.1 in absurd (omega arith)
 
-first_or_behind : {X : Type 0} (x : X) (xs : List X) (y : X) → Contains (x ∷ xs) y → (x ≡ y) ⊎ Contains xs y
+pub first_or_behind : {X : Type 0} (x : X) (xs : List X) (y : X) → Contains (x ∷ xs) y → (x ≡ y) ⊎ Contains xs y
 first_or_behind x xs y there = by_place there.0 there.1 there.2
   where
     by_place : (k : ℕ) → k < length (x ∷ xs) → slice_index_or (x ∷ xs) k y ≡ y → (x ≡ y) ⊎ Contains xs y
@@ -128,7 +128,7 @@ all_rise known (t ∷ ts) rising = all_rise (with_text t known) ts (rising_repla
   few = omega arith;
 }) rising)
 
-nothing_rises : IsRising (λ (t : List ℕ). t) []
+pub nothing_rises : IsRising (λ (t : List ℕ). t) []
 unfolding IsStrictlySortedBy
 nothing_rises = tt
 
@@ -177,7 +177,7 @@ made_of_each {X} {Y} make (z ∷ xs) x y there is =
         rw made (first y (filter_map make xs))
     by_cases (inr at) rest = kept (make z) (rest at)
 
-passed_from : {X : Type 0} (test : X → Bool) (xs : List X) (x : X) → Contains (filter test xs) x → Contains xs x × (test x ≡ true)
+pub passed_from : {X : Type 0} (test : X → Bool) (xs : List X) (x : X) → Contains (filter test xs) x → Contains xs x × (test x ≡ true)
 passed_from test [] x there = absurd (none_in_nothing x there)
 passed_from {X} test (z ∷ xs) x there = by_cases (test z) refl there (passed_from test xs x)
   where
@@ -194,7 +194,7 @@ passed_from {X} test (z ∷ xs) x there = by_cases (test z) refl there (passed_f
     by_cases true h at rest = by_first h (first_or_behind z (filter test xs) x at) rest
     by_cases false h at rest = later (rest at)
 
-each_passes : {X : Type 0} (test : X → Bool) (xs : List X) (x : X) → Contains xs x → test x ≡ true → Contains (filter test xs) x
+pub each_passes : {X : Type 0} (test : X → Bool) (xs : List X) (x : X) → Contains xs x → test x ≡ true → Contains (filter test xs) x
 each_passes test [] x there is = absurd (none_in_nothing x there)
 each_passes {X} test (z ∷ xs) x there is = by_cases (first_or_behind z xs x there) (λ at. each_passes test xs x at is)
   where
@@ -208,22 +208,73 @@ each_passes {X} test (z ∷ xs) x there is = by_cases (first_or_behind z xs x th
         rw passes (0, omega arith, same)
     by_cases (inr at) rest = kept (test z) (rest at)
 
+in_either : {X : Type 0} (xs ys : List X) (y : X) → Contains (xs ++ ys) y → Contains xs y ⊎ Contains ys y
+in_either [] ys y there = inr there
+in_either {X} (x ∷ xs) ys y there = by_cases (first_or_behind x (xs ++ ys) y there) (in_either xs ys y)
+  where
+    by_rest : Contains xs y ⊎ Contains ys y → Contains (x ∷ xs) y ⊎ Contains ys y
+    by_rest (inl at) = inl (behind x xs y at)
+    by_rest (inr at) = inr at
+
+    by_cases : (x ≡ y) ⊎ Contains (xs ++ ys) y → (Contains (xs ++ ys) y → Contains xs y ⊎ Contains ys y)
+        → Contains (x ∷ xs) y ⊎ Contains ys y
+    by_cases (inl is) rest = inl (0, omega arith, is)
+    by_cases (inr at) rest = by_rest (rest at)
+
+in_front : {X : Type 0} (xs ys : List X) (y : X) → Contains xs y → Contains (xs ++ ys) y
+in_front [] ys y there = absurd (none_in_nothing y there)
+in_front {X} (x ∷ xs) ys y there = by_cases (first_or_behind x xs y there) (in_front xs ys y)
+  where
+    by_cases : (x ≡ y) ⊎ Contains xs y → (Contains xs y → Contains (xs ++ ys) y) → Contains (x ∷ (xs ++ ys)) y
+    by_cases (inl is) rest = (0, omega arith, is)
+    by_cases (inr at) rest = behind x (xs ++ ys) y (rest at)
+
+in_back : {X : Type 0} (xs ys : List X) (y : X) → Contains ys y → Contains (xs ++ ys) y
+in_back [] ys y there = there
+in_back (x ∷ xs) ys y there = behind x (xs ++ ys) y (in_back xs ys y there)
+
+all_from : {X Y : Type 0} (make : X → List Y) (xs : List X) (y : Y) → Contains (flat_map make xs) y
+    → (x : X) × Contains xs x × Contains (make x) y
+all_from make [] y there = absurd (none_in_nothing y there)
+all_from {X} {Y} make (x ∷ xs) y there = by_cases (in_either (make x) (flat_map make xs) y there) (all_from make xs y)
+  where
+    later : (z : X) × Contains xs z × Contains (make z) y → (z : X) × Contains (x ∷ xs) z × Contains (make z) y
+    later found = (found.0, behind x xs found.0 found.1, found.2)
+
+    by_cases : Contains (make x) y ⊎ Contains (flat_map make xs) y
+        → (Contains (flat_map make xs) y → (z : X) × Contains xs z × Contains (make z) y)
+        → (z : X) × Contains (x ∷ xs) z × Contains (make z) y
+    by_cases (inl at) rest = (x, first x xs, at)
+    by_cases (inr at) rest = later (rest at)
+
+all_of : {X Y : Type 0} (make : X → List Y) (xs : List X) (x : X) (y : Y) → Contains xs x → Contains (make x) y
+    → Contains (flat_map make xs) y
+all_of make [] x y there is = absurd (none_in_nothing x there)
+all_of {X} {Y} make (z ∷ xs) x y there is = by_cases (first_or_behind z xs x there) (λ at. all_of make xs x y at is)
+  where
+    by_cases : (z ≡ x) ⊎ Contains xs x → (Contains xs x → Contains (flat_map make xs) y) → Contains (make z ++ flat_map make xs) y
+    by_cases (inl same) rest =
+        let own : Contains (make z) y = rw same is in
+        in_front (make z) (flat_map make xs) y own
+    by_cases (inr at) rest = in_back (make z) (flat_map make xs) y (rest at)
+
 -- ---- the laws
 
 pub each_value : (rows : List Row) (tag : Tag) → AreTextsWith (IsValue rows tag) (values_of rows tag)
 each_value rows tag =
     record {
-      rising = all_rise [] (filter_map (λ row. text_of row.tags tag) rows) nothing_rises;
+      rising = all_rise [] all nothing_rises;
       each = λ text. (told text, has text);
     }
   where
+    all : List (List ℕ)
+    all = flat_map (λ (row : Row). texts_of row.tags tag) rows
+
     told : (text : List ℕ) → Contains (values_of rows tag) text → IsValue rows tag text
-    told text there =
-        made_from (λ (row : Row). text_of row.tags tag) rows text (distinct_has (filter_map (λ row. text_of row.tags tag) rows) text there)
+    told text there = all_from (λ (row : Row). texts_of row.tags tag) rows text (distinct_has all text there)
 
     has : (text : List ℕ) → IsValue rows tag text → Contains (values_of rows tag) text
-    has text value = all_come [] (filter_map (λ row. text_of row.tags tag) rows) text
-        (made_of_each (λ (row : Row). text_of row.tags tag) rows value.0 text value.1 value.2)
+    has text value = all_come [] all text (all_of (λ (row : Row). texts_of row.tags tag) rows value.0 text value.1 value.2)
 
 pub each_folder : (rows : List Row) (place : Place) → AreTextsWith (IsFolderIn rows place) (folders_in rows place)
 each_folder rows place =

@@ -5,9 +5,9 @@ use Rattle.std.specs.Prelude.{Result, IfOk, IfSome, IsOkUnless, MatchOption}
 use Rattle.std.specs.Str.{bytes_eq}
 use Rattle.std.specs.Option.{option_and_then}
 use Rattle.std.proofs.lemmas.List.Elements.{All-push, All-same}
-use Rattle.wave_pcm.specs.Folder.{File, bytes_at}
-use Rattle.wave_pcm.specs.declared.folder.FolderFault.{FolderFault}
-use Rattle.wave_pcm.specs.declared.folder.FolderFault.TheVariants.{Source, NoMemory}
+use Rattle.song_files.specs.Folder.{bytes_at}
+use Rattle.song_files.specs.declared.folder.FolderFault.{FolderFault}
+use Rattle.song_files.specs.declared.folder.FolderFault.TheVariants.{Source, NoMemory}
 use Rattle.song_db.specs.declared.change.RowChange.{RowChange}
 use Rattle.song_db.specs.declared.change.RowChange.TheVariants.{Put}
 use Rattle.song_db.specs.declared.refusal.SongDbError.{SongDbError}
@@ -17,57 +17,58 @@ use Rattle.song_db.specs.declared.scan.found.Found.TheVariants.{Song, Kept, NoSo
 use Rattle.song_db.specs.declared.scan.visit.Visit.{Visit}
 use Rattle.song_db.specs.Batch.{IsHonestBatch, IsWholeBatch}
 use Rattle.song_db.specs.Found.{IsKnown, IsOf, IsSongIn, IsTaken, changes_of, still_droppable, visited, without}
+use Rattle.song_db.specs.Music.{Music, song_at, song_in}
 use Rattle.song_db.specs.Pending.{Pending, file_at, times_pending}
 use Rattle.song_db.specs.Row.{Row}
-use Rattle.song_db.specs.Scan.{is_sought, puts_of, is_among, song_in, song_at, has_row, has_song}
+use Rattle.song_db.specs.Scan.{is_sought, puts_of, is_among, has_row, has_song}
 use Rattle.song_db.specs.Uri.{is_uri}
 use Rattle.song_db.proofs.BatchSteps.{puts-append}
 use Rattle.song_db.proofs.Counts.{song_parts, times-cons, times-append, put-one, same_bytes, bytes-comm, both, among_filter}
 
-pub honest_step : (files : List File) (place : Option (List ℕ)) (start : List Pending) (known : List (List ℕ)) (before after : List Pending)
+pub honest_step : (music : Music) (place : Option (List ℕ)) (start : List Pending) (known : List (List ℕ)) (before after : List Pending)
     (d e : List (List ℕ)) (changes : List RowChange)
     → ((uri : List ℕ) → times_pending after uri ≤ times_pending before uri)
-    → ((uri : List ℕ) → has_song files place uri ≡ true → is_among e uri ≡ true
+    → ((uri : List ℕ) → has_song music place uri ≡ true → is_among e uri ≡ true
     → (is_among d uri ≡ true) × (times_pending before uri ≤ times_pending after uri))
-    → IsHonestBatch files place start known before d changes → IsHonestBatch files place start known after e changes
-honest_step files place start known before after d e changes less stays batch =
+    → IsHonestBatch music place start known before d changes → IsHonestBatch music place start known after e changes
+honest_step music place start known before after d e changes less stays batch =
     record {
       read = λ uri. omega (arith, batch.read uri, less uri);
       puts = batch.puts;
       careful = λ first uri song among. let s = stays uri song among in omega (arith, batch.careful first uri song s.0, s.1);
     }
 
-pub whole_step : (files : List File) (place : Option (List ℕ)) (start : List Pending) (known : List (List ℕ)) (before after : List Pending)
+pub whole_step : (music : Music) (place : Option (List ℕ)) (start : List Pending) (known : List (List ℕ)) (before after : List Pending)
     (d e : List (List ℕ)) (changes : List RowChange)
-    → ((uri : List ℕ) → has_song files place uri ≡ true → times_pending before uri ≤ times_pending after uri)
-    → ((uri : List ℕ) → has_song files place uri ≡ false → is_among d uri ≡ true → is_among e uri ≡ true)
-    → IsWholeBatch files place start known before d changes → IsWholeBatch files place start known after e changes
-whole_step files place start known before after d e changes more stays batch =
+    → ((uri : List ℕ) → has_song music place uri ≡ true → times_pending before uri ≤ times_pending after uri)
+    → ((uri : List ℕ) → has_song music place uri ≡ false → is_among d uri ≡ true → is_among e uri ≡ true)
+    → IsWholeBatch music place start known before d changes → IsWholeBatch music place start known after e changes
+whole_step music place start known before after d e changes more stays batch =
     record {
       read = λ uri song. omega (arith, batch.read uri song, more uri song);
       gone = λ uri none among. stays uri none (batch.gone uri none among);
     }
 
 -- the next visit is taken from what is still to be read
-pub honest_taken : (files : List File) (place : Option (List ℕ)) (start : List Pending) (known : List (List ℕ))
+pub honest_taken : (music : Music) (place : Option (List ℕ)) (start : List Pending) (known : List (List ℕ))
     (before after : List Pending) (visit : Visit) (d : List (List ℕ)) (changes : List RowChange)
-    → IsTaken before visit after → IsHonestBatch files place start known before d changes
-    → IsHonestBatch files place start known (visited visit ++ after) d changes
-honest_taken files place start known before after visit d changes taken =
-    honest_step files place start known before (visited visit ++ after) d d changes
+    → IsTaken music.rules before visit after → IsHonestBatch music place start known before d changes
+    → IsHonestBatch music place start known (visited visit ++ after) d changes
+honest_taken music place start known before after visit d changes taken =
+    honest_step music place start known before (visited visit ++ after) d d changes
     (λ uri. omega (arith, taken.only uri, times-append (visited visit) after uri))
-    (λ uri song among. let parts = song_parts files place uri song in (
+    (λ uri song among. let parts = song_parts music place uri song in (
       among,
       omega (arith, taken.whole uri parts.form parts.name, times-append (visited visit) after uri),
     ))
 
-pub whole_taken : (files : List File) (place : Option (List ℕ)) (start : List Pending) (known : List (List ℕ)) (before after : List Pending)
+pub whole_taken : (music : Music) (place : Option (List ℕ)) (start : List Pending) (known : List (List ℕ)) (before after : List Pending)
     (visit : Visit) (d : List (List ℕ)) (changes : List RowChange)
-    → IsTaken before visit after → IsWholeBatch files place start known before d changes
-    → IsWholeBatch files place start known (visited visit ++ after) d changes
-whole_taken files place start known before after visit d changes taken =
-    whole_step files place start known before (visited visit ++ after) d d changes
-    (λ uri song. let parts = song_parts files place uri song in omega (
+    → IsTaken music.rules before visit after → IsWholeBatch music place start known before d changes
+    → IsWholeBatch music place start known (visited visit ++ after) d changes
+whole_taken music place start known before after visit d changes taken =
+    whole_step music place start known before (visited visit ++ after) d d changes
+    (λ uri song. let parts = song_parts music place uri song in omega (
       arith,
       taken.whole uri parts.form parts.name,
       times-append (visited visit) after uri,
@@ -94,121 +95,121 @@ left path uri d among =
     let parts = both (is_among d uri) (not (bytes_eq path uri)) (sym (among_filter (λ known. not (bytes_eq path known)) uri d) ∙ among) in
     (parts.0, not_true (bytes_eq path uri) parts.1)
 
-apart : (files : List File) (place : Option (List ℕ)) (path uri : List ℕ) (b : Bool) → has_song files place path ≡ b
-    → has_song files place uri ≡ not b → bytes_eq path uri ≡ false
-apart files place path uri b own other = by_cases (bytes_eq path uri) refl
+apart : (music : Music) (place : Option (List ℕ)) (path uri : List ℕ) (b : Bool) → has_song music place path ≡ b
+    → has_song music place uri ≡ not b → bytes_eq path uri ≡ false
+apart music place path uri b own other = by_cases (bytes_eq path uri) refl
   where
     differ : (c : Bool) → c ≡ not c → ⊥
     differ true h = absurd (cc)
     differ false h = absurd (cc)
 
     by_cases : (a : Bool) → bytes_eq path uri ≡ a → a ≡ false
-    by_cases true same = absurd (differ b (sym own ∙ ap (has_song files place) (same_bytes path uri same) ∙ other))
+    by_cases true same = absurd (differ b (sym own ∙ ap (has_song music place) (same_bytes path uri same) ∙ other))
     by_cases false h = refl
 
 -- what was found under a name
-abbrev pub IsTold : List File → Option (List ℕ) → List ℕ → Found → Type 0
-IsTold files place uri (Song row) = (row.uri ≡ uri) × (has_song files place row.uri ≡ true)
-IsTold files place uri (Kept kept) = kept ≡ uri
-IsTold files place uri NoSong = has_song files place uri ≡ false
+abbrev pub IsTold : Music → Option (List ℕ) → List ℕ → Found → Type 0
+IsTold music place uri (Song row) = (row.uri ≡ uri) × (has_song music place row.uri ≡ true)
+IsTold music place uri (Kept kept) = kept ≡ uri
+IsTold music place uri NoSong = has_song music place uri ≡ false
 
-honest_put : (files : List File) (place : Option (List ℕ)) (start : List Pending) (known : List (List ℕ)) (pending : List Pending)
+honest_put : (music : Music) (place : Option (List ℕ)) (start : List Pending) (known : List (List ℕ)) (pending : List Pending)
     (d : List (List ℕ)) (changes : List RowChange) (row : Row)
-    → has_song files place row.uri ≡ true → IsHonestBatch files place start known (file_at row.uri ∷ pending) d changes
-    → IsHonestBatch files place start known pending (without row.uri d) (changes ++ Put row ∷ [])
-honest_put files place start known pending d changes row song batch =
+    → has_song music place row.uri ≡ true → IsHonestBatch music place start known (file_at row.uri ∷ pending) d changes
+    → IsHonestBatch music place start known pending (without row.uri d) (changes ++ Put row ∷ [])
+honest_put music place start known pending d changes row song batch =
     record {
       read = λ uri. omega (arith, batch.read uri, put-one changes row uri, times-cons (file_at row.uri) pending uri);
-      puts = All-same (λ (r : Row). has_song files place r.uri ≡ true) _ _ (puts-append changes (Put row ∷ []))
-          (All-push (λ (r : Row). has_song files place r.uri ≡ true) (puts_of changes) row batch.puts song);
+      puts = All-same (λ (r : Row). has_song music place r.uri ≡ true) _ _ (puts-append changes (Put row ∷ []))
+          (All-push (λ (r : Row). has_song music place r.uri ≡ true) (puts_of changes) row batch.puts song);
       careful = λ first uri told among.
           let l = left row.uri uri d among in
           omega (arith, batch.careful first uri told l.0, others row.uri uri pending l.1);
     }
 
-whole_put : (files : List File) (place : Option (List ℕ)) (start : List Pending) (known : List (List ℕ)) (pending : List Pending)
+whole_put : (music : Music) (place : Option (List ℕ)) (start : List Pending) (known : List (List ℕ)) (pending : List Pending)
     (d : List (List ℕ)) (changes : List RowChange) (row : Row)
-    → has_song files place row.uri ≡ true → IsWholeBatch files place start known (file_at row.uri ∷ pending) d changes
-    → IsWholeBatch files place start known pending (without row.uri d) (changes ++ Put row ∷ [])
-whole_put files place start known pending d changes row song batch =
+    → has_song music place row.uri ≡ true → IsWholeBatch music place start known (file_at row.uri ∷ pending) d changes
+    → IsWholeBatch music place start known pending (without row.uri d) (changes ++ Put row ∷ [])
+whole_put music place start known pending d changes row song batch =
     record {
       read = λ uri told. omega (arith, batch.read uri told, put-one changes row uri, times-cons (file_at row.uri) pending uri);
       gone = λ uri none among.
           among_filter (λ known. not (bytes_eq row.uri known)) uri d
-          ∙ rw (batch.gone uri none among, apart files place row.uri uri true song none) refl;
+          ∙ rw (batch.gone uri none among, apart music place row.uri uri true song none) refl;
     }
 
-pub honest_told : (files : List File) (place : Option (List ℕ)) (start : List Pending) (known : List (List ℕ)) (pending : List Pending)
+pub honest_told : (music : Music) (place : Option (List ℕ)) (start : List Pending) (known : List (List ℕ)) (pending : List Pending)
     (d : List (List ℕ)) (changes : List RowChange) (uri : List ℕ) (found : Found)
-    → IsTold files place uri found → IsHonestBatch files place start known (file_at uri ∷ pending) d changes
-    → IsHonestBatch files place start known pending (still_droppable found d) (changes ++ changes_of found)
-honest_told files place start known pending d changes uri (Song row) told batch =
-    honest_put files place start known pending d changes row told.1 (rw told.0 batch)
-honest_told files place start known pending d changes uri (Kept kept) told batch =
-    rw (append-nil changes, told) (honest_step files place start known (file_at uri ∷ pending) pending d (without uri d) changes
+    → IsTold music place uri found → IsHonestBatch music place start known (file_at uri ∷ pending) d changes
+    → IsHonestBatch music place start known pending (still_droppable found d) (changes ++ changes_of found)
+honest_told music place start known pending d changes uri (Song row) told batch =
+    honest_put music place start known pending d changes row told.1 (rw told.0 batch)
+honest_told music place start known pending d changes uri (Kept kept) told batch =
+    rw (append-nil changes, told) (honest_step music place start known (file_at uri ∷ pending) pending d (without uri d) changes
     (λ other. fewer uri other pending)
     (λ other song among. let l = left uri other d among in (l.0, omega (arith, others uri other pending l.1))) batch)
-honest_told files place start known pending d changes uri NoSong told batch =
-    rw (append-nil changes) (honest_step files place start known (file_at uri ∷ pending) pending d d changes
+honest_told music place start known pending d changes uri NoSong told batch =
+    rw (append-nil changes) (honest_step music place start known (file_at uri ∷ pending) pending d d changes
     (λ other. fewer uri other pending)
-    (λ other song among. (among, omega (arith, others uri other pending (apart files place uri other false told song)))) batch)
+    (λ other song among. (among, omega (arith, others uri other pending (apart music place uri other false told song)))) batch)
 
-pub whole_told : (files : List File) (place : Option (List ℕ)) (start : List Pending) (known : List (List ℕ)) (pending : List Pending)
+pub whole_told : (music : Music) (place : Option (List ℕ)) (start : List Pending) (known : List (List ℕ)) (pending : List Pending)
     (d : List (List ℕ)) (changes : List RowChange) (uri : List ℕ) (found : Found)
-    → IsTold files place uri found → IsKnown found → IsWholeBatch files place start known (file_at uri ∷ pending) d changes
-    → IsWholeBatch files place start known pending (still_droppable found d) (changes ++ changes_of found)
-whole_told files place start known pending d changes uri (Song row) told sure batch =
-    whole_put files place start known pending d changes row told.1 (rw told.0 batch)
-whole_told files place start known pending d changes uri (Kept kept) told sure batch = absurd sure
-whole_told files place start known pending d changes uri NoSong told sure batch =
-    rw (append-nil changes) (whole_step files place start known (file_at uri ∷ pending) pending d d changes
-    (λ other song. omega (arith, others uri other pending (apart files place uri other false told song))) (λ other none among. among) batch)
+    → IsTold music place uri found → IsKnown found → IsWholeBatch music place start known (file_at uri ∷ pending) d changes
+    → IsWholeBatch music place start known pending (still_droppable found d) (changes ++ changes_of found)
+whole_told music place start known pending d changes uri (Song row) told sure batch =
+    whole_put music place start known pending d changes row told.1 (rw told.0 batch)
+whole_told music place start known pending d changes uri (Kept kept) told sure batch = absurd sure
+whole_told music place start known pending d changes uri NoSong told sure batch =
+    rw (append-nil changes) (whole_step music place start known (file_at uri ∷ pending) pending d d changes
+    (λ other song. omega (arith, others uri other pending (apart music place uri other false told song))) (λ other none among. among) batch)
 
 -- what the opening of an honest folder's file tells
-has_row_of : (files : List File) (place : Option (List ℕ)) (uri : List ℕ) (b : Bool) → is_sought place uri ≡ true → is_uri uri ≡ true
-    → has_row (song_at files uri) ≡ b → has_song files place uri ≡ b
-has_row_of files place uri b sought form row = rw (sought, form) row
+has_row_of : (music : Music) (place : Option (List ℕ)) (uri : List ℕ) (b : Bool) → is_sought music.rules place uri ≡ true → is_uri uri ≡ true
+    → has_row (song_at music uri) ≡ b → has_song music place uri ≡ b
+has_row_of music place uri b sought form row = rw (sought, form) row
 
-pub found_tells : {S : Type 0} (bytes : S → List ℕ) (honest : S → Type 0) (files : List File) (place : Option (List ℕ)) (uri : List ℕ)
+pub found_tells : {S : Type 0} (bytes : S → List ℕ) (honest : S → Type 0) (music : Music) (place : Option (List ℕ)) (uri : List ℕ)
     (opened : Result (Option S) FolderFault) (found : Found) (answer : Result Found SongDbError)
-    → is_sought place uri ≡ true → is_uri uri ≡ true → answer ≡ Ok found
-    → IfOk opened (λ file. MatchOption file (bytes_at files uri ≡ None) (λ source. (bytes_at files uri ≡ Some (bytes source))
+    → is_sought music.rules place uri ≡ true → is_uri uri ≡ true → answer ≡ Ok found
+    → IfOk opened (λ file. MatchOption file (bytes_at music.files uri ≡ None) (λ source. (bytes_at music.files uri ≡ Some (bytes source))
     × honest source))
     → (opened ≡ Err Source → answer ≡ Ok (Kept uri)) → (opened ≡ Ok None → answer ≡ Ok NoSong)
     → (opened ≡ Err NoMemory → answer ≡ Err MemoryRefused)
-    → IsOf uri found → ((source : S) → opened ≡ Ok (Some source) → honest source → IsSongIn uri (bytes source) found)
-    → IsTold files place uri found
-found_tells bytes honest files place uri opened (Kept kept) answer sought form is told fault none memory of song = of
-found_tells bytes honest files place uri (Err Source) (Song row) answer sought form is told fault none memory of song =
+    → IsOf uri found → ((source : S) → opened ≡ Ok (Some source) → honest source → IsSongIn music.rules uri (bytes source) found)
+    → IsTold music place uri found
+found_tells bytes honest music place uri opened (Kept kept) answer sought form is told fault none memory of song = of
+found_tells bytes honest music place uri (Err Source) (Song row) answer sought form is told fault none memory of song =
     absurd (cc (fault refl))
-found_tells bytes honest files place uri (Err NoMemory) (Song row) answer sought form is told fault none memory of song =
+found_tells bytes honest music place uri (Err NoMemory) (Song row) answer sought form is told fault none memory of song =
     absurd (cc (memory refl))
-found_tells bytes honest files place uri (Ok None) (Song row) answer sought form is told fault none memory of song = absurd (cc (none refl))
-found_tells bytes honest files place uri (Ok (Some source)) (Song row) answer sought form is told fault none memory of song =
+found_tells bytes honest music place uri (Ok None) (Song row) answer sought form is told fault none memory of song = absurd (cc (none refl))
+found_tells bytes honest music place uri (Ok (Some source)) (Song row) answer sought form is told fault none memory of song =
     let own = song source refl told.1 in
-    let there : song_at files uri ≡ Some row = ap (option_and_then (song_in uri)) told.0 ∙ own.0 in
-    (of, ap (has_song files place) of ∙ has_row_of files place uri true sought form (ap has_row there ∙ own.1))
-found_tells bytes honest files place uri (Err Source) NoSong answer sought form is told fault none memory of song = absurd (cc (fault refl))
-found_tells bytes honest files place uri (Err NoMemory) NoSong answer sought form is told fault none memory of song =
+    let there : song_at music uri ≡ Some row = ap (option_and_then (song_in music.rules uri)) told.0 ∙ own.0 in
+    (of, ap (has_song music place) of ∙ has_row_of music place uri true sought form (ap has_row there ∙ own.1))
+found_tells bytes honest music place uri (Err Source) NoSong answer sought form is told fault none memory of song = absurd (cc (fault refl))
+found_tells bytes honest music place uri (Err NoMemory) NoSong answer sought form is told fault none memory of song =
     absurd (cc (memory refl))
-found_tells bytes honest files place uri (Ok None) NoSong answer sought form is told fault none memory of song =
-    has_row_of files place uri false sought form (ap (λ found. has_row (option_and_then (song_in uri) found)) told)
-found_tells bytes honest files place uri (Ok (Some source)) NoSong answer sought form is told fault none memory of song =
-    has_row_of files place uri false sought form (ap (λ found. has_row (option_and_then (song_in uri) found)) told.0
+found_tells bytes honest music place uri (Ok None) NoSong answer sought form is told fault none memory of song =
+    has_row_of music place uri false sought form (ap (λ found. has_row (option_and_then (song_in music.rules uri) found)) told)
+found_tells bytes honest music place uri (Ok (Some source)) NoSong answer sought form is told fault none memory of song =
+    has_row_of music place uri false sought form (ap (λ found. has_row (option_and_then (song_in music.rules uri) found)) told.0
     ∙ song source refl told.1)
 
 -- and what a steady one's does
-pub found_known : {S : Type 0} (honest steady : S → Type 0) (files : List File) (bytes : S → List ℕ) (uri : List ℕ)
+pub found_known : {S : Type 0} (honest steady : S → Type 0) (music : Music) (bytes : S → List ℕ) (uri : List ℕ)
     (opened : Result (Option S) FolderFault) (found : Found) (answer : Result Found SongDbError)
     → answer ≡ Ok found
-    → IfOk opened (λ file. MatchOption file (bytes_at files uri ≡ None) (λ source. (bytes_at files uri ≡ Some (bytes source))
+    → IfOk opened (λ file. MatchOption file (bytes_at music.files uri ≡ None) (λ source. (bytes_at music.files uri ≡ Some (bytes source))
     × honest source))
     → IsOkUnless opened NoMemory → IfOk opened (λ file. IfSome file steady) → (opened ≡ Ok None → answer ≡ Ok NoSong)
     → (opened ≡ Err NoMemory → answer ≡ Err MemoryRefused)
     → ((source : S) → opened ≡ Ok (Some source) → honest source → steady source → IfOk answer IsKnown) → IsKnown found
-found_known honest steady files bytes uri (Err fault) found answer is told unless calm none memory known =
+found_known honest steady music bytes uri (Err fault) found answer is told unless calm none memory known =
     absurd (let m : answer ≡ Err MemoryRefused = memory (ap Err unless) in cc)
-found_known honest steady files bytes uri (Ok None) found answer is told unless calm none memory known =
+found_known honest steady music bytes uri (Ok None) found answer is told unless calm none memory known =
     let same : found ≡ NoSong = cc (none refl) in rw same tt
-found_known honest steady files bytes uri (Ok (Some source)) found answer is told unless calm none memory known =
+found_known honest steady music bytes uri (Ok (Some source)) found answer is told unless calm none memory known =
     rw is at (known source refl told.1 calm)

@@ -8,17 +8,21 @@ pub mod Differences
 mod DistinctTexts
 mod FolderRuns
 mod Folders
+mod Follows
 mod Gathered
+mod GroupMaps
+mod Groups
 mod HonestSteps
+mod Indexed
 mod Known
 mod KnownRows
 mod LastRow
 mod ListedSteps
-mod Numbered
 mod Opened
 mod Ordered
 mod OwnSteps
 mod Picked
+mod PlainTags
 mod Prefixes
 mod ReaderSteps
 mod ReadSteps
@@ -27,8 +31,11 @@ pub mod Rising
 pub mod RowPlaces
 mod RowSplits
 pub mod SameRows
+pub mod SixTexts
 mod Slashes
 mod Taken
+mod TextSteps
+mod IndexedValues
 pub mod Timing
 pub mod Turns
 mod WalkOrder

@@ -8,18 +8,19 @@ use Rattle.std.specs.String.{string_bytes}
 use Rattle.std.specs.declared.vec.Vec.{Vec}
 use Rattle.std.proofs.lemmas.Bool.Decides.{nat_tests}
 use Rattle.std.proofs.lemmas.List.Elements.{All-head, All-tail}
-use Rattle.wave_pcm.specs.Folder.{File, bytes_at}
-use Rattle.wave_pcm.specs.Listing.{behind_folder, behind, has_slash, is_name, first_part, same_kind, is_entry, begins_with, has_first}
-use Rattle.wave_pcm.specs.Listing.{IsListing, entries_of}
-use Rattle.wave_pcm.specs.Text.{has_control}
-use Rattle.wave_pcm.specs.declared.folder.FolderEntry.{FolderEntry}
-use Rattle.wave_pcm.specs.declared.folder.FolderFault.{FolderFault}
+use Rattle.song_files.specs.Folder.{File, bytes_at}
+use Rattle.song_files.specs.Listing.{behind_folder, behind, has_slash, is_name, first_part, same_kind, is_entry, begins_with, has_first}
+use Rattle.song_files.specs.Listing.{IsListing, entries_of}
+use Rattle.song_files.specs.Text.{has_control}
+use Rattle.song_files.specs.declared.folder.FolderEntry.{FolderEntry}
+use Rattle.song_files.specs.declared.folder.FolderFault.{FolderFault}
 use Rattle.song_db.specs.declared.change.RowChange.{RowChange}
 use Rattle.song_db.specs.Batch.{IsHonestBatch, IsWholeBatch, after_listing}
 use Rattle.song_db.specs.Found.{without_below}
+use Rattle.song_db.specs.Music.{Music, song_at}
 use Rattle.song_db.specs.Pending.{Pending, below, covers, times_pending, entry_pending, path_pending, entries_pending, listed_pending}
 use Rattle.song_db.specs.Place.{is_below}
-use Rattle.song_db.specs.Scan.{is_among, song_at, has_row, has_song}
+use Rattle.song_db.specs.Scan.{is_among, has_row, has_song}
 use Rattle.song_db.specs.Uri.{is_uri, is_good_part, parts}
 use Rattle.song_db.proofs.Below.{begins_below, below-bytes, HasFirst, has_first as first_of}
 use Rattle.song_db.proofs.Counts.{song_parts, count-cons, times-cons, same_bytes, bytes_self, both, among_filter}
@@ -238,11 +239,11 @@ has_first_of (file ∷ files) folder rest uri is there =
     by_cases false other there rest_of =
         rw (rest_of there) (or_true (begins_with (first_part rest) (has_slash rest) (behind folder file.path)))
 
-song_there : (files : List File) (uri : List ℕ) → has_row (song_at files uri) ≡ true → is_some (bytes_at files uri) ≡ true
-song_there files uri row = by_cases (bytes_at files uri) refl row
+song_there : (music : Music) (uri : List ℕ) → has_row (song_at music uri) ≡ true → is_some (bytes_at music.files uri) ≡ true
+song_there music uri row = by_cases (bytes_at music.files uri) refl row
   where
-    by_cases : (found : Option (List ℕ)) → bytes_at files uri ≡ found → has_row (song_at files uri) ≡ true → is_some found ≡ true
-    by_cases None none row = absurd (let k : has_row (song_at files uri) ≡ false = rw none refl in let l : true ≡ false = sym row ∙ k in cc)
+    by_cases : (found : Option (List ℕ)) → bytes_at music.files uri ≡ found → has_row (song_at music uri) ≡ true → is_some found ≡ true
+    by_cases None none row = absurd (let k : has_row (song_at music uri) ≡ false = rw none refl in let l : true ≡ false = sym row ∙ k in cc)
     by_cases (Some bytes) is row = refl
 
 -- the parts of a path on both sides of a slash
@@ -323,10 +324,10 @@ at_most files folder uri entries listing = by_cases (is_below folder uri) refl
         rw is (listed_under files folder (folder ++ 47 ∷ []) split.0 entries listing)
     by_cases false h = omega (arith, none_outside folder uri entries h)
 
-pub at_least : (files : List File) (place : Option (List ℕ)) (folder uri : List ℕ) (entries : List FolderEntry)
-    → IsListing files folder entries → folder ≢ []
-    → has_song files place uri ≡ true → cond (is_below folder uri) 1 0 ≤ times_pending (entries_pending (folder ++ 47 ∷ []) entries) uri
-at_least files place folder uri entries listing some song = by_cases (is_below folder uri) refl
+pub at_least : (music : Music) (place : Option (List ℕ)) (folder uri : List ℕ) (entries : List FolderEntry)
+    → IsListing music.files folder entries → folder ≢ []
+    → has_song music place uri ≡ true → cond (is_below folder uri) 1 0 ≤ times_pending (entries_pending (folder ++ 47 ∷ []) entries) uri
+at_least music place folder uri entries listing some song = by_cases (is_below folder uri) refl
   where
     ap_times : {rest : List ℕ} → uri ≡ rest → 1 ≤ times_pending (entries_pending (folder ++ 47 ∷ []) entries) rest
         → 1 ≤ times_pending (entries_pending (folder ++ 47 ∷ []) entries) uri
@@ -335,70 +336,70 @@ at_least files place folder uri entries listing some song = by_cases (is_below f
     by_cases : (b : Bool) → is_below folder uri ≡ b → cond b 1 0 ≤ times_pending (entries_pending (folder ++ 47 ∷ []) entries) uri
     by_cases true h =
         let split = below_splits folder uri (sym (below-bytes folder uri) ∙ h) in
-        let told = song_parts files place uri song in
+        let told = song_parts music place uri song in
         let good = all_both is_good_part (parts folder) (parts split.0)
         (sym (ap (list_all is_good_part) (ap parts split.1 ∙ parts_slash folder split.0)) ∙ good_parts uri told.form) in
         let is : uri ≡ (folder ++ 47 ∷ []) ++ split.0 = split.1 ∙ sym (prefixed folder split.0) in
-        ap_times is (listed_over files folder (folder ++ 47 ∷ []) split.0 uri entries listing good.1
-        (ap (behind folder) split.1 ∙ behind_own folder split.0 some) (song_there files uri told.row))
+        ap_times is (listed_over music.files folder (folder ++ 47 ∷ []) split.0 uri entries listing good.1
+        (ap (behind folder) split.1 ∙ behind_own folder split.0 some) (song_there music uri told.row))
     by_cases false h = omega arith
 
 pub root_most : (files : List File) (uri : List ℕ) (entries : List FolderEntry) → IsListing files [] entries
     → times_pending (entries_pending [] entries) uri ≤ 1
 root_most files uri entries listing = listed_under files [] [] uri entries listing
 
-pub root_least : (files : List File) (place : Option (List ℕ)) (uri : List ℕ) (entries : List FolderEntry) → IsListing files [] entries
-    → has_song files place uri ≡ true
+pub root_least : (music : Music) (place : Option (List ℕ)) (uri : List ℕ) (entries : List FolderEntry) → IsListing music.files [] entries
+    → has_song music place uri ≡ true
     → 1 ≤ times_pending (entries_pending [] entries) uri
-root_least files place uri entries listing song =
-    let told = song_parts files place uri song in
-    listed_over files [] [] uri uri entries listing (good_parts uri told.form) refl (song_there files uri told.row)
+root_least music place uri entries listing song =
+    let told = song_parts music place uri song in
+    listed_over music.files [] [] uri uri entries listing (good_parts uri told.form) refl (song_there music uri told.row)
 
 -- a folder whose entries are listed
-entered_honest : (files : List File) (place : Option (List ℕ)) (start : List Pending) (known : List (List ℕ)) (pending after : List Pending)
+entered_honest : (music : Music) (place : Option (List ℕ)) (start : List Pending) (known : List (List ℕ)) (pending after : List Pending)
     (d : List (List ℕ)) (changes : List RowChange) (folder : List ℕ) (entries : List FolderEntry)
-    → IsListing files folder entries → folder ≢ []
+    → IsListing music.files folder entries → folder ≢ []
     → ((uri : List ℕ) → times_pending after uri ≡ times_pending (entries_pending (folder ++ 47 ∷ []) entries) uri
     + times_pending pending uri)
-    → IsHonestBatch files place start known (below folder ∷ pending) d changes → IsHonestBatch files place start known after d changes
-entered_honest files place start known pending after d changes folder entries listing some told =
-    honest_step files place start known (below folder ∷ pending) after d d changes
-    (λ uri. omega (arith, told uri, times-cons (below folder) pending uri, at_most files folder uri entries listing))
+    → IsHonestBatch music place start known (below folder ∷ pending) d changes → IsHonestBatch music place start known after d changes
+entered_honest music place start known pending after d changes folder entries listing some told =
+    honest_step music place start known (below folder ∷ pending) after d d changes
+    (λ uri. omega (arith, told uri, times-cons (below folder) pending uri, at_most music.files folder uri entries listing))
     (λ uri song among. (
       among,
       omega (
         arith,
         told uri,
         times-cons (below folder) pending uri,
-        at_least files place folder uri entries listing some song,
+        at_least music place folder uri entries listing some song,
       ),
     ))
 
-entered_whole : (files : List File) (place : Option (List ℕ)) (start : List Pending) (known : List (List ℕ)) (pending after : List Pending)
+entered_whole : (music : Music) (place : Option (List ℕ)) (start : List Pending) (known : List (List ℕ)) (pending after : List Pending)
     (d : List (List ℕ)) (changes : List RowChange) (folder : List ℕ) (entries : List FolderEntry)
-    → IsListing files folder entries → folder ≢ []
+    → IsListing music.files folder entries → folder ≢ []
     → ((uri : List ℕ) → times_pending after uri ≡ times_pending (entries_pending (folder ++ 47 ∷ []) entries) uri
     + times_pending pending uri)
-    → IsWholeBatch files place start known (below folder ∷ pending) d changes → IsWholeBatch files place start known after d changes
-entered_whole files place start known pending after d changes folder entries listing some told =
-    whole_step files place start known (below folder ∷ pending) after d d changes
-    (λ uri song. omega (arith, told uri, times-cons (below folder) pending uri, at_least files place folder uri entries listing some song))
+    → IsWholeBatch music place start known (below folder ∷ pending) d changes → IsWholeBatch music place start known after d changes
+entered_whole music place start known pending after d changes folder entries listing some told =
+    whole_step music place start known (below folder ∷ pending) after d d changes
+    (λ uri song. omega (arith, told uri, times-cons (below folder) pending uri, at_least music place folder uri entries listing some song))
     (λ uri none among. among)
 
-pub honest_listed : {A : Type 0} (files : List File) (place : Option (List ℕ)) (start : List Pending) (known : List (List ℕ))
+pub honest_listed : {A : Type 0} (music : Music) (place : Option (List ℕ)) (start : List Pending) (known : List (List ℕ))
     (pending after : List Pending) (d : List (List ℕ)) (changes : List RowChange) (folder : List ℕ)
     (listing : Result (Option (Vec FolderEntry A)) FolderFault)
-    → is_uri folder ≡ true → IfOk listing (λ entries. IsListing files folder (entries_of entries))
+    → is_uri folder ≡ true → IfOk listing (λ entries. IsListing music.files folder (entries_of entries))
     → ((uri : List ℕ) → times_pending after uri ≡ times_pending (listed_pending (folder ++ 47 ∷ []) listing) uri
     + times_pending pending uri)
-    → IsHonestBatch files place start known (below folder ∷ pending) d changes
-    → IsHonestBatch files place start known after (after_listing folder listing d) changes
-honest_listed files place start known pending after d changes folder (Ok None) form listed told batch =
-    entered_honest files place start known pending after d changes folder [] listed (not_empty folder form) told batch
-honest_listed files place start known pending after d changes folder (Ok (Some entries)) form listed told batch =
-    entered_honest files place start known pending after d changes folder entries.items listed (not_empty folder form) told batch
-honest_listed files place start known pending after d changes folder (Err fault) form listed told batch =
-    honest_step files place start known (below folder ∷ pending) after d (without_below folder d) changes
+    → IsHonestBatch music place start known (below folder ∷ pending) d changes
+    → IsHonestBatch music place start known after (after_listing folder listing d) changes
+honest_listed music place start known pending after d changes folder (Ok None) form listed told batch =
+    entered_honest music place start known pending after d changes folder [] listed (not_empty folder form) told batch
+honest_listed music place start known pending after d changes folder (Ok (Some entries)) form listed told batch =
+    entered_honest music place start known pending after d changes folder entries.items listed (not_empty folder form) told batch
+honest_listed music place start known pending after d changes folder (Err fault) form listed told batch =
+    honest_step music place start known (below folder ∷ pending) after d (without_below folder d) changes
     (λ uri. omega (arith, told uri, times-cons (below folder) pending uri))
     (λ uri song among.
     let two = both (is_among d uri) (not (is_below folder uri))
@@ -417,16 +418,16 @@ honest_listed files place start known pending after d changes folder (Err fault)
     outside true h = absurd (cc)
     outside false h = refl
 
-pub whole_listed : {A : Type 0} (files : List File) (place : Option (List ℕ)) (start : List Pending) (known : List (List ℕ))
+pub whole_listed : {A : Type 0} (music : Music) (place : Option (List ℕ)) (start : List Pending) (known : List (List ℕ))
     (pending after : List Pending) (d : List (List ℕ)) (changes : List RowChange) (folder : List ℕ)
     (listing : Result (Option (Vec FolderEntry A)) FolderFault)
-    → is_uri folder ≡ true → IfErr listing (λ fault. ⊥) → IfOk listing (λ entries. IsListing files folder (entries_of entries))
+    → is_uri folder ≡ true → IfErr listing (λ fault. ⊥) → IfOk listing (λ entries. IsListing music.files folder (entries_of entries))
     → ((uri : List ℕ) → times_pending after uri ≡ times_pending (listed_pending (folder ++ 47 ∷ []) listing) uri
     + times_pending pending uri)
-    → IsWholeBatch files place start known (below folder ∷ pending) d changes
-    → IsWholeBatch files place start known after (after_listing folder listing d) changes
-whole_listed files place start known pending after d changes folder (Ok None) form sure listed told batch =
-    entered_whole files place start known pending after d changes folder [] listed (not_empty folder form) told batch
-whole_listed files place start known pending after d changes folder (Ok (Some entries)) form sure listed told batch =
-    entered_whole files place start known pending after d changes folder entries.items listed (not_empty folder form) told batch
-whole_listed files place start known pending after d changes folder (Err fault) form sure listed told batch = absurd sure
+    → IsWholeBatch music place start known (below folder ∷ pending) d changes
+    → IsWholeBatch music place start known after (after_listing folder listing d) changes
+whole_listed music place start known pending after d changes folder (Ok None) form sure listed told batch =
+    entered_whole music place start known pending after d changes folder [] listed (not_empty folder form) told batch
+whole_listed music place start known pending after d changes folder (Ok (Some entries)) form sure listed told batch =
+    entered_whole music place start known pending after d changes folder entries.items listed (not_empty folder form) told batch
+whole_listed music place start known pending after d changes folder (Err fault) form sure listed told batch = absurd sure

@@ -4,18 +4,20 @@ use Rattle.std.proofs.Common.{◌∙◌, arith}
 use Rattle.std.specs.Prelude.{Result, IfOk, IfErr, IfSome, unwrap_or, if◌then◌else◌}
 use Rattle.std.specs.Str.{bytes_eq}
 use Rattle.std.specs.declared.vec.Vec.{Vec}
-use Rattle.wave_pcm.specs.Folder.{File, bytes_at}
-use Rattle.wave_pcm.specs.Listing.{IsListing, IsNoFile, entries_of}
-use Rattle.wave_pcm.specs.declared.folder.FolderEntry.{FolderEntry}
-use Rattle.wave_pcm.specs.declared.folder.FolderFault.{FolderFault}
+use Rattle.song_files.specs.Folder.{bytes_at}
+use Rattle.song_files.specs.Listing.{IsListing, IsNoFile, entries_of}
+use Rattle.song_files.specs.declared.folder.FolderEntry.{FolderEntry}
+use Rattle.song_files.specs.declared.folder.FolderFault.{FolderFault}
+use Rattle.song_db.specs.declared.rules.LibraryRules.{LibraryRules}
 use Rattle.song_db.specs.declared.change.RowChange.{RowChange}
 use Rattle.song_db.specs.declared.scan.visit.Visit.TheVariants.{File as FileVisit, Nothing}
 use Rattle.song_db.specs.Batch.{IsHonestBatch, IsWholeBatch, after_own, visit_after}
 use Rattle.song_db.specs.Found.{visited, visit_of}
+use Rattle.song_db.specs.Music.{Music, song_at}
 use Rattle.song_db.specs.Name.{is_song}
 use Rattle.song_db.specs.Pending.{Pending, file_at, below, everything, times_pending, listed_pending, own_pending, own_prefix}
 use Rattle.song_db.specs.Place.{is_below}
-use Rattle.song_db.specs.Scan.{song_at, has_row, has_song}
+use Rattle.song_db.specs.Scan.{has_row, has_song}
 use Rattle.song_db.specs.Uri.{is_uri}
 use Rattle.song_db.proofs.Counts.{song_parts, times-cons, times-append, same_bytes}
 use Rattle.song_db.proofs.HonestSteps.{honest_step, whole_step}
@@ -29,15 +31,15 @@ own_times uri path = omega (arith, times-cons (file_at uri) (below uri ∷ []) p
 pub root_times : (path : List ℕ) → times_pending (own_pending None) path ≡ 1
 root_times path = omega (arith, times-cons everything [] path)
 
-song_less : (uri path : List ℕ) → times_pending (visited (visit_of uri false)) path ≤ cond (bytes_eq path uri) 1 0
-song_less uri path = by_name (is_song uri)
+song_less : (rules : LibraryRules) (uri path : List ℕ) → times_pending (visited (visit_of rules uri false)) path ≤ cond (bytes_eq path uri) 1 0
+song_less rules uri path = by_name (is_song rules uri)
   where
     by_name : (b : Bool) → times_pending (visited (if b then FileVisit uri else Nothing)) path ≤ cond (bytes_eq path uri) 1 0
     by_name true = omega (arith, times-cons (file_at uri) [] path)
     by_name false = omega arith
 
-song_more : (uri path : List ℕ) → is_song path ≡ true → cond (bytes_eq path uri) 1 0 ≤ times_pending (visited (visit_of uri false)) path
-song_more uri path song = by_name (is_song uri) refl
+song_more : (rules : LibraryRules) (uri path : List ℕ) → is_song rules path ≡ true → cond (bytes_eq path uri) 1 0 ≤ times_pending (visited (visit_of rules uri false)) path
+song_more rules uri path song = by_name (is_song rules uri) refl
   where
     none : (c : Bool) → (c ≡ true → ⊥) → cond c 1 0 ≤ 0
     none true h = absurd (h refl)
@@ -47,114 +49,114 @@ song_more uri path song = by_name (is_song uri) refl
     other true h k = absurd (cc)
     other false h k = absurd (cc)
 
-    by_name : (b : Bool) → is_song uri ≡ b
+    by_name : (b : Bool) → is_song rules uri ≡ b
         → cond (bytes_eq path uri) 1 0 ≤ times_pending (visited (if b then FileVisit uri else Nothing)) path
     by_name true h = omega (arith, times-cons (file_at uri) [] path)
-    by_name false h = none (bytes_eq path uri) (λ same. other (is_song uri) h (ap is_song (sym (same_bytes path uri same)) ∙ song))
+    by_name false h = none (bytes_eq path uri) (λ same. other (is_song rules uri) h (ap (is_song rules) (sym (same_bytes path uri same)) ∙ song))
 
 -- a folder is no song
-no_song : (files : List File) (place : Option (List ℕ)) (uri path : List ℕ) → bytes_at files uri ≡ None → has_song files place path ≡ true
+no_song : (music : Music) (place : Option (List ℕ)) (uri path : List ℕ) → bytes_at music.files uri ≡ None → has_song music place path ≡ true
     → cond (bytes_eq path uri) 1 0 ≤ 0
-no_song files place uri path none song = by_cases (bytes_eq path uri) refl
+no_song music place uri path none song = by_cases (bytes_eq path uri) refl
   where
     by_cases : (b : Bool) → bytes_eq path uri ≡ b → cond b 1 0 ≤ 0
     by_cases true same =
-        let row : has_row (song_at files path) ≡ true = (song_parts files place path song).row in
-        let absent : bytes_at files path ≡ None = ap (bytes_at files) (same_bytes path uri same) ∙ none in
-        absurd (let k : has_row (song_at files path) ≡ false = rw absent refl in let l : true ≡ false = sym row ∙ k in cc)
+        let row : has_row (song_at music path) ≡ true = (song_parts music place path song).row in
+        let absent : bytes_at music.files path ≡ None = ap (bytes_at music.files) (same_bytes path uri same) ∙ none in
+        absurd (let k : has_row (song_at music path) ≡ false = rw absent refl in let l : true ≡ false = sym row ∙ k in cc)
     by_cases false h = omega arith
 
 abbrev pub HasForm : Option (List ℕ) → Type 0
 HasForm place = IfSome place (λ uri. is_uri uri ≡ true)
 
 -- how often a path is to be read before, and after
-own_less : {A : Type 0} (files : List File) (place : Option (List ℕ)) (old after : List Pending)
+own_less : {A : Type 0} (music : Music) (place : Option (List ℕ)) (old after : List Pending)
     (listing : Result (Option (Vec FolderEntry A)) FolderFault) → HasForm place
-    → IfOk listing (λ entries. IsListing files (unwrap_or place []) (entries_of entries)) → old ≡ []
+    → IfOk listing (λ entries. IsListing music.files (unwrap_or place []) (entries_of entries)) → old ≡ []
     → ((uri : List ℕ) → times_pending after uri ≡ times_pending (listed_pending (own_prefix place) listing) uri + times_pending old uri)
-    → (uri : List ℕ) → times_pending (visited (visit_after place listing) ++ after) uri ≤ times_pending (own_pending place) uri
-own_less files None old after (Ok None) form listed none told uri =
+    → (uri : List ℕ) → times_pending (visited (visit_after music.rules place listing) ++ after) uri ≤ times_pending (own_pending place) uri
+own_less music None old after (Ok None) form listed none told uri =
     let n = ap (λ ps. times_pending ps uri) none in omega (arith, told uri, n)
-own_less files None old after (Ok (Some entries)) form listed none told uri =
-    let n = ap (λ ps. times_pending ps uri) none in omega (arith, told uri, n, root_times uri, root_most files uri entries.items listed)
-own_less files None old after (Err fault) form listed none told uri =
+own_less music None old after (Ok (Some entries)) form listed none told uri =
+    let n = ap (λ ps. times_pending ps uri) none in omega (arith, told uri, n, root_times uri, root_most music.files uri entries.items listed)
+own_less music None old after (Err fault) form listed none told uri =
     let n = ap (λ ps. times_pending ps uri) none in omega (arith, told uri, n)
-own_less files (Some own) old after (Ok None) form listed none told uri =
+own_less music (Some own) old after (Ok None) form listed none told uri =
     let n = ap (λ ps. times_pending ps uri) none in
-    omega (arith, told uri, n, own_times own uri, times-append (visited (visit_of own false)) after uri, song_less own uri)
-own_less files (Some own) old after (Ok (Some entries)) form listed none told uri =
+    omega (arith, told uri, n, own_times own uri, times-append (visited (visit_of music.rules own false)) after uri, song_less music.rules own uri)
+own_less music (Some own) old after (Ok (Some entries)) form listed none told uri =
     let n = ap (λ ps. times_pending ps uri) none in omega (
       arith,
       told uri,
       n,
       own_times own uri,
-      at_most files own uri entries.items listed,
+      at_most music.files own uri entries.items listed,
     )
-own_less files (Some own) old after (Err fault) form listed none told uri =
+own_less music (Some own) old after (Err fault) form listed none told uri =
     let n = ap (λ ps. times_pending ps uri) none in omega (arith, told uri, n)
 
-own_more : {A : Type 0} (files : List File) (place : Option (List ℕ)) (old after : List Pending)
+own_more : {A : Type 0} (music : Music) (place : Option (List ℕ)) (old after : List Pending)
     (listing : Result (Option (Vec FolderEntry A)) FolderFault) → HasForm place
-    → IfOk listing (λ entries. IsListing files (unwrap_or place []) (entries_of entries))
-    → IfOk listing (IsNoFile files (unwrap_or place []))
+    → IfOk listing (λ entries. IsListing music.files (unwrap_or place []) (entries_of entries))
+    → IfOk listing (IsNoFile music.files (unwrap_or place []))
     → IfErr listing (λ fault. ⊥) → old ≡ []
     → ((uri : List ℕ) → times_pending after uri ≡ times_pending (listed_pending (own_prefix place) listing) uri + times_pending old uri)
-    → (uri : List ℕ) → has_song files place uri ≡ true
-    → times_pending (own_pending place) uri ≤ times_pending (visited (visit_after place listing) ++ after) uri
-own_more files None old after (Ok None) form listed no_file sure none told uri song =
-    omega (arith, root_times uri, root_least files None uri [] listed song)
-own_more files None old after (Ok (Some entries)) form listed no_file sure none told uri song =
-    omega (arith, told uri, root_times uri, root_least files None uri entries.items listed song)
-own_more files (Some own) old after (Ok None) form listed no_file sure none told uri song =
+    → (uri : List ℕ) → has_song music place uri ≡ true
+    → times_pending (own_pending place) uri ≤ times_pending (visited (visit_after music.rules place listing) ++ after) uri
+own_more music None old after (Ok None) form listed no_file sure none told uri song =
+    omega (arith, root_times uri, root_least music None uri [] listed song)
+own_more music None old after (Ok (Some entries)) form listed no_file sure none told uri song =
+    omega (arith, told uri, root_times uri, root_least music None uri entries.items listed song)
+own_more music (Some own) old after (Ok None) form listed no_file sure none told uri song =
     omega (
       arith,
       told uri,
       own_times own uri,
-      times-append (visited (visit_of own false)) after uri,
-      song_more own uri (song_parts files (Some own) uri song).name,
-      at_least files (Some own) own uri [] listed (not_empty own form) song,
+      times-append (visited (visit_of music.rules own false)) after uri,
+      song_more music.rules own uri (song_parts music (Some own) uri song).name,
+      at_least music (Some own) own uri [] listed (not_empty own form) song,
     )
-own_more files (Some own) old after (Ok (Some entries)) form listed no_file sure none told uri song =
+own_more music (Some own) old after (Ok (Some entries)) form listed no_file sure none told uri song =
     omega (
       arith,
       told uri,
       own_times own uri,
-      no_song files (Some own) own uri (no_file (not_empty own form)) song,
-      at_least files (Some own) own uri entries.items listed (not_empty own form) song,
+      no_song music (Some own) own uri (no_file (not_empty own form)) song,
+      at_least music (Some own) own uri entries.items listed (not_empty own form) song,
     )
-own_more files place old after (Err fault) form listed no_file sure none told uri song = absurd sure
+own_more music place old after (Err fault) form listed no_file sure none told uri song = absurd sure
 
 no : {P : Type 0} → false ≡ true → P
 no h = absurd (cc)
 
-pub honest_own : {A : Type 0} (files : List File) (place : Option (List ℕ)) (start : List Pending) (known : List (List ℕ))
+pub honest_own : {A : Type 0} (music : Music) (place : Option (List ℕ)) (start : List Pending) (known : List (List ℕ))
     (old after : List Pending) (d : List (List ℕ)) (changes : List RowChange) (listing : Result (Option (Vec FolderEntry A)) FolderFault)
-    → HasForm place → IfOk listing (λ entries. IsListing files (unwrap_or place []) (entries_of entries))
-    → IfOk listing (IsNoFile files (unwrap_or place [])) → old ≡ []
+    → HasForm place → IfOk listing (λ entries. IsListing music.files (unwrap_or place []) (entries_of entries))
+    → IfOk listing (IsNoFile music.files (unwrap_or place [])) → old ≡ []
     → ((uri : List ℕ) → times_pending after uri ≡ times_pending (listed_pending (own_prefix place) listing) uri + times_pending old uri)
-    → IsHonestBatch files place start known (own_pending place) d changes
-    → IsHonestBatch files place start known (visited (visit_after place listing) ++ after) (after_own listing d) changes
-honest_own files place start known old after d changes (Ok entries) form listed no_file none told =
-    honest_step files place start known (own_pending place) (visited (visit_after place (Ok entries)) ++ after) d d changes
-    (own_less files place old after (Ok entries) form listed none told)
-    (λ uri song among. (among, own_more files place old after (Ok entries) form listed no_file tt none told uri song))
-honest_own {A} files place start known old after d changes (Err fault) form listed no_file none told =
-    honest_step files place start known (own_pending place) (visited (visit_after {A = A} place (Err fault)) ++ after) d [] changes
-    (own_less {A = A} files place old after (Err fault) form listed none told)
+    → IsHonestBatch music place start known (own_pending place) d changes
+    → IsHonestBatch music place start known (visited (visit_after music.rules place listing) ++ after) (after_own listing d) changes
+honest_own music place start known old after d changes (Ok entries) form listed no_file none told =
+    honest_step music place start known (own_pending place) (visited (visit_after music.rules place (Ok entries)) ++ after) d d changes
+    (own_less music place old after (Ok entries) form listed none told)
+    (λ uri song among. (among, own_more music place old after (Ok entries) form listed no_file tt none told uri song))
+honest_own {A} music place start known old after d changes (Err fault) form listed no_file none told =
+    honest_step music place start known (own_pending place) (visited (visit_after {A = A} music.rules place (Err fault)) ++ after) d [] changes
+    (own_less {A = A} music place old after (Err fault) form listed none told)
     (λ uri song among. no among)
 
-pub whole_own : {A : Type 0} (files : List File) (place : Option (List ℕ)) (start : List Pending) (known : List (List ℕ))
+pub whole_own : {A : Type 0} (music : Music) (place : Option (List ℕ)) (start : List Pending) (known : List (List ℕ))
     (old after : List Pending) (d : List (List ℕ)) (changes : List RowChange) (listing : Result (Option (Vec FolderEntry A)) FolderFault)
-    → HasForm place → IfOk listing (λ entries. IsListing files (unwrap_or place []) (entries_of entries))
-    → IfOk listing (IsNoFile files (unwrap_or place [])) → IfErr listing (λ fault. ⊥) → old ≡ []
+    → HasForm place → IfOk listing (λ entries. IsListing music.files (unwrap_or place []) (entries_of entries))
+    → IfOk listing (IsNoFile music.files (unwrap_or place [])) → IfErr listing (λ fault. ⊥) → old ≡ []
     → ((uri : List ℕ) → times_pending after uri ≡ times_pending (listed_pending (own_prefix place) listing) uri + times_pending old uri)
-    → IsWholeBatch files place start known (own_pending place) d changes
-    → IsWholeBatch files place start known (visited (visit_after place listing) ++ after) (after_own listing d) changes
-whole_own files place start known old after d changes (Ok entries) form listed no_file sure none told =
-    whole_step files place start known (own_pending place) (visited (visit_after place (Ok entries)) ++ after) d d changes
-    (own_more files place old after (Ok entries) form listed no_file tt none told)
+    → IsWholeBatch music place start known (own_pending place) d changes
+    → IsWholeBatch music place start known (visited (visit_after music.rules place listing) ++ after) (after_own listing d) changes
+whole_own music place start known old after d changes (Ok entries) form listed no_file sure none told =
+    whole_step music place start known (own_pending place) (visited (visit_after music.rules place (Ok entries)) ++ after) d d changes
+    (own_more music place old after (Ok entries) form listed no_file tt none told)
     (λ uri none among. among)
-whole_own files place start known old after d changes (Err fault) form listed no_file sure none told = absurd sure
+whole_own music place start known old after d changes (Err fault) form listed no_file sure none told = absurd sure
 
 -- a steady folder's listing that wasn't refused is one
 pub not_failed : {T A R : Type 0} (r : Result T R) (listing : Result A FolderFault) (x : T) (e : FolderFault) (refused : R) → r ≡ Ok x

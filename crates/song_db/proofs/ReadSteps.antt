@@ -4,33 +4,33 @@ use Rattle.std.specs.List.{All}
 use Rattle.std.specs.Str.{bytes_eq}
 use Rattle.std.proofs.lemmas.List.Elements.{All-cons, All-nil, All-same}
 use Rattle.std.proofs.lemmas.List.Folds.{list_any-append}
-use Rattle.wave_pcm.specs.Folder.{File}
 use Rattle.song_db.specs.declared.change.RowChange.{RowChange}
 use Rattle.song_db.specs.Batch.{IsHonestBatch, IsWholeBatch}
+use Rattle.song_db.specs.Music.{Music, song_at}
 use Rattle.song_db.specs.Pending.{Pending, times_pending}
 use Rattle.song_db.specs.Row.{Row}
-use Rattle.song_db.specs.Scan.{puts_of, drops_of, is_among, has_song, song_at, AreSongs, IsHonestRead, IsWholeRead}
+use Rattle.song_db.specs.Scan.{puts_of, drops_of, is_among, has_song, AreSongs, IsHonestRead, IsWholeRead}
 use Rattle.song_db.proofs.Counts.{bytes_self}
 
-pub honest_none : (files : List File) (place : Option (List ℕ)) (start : List Pending) (known : List (List ℕ)) (changes : List RowChange)
+pub honest_none : (music : Music) (place : Option (List ℕ)) (start : List Pending) (known : List (List ℕ)) (changes : List RowChange)
     → changes ≡ []
-    → IsHonestBatch files place start known start known changes
-honest_none files place start known changes none =
+    → IsHonestBatch music place start known start known changes
+honest_none music place start known changes none =
     rw none (record {
       read = λ uri. omega arith;
-      puts = All-nil (λ (row : Row). has_song files place row.uri ≡ true);
+      puts = All-nil (λ (row : Row). has_song music place row.uri ≡ true);
       careful =
           λ careful. careful;
     })
 
-pub whole_none : (files : List File) (place : Option (List ℕ)) (start : List Pending) (known : List (List ℕ)) (changes : List RowChange)
+pub whole_none : (music : Music) (place : Option (List ℕ)) (start : List Pending) (known : List (List ℕ)) (changes : List RowChange)
     → changes ≡ []
-    → IsWholeBatch files place start known start known changes
-whole_none files place start known changes none =
+    → IsWholeBatch music place start known start known changes
+whole_none music place start known changes none =
     rw none (record { read = λ uri song. omega arith; gone = λ uri none among. among })
 
-pub no_songs : (files : List File) (changes : List RowChange) → changes ≡ [] → AreSongs files changes
-no_songs files changes none = rw none (All-nil (λ (row : Row). song_at files row.uri ≡ Some row))
+pub no_songs : (music : Music) (changes : List RowChange) → changes ≡ [] → AreSongs music changes
+no_songs music changes none = rw none (All-nil (λ (row : Row). song_at music row.uri ≡ Some row))
 
 or_left : (a b : Bool) → a ≡ true → (a || b) ≡ true
 or_left true b h = refl
@@ -59,47 +59,48 @@ parted : (changes whole : List RowChange) (droppable left : List (List ℕ)) →
     → drops_of whole ++ left ≡ droppable
 parted changes whole droppable left none drops = drops ∙ ap (λ l. l ++ droppable) none
 
-pub honest_end : (files : List File) (place : Option (List ℕ)) (start pending : List Pending) (known droppable left : List (List ℕ))
+pub honest_end : (music : Music) (place : Option (List ℕ)) (start pending : List Pending) (known droppable left : List (List ℕ))
     (changes whole : List RowChange)
-    → IsHonestBatch files place start known pending droppable changes → drops_of changes ≡ []
+    → IsHonestBatch music place start known pending droppable changes → drops_of changes ≡ []
     → drops_of whole ++ left ≡ drops_of changes ++ droppable
-    → puts_of whole ≡ puts_of changes → AreSongs files changes → pending ≡ [] → IsHonestRead files place start pending known left whole
-honest_end files place start pending known droppable left changes whole batch none drops puts songs end =
+    → puts_of whole ≡ puts_of changes → AreSongs music changes → pending ≡ [] → IsHonestRead music place start pending known left whole
+honest_end music place start pending known droppable left changes whole batch none drops puts songs end =
     let parts : drops_of whole ++ left ≡ droppable = parted changes whole droppable left none drops in
     record {
       read = λ uri. rw puts (batch.read uri);
-      puts = All-same (λ (row : Row). has_song files place row.uri ≡ true) _ _ puts batch.puts;
-      songs = All-same (λ (row : Row). song_at files row.uri ≡ Some row) _ _ puts songs;
-      drops = λ careful. all_of (has_song files place) (drops_of whole) (λ uri among. no_song uri (has_song files place uri) refl
+      puts = All-same (λ (row : Row). has_song music place row.uri ≡ true) _ _ puts batch.puts;
+      songs = All-same (λ (row : Row). song_at music row.uri ≡ Some row) _ _ puts songs;
+      drops = λ careful. all_of (has_song music place) (drops_of whole) (λ uri among. no_song uri (has_song music place uri) refl
           (λ song. batch.careful careful uri song (ap (λ l. is_among l uri) (sym parts) ∙ among_left (drops_of whole) left uri among)));
       careful = λ careful uri song among. batch.careful careful uri song (ap (λ l. is_among l uri) (sym parts)
           ∙ among_right (drops_of whole) left uri among);
     }
   where
-    no_song : (uri : List ℕ) (b : Bool) → has_song files place uri ≡ b → (has_song files place uri ≡ true → 0 < times_pending pending uri)
+    no_song : (uri : List ℕ) (b : Bool) → has_song music place uri ≡ b → (has_song music place uri ≡ true → 0 < times_pending pending uri)
         → b ≡ false
     no_song uri true song some = absurd (let n = ap (λ ps. times_pending ps uri) end in omega (arith, some song, n))
     no_song uri false song some = refl
 
-pub honest_full : (files : List File) (place : Option (List ℕ)) (start pending : List Pending) (known droppable : List (List ℕ))
+pub honest_full : (music : Music) (place : Option (List ℕ)) (start pending : List Pending) (known droppable : List (List ℕ))
     (changes : List RowChange)
-    → IsHonestBatch files place start known pending droppable changes → drops_of changes ≡ [] → AreSongs files changes
-    → IsHonestRead files place start pending known droppable changes
-honest_full files place start pending known droppable changes batch none songs =
+    → IsHonestBatch music place start known pending droppable changes → drops_of changes ≡ [] → AreSongs music changes
+    → IsHonestRead music place start pending known droppable changes
+honest_full music place start pending known droppable changes batch none songs =
     record {
       read = batch.read;
       puts = batch.puts;
       songs = songs;
-      drops = λ careful. rw none (All-nil (λ uri. has_song files place uri ≡ false));
+      drops = λ careful. All-same (λ uri. has_song music place uri ≡ false) _ _ none
+          (All-nil (λ uri. has_song music place uri ≡ false));
       careful = batch.careful;
     }
 
-pub whole_end : (files : List File) (place : Option (List ℕ)) (start pending : List Pending) (known droppable left : List (List ℕ))
+pub whole_end : (music : Music) (place : Option (List ℕ)) (start pending : List Pending) (known droppable left : List (List ℕ))
     (changes whole : List RowChange)
-    → IsWholeBatch files place start known pending droppable changes → drops_of changes ≡ []
+    → IsWholeBatch music place start known pending droppable changes → drops_of changes ≡ []
     → drops_of whole ++ left ≡ drops_of changes ++ droppable
-    → puts_of whole ≡ puts_of changes → IsWholeRead files place start pending known left whole
-whole_end files place start pending known droppable left changes whole batch none drops puts =
+    → puts_of whole ≡ puts_of changes → IsWholeRead music place start pending known left whole
+whole_end music place start pending known droppable left changes whole batch none drops puts =
     record {
       read = λ uri song. rw puts (batch.read uri song);
       gone = λ uri absent among. ap (λ l. is_among l uri) (parted changes whole droppable left none drops) ∙ batch.gone uri absent among;

@@ -47,7 +47,7 @@ pub apart_greater : (a b : List ℕ) → texts a b ≡ Less → bytes_eq a b ≡
 apart_greater a b less = sym (is_eq-slice_cmp a b) ∙ ap is_eq less
 
 abbrev pub no_row : Row
-no_row = record { uri = []; rate = 0; channels = 0; first_byte = 0; frames = 0; tags = [] }
+no_row = record { uri = []; rate = 0; channels = 0; first_byte = 0; frames = 0; tags = []; stamp = None }
 
 -- the row of the URI stands at the place where it would be
 pub found : (rows : List Row) (uri : List ℕ) (i : ℕ) → IsPartitionPoint (IsBefore row_uri uri) (IsNotBefore row_uri uri) rows i

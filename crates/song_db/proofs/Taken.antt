@@ -1,7 +1,7 @@
 -- The next visit of a walk is taken from what is still to be read.
 use Rattle.std.proofs.Common.{◌≡◌, ℕ, ◌+◌, ◌≤◌, Bool, true, false, not, ◌&&◌, ◌||◌, List, [], ◌∷◌, ◌++◌, cond, take, get_or, length, nat_eq, suc}
 use Rattle.std.proofs.Common.{refl, sym, ap, ◌∙◌, arith, length-append}
-use Rattle.std.specs.Prelude.{nat_le, nat_lt, if◌then◌else◌}
+use Rattle.std.specs.Prelude.{Option, nat_le, nat_lt, if◌then◌else◌}
 use Rattle.std.specs.List.{list_any, list_all, flat_map, sum_by}
 use Rattle.std.specs.List.Sorted.{IsPermutation}
 use Rattle.std.specs.Str.{bytes_eq, is_utf8, chars, IsUtf8}
@@ -14,12 +14,15 @@ use Rattle.std.proofs.lemmas.List.Folds.{list_any-append}
 use Rattle.std.proofs.lemmas.List.Sorted.{sum_by-IsPermutation}
 use Rattle.std.proofs.lemmas.List.Sums.{sum_by-cons}
 use Rattle.std.proofs.lemmas.Str.{IsUtf8-from_is_utf8, is_utf8-from_IsUtf8, IsUtf8-take, chars-append}
-use Rattle.wave_pcm.specs.Text.{has_control}
-use Rattle.wave_pcm.specs.declared.folder.FolderEntry.{FolderEntry}
+use Rattle.song_files.specs.Text.{has_control}
+use Rattle.song_files.specs.declared.folder.FolderEntry.{FolderEntry}
+use Rattle.song_db.specs.declared.rules.LibraryRules.{LibraryRules}
 use Rattle.song_db.specs.declared.scan.visit.Visit.TheVariants.{File, Folder, Nothing}
-use Rattle.song_db.specs.Found.{IsTaken, visited, visit_of, visit_at}
+use Rattle.song_db.specs.Scan.{is_in}
+use Rattle.song_db.specs.Found.{IsTaken, IsVisitIn, visited, visit_of, visit_at}
 use Rattle.song_db.specs.Limits.{MAX_FOLDERS, MAX_URI_BYTES}
-use Rattle.song_db.specs.Name.{ends_as_wave, folders_over, is_song}
+use Rattle.song_db.specs.Name.{folders_over, is_song}
+use Rattle.song_db.specs.Endings.{is_named}
 use Rattle.song_db.specs.Pending.{Pending, file_at, below, covers, times_pending, path_pending, entry_pending, entries_pending}
 use Rattle.song_db.specs.Place.{is_below}
 use Rattle.song_db.specs.Uri.{is_uri, is_good_part, parts}
@@ -90,17 +93,17 @@ deeper folder uri h =
     let one : folders_over (47 ∷ split.0) ≡ 1 + folders_over split.0 = count-cons (λ b. nat_eq b 47) 47 split.0 in
     omega (arith, whole, one)
 
-too_deep : (folder uri : List ℕ) → nat_lt (folders_over folder) MAX_FOLDERS ≡ false → is_song uri ≡ true → is_below folder uri ≡ true → ⊥
-too_deep folder uri deep song h =
-    let within : nat_le (folders_over uri) MAX_FOLDERS ≡ true = (both (ends_as_wave uri) (nat_le (folders_over uri) MAX_FOLDERS) song).1 in
+too_deep : (rules : LibraryRules) (folder uri : List ℕ) → nat_lt (folders_over folder) MAX_FOLDERS ≡ false → is_song rules uri ≡ true → is_below folder uri ≡ true → ⊥
+too_deep rules folder uri deep song h =
+    let within : nat_le (folders_over uri) MAX_FOLDERS ≡ true = (both (is_named rules.endings uri) (nat_le (folders_over uri) MAX_FOLDERS) song).1 in
     numbers (folders_over folder) (folders_over uri) deep within (deeper folder uri h)
   where
     numbers : (a b : ℕ) → nat_lt a MAX_FOLDERS ≡ false → nat_le b MAX_FOLDERS ≡ true → a + 1 ≤ b → ⊥
     numbers a b deep within more = absurd (grind (arith, nat_tests))
 
 -- what a visit reads is what stood there
-visit_less : (path uri : List ℕ) (k : Bool) → times_pending (visited (visit_at path k)) uri ≤ cond (covers uri (path_pending path k)) 1 0
-visit_less path uri k = by_form (is_uri path) k
+visit_less : (rules : LibraryRules) (path uri : List ℕ) (k : Bool) → times_pending (visited (visit_at rules path k)) uri ≤ cond (covers uri (path_pending path k)) 1 0
+visit_less rules path uri k = by_form (is_uri path) k
   where
     one : (p : Pending) → times_pending (p ∷ []) uri ≤ cond (covers uri p) 1 0
     one p = omega (arith, times-cons p [] uri)
@@ -113,15 +116,15 @@ visit_less path uri k = by_form (is_uri path) k
     by_name true = one (file_at path)
     by_name false = omega arith
 
-    by_form : (b : Bool) (k : Bool) → times_pending (visited (if b then visit_of path k else Nothing)) uri
+    by_form : (b : Bool) (k : Bool) → times_pending (visited (if b then visit_of rules path k else Nothing)) uri
         ≤ cond (covers uri (path_pending path k)) 1 0
     by_form true true = by_depth (nat_lt (folders_over path) MAX_FOLDERS)
-    by_form true false = by_name (is_song path)
+    by_form true false = by_name (is_song rules path)
     by_form false k = omega arith
 
-visit_more : (path uri : List ℕ) (k : Bool) → is_uri uri ≡ true → is_song uri ≡ true
-    → cond (covers uri (path_pending path k)) 1 0 ≤ times_pending (visited (visit_at path k)) uri
-visit_more path uri k form song = by_form (is_uri path) refl k
+visit_more : (rules : LibraryRules) (path uri : List ℕ) (k : Bool) → is_uri uri ≡ true → is_song rules uri ≡ true
+    → cond (covers uri (path_pending path k)) 1 0 ≤ times_pending (visited (visit_at rules path k)) uri
+visit_more rules path uri k form song = by_form (is_uri path) refl k
   where
     none : (c : Bool) (n : ℕ) → (c ≡ true → ⊥) → cond c 1 0 ≤ n
     none true n h = absurd (h refl)
@@ -137,26 +140,53 @@ visit_more path uri k form song = by_form (is_uri path) refl k
     by_depth : (b : Bool) → nat_lt (folders_over path) MAX_FOLDERS ≡ b
         → cond (is_below path uri) 1 0 ≤ times_pending (visited (if b then Folder path else Nothing)) uri
     by_depth true h = one (below path)
-    by_depth false h = none (is_below path uri) _ (λ under. too_deep path uri h song under)
+    by_depth false h = none (is_below path uri) _ (λ under. too_deep rules path uri h song under)
 
-    by_name : (b : Bool) → is_song path ≡ b → cond (bytes_eq uri path) 1 0 ≤ times_pending (visited (if b then File path else Nothing)) uri
+    by_name : (b : Bool) → is_song rules path ≡ b → cond (bytes_eq uri path) 1 0 ≤ times_pending (visited (if b then File path else Nothing)) uri
     by_name true h = one (file_at path)
-    by_name false h = none (bytes_eq uri path) _ (λ same. other (is_song path) h (ap is_song (sym (same_bytes uri path same)) ∙ song))
+    by_name false h = none (bytes_eq uri path) _ (λ same. other (is_song rules path) h (ap (is_song rules) (sym (same_bytes uri path same)) ∙ song))
 
     by_form : (b : Bool) → is_uri path ≡ b → (k : Bool)
-        → cond (covers uri (path_pending path k)) 1 0 ≤ times_pending (visited (if b then visit_of path k else Nothing)) uri
+        → cond (covers uri (path_pending path k)) 1 0 ≤ times_pending (visited (if b then visit_of rules path k else Nothing)) uri
     by_form true h true = by_depth (nat_lt (folders_over path) MAX_FOLDERS) refl
-    by_form true h false = by_name (is_song path) refl
+    by_form true h false = by_name (is_song rules path) refl
     by_form false h true = none (is_below path uri) _ (λ under. other (is_uri path) h (folder_is_uri path uri form under))
     by_form false h false = none (bytes_eq uri path) _ (λ same. other (is_uri path) h (ap is_uri (sym (same_bytes uri path same)) ∙ form))
 
-pub taken_entry : (before after : List Pending) (path : List ℕ) (k : Bool)
+-- what is done at a path in the job's place is in it
+pub visit_in : (rules : LibraryRules) (place : Option (List ℕ)) (path : List ℕ) (k : Bool) → is_in place path ≡ true
+    → IsVisitIn rules place (visit_at rules path k)
+visit_in rules place path k within = by_form (is_uri path) refl k
+  where
+    by_depth : (b : Bool) → IsVisitIn rules place (if b then Folder path else Nothing)
+    by_depth true = within
+    by_depth false = tt
+
+    by_name : is_uri path ≡ true → (b : Bool) → is_song rules path ≡ b → IsVisitIn rules place (if b then File path else Nothing)
+    by_name form true name = (rw (within, name) refl, form)
+    by_name form false name = tt
+
+    by_form : (b : Bool) → is_uri path ≡ b → (k : Bool) → IsVisitIn rules place (if b then visit_of rules path k else Nothing)
+    by_form true form true = by_depth (nat_lt (folders_over path) MAX_FOLDERS)
+    by_form true form false = by_name form (is_song rules path) refl
+    by_form false form k = tt
+
+-- the job's own path as a file's
+pub own_visit_in : (rules : LibraryRules) (place : Option (List ℕ)) (uri : List ℕ) → is_in place uri ≡ true → is_uri uri ≡ true
+    → IsVisitIn rules place (visit_of rules uri false)
+own_visit_in rules place uri within form = by_name (is_song rules uri) refl
+  where
+    by_name : (b : Bool) → is_song rules uri ≡ b → IsVisitIn rules place (if b then File uri else Nothing)
+    by_name true name = (rw (within, name) refl, form)
+    by_name false name = tt
+
+pub taken_entry : (rules : LibraryRules) (before after : List Pending) (path : List ℕ) (k : Bool)
     → ((uri : List ℕ) → times_pending before uri ≡ cond (covers uri (path_pending path k)) 1 0 + times_pending after uri)
-    → IsTaken before (visit_at path k) after
-taken_entry before after path k told =
+    → IsTaken rules before (visit_at rules path k) after
+taken_entry rules before after path k told =
     record {
-      only = λ uri. omega (arith, told uri, visit_less path uri k);
-      whole = λ uri form song. omega (arith, told uri, visit_more path uri k form song);
+      only = λ uri. omega (arith, told uri, visit_less rules path uri k);
+      whole = λ uri form song. omega (arith, told uri, visit_more rules path uri k form song);
     }
 
 -- the levels of a walk

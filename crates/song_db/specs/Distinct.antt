@@ -6,17 +6,17 @@ use Rattle.song_db.specs.Place.{is_under}
 use Rattle.song_db.specs.Query.{folder_of}
 use Rattle.song_db.specs.Replaced.{IsRising}
 use Rattle.song_db.specs.Row.{Row}
-use Rattle.wave_pcm.specs.Tag.{text_of}
-use Rattle.wave_pcm.specs.declared.tags.Tag.{Tag}
+use Rattle.song_files.specs.Tags.{texts_of}
+use Rattle.song_files.specs.declared.tag.Tag.{Tag}
 
 -- all texts with a property and no others, rising, so that none comes twice
 pub record AreTextsWith (property : List ℕ → Type 0) (texts : List (List ℕ)) : Type 0 where
   pub rising : IsRising (λ t. t) texts
   pub each : (text : List ℕ) → Contains texts text ↔ property text
 
--- one of the rows has this text of the tag
+-- one of the rows has this text of the tag among its own
 abbrev pub IsValue : List Row → Tag → List ℕ → Type 0
-IsValue rows tag text = (row : Row) × Contains rows row × (text_of row.tags tag ≡ Some text)
+IsValue rows tag text = (row : Row) × Contains rows row × Contains (texts_of row.tags tag) text
 
 -- one of the rows under the place stands below this folder, which is directly in the place
 abbrev pub IsFolderIn : List Row → Place → List ℕ → Type 0

@@ -1,10 +1,11 @@
 -- What a scan looks at, and what it finds there.
 use Rattle.std.specs.Prelude.{◌≡◌, ℕ, ◌+◌, ◌≤◌, Bool, true, false, not, nat_lt, List, [], ◌∷◌, ◌++◌, filter, Option, Some}
-use Rattle.std.specs.Prelude.{Result, Ok, Err, if◌then◌else◌}
+use Rattle.std.specs.Prelude.{None, Result, Ok, Err, if◌then◌else◌}
 use Rattle.std.specs.Str.{bytes_eq}
 use Rattle.wave_pcm.specs.declared.info.WaveInfo.{WaveInfo}
 use Rattle.wave_pcm.specs.declared.refusal.WaveError.{WaveError}
 use Rattle.wave_pcm.specs.declared.refusal.WaveError.TheVariants.{NoMemory, NotWave, NoFormat, Unsupported, NoData, ReadFault, TooManyTurns}
+use Rattle.song_db.specs.declared.rules.LibraryRules.{LibraryRules}
 use Rattle.song_db.specs.declared.change.RowChange.{RowChange}
 use Rattle.song_db.specs.declared.change.RowChange.TheVariants.{Put}
 use Rattle.song_db.specs.Limits.{MAX_FOLDERS}
@@ -14,26 +15,27 @@ use Rattle.song_db.specs.declared.scan.found.Found.{Found}
 use Rattle.song_db.specs.declared.scan.found.Found.TheVariants.{Song, Kept, NoSong}
 use Rattle.song_db.specs.declared.scan.visit.Visit.{Visit}
 use Rattle.song_db.specs.declared.scan.visit.Visit.TheVariants.{File, Folder, Nothing}
+use Rattle.song_db.specs.Music.{song_in}
 use Rattle.song_db.specs.Name.{folders_over, is_song}
 use Rattle.song_db.specs.Pending.{Pending, file_at, below, times_pending}
 use Rattle.song_db.specs.Place.{is_below}
 use Rattle.song_db.specs.Row.{row_of, is_within_limits}
-use Rattle.song_db.specs.Scan.{is_in, is_sought, song_in, has_row}
+use Rattle.song_db.specs.Scan.{is_in, is_sought, has_row}
 use Rattle.song_db.specs.Uri.{is_uri}
 
 -- what is done at a path, which is a folder's or a file's
-abbrev pub visit_of : List ℕ → Bool → Visit
-visit_of path true = if nat_lt (folders_over path) MAX_FOLDERS then Folder path else Nothing
-visit_of path false = if is_song path then File path else Nothing
+abbrev pub visit_of : LibraryRules → List ℕ → Bool → Visit
+visit_of rules path true = if nat_lt (folders_over path) MAX_FOLDERS then Folder path else Nothing
+visit_of rules path false = if is_song rules path then File path else Nothing
 
 -- what doesn't have the form of a URI is skipped
-abbrev pub visit_at : List ℕ → Bool → Visit
-visit_at path is_folder = if is_uri path then visit_of path is_folder else Nothing
+abbrev pub visit_at : LibraryRules → List ℕ → Bool → Visit
+visit_at rules path is_folder = if is_uri path then visit_of rules path is_folder else Nothing
 
-abbrev pub IsVisitIn : Option (List ℕ) → Visit → Type 0
-IsVisitIn place (File uri) = (is_sought place uri ≡ true) × (is_uri uri ≡ true)
-IsVisitIn place (Folder uri) = is_in place uri ≡ true
-IsVisitIn place Nothing = Unit {0}
+abbrev pub IsVisitIn : LibraryRules → Option (List ℕ) → Visit → Type 0
+IsVisitIn rules place (File uri) = (is_sought rules place uri ≡ true) × (is_uri uri ≡ true)
+IsVisitIn rules place (Folder uri) = is_in place uri ≡ true
+IsVisitIn rules place Nothing = Unit {0}
 
 -- what a visit reads
 abbrev pub visited : Visit → List Pending
@@ -42,9 +44,9 @@ visited (Folder uri) = below uri ∷ []
 visited Nothing = []
 
 -- a visit takes from what is still to be read, and passes over nothing that can be a song
-pub record IsTaken (before : List Pending) (visit : Visit) (after : List Pending) : Type 0 where
+pub record IsTaken (rules : LibraryRules) (before : List Pending) (visit : Visit) (after : List Pending) : Type 0 where
   pub only : (uri : List ℕ) → times_pending (visited visit) uri + times_pending after uri ≤ times_pending before uri
-  pub whole : (uri : List ℕ) → is_uri uri ≡ true → is_song uri ≡ true
+  pub whole : (uri : List ℕ) → is_uri uri ≡ true → is_song rules uri ≡ true
       → times_pending before uri ≤ times_pending (visited visit) uri + times_pending after uri
 
 -- every path that begins so is in the job's place
@@ -53,7 +55,7 @@ IsPrefixIn place prefix = (name : List ℕ) → is_in place (prefix ++ name) ≡
 
 -- what the reading of a file's head tells of its row
 abbrev pub found_of : List ℕ → Result WaveInfo WaveError → Result Found SongDbError
-found_of uri (Ok info) = Ok (if is_within_limits (row_of uri info) then Song (row_of uri info) else NoSong)
+found_of uri (Ok info) = Ok (if is_within_limits (row_of uri info None) then Song (row_of uri info None) else NoSong)
 found_of uri (Err NoMemory) = Err MemoryRefused
 found_of uri (Err ReadFault) = Ok (Kept uri)
 found_of uri (Err NotWave) = Ok NoSong
@@ -75,10 +77,10 @@ IsOf uri (Kept kept) = kept ≡ uri
 IsOf uri NoSong = Unit {0}
 
 -- a row is that of the bytes, within the limits, and there is no song only where they have none
-abbrev pub IsSongIn : List ℕ → List ℕ → Found → Type 0
-IsSongIn uri bytes (Song row) = (song_in uri bytes ≡ Some row) × (is_within_limits row ≡ true)
-IsSongIn uri bytes (Kept kept) = Unit {0}
-IsSongIn uri bytes NoSong = has_row (song_in uri bytes) ≡ false
+abbrev pub IsSongIn : LibraryRules → List ℕ → List ℕ → Found → Type 0
+IsSongIn rules uri bytes (Song row) = (song_in rules uri bytes ≡ Some row) × (is_within_limits row ≡ true)
+IsSongIn rules uri bytes (Kept kept) = Unit {0}
+IsSongIn rules uri bytes NoSong = has_row (song_in rules uri bytes) ≡ false
 
 abbrev pub changes_of : Found → List RowChange
 changes_of (Song row) = Put row ∷ []

@@ -5,12 +5,13 @@ pub mod Distinct
 pub mod Droppable
 pub mod Duration
 pub mod Effect
+pub mod Endings
 pub mod Found
 pub mod Gain
-pub mod Kept
 pub mod Known
 pub mod Last
 pub mod Limits
+pub mod Music
 pub mod Name
 pub mod Order
 pub mod Pending
@@ -22,7 +23,8 @@ pub mod Replaced
 pub mod Row
 pub mod Same
 pub mod Scan
-pub mod TextKey
 pub mod Uri
+pub mod ValueIndex
+pub mod ValueRows
 pub mod Valued
 pub mod Walk

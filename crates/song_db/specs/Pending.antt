@@ -3,7 +3,8 @@ use Rattle.std.specs.Prelude.{ℕ, Bool, true, false, List, [], ◌∷◌, ◌++
 use Rattle.std.specs.Str.{bytes_eq}
 use Rattle.std.specs.String.{string_bytes}
 use Rattle.std.specs.declared.vec.Vec.{Vec}
-use Rattle.wave_pcm.specs.declared.folder.FolderEntry.{FolderEntry}
+use Rattle.song_files.specs.declared.folder.FolderEntry.{FolderEntry}
+use Rattle.song_db.specs.declared.rules.LibraryRules.{LibraryRules}
 use Rattle.song_db.specs.Place.{is_below}
 
 -- something still to be read: all that there is, the file at a path, or what stands below a folder
@@ -37,8 +38,9 @@ entry_pending prefix entry = path_pending (prefix ++ string_bytes entry.name) en
 abbrev pub entries_pending : List ℕ → List FolderEntry → List Pending
 entries_pending prefix entries = map (entry_pending prefix) entries
 
--- the walk of a scan: its folder or song, or none for the root, and what is still to be read of what it has entered
+-- the walk of a scan: its rules, its folder or song, or none for the root, and what is still to be read of what it has entered
 pub record Walked : Type 0 where
+  pub rules : LibraryRules
   pub place : Option (List ℕ)
   pub pending : List Pending
 

@@ -1,14 +1,14 @@
 -- What is asked of the rows.
 use Rattle.std.specs.Prelude.{ℕ, ◌+◌, Bool, true, ◌==◌, List, [], ◌∷◌, length, take, drop, filter, Option, option_map, is_none}
-use Rattle.std.specs.List.{position, list_any, filter_map}
+use Rattle.std.specs.List.{position, list_any, filter_map, flat_map}
 use Rattle.std.specs.Str.{bytes_eq}
 use Rattle.song_db.specs.declared.place.Place.{Place}
 use Rattle.song_db.specs.declared.place.Place.TheVariants.{Root, At}
 use Rattle.song_db.specs.Place.{is_below, is_under}
 use Rattle.song_db.specs.Replaced.{replaced}
 use Rattle.song_db.specs.Row.{Row}
-use Rattle.wave_pcm.specs.Tag.{text_of}
-use Rattle.wave_pcm.specs.declared.tags.Tag.{Tag}
+use Rattle.song_files.specs.Tags.{texts_of}
+use Rattle.song_files.specs.declared.tag.Tag.{Tag}
 
 -- the place of a URI's row among the rows, from 0 on
 abbrev pub number_at : List Row → List ℕ → Option ℕ
@@ -31,9 +31,9 @@ with_texts known (text ∷ texts) = with_texts (replaced (λ t. t) text (text �
 abbrev pub distinct_of : List (List ℕ) → List (List ℕ)
 distinct_of texts = with_texts [] texts
 
--- the values of a tag
+-- the values of a tag: a row may have several
 abbrev pub values_of : List Row → Tag → List (List ℕ)
-values_of rows tag = distinct_of (filter_map (λ row. text_of row.tags tag) rows)
+values_of rows tag = distinct_of (flat_map (λ row. texts_of row.tags tag) rows)
 
 -- how many bytes of a path stand for the place: those of the folder, and a slash
 abbrev pub skipped : Place → ℕ

@@ -1,26 +1,26 @@
 -- What a scan answers.
 use Rattle.std.specs.Prelude.{◌≡◌, ℕ, ◌+◌, ◌<◌, ◌≤◌, Bool, true, false, ◌||◌, ◌&&◌, List, [], ◌∷◌, ◌++◌, length, filter, count_by}
-use Rattle.std.specs.Prelude.{Option, Some, None, option_map}
-use Rattle.std.specs.Result.{result_ok}
+use Rattle.std.specs.Prelude.{Option, Some, None}
 use Rattle.std.specs.List.{list_any, All}
-use Rattle.std.specs.Option.{option_and_then}
 use Rattle.std.specs.Str.{bytes_eq}
 use Rattle.std.specs.declared.vec.Vec.{Vec}
-use Rattle.wave_pcm.specs.Folder.{File, bytes_at}
-use Rattle.wave_pcm.specs.Reading.{wave_reading}
+use Rattle.song_files.specs.Folder.{File}
+use Rattle.song_db.specs.declared.rules.LibraryRules.{LibraryRules}
 use Rattle.song_db.specs.declared.change.RowChange.{RowChange}
 use Rattle.song_db.specs.declared.change.RowChange.TheVariants.{Put, Drop}
 use Rattle.song_db.specs.Limits.{MAX_CHANGES}
+use Rattle.song_db.specs.Music.{Music, music_of, song_at}
 use Rattle.song_db.specs.Name.{is_song}
 use Rattle.song_db.specs.Pending.{Pending, times_pending}
 use Rattle.song_db.specs.Place.{is_below}
-use Rattle.song_db.specs.Row.{Row, row_of, is_within_limits}
+use Rattle.song_db.specs.Row.{Row, is_within_limits}
 use Rattle.song_db.specs.Uri.{is_uri}
 
--- the job and its folder or song, or none for the root; what is still to be read; the known URIs that may still be
+-- the job, the rules, and its folder or song, or none for the root; what is still to be read; the known URIs that may still be
 -- dropped; and whether it is over
 pub record Progress : Type 0 where
   pub job : ℕ
+  pub rules : LibraryRules
   pub place : Option (List ℕ)
   pub pending : List Pending
   pub droppable : List (List ℕ)
@@ -32,8 +32,8 @@ is_in None path = true
 is_in (Some uri) path = bytes_eq path uri || is_below uri path
 
 -- what a job seeks: files there that have the name of a song, within the depth
-abbrev pub is_sought : Option (List ℕ) → List ℕ → Bool
-is_sought place path = is_in place path && is_song path
+abbrev pub is_sought : LibraryRules → Option (List ℕ) → List ℕ → Bool
+is_sought rules place path = is_in place path && is_song rules path
 
 abbrev pub puts_of : List RowChange → List Row
 puts_of [] = []
@@ -58,7 +58,7 @@ pub record IsAnswer (before after : Progress) (changes : List RowChange) : Type 
   pub some : 0 < length changes
   pub few : length changes ≤ MAX_CHANGES
   pub last : length changes < MAX_CHANGES → (after.pending ≡ []) × (after.droppable ≡ [])
-  pub sought : All (λ row. is_sought before.place row.uri ≡ true) (puts_of changes)
+  pub sought : All (λ row. is_sought before.rules before.place row.uri ≡ true) (puts_of changes)
   pub drops : ArePartOf (drops_of changes ++ after.droppable) before.droppable
   pub read_stay : All (λ row. is_among (drops_of changes ++ after.droppable) row.uri ≡ false) (puts_of changes)
   pub going : after.is_over ≡ false
@@ -72,18 +72,12 @@ pub record IsEnd (after : Progress) : Type 0 where
 -- the order of a scan stays
 pub record IsSameOrder (before after : Progress) : Type 0 where
   pub job : after.job ≡ before.job
+  pub rules : after.rules ≡ before.rules
   pub place : after.place ≡ before.place
 
--- the row of the bytes under a URI, where they are a WAVE file
-abbrev pub song_in : List ℕ → List ℕ → Option Row
-song_in uri bytes = option_map (row_of uri) (result_ok (wave_reading bytes))
-
-abbrev pub song_at : List File → List ℕ → Option Row
-song_at files uri = option_and_then (song_in uri) (bytes_at files uri)
-
 -- each song that was read is one of the files
-abbrev pub AreSongs : List File → List RowChange → Type 0
-AreSongs files changes = All (λ row. song_at files row.uri ≡ Some row) (puts_of changes)
+abbrev pub AreSongs : Music → List RowChange → Type 0
+AreSongs music changes = All (λ row. song_at music row.uri ≡ Some row) (puts_of changes)
 
 -- a WAVE file whose row is within the limits
 abbrev pub has_row : Option Row → Bool
@@ -91,44 +85,44 @@ has_row None = false
 has_row (Some row) = is_within_limits row
 
 -- a job seeks a song at a path: one of the files, in the job's place, with a song's name, within depth and limits
-abbrev pub has_song : List File → Option (List ℕ) → List ℕ → Bool
-has_song files place uri = is_uri uri && (is_sought place uri && has_row (song_at files uri))
+abbrev pub has_song : Music → Option (List ℕ) → List ℕ → Bool
+has_song music place uri = is_uri uri && (is_sought music.rules place uri && has_row (song_at music uri))
 
 -- how often a song is put
 abbrev pub times_put : List RowChange → List ℕ → ℕ
 times_put changes uri = count_by (λ row. bytes_eq uri row.uri) (puts_of changes)
 
 -- a song that may still be dropped is still to be read
-abbrev pub IsCareful : List File → Option (List ℕ) → List Pending → List (List ℕ) → Type 0
-IsCareful files place pending droppable =
-    (uri : List ℕ) → has_song files place uri ≡ true → is_among droppable uri ≡ true → 0 < times_pending pending uri
+abbrev pub IsCareful : Music → Option (List ℕ) → List Pending → List (List ℕ) → Type 0
+IsCareful music place pending droppable =
+    (uri : List ℕ) → has_song music place uri ≡ true → is_among droppable uri ≡ true → 0 < times_pending pending uri
 
 -- what is read of an honest folder, whether it fails or not: what is put was still to be read, and is no more; nothing
 -- new is to be read; what is put is a song, with its row, and what is dropped is none
-pub record IsHonestRead (files : List File) (place : Option (List ℕ)) (before after : List Pending) (known left : List (List ℕ))
+pub record IsHonestRead (music : Music) (place : Option (List ℕ)) (before after : List Pending) (known left : List (List ℕ))
     (changes : List RowChange) : Type 0 where
   pub read : (uri : List ℕ) → times_put changes uri + times_pending after uri ≤ times_pending before uri
-  pub puts : All (λ row. has_song files place row.uri ≡ true) (puts_of changes)
-  pub songs : AreSongs files changes
-  pub drops : IsCareful files place before known → All (λ uri. has_song files place uri ≡ false) (drops_of changes)
-  pub careful : IsCareful files place before known → IsCareful files place after left
+  pub puts : All (λ row. has_song music place row.uri ≡ true) (puts_of changes)
+  pub songs : AreSongs music changes
+  pub drops : IsCareful music place before known → All (λ uri. has_song music place uri ≡ false) (drops_of changes)
+  pub careful : IsCareful music place before known → IsCareful music place after left
 
 -- and of one that never fails: a song that is no more to be read was put, and a known URI that is no song is dropped, now
 -- or later
-pub record IsWholeRead (files : List File) (place : Option (List ℕ)) (before after : List Pending) (known left : List (List ℕ))
+pub record IsWholeRead (music : Music) (place : Option (List ℕ)) (before after : List Pending) (known left : List (List ℕ))
     (changes : List RowChange) : Type 0 where
-  pub read : (uri : List ℕ) → has_song files place uri ≡ true
+  pub read : (uri : List ℕ) → has_song music place uri ≡ true
       → times_pending before uri ≤ times_put changes uri + times_pending after uri
-  pub gone : (uri : List ℕ) → has_song files place uri ≡ false → is_among known uri ≡ true
+  pub gone : (uri : List ℕ) → has_song music place uri ≡ false → is_among known uri ≡ true
       → is_among (drops_of changes ++ left) uri ≡ true
 
 abbrev pub IsHonestAnswer : List File → Progress → Progress → List RowChange → Type 0
 IsHonestAnswer files before after changes =
-    IsHonestRead files before.place before.pending after.pending before.droppable after.droppable changes
+    IsHonestRead (music_of before.rules files) before.place before.pending after.pending before.droppable after.droppable changes
 
 abbrev pub IsWholeAnswer : List File → Progress → Progress → List RowChange → Type 0
 IsWholeAnswer files before after changes =
-    IsWholeRead files before.place before.pending after.pending before.droppable after.droppable changes
+    IsWholeRead (music_of before.rules files) before.place before.pending after.pending before.droppable after.droppable changes
 
 -- the changes of an answer; none at the end
 abbrev pub changes_in : {A : Type 0} → Option (Vec RowChange A) → List RowChange

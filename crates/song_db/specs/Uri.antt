@@ -2,7 +2,7 @@
 use Rattle.std.specs.Prelude.{ℕ, Bool, not, ◌==◌, ◌&&◌, nat_le, List, [], length, codes}
 use Rattle.std.specs.List.{slice_split, list_all}
 use Rattle.std.specs.Str.{is_utf8, bytes_eq}
-use Rattle.wave_pcm.specs.Text.{has_control}
+use Rattle.song_files.specs.Text.{has_control}
 use Rattle.song_db.specs.Limits.{MAX_URI_BYTES}
 
 -- the parts between the slashes

@@ -1,18 +1,18 @@
 -- The rows with a value of a tag, by their numbers.
-use Rattle.std.specs.Prelude.{ℕ, suc, Bool, false, List, [], ◌∷◌, Option, Some, None, if◌then◌else◌}
+use Rattle.std.specs.Prelude.{ℕ, suc, Bool, List, [], ◌∷◌, if◌then◌else◌}
+use Rattle.std.specs.List.{list_any}
 use Rattle.std.specs.Str.{bytes_eq}
+use Rattle.song_files.specs.Tags.{TagText, texts_of}
+use Rattle.song_files.specs.declared.tag.Tag.{Tag}
 use Rattle.song_db.specs.Row.{Row}
-use Rattle.wave_pcm.specs.Tag.{text_of}
-use Rattle.wave_pcm.specs.declared.tags.Tag.{Tag}
 
--- the text is there, and is this one
-abbrev pub is_text : List ℕ → Option (List ℕ) → Bool
-is_text value None = false
-is_text value (Some text) = bytes_eq text value
+-- one of the texts of the tag is this one
+abbrev pub has_text : List TagText → Tag → List ℕ → Bool
+has_text tags tag value = list_any (λ text. bytes_eq text value) (texts_of tags tag)
 
--- the row's text of the tag is this one
+-- one of the row's values of the tag is this one
 abbrev pub has_value : Tag → List ℕ → Row → Bool
-has_value tag value row = is_text value (text_of row.tags tag)
+has_value tag value row = has_text row.tags tag value
 
 -- the numbers of the rows that pass a test, rising, where the first of all has this number
 abbrev pub numbers_from : ℕ → (Row → Bool) → List Row → List ℕ

@@ -1,10 +1,12 @@
 // The changes of a batch, made one after the other among the rows.
-ghost use Rattle.std.specs.Prelude.{◌≡◌, ◌<◌, ◌≤◌, ◌++◌, ◌+◌, length, vec_len, vec_capacity};
+ghost use Rattle.std.specs.Prelude.{◌≡◌, ◌<◌, ◌≤◌, ◌++◌, ◌+◌, List, length, vec_len, vec_capacity, IfOk};
 ghost use Rattle.song_db.specs.Change.{IsDatabase, after_change, after_batch};
 ghost use Rattle.song_db.specs.Duration.{IsTimed};
 ghost use Rattle.song_db.specs.Effect.{effect_of, effects_of};
 ghost use Rattle.song_db.specs.Replaced.{IsRising};
-ghost use Rattle.song_db.specs.Row.{row_uri};
+ghost use Rattle.song_db.specs.Row.{Row, row_uri};
+ghost use Rattle.song_db.specs.ValueIndex.{IsIndexed, coming};
+ghost use Rattle.song_db.specs.declared.change.RowChange.{RowChange};
 ghost use Rattle.song_db.specs.declared.change.RowChange.TheVariants.{Put, Drop};
 
 use crate::change::RowChange;
@@ -13,6 +15,8 @@ use crate::limits::MAX_ROWS;
 use crate::row::SongRow;
 use crate::rows::place;
 use crate::uri::Uri;
+use crate::value_index::ValueIndex;
+use std::alloc::{AllocError, Global};
 use std::mem;
 
 // A row comes, unless the very row stands there or the database is full.
@@ -70,42 +74,77 @@ fn make_change(rows: &mut Vec<SongRow>, change: RowChange) -> Effect
     }
 }
 
-// Makes a change, and keeps the milliseconds of all songs.
-fn make_timed(rows: &mut Vec<SongRow>, total: &mut u128, change: RowChange) -> Effect
+// Makes a change, and keeps the milliseconds of all songs and their index.
+fn make_timed(
+    alloc: Global,
+    rows: &mut Vec<SongRow>,
+    total: &mut u128,
+    index: &mut Option<ValueIndex>,
+    change: RowChange,
+) -> Effect
     requires database { IsDatabase rows.old.items }
     requires timed { IsTimed rows.old.items total.old }
+    requires indexed { IsIndexed rows.old.items index.old }
     requires room { vec_len rows.old < vec_capacity rows.old }
     ensures database { IsDatabase rows.new.items }
     ensures timed { IsTimed rows.new.items total.new }
+    ensures indexed { IsIndexed rows.new.items index.new }
     ensures effect { result ≡ effect_of rows.old.items change }
     ensures rows { rows.new.items ≡ after_change rows.old.items change }
     ensures len { vec_len rows.new ≤ vec_len rows.old + 1 }
     ensures capacity { vec_capacity rows.new ≡ vec_capacity rows.old }
 {
     let gain = change.gain();
+    let row = change.coming();
     let effect = make_change(rows, change);
     *total = total_after(*total, gain, &effect);
+    follow(alloc, index, row, &effect);
     effect
+}
+
+// Follows a change that has been made. Where memory is refused, there is no index any more.
+fn follow(
+    alloc: Global,
+    index: &mut Option<ValueIndex>,
+    row: Result<Option<SongRow>, AllocError>,
+    effect: &Effect,
+)
+    ensures { (rows : List Row) (change : RowChange) → IsRising row_uri rows → IfOk row (λ row. row ≡ coming change) →
+        effect.now ≡ effect_of rows change → IsIndexed rows index.old → IsIndexed (after_change rows change) index.new }
+{
+    let Some(mut present) = index.take() else {
+        return;
+    };
+    let Ok(row) = row else {
+        return;
+    };
+    if present.follow(alloc, row, effect).is_ok() {
+        *index = Some(present);
+    }
 }
 
 // Makes changes one after the other among rows that have room for all of them, and says what each did.
 pub(crate) fn make_changes(
+    alloc: Global,
     rows: &mut Vec<SongRow>,
     total: &mut u128,
+    index: &mut Option<ValueIndex>,
     changes: Vec<RowChange>,
     effects: &mut Vec<Effect>,
 )
     requires database { IsDatabase rows.old.items }
     requires timed { IsTimed rows.old.items total.old }
+    requires indexed { IsIndexed rows.old.items index.old }
     requires room { vec_len rows.old + length changes.items ≤ vec_capacity rows.old }
     requires room_told { vec_len effects.old + length changes.items ≤ vec_capacity effects.old }
     ensures database { IsDatabase rows.new.items }
     ensures timed { IsTimed rows.new.items total.new }
+    ensures indexed { IsIndexed rows.new.items index.new }
     ensures rows { rows.new.items ≡ after_batch rows.old.items changes.items }
     ensures effects { effects.new.items ≡ effects.old.items ++ effects_of rows.old.items changes.items }
 {
     for change in changes {
-        let effect = make_timed(rows, total, change);
+        let effect = make_timed(alloc, rows, total, index, change);
         effects.push_reserved(effect);
     }
 }

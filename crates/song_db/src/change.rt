@@ -1,10 +1,12 @@
 // A change of one row, as a batch has it.
-ghost use Rattle.std.specs.Prelude.{◌≡◌, ◌<◌, ◌^◌};
+ghost use Rattle.std.specs.Prelude.{◌≡◌, ◌<◌, ◌^◌, IfOk};
 ghost use Rattle.song_db.specs.Change.{uri_of};
 ghost use Rattle.song_db.specs.Gain.{gain_of};
+ghost use Rattle.song_db.specs.ValueIndex.{coming};
 
 use crate::row::SongRow;
 use crate::uri::Uri;
+use std::alloc::AllocError;
 
 /// What a batch does to one row.
 #[derive(Debug, Drop)]
@@ -22,6 +24,16 @@ impl RowChange {
         match self {
             RowChange::Put(row) => row.uri(),
             RowChange::Drop(uri) => uri.as_str(),
+        }
+    }
+
+    // A copy of the row that it brings.
+    pub(crate) fn coming(&self) -> Result<Option<SongRow>, AllocError>
+        ensures { IfOk result (λ row. row ≡ coming self.now) }
+    {
+        match self {
+            RowChange::Put(row) => Ok(Some(row.try_clone()?)),
+            RowChange::Drop(_) => Ok(None),
         }
     }
 

@@ -5,7 +5,7 @@ ghost use Rattle.song_db.specs.Distinct.{AreTextsWith, IsValue, IsFolderIn};
 ghost use Rattle.song_db.specs.Query.{values_of, folders_in};
 ghost use Rattle.song_db.specs.Row.{Row};
 ghost use Rattle.song_db.specs.declared.place.Place.{Place};
-ghost use Rattle.wave_pcm.specs.declared.tags.Tag.{Tag};
+ghost use Rattle.song_files.specs.declared.tag.Tag.{Tag};
 
 /// A scan from its beginning to its end, over an honest folder that never fails, tells the difference: each song is put
 /// once, with its row, and nothing else is; each known URI that is no song is dropped, and nothing else is.

@@ -4,15 +4,17 @@ ghost use Rattle.std.specs.Ordering.{nat_cmp, is_lt};
 ghost use Rattle.std.specs.Cmp.Lexicographic.{slice_cmp};
 ghost use Rattle.song_db.specs.Order.{AreKnown};
 
+use crate::rules::LibraryRules;
 use crate::uri::Uri;
 use std::marker::Model;
 
-/// What a scan is to read: a folder or a song, and the URIs of the rows that were there when the job was taken, the
+/// What a scan is to read: a folder or a song, by which rules, and the URIs of the rows that were there when the job was taken, the
 /// song itself included. They rise by their bytes.
 #[derive(Debug, Drop)]
 pub struct ScanOrder {
     job: u32,
     uri: Option<Uri>,
+    rules: LibraryRules,
     known: Vec<Uri>,
 }
 
@@ -21,29 +23,49 @@ impl Model for ScanOrder {
 
     ghost Value = { Order };
 
-    ghost view = { λ o. record { job = o.job; uri = o.uri; known = o.known.items } };
+    ghost view = { λ o. record { job = o.job; uri = o.uri; rules = o.rules; known = o.known.items } };
 
     ghost invariant = { λ o. AreKnown o.known.items };
 }
 
 impl ScanOrder {
     /// The order of a job for a folder or a song, or for the root; `None` where the known URIs don't rise.
-    pub fn new(job: u32, uri: Option<Uri>, known: Vec<Uri>) -> Option<ScanOrder>
+    pub fn new(
+        job: u32,
+        uri: Option<Uri>,
+        rules: LibraryRules,
+        known: Vec<Uri>,
+    ) -> Option<ScanOrder>
         ensures { MatchOption result (AreKnown known.items →
-            ⊥) (λ order. (order ≡ record { job = job; uri = uri; known = known.items }) × AreKnown known.items) }
+            ⊥) (λ order. (order ≡ record { job = job; uri = uri; rules = rules; known = known.items }) × AreKnown known.items) }
     {
         if !are_rising(&known) {
             return None;
         }
-        Some(ScanOrder { job, uri, known })
+        Some(ScanOrder {
+            job,
+            uri,
+            rules,
+            known,
+        })
     }
 
     // The order of a job that knows these, which rise.
-    pub(crate) fn of_known(job: u32, uri: Option<Uri>, known: Vec<Uri>) -> ScanOrder
+    pub(crate) fn of_known(
+        job: u32,
+        uri: Option<Uri>,
+        rules: LibraryRules,
+        known: Vec<Uri>,
+    ) -> ScanOrder
         requires { AreKnown known.items }
-        ensures { result ≡ record { job = job; uri = uri; known = known.items } }
+        ensures { result ≡ record { job = job; uri = uri; rules = rules; known = known.items } }
     {
-        ScanOrder { job, uri, known }
+        ScanOrder {
+            job,
+            uri,
+            rules,
+            known,
+        }
     }
 
     /// The number of the job.
@@ -60,6 +82,13 @@ impl ScanOrder {
         self.uri.as_ref()
     }
 
+    /// The rules by which songs are found and read.
+    pub fn rules(&self) -> LibraryRules
+        ensures { result ≡ self.now.rules }
+    {
+        self.rules
+    }
+
     /// The URIs of the rows that were there, rising.
     pub fn known(&self) -> &[Uri]
         ensures uris { result.now ≡ self.now.known }
@@ -68,13 +97,21 @@ impl ScanOrder {
         self.known.as_slice()
     }
 
-    pub(crate) fn into_parts(self) -> (u32, Option<Uri>, Vec<Uri>)
+    /// The same order by other rules.
+    pub fn with_rules(self, rules: LibraryRules) -> ScanOrder
+        ensures { result ≡ record { job = self.job; uri = self.uri; rules = rules; known = self.known } }
+    {
+        ScanOrder { rules, ..self }
+    }
+
+    pub(crate) fn into_parts(self) -> (u32, Option<Uri>, LibraryRules, Vec<Uri>)
         ensures job { result.0 ≡ self.job }
         ensures uri { result.1 ≡ self.uri }
-        ensures known { result.2.items ≡ self.known }
-        ensures rising { AreKnown result.2.items }
+        ensures rules { result.2 ≡ self.rules }
+        ensures known { result.3.items ≡ self.known }
+        ensures rising { AreKnown result.3.items }
     {
-        (self.job, self.uri, self.known)
+        (self.job, self.uri, self.rules, self.known)
     }
 }
 

@@ -1,63 +1,69 @@
 // A song of the database, within the limits of rates, channels and texts.
 ghost use Rattle.std.specs.Prelude.{◌≡◌, ◌↔◌, ◌<◌, ◌^◌, ◌&&◌, nat_le, IfOk, IsTrue, Some, None, if◌then◌else◌, option_copied};
 ghost use Rattle.std.specs.List.{list_all};
-ghost use Rattle.wave_pcm.specs.Tag.{text_of};
+ghost use Rattle.std.specs.Str.{bytes_eq};
+ghost use Rattle.song_files.specs.Tag.{is_tag};
+ghost use Rattle.song_files.specs.Tags.{first_text};
 ghost use Rattle.song_db.specs.Duration.{milliseconds};
-ghost use Rattle.song_db.specs.Row.{row_of, six_texts, is_good_tag, is_within_limits, is_row};
-ghost use Rattle.song_db.specs.Same.{same_text, same_texts, same_row};
-ghost use Rattle.song_db.specs.TextKey.{text_key};
-ghost use Rattle.song_db.specs.Valued.{has_value};
+ghost use Rattle.song_db.specs.Row.{row_of, is_good_tag, is_plain, is_plain_from, is_within_limits, is_row};
+ghost use Rattle.song_db.specs.Same.{same_tags, same_stamp, same_row};
+ghost use Rattle.song_db.specs.Valued.{has_text, has_value};
 
-use crate::text_key::{TextKey, keys_of};
 use crate::uri::Uri;
+use song_files::{FileStamp, MAX_TAGS, Tag, Tags};
 use std::alloc::{AllocError, Global};
 use std::marker::Model;
 use std::sync::Arc;
-use wave_pcm::{MAX_RATE, Tag, Tags, WaveInfo, is_tag_text};
+use wave_pcm::{MAX_RATE, WaveInfo};
 
 // What a row says.
 #[derive(Debug, Drop)]
 struct RowParts {
     uri: Uri,
     info: WaveInfo,
+    stamp: Option<FileStamp>,
 }
 
-/// A song of the database: its URI, how to find its frames, and its tags.
+/// A song of the database: its URI, how to find its frames, its tags, and the stamp of its file.
 ///
-/// Its rate is 1 to 192,000 frames a second, its channels are 1 or 2, and each of its six tags has no text or one of 1
-/// to 512 bytes of UTF-8 without a control character. It is one block of memory beside its texts, which its copies
-/// share.
+/// Its rate is 1 to 192,000 frames a second, its channels are 1 or 2, and each text of its tags has 1 to 512 bytes of
+/// UTF-8 without a control character. For now it has one text at most of each tag with a number below 6, and no stamp. It is one
+/// block of memory beside its texts, which its copies share.
 #[derive(Debug, Drop)]
 pub struct SongRow {
     parts: Arc<RowParts>,
-    // The keys of its six texts, which stand beside the other rows' keys: a value is looked for among them alone.
-    keys: [u8; 6],
 }
 
 impl Model for SongRow {
-    ghost use Rattle.std.specs.Prelude.{◌≡◌, IsTrue, map};
-    ghost use Rattle.song_db.specs.Row.{Row, row_of, six_texts, is_within_limits};
-    ghost use Rattle.song_db.specs.TextKey.{key_of};
+    ghost use Rattle.std.specs.Prelude.{IsTrue};
+    ghost use Rattle.song_db.specs.Row.{Row, row_of, is_within_limits};
 
     ghost Value = { Row };
 
-    ghost view = { λ r. row_of r.parts.value.uri r.parts.value.info };
+    ghost view = { λ r. row_of r.parts.value.uri r.parts.value.info r.parts.value.stamp };
 
-    ghost invariant = { λ r. IsTrue (is_within_limits (row_of r.parts.value.uri r.parts.value.info))
-        × (r.keys ≡ map key_of (six_texts r.parts.value.info.tags)) };
+    ghost invariant = { λ r. IsTrue (is_within_limits (row_of r.parts.value.uri r.parts.value.info r.parts.value.stamp)) };
 }
 
 impl SongRow {
-    /// The row of a song whose file has the head; `None` where the head passes a limit.
-    pub fn new(alloc: Global, uri: Uri, info: WaveInfo) -> Result<Option<SongRow>, AllocError>
-        ensures { IfOk result (λ row. row ≡ (if is_within_limits (row_of uri info) then Some (row_of uri info) else None)) }
+    /// The row of a song whose file has the head and, where stamps are kept, this stamp; `None` where one of them passes a limit.
+    pub fn new(
+        alloc: Global,
+        uri: Uri,
+        info: WaveInfo,
+        stamp: Option<FileStamp>,
+    ) -> Result<Option<SongRow>, AllocError>
+        ensures { IfOk result (λ row. row ≡ (if is_within_limits (row_of uri info stamp) then Some (row_of uri info stamp) else None)) }
     {
-        if !has_good_format(&info) || !has_good_tags(&info.tags) {
+        if !has_good_format(&info)
+            || !has_good_tags(&info.tags)
+            || !has_plain_tags(&info.tags)
+            || stamp.is_some()
+        {
             return Ok(None);
         }
-        let keys = keys_of(&info.tags);
-        let parts = Arc::new(alloc, RowParts { uri, info })?;
-        Ok(Some(SongRow { parts, keys }))
+        let parts = Arc::new(alloc, RowParts { uri, info, stamp })?;
+        Ok(Some(SongRow { parts }))
     }
 
     pub fn uri(&self) -> &str
@@ -73,31 +79,39 @@ impl SongRow {
         &self.parts.uri
     }
 
-    /// How to find its frames.
+    /// How to find its frames, and its tags.
     pub fn info(&self) -> &WaveInfo
-        ensures { row_of self.now.uri result.now ≡ self.now }
+        ensures { row_of self.now.uri result.now self.now.stamp ≡ self.now }
     {
         &self.parts.info
     }
 
+    /// All its tags with their texts, in the order of the tags' numbers.
+    pub fn tags(&self) -> &Tags
+        ensures { result.now ≡ self.now.tags }
+    {
+        &self.parts.info.tags
+    }
+
+    /// The first text of a tag.
     pub fn tag(&self, tag: Tag) -> Option<&str>
-        ensures { option_copied result ≡ text_of self.now.tags tag }
+        ensures { option_copied result ≡ first_text self.now.tags tag }
     {
         self.parts.info.tags.get(tag)
     }
 
-    /// Whether the text of a tag is there and is this one, which has this key. A text of another key isn't read.
-    pub fn has_value(&self, tag: Tag, value: &str, key: TextKey) -> bool
-        requires { key ≡ text_key value.now }
+    /// The stamp that its file had when it was read; `None` where the library keeps none.
+    pub fn stamp(&self) -> Option<FileStamp>
+        ensures { result ≡ self.now.stamp }
+    {
+        self.parts.stamp
+    }
+
+    /// Whether one of the texts of a tag is this one.
+    pub fn has_value(&self, tag: Tag, value: &str) -> bool
         ensures { result ≡ has_value tag value.now self.now }
     {
-        if self.keys[tag.place()] != key.byte {
-            return false;
-        }
-        match self.tag(tag) {
-            None => false,
-            Some(text) => text == value,
-        }
+        has_text(&self.parts.info.tags, tag, value)
     }
 
     /// How many milliseconds it plays, rounded down.
@@ -109,7 +123,7 @@ impl SongRow {
         u128::from(info.frames) * 1_000 / u128::from(info.rate)
     }
 
-    /// Whether the other row says the same: URI, frames and tags.
+    /// Whether the other row says the same: URI, frames, tags and stamp.
     pub fn is_same(&self, other: &SongRow) -> bool
         ensures value { result ≡ same_row self.now other.now }
         ensures same { IsTrue result ↔ (self.now ≡ other.now) }
@@ -128,6 +142,7 @@ impl SongRow {
             && info.first_byte == others.first_byte
             && info.frames == others.frames
             && are_same(&info.tags, &others.tags)
+            && is_same_stamp(self.parts.stamp, other.parts.stamp)
     }
 
     /// The same row once more, in the same memory. Refused where it has 2^63 copies.
@@ -135,10 +150,7 @@ impl SongRow {
         ensures { IfOk result (λ row. row ≡ self.now) }
     {
         let parts = Arc::try_clone(&self.parts)?;
-        Ok(SongRow {
-            parts,
-            keys: self.keys,
-        })
+        Ok(SongRow { parts })
     }
 }
 
@@ -149,44 +161,64 @@ fn has_good_format(info: &WaveInfo) -> bool
     1 <= info.rate && info.rate <= MAX_RATE && 1 <= info.channels && info.channels <= 2
 }
 
+// Whether the texts are good, as those of all tags are.
 fn has_good_tags(tags: &Tags) -> bool
-    ensures { result ≡ list_all is_good_tag (six_texts tags.now) }
+    ensures { result ≡ list_all is_good_tag tags.now }
 {
-    is_good_tag(tags.get(Tag::Title))
-        && is_good_tag(tags.get(Tag::Artist))
-        && is_good_tag(tags.get(Tag::Album))
-        && is_good_tag(tags.get(Tag::Date))
-        && is_good_tag(tags.get(Tag::Genre))
-        && is_good_tag(tags.get(Tag::Comment))
+    tags.len() <= MAX_TAGS
 }
 
-fn is_good_tag(text: Option<&str>) -> bool
-    ensures { result ≡ is_good_tag (option_copied text.entry) }
+// How many tags a row may have texts of: those with the lowest numbers.
+const PLAIN_TAGS: u8 = 6;
+
+// Whether there is one text at most of each of the six tags with the lowest numbers, and none of another.
+fn has_plain_tags(tags: &Tags) -> bool
+    ensures { result ≡ is_plain tags.now }
 {
-    match text {
-        None => true,
-        Some(text) => is_tag_text(text),
+    let mut next = 0u8;
+    for at in 0..tags.len() {
+        let number = tags.at(at).0.number();
+        if number < next || number >= PLAIN_TAGS {
+            return false;
+        }
+        next = number + 1;
     }
+    true
 }
 
-// Whether each of the six tags has the same text in both, or none.
+// Whether one of the texts of a tag is this one.
+fn has_text(tags: &Tags, tag: Tag, value: &str) -> bool
+    ensures { result ≡ has_text tags.now tag value.now }
+{
+    for at in 0..tags.len() {
+        let (own, text) = tags.at(at);
+        if is_text(own, text, tag, value) {
+            return true;
+        }
+    }
+    false
+}
+
+fn is_text(own: Tag, text: &str, tag: Tag, value: &str) -> bool
+    ensures { result ≡ (is_tag own tag && bytes_eq text.now value.now) }
+{
+    own == tag && text == value
+}
+
 fn are_same(tags: &Tags, others: &Tags) -> bool
-    ensures { result ≡ same_texts (six_texts tags.now) (six_texts others.now) }
+    ensures { result ≡ same_tags tags.now others.now }
 {
-    is_same_text(tags.get(Tag::Title), others.get(Tag::Title))
-        && is_same_text(tags.get(Tag::Artist), others.get(Tag::Artist))
-        && is_same_text(tags.get(Tag::Album), others.get(Tag::Album))
-        && is_same_text(tags.get(Tag::Date), others.get(Tag::Date))
-        && is_same_text(tags.get(Tag::Genre), others.get(Tag::Genre))
-        && is_same_text(tags.get(Tag::Comment), others.get(Tag::Comment))
+    tags.is_same(others)
 }
 
-fn is_same_text(text: Option<&str>, other: Option<&str>) -> bool
-    ensures { result ≡ same_text (option_copied text.entry) (option_copied other.entry) }
+pub(crate) fn is_same_stamp(stamp: Option<FileStamp>, other: Option<FileStamp>) -> bool
+    ensures { result ≡ same_stamp stamp other }
 {
-    match (text, other) {
+    match (stamp, other) {
         (None, None) => true,
-        (Some(text), Some(other)) => text == other,
+        (Some(stamp), Some(other)) => {
+            stamp.modified == other.modified && stamp.length == other.length
+        }
         _ => false,
     }
 }

@@ -16,14 +16,14 @@ use crate::refusal::SongDbError;
 use crate::scan::droppable::Droppable;
 use crate::scan::reader::Reader;
 use crate::scan::walk::FolderWalk;
+use song_files::Folder;
 use std::alloc::Global;
 use std::marker::Model;
-use wave_pcm::Folder;
 
 /// The scan of a job: it reads the songs of a folder, or one song, and tells the changes of their rows in batches.
 ///
-/// A song is a file whose name ends in `.wav` (in any ASCII case) at most 32 folders deep, counted from the root of the
-/// music, whose path has the form of a URI and whose head `wave_pcm::read_head` reads. It is a `Put`, changed or not.
+/// A song is a file whose name ends as the rules of the order say (in any ASCII case) at most 32 folders deep, counted from the root of the
+/// music, whose path has the form of a URI and whose head `song_head::read_song` reads. It is a `Put`, changed or not.
 /// Where its file can't be opened or read, nobody knows, and its row is kept; where a folder can't be listed, the rows
 /// below it are. The folders are walked by the bytes of names, files and folders mixed. After the walk each known URI
 /// that was neither read nor kept is a `Drop`, rising.
@@ -45,6 +45,7 @@ impl Model for Scan {
 
     ghost view = { λ s. record {
       job = s.job;
+      rules = s.reader.walk.rules;
       place = s.reader.walk.place;
       pending = still_pending s.reader.is_begun s.reader.walk;
       droppable = s.reader.droppable;
@@ -59,12 +60,19 @@ impl Scan {
     /// The scan of an order, which has read nothing yet. It takes memory for the marks; refused by `NoMemory`.
     pub fn begin(alloc: Global, order: ScanOrder) -> Result<Scan, SongDbError>
         ensures scan { IfOk result (λ scan. scan
-            ≡ record { job = order.job; place = order.uri; pending = own_pending order.uri; droppable = order.known; is_over = false }) }
+            ≡ record {
+              job = order.job;
+              rules = order.rules;
+              place = order.uri;
+              pending = own_pending order.uri;
+              droppable = order.known;
+              is_over = false;
+            }) }
         ensures only { IsOkUnless result NoMemory }
     {
-        let (job, place, known) = order.into_parts();
+        let (job, place, rules, known) = order.into_parts();
         let droppable = Droppable::new(alloc, known)?;
-        let walk = FolderWalk::new(alloc, place);
+        let walk = FolderWalk::new(alloc, rules, place);
         Ok(Scan {
             job,
             reader: Reader {

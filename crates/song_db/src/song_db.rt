@@ -1,25 +1,25 @@
 // The database of songs, and what is asked of it.
 ghost use Rattle.std.specs.Prelude.{◌≡◌, ◌↔◌, ◌+◌, ◌≤◌, [], ◌∷◌, ◌++◌, length, map, take, drop, IsTrue, Some, is_some};
-ghost use Rattle.std.specs.Prelude.{IfOk, OnOk, OnErr, IsOkUnless};
+ghost use Rattle.std.specs.Prelude.{IfOk, OnOk, OnErr, IsOkUnless, List, count_by, true};
 ghost use Rattle.song_db.specs.Change.{IsDatabase, after_batch};
 ghost use Rattle.song_db.specs.Duration.{total_of};
 ghost use Rattle.song_db.specs.Effect.{effects_of};
 ghost use Rattle.song_db.specs.Known.{uris_in};
-ghost use Rattle.song_db.specs.Last.{push_refusal, AnswersPush};
+ghost use Rattle.song_db.specs.Last.{ends_before, push_refusal, AnswersPush};
 ghost use Rattle.song_db.specs.Query.{number_at, rows_under, is_folder, folders_in, songs_in, values_of};
 ghost use Rattle.song_db.specs.Refusal.{AnswersExactlyIfThere, AnswersIfThere};
 ghost use Rattle.song_db.specs.Replaced.{IsRising};
-ghost use Rattle.song_db.specs.Row.{row_uri, row_at};
-ghost use Rattle.song_db.specs.Valued.{rows_with};
+ghost use Rattle.song_db.specs.Row.{Row, row_uri, row_at};
+ghost use Rattle.song_db.specs.ValueIndex.{IsIndexed};
+ghost use Rattle.song_db.specs.Valued.{has_value, rows_with};
 ghost use Rattle.song_db.specs.Walk.{IsWalk, walk_of};
 ghost use Rattle.song_db.specs.declared.refusal.SongDbError.TheVariants.{NoMemory};
-ghost use Rattle.wave_pcm.specs.declared.tags.Tag.TheVariants.{Artist, Album};
+ghost use Rattle.song_files.specs.declared.tag.Tag.TheVariants.{Artist, Album};
 
 use crate::batch::make_changes;
 use crate::change::RowChange;
 use crate::effect::Effects;
 use crate::folder_rows::{rows_below, run_below};
-use crate::kept::{KeptValues, kept_values, numbers_for};
 use crate::known_rows::known_in;
 use crate::limits::MAX_ROWS;
 use crate::near::position_near;
@@ -29,15 +29,17 @@ use crate::refusal::{PushError, SongDbError};
 use crate::row::SongRow;
 use crate::row_uri::RowUri;
 use crate::rows::{clone_rows, ends_before, position};
+use crate::rules::LibraryRules;
 use crate::texts::Texts;
 use crate::uri::Uri;
-use crate::valued::rows_with;
-use crate::values::{ValueCounts, folders_of, songs_of, value_counts};
+use crate::value_index::ValueIndex;
+use crate::valued::{count_with, rows_with};
+use crate::values::{ValueCounts, folders_of, songs_of, value_counts, values_of};
 use crate::walk::Walk;
+use song_files::Tag;
 use std::alloc::Global;
 use std::fmt;
 use std::marker::Model;
-use wave_pcm::Tag;
 
 /// The songs, by the bytes of their URIs: at most 65,536, and one for each URI.
 #[derive(Drop)]
@@ -45,11 +47,12 @@ pub struct SongDb {
     rows: Vec<SongRow>,
     // The milliseconds of all of them.
     total: u128,
-    // Where the values of some tags stand, so that they need not be found again.
-    kept: Vec<KeptValues>,
+    // The rows by the values of their tags. Where memory was refused, there is none, and the rows themselves are looked
+    // at, until a batch finds memory for it.
+    index: Option<ValueIndex>,
 }
 
-/// The songs and their milliseconds, and not what is kept of them.
+/// The songs and their milliseconds, and not their index.
 impl fmt::Debug for SongDb {
     fn fmt<W: fmt::Write>(&self, f: &mut fmt::Formatter<W>) -> fmt::Result {
         f.debug_struct("SongDb")
@@ -64,13 +67,13 @@ impl Model for SongDb {
     ghost use Rattle.song_db.specs.Row.{Row};
     ghost use Rattle.song_db.specs.Change.{IsDatabase};
     ghost use Rattle.song_db.specs.Duration.{IsTimed};
-    ghost use Rattle.song_db.specs.Kept.{AreKept};
+    ghost use Rattle.song_db.specs.ValueIndex.{IsIndexed};
 
     ghost Value = { List Row };
 
     ghost view = { λ d. d.rows.items };
 
-    ghost invariant = { λ d. IsDatabase d.rows.items × IsTimed d.rows.items d.total × AreKept d.rows.items d.kept.items };
+    ghost invariant = { λ d. IsDatabase d.rows.items × IsTimed d.rows.items d.total × IsIndexed d.rows.items d.index };
 }
 
 impl SongDb {
@@ -81,7 +84,7 @@ impl SongDb {
         SongDb {
             rows: Vec::new(alloc),
             total: 0,
-            kept: Vec::new(alloc),
+            index: Some(ValueIndex::new(alloc)),
         }
     }
 
@@ -115,8 +118,9 @@ impl SongDb {
 
     /// Makes the changes of a batch in their order, and says what each did at its turn. A new row that would pass the limit is left out.
     ///
-    /// Each change is a binary search; a new row moves those behind it, and a row that is there already moves nothing.
-    /// Memory is taken first: refused by `NoMemory`, the songs stay as they were.
+    /// Each change is a binary search, and one for each of its values; a new row moves those behind it, and a row that is there
+    /// already moves nothing. Memory is taken first: refused by `NoMemory`, the songs stay as they were. Memory that is
+    /// refused to the index alone is no refusal: until a later batch finds it, the rows are looked at in its place.
     pub fn apply_batch(
         &mut self,
         alloc: Global,
@@ -127,11 +131,27 @@ impl SongDb {
         ensures err { OnErr result (self.new ≡ self.old) }
         ensures only { IsOkUnless result NoMemory }
     {
+        self.have_index(alloc);
         let mut effects = Vec::with_capacity(alloc, changes.len())?;
         self.rows.reserve(changes.len())?;
-        self.kept.clear();
-        make_changes(&mut self.rows, &mut self.total, changes, &mut effects);
+        make_changes(
+            alloc,
+            &mut self.rows,
+            &mut self.total,
+            &mut self.index,
+            changes,
+            &mut effects,
+        );
         Ok(Effects { effects })
+    }
+
+    // Makes the index where there is none, if there is memory for it.
+    fn have_index(&mut self, alloc: Global)
+        ensures { self.new ≡ self.old }
+    {
+        if self.index.is_none() {
+            self.index = ValueIndex::of(alloc, &self.rows).ok();
+        }
     }
 
     /// The song of a URI, by a binary search. Refused by `NoSuchUri`.
@@ -215,24 +235,26 @@ impl SongDb {
         }
     }
 
-    /// The order of a job for a place: a folder or a song, or the root. It knows the URIs of the songs there, the song
-    /// of that very URI included. Refused by `NoMemory`.
+    /// The order of a job for a place, by these rules: a folder or a song, or the root. It knows the URIs of the songs there, the
+    /// song of that very URI included. Refused by `NoMemory`.
     pub fn scan_order(
         &self,
         alloc: Global,
         job: u32,
         place: Option<Uri>,
+        rules: LibraryRules,
     ) -> Result<ScanOrder, SongDbError>
-        ensures order { IfOk result (λ order. order ≡ record { job = job; uri = place; known = uris_in self.now place }) }
+        ensures order { IfOk result (λ order. order
+            ≡ record { job = job; uri = place; rules = rules; known = uris_in self.now place }) }
         ensures only { IsOkUnless result NoMemory }
     {
         let known = known_in(alloc, &self.rows, place.as_ref())?;
-        Ok(ScanOrder::of_known(job, place, known))
+        Ok(ScanOrder::of_known(job, place, rules, known))
     }
 
     /// Puts a row behind the last one, so that a database is built from rows that rise in linear time. Refused by
     /// `NotRising`, `Full` and `NoMemory`.
-    pub fn push_last(&mut self, row: SongRow) -> Result<(), PushError>
+    pub fn push_last(&mut self, alloc: Global, row: SongRow) -> Result<(), PushError>
         ensures ok { OnOk result (self.new ≡ self.old ++ row ∷ []) }
         ensures err { OnErr result (self.new ≡ self.old) }
         ensures answer { AnswersPush (push_refusal self.old row) result }
@@ -244,13 +266,14 @@ impl SongDb {
             return Err(PushError::Full);
         }
         self.rows.reserve(1)?;
-        self.kept.clear();
+        self.index = with_last(alloc, self.index.take(), &row);
         self.total += row.milliseconds();
         self.rows.push_reserved(row);
         Ok(())
     }
 
-    /// The same songs once more. The copies of the rows share their memory. Refused by `NoMemory`.
+    /// The same songs once more, without an index until the first batch. The copies of the rows share their memory. Refused by
+    /// `NoMemory`.
     pub fn try_clone(&self, alloc: Global) -> Result<SongDb, SongDbError>
         ensures songs { IfOk result (λ copy. copy ≡ self.now) }
         ensures only { IsOkUnless result NoMemory }
@@ -259,7 +282,7 @@ impl SongDb {
         Ok(SongDb {
             rows,
             total: self.total,
-            kept: Vec::new(alloc),
+            index: None,
         })
     }
 
@@ -292,36 +315,29 @@ impl SongDb {
         Ok(songs_of(alloc, rows, place)?)
     }
 
-    /// The numbers of the rows whose text of a tag is exactly this value, rising. Of the rows only those are read whose text has the
-    /// value's key. Refused by `NoMemory`.
+    /// The numbers of the rows one of whose texts of a tag is exactly this value, rising. It is a look-up, and a look at each of
+    /// these rows alone. Refused by `NoMemory`.
     pub fn rows_with(&self, alloc: Global, tag: Tag, value: &str) -> Result<Vec<u32>, SongDbError>
         ensures numbers { IfOk result (λ numbers. numbers.items ≡ rows_with self.now tag value.now) }
         ensures only { IsOkUnless result NoMemory }
     {
-        Ok(rows_with(alloc, &self.rows, tag, value)?)
+        Ok(rows_with(alloc, &self.rows, &self.index, tag, value)?)
     }
 
-    /// Keeps where the values of a tag stand until the songs change, so that `distinct` and `value_counts` read no row without need.
-    /// Where they are kept already nothing is done. Refused by `NoMemory`, and then they are not kept.
-    pub fn keep_values(&mut self, alloc: Global, tag: Tag) -> Result<(), SongDbError>
-        ensures songs { self.new ≡ self.old }
-        ensures only { IsOkUnless result NoMemory }
+    /// How many rows have this value among their texts of a tag. It is a look-up, and takes no memory.
+    pub fn count_with(&self, tag: Tag, value: &str) -> usize
+        ensures { result ≡ count_by (has_value tag value.now) self.now }
     {
-        if numbers_for(&self.kept, tag).is_some() {
-            return Ok(());
-        }
-        let values = KeptValues::of(alloc, &self.rows, tag)?;
-        self.kept.push(values)?;
-        Ok(())
+        count_with(&self.rows, &self.index, tag, value)
     }
 
-    /// How many artists and albums the songs have, each counted once; no text is copied. Refused by `NoMemory`.
+    /// How many artists and albums the songs have, each counted once. They are counted already. Refused by `NoMemory`.
     pub fn value_counts(&self, alloc: Global) -> Result<ValueCounts, SongDbError>
         ensures artists { IfOk result (λ counts. counts.artists ≡ length (values_of self.now Artist)) }
         ensures albums { IfOk result (λ counts. counts.albums ≡ length (values_of self.now Album)) }
         ensures only { IsOkUnless result NoMemory }
     {
-        Ok(value_counts(alloc, &self.rows, &self.kept)?)
+        Ok(value_counts(alloc, &self.rows, &self.index)?)
     }
 
     /// The values of a tag by their bytes; rows without the tag give none. Refused by `NoMemory`.
@@ -329,6 +345,20 @@ impl SongDb {
         ensures values { IfOk result (λ values. values ≡ values_of self.now tag) }
         ensures only { IsOkUnless result NoMemory }
     {
-        Ok(kept_values(alloc, &self.rows, &self.kept, tag)?)
+        Ok(values_of(alloc, &self.rows, &self.index, tag)?)
+    }
+}
+
+// The index with a row behind the last one; none where memory is refused.
+fn with_last(alloc: Global, index: Option<ValueIndex>, row: &SongRow) -> Option<ValueIndex>
+    ensures { (rows : List Row) → IsRising row_uri rows → ends_before rows row.now.uri ≡ true → IsIndexed rows index
+        → IsIndexed (rows ++ row.now ∷ []) result }
+{
+    let Some(mut present) = index else {
+        return None;
+    };
+    match present.put_row(alloc, row) {
+        Ok(()) => Some(present),
+        Err(_) => None,
     }
 }

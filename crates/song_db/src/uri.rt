@@ -6,10 +6,10 @@ ghost use Rattle.std.specs.Cmp.Lexicographic.{slice_cmp};
 ghost use Rattle.song_db.specs.Uri.{parts, is_good_part, is_uri};
 
 use crate::limits::MAX_URI_BYTES;
+use song_files::has_control;
 use std::alloc::{AllocError, Global};
 use std::cmp::Ordering;
 use std::marker::Model;
-use wave_pcm::has_control;
 
 /// The name of a song, or of a folder that songs stand in: a path from the root of the music, with slashes between its parts.
 ///

@@ -1,40 +1,58 @@
 // The distinct values of a tag, and the folders and songs right in a place.
-ghost use Rattle.std.specs.Prelude.{◌≡◌, ◌==◌, true, [], ◌∷◌, length, map, filter};
-ghost use Rattle.std.specs.Prelude.{IsTrue, IfOk, OnOk, IfSome, option_copied, option_to_list};
+ghost use Rattle.std.specs.Prelude.{◌≡◌, ◌==◌, true, List, [], ◌∷◌, length, map, filter};
+ghost use Rattle.std.specs.Prelude.{IsTrue, IfOk, OnOk, IfSome, option_copied};
 ghost use Rattle.std.specs.List.{filter_map, position};
-ghost use Rattle.song_db.specs.Kept.{AreKept};
+ghost use Rattle.song_files.specs.Tags.{texts_of};
+ghost use Rattle.song_files.specs.declared.tag.Tag.TheVariants.{Artist, Album};
 ghost use Rattle.song_db.specs.Place.{is_below};
 ghost use Rattle.song_db.specs.Replaced.{IsRising};
-ghost use Rattle.song_db.specs.Row.{row_uri};
+ghost use Rattle.song_db.specs.Row.{Row, row_uri};
 ghost use Rattle.song_db.specs.Query.{skipped, folder_of, is_right_in, with_texts, distinct_of, values_of};
-ghost use Rattle.wave_pcm.specs.Tag.{text_of};
-ghost use Rattle.wave_pcm.specs.declared.tags.Tag.TheVariants.{Artist, Album};
+ghost use Rattle.song_db.specs.ValueIndex.{IsIndex, IsIndexed};
 
 use crate::folder_rows::end_below;
-use crate::kept::{KeptValues, count_values};
 use crate::place::Place;
 use crate::row::SongRow;
 use crate::texts::Texts;
+use crate::value_index::ValueIndex;
+use song_files::Tag;
 use std::alloc::{AllocError, Global};
-use wave_pcm::Tag;
 
-// The values of a tag, which are sorted once.
-pub(crate) fn values_of(alloc: Global, rows: &[SongRow], tag: Tag) -> Result<Texts<'_>, AllocError>
+// The values of a tag: from the index, or where there is none, sorted once.
+pub(crate) fn values_of<'a>(
+    alloc: Global,
+    rows: &'a [SongRow],
+    index: &'a Option<ValueIndex>,
+    tag: Tag,
+) -> Result<Texts<'a>, AllocError>
+    requires { IsIndexed rows.now index.now }
     ensures { IfOk result (λ values. values ≡ values_of rows.now tag) }
 {
-    let values = row_values(alloc, rows, tag)?;
-    Texts::of(alloc, values)
+    match index {
+        Some(index) => indexed_values(alloc, index, tag),
+        None => sorted_values(alloc, rows, tag),
+    }
 }
 
-// The values of a tag row by row, without one that the row before has, too.
-fn row_values(alloc: Global, rows: &[SongRow], tag: Tag) -> Result<Vec<&str>, AllocError>
-    ensures { IfOk result (λ values. distinct_of (map (λ value. value.now) values.items) ≡ values_of rows.now tag) }
+// The values of a tag that stand in an index.
+fn indexed_values(alloc: Global, index: &ValueIndex, tag: Tag) -> Result<Texts<'_>, AllocError>
+    ensures { (rows : List Row) → IsIndex rows index.now → IfOk result (λ values. values ≡ values_of rows tag) }
+{
+    match index.values(tag) {
+        Some(values) => values.texts(alloc),
+        None => Ok(Texts::new(alloc)),
+    }
+}
+
+// The values of a tag, which are sorted once.
+fn sorted_values(alloc: Global, rows: &[SongRow], tag: Tag) -> Result<Texts<'_>, AllocError>
+    ensures { IfOk result (λ values. values ≡ values_of rows.now tag) }
 {
     let mut values = Vec::new(alloc);
     for row in rows {
-        push_value(&mut values, row, tag)?;
+        push_values(&mut values, row, tag)?;
     }
-    Ok(values)
+    Texts::of(alloc, values)
 }
 
 /// The distinct values of a tag among these rows, which are sorted once, rising by their bytes. Refused memory leaves nothing of them.
@@ -45,34 +63,33 @@ pub fn values_among<'a>(
 ) -> Result<Texts<'a>, AllocError>
     ensures { IfOk result (λ values. values ≡ values_of (map (λ row. row.now) rows.now) tag) }
 {
-    let values = values_of_each(alloc, rows, tag)?;
+    let mut values = Vec::new(alloc);
+    for row in rows {
+        push_values(&mut values, *row, tag)?;
+    }
     Texts::of(alloc, values)
 }
 
-// The values of a tag of each of these rows, without one that the row before has, too.
-fn values_of_each<'a>(
-    alloc: Global,
-    rows: &[&'a SongRow],
-    tag: Tag,
-) -> Result<Vec<&'a str>, AllocError>
-    ensures { IfOk result (λ values. distinct_of (map (λ value. value.now) values.items)
-        ≡ values_of (map (λ row. row.now) rows.now) tag) }
+// Takes a row's values of a tag, but one that is the last one taken.
+fn push_values<'a>(values: &mut Vec<&'a str>, row: &'a SongRow, tag: Tag) -> Result<(), AllocError>
+    ensures { OnOk result (distinct_of (map (λ value. value.now) values.new.items)
+        ≡ with_texts (distinct_of (map (λ value. value.now) values.old.items)) (texts_of row.now.tags tag)) }
 {
-    let mut values = Vec::new(alloc);
-    for row in rows {
-        push_value(&mut values, *row, tag)?;
+    let tags = row.tags();
+    for at in 0..tags.len() {
+        let (own, text) = tags.at(at);
+        if own == tag {
+            push_text(values, text)?;
+        }
     }
-    Ok(values)
+    Ok(())
 }
 
-// Takes a row's value of a tag, if it has one, and it isn't the last one taken.
-fn push_value<'a>(values: &mut Vec<&'a str>, row: &'a SongRow, tag: Tag) -> Result<(), AllocError>
+// Takes a text, but one that is the last one taken.
+fn push_text<'a>(values: &mut Vec<&'a str>, text: &'a str) -> Result<(), AllocError>
     ensures { OnOk result (distinct_of (map (λ value. value.now) values.new.items)
-        ≡ with_texts (distinct_of (map (λ value. value.now) values.old.items)) (option_to_list (text_of row.now.tags tag))) }
+        ≡ with_texts (distinct_of (map (λ value. value.now) values.old.items)) (text.entry.now ∷ [])) }
 {
-    let Some(text) = row.tag(tag) else {
-        return Ok(());
-    };
     if ends_with(values, text) {
         return Ok(());
     }
@@ -102,16 +119,42 @@ pub struct ValueCounts {
 pub(crate) fn value_counts(
     alloc: Global,
     rows: &[SongRow],
-    kept: &[KeptValues],
+    index: &Option<ValueIndex>,
 ) -> Result<ValueCounts, AllocError>
-    requires { AreKept rows.now kept.now }
+    requires { IsIndexed rows.now index.now }
     ensures artists { IfOk result (λ counts. counts.artists ≡ length (values_of rows.now Artist)) }
     ensures albums { IfOk result (λ counts. counts.albums ≡ length (values_of rows.now Album)) }
 {
     Ok(ValueCounts {
-        artists: count_values(alloc, rows, kept, Tag::Artist)?,
-        albums: count_values(alloc, rows, kept, Tag::Album)?,
+        artists: count_values(alloc, rows, index, Tag::Artist)?,
+        albums: count_values(alloc, rows, index, Tag::Album)?,
     })
+}
+
+// How many values of a tag there are: from the index, or where there is none, counted anew.
+fn count_values(
+    alloc: Global,
+    rows: &[SongRow],
+    index: &Option<ValueIndex>,
+    tag: Tag,
+) -> Result<usize, AllocError>
+    requires { IsIndexed rows.now index.now }
+    ensures { IfOk result (λ count. count ≡ length (values_of rows.now tag)) }
+{
+    match index {
+        Some(index) => Ok(count_indexed(index, tag)),
+        None => Ok(sorted_values(alloc, rows, tag)?.len()),
+    }
+}
+
+// How many values of a tag stand in an index.
+fn count_indexed(index: &ValueIndex, tag: Tag) -> usize
+    ensures { (rows : List Row) → IsIndex rows index.now → result ≡ length (values_of rows tag) }
+{
+    match index.values(tag) {
+        Some(values) => values.len(),
+        None => 0,
+    }
 }
 
 // The folders directly in a place that the rows stand below. The rows below a folder are passed by with a search.

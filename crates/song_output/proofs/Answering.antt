@@ -4,9 +4,8 @@ use Rattle.std.specs.Prelude.{Option, None, Some, IfSome}
 use Rattle.std.proofs.lemmas.List.{take_all}
 use Rattle.std.proofs.Common.{arith}
 use Rattle.std.specs.Io.KnownBytes.{Appends}
-use Rattle.wave_pcm.specs.Folder.{File, bytes_at}
+use Rattle.song_files.specs.Folder.{File, bytes_at}
 use Rattle.wave_pcm.specs.Pcm.{HasFrames}
-use Rattle.wave_pcm.specs.Reading.{wave_reading}
 use Rattle.wave_pcm.specs.declared.info.WaveInfo.{WaveInfo}
 use Rattle.player_core.specs.declared.order.PlayOrder.{PlayOrder}
 use Rattle.player_core.specs.declared.failure.BrokenCause.TheVariants.{Source, Output}
@@ -16,12 +15,12 @@ use Rattle.song_output.specs.declared.open_song.OpenSong.{OpenSong}
 use Rattle.song_output.specs.declared.output.Form.{Form}
 use Rattle.song_output.specs.OpenSong.{IsOpenSong, IsPlayedTo}
 use Rattle.song_output.specs.Piece.{AppendsFront, AppendsPart, IsPlayed, IsAnswer}
-use Rattle.song_output.specs.Sound.{sound_by, sound_from, sound_in, ordered_sound}
+use Rattle.song_output.specs.Sound.{head_of, sound_by, sound_from, sound_in, ordered_sound}
 use Rattle.song_output.proofs.Appending.{kept_none}
 
 -- what is ordered of a file with this reading
 sound_is : (form : Form) (files : List File) (order : PlayOrder) (file : List ℕ) (info : WaveInfo) → bytes_at files order.uri ≡ Some file
-    → wave_reading file ≡ Ok info → ordered_sound form files order ≡ sound_from form file info order.first_frame order.volume
+    → head_of file ≡ Ok info → ordered_sound form files order ≡ sound_from form file info order.first_frame order.volume
 sound_is form files order file info found head =
     ap (λ bytes. sound_in form bytes order) found ∙ ap (λ reading. sound_by form reading file order) head
 

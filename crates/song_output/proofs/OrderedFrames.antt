@@ -9,7 +9,7 @@ use Rattle.std.proofs.Math.Nat.{mul-le-mul_left}
 use Rattle.wave_pcm.specs.Pcm.{samples_in, frames_from, frame_len, range_from, at_volume, HasFrames}
 use Rattle.wave_pcm.specs.declared.info.WaveInfo.{WaveInfo}
 use Rattle.wave_pcm.proofs.FrameList.{frames_are}
-use Rattle.wave_pcm.proofs.Ranges.{range_is}
+use Rattle.song_files.proofs.Ranges.{range_is}
 use Rattle.song_output.specs.OwnFile.{AreFrames}
 use Rattle.song_output.specs.Sound.{frames_given, most_frames}
 use Rattle.song_output.proofs.Samples.{sample_of}

@@ -6,12 +6,14 @@ use Rattle.std.proofs.lemmas.Bool.Decides.{nat_tests}
 use Rattle.std.proofs.lemmas.List.{drop_all, take_all, length-drop}
 use Rattle.std.proofs.lemmas.List.Elements.{All-head, All-tail}
 use Rattle.std.proofs.lemmas.Nat.{from_le_bytes-to_le_bytes_2, from_le_bytes-to_le_bytes_4}
+use Rattle.song_files.specs.TagSet.{tags_in}
+use Rattle.song_files.specs.declared.tag.Tag.{Tag}
+use Rattle.song_files.specs.declared.tag_set.TagSet.{TagSet}
 use Rattle.wave_pcm.specs.Chunks.{chunks_after, size_in, padded}
 use Rattle.wave_pcm.specs.Format.{is_supported, judged}
 use Rattle.wave_pcm.specs.Parts.{Part, file_parts, parts_of}
 use Rattle.wave_pcm.specs.Pcm.{samples_in, frames_from}
-use Rattle.wave_pcm.specs.Reading.{is_wave, wave_reading, reading_of, format_of, texts_of, info_of}
-use Rattle.wave_pcm.specs.Tag.{no_texts}
+use Rattle.wave_pcm.specs.Reading.{is_wave, wave_reading, reading_of, format_of, texts_for, texts_in, info_of}
 use Rattle.wave_pcm.specs.declared.info.WaveInfo.{WaveInfo}
 use Rattle.wave_pcm.specs.declared.refusal.WaveError.TheVariants.{Unsupported, NotWave}
 use Rattle.wave_pcm.specs.declared.parts.Kind.TheVariants.{Format as FormatKind, Data}
@@ -126,31 +128,37 @@ few_bytes (suc zero) count some few one within = (omega arith, omega arith)
 few_bytes (suc (suc zero)) count some few one within = (omega arith, omega arith)
 few_bytes (suc (suc (suc channels))) count some few one within = absurd (omega arith)
 
+-- neither chunk has a text of a tag
+no_texts : (rate channels : ℕ) (sound : List ℕ) (tags : List Tag) → texts_for (format_part rate channels ∷ data_part sound ∷ []) tags ≡ []
+no_texts rate channels sound [] = refl
+no_texts rate channels sound (tag ∷ tags) = no_texts rate channels sound tags
+
 -- what a reader finds in a file of such a head
 pub head_back : (rate channels count : ℕ) (sound : List ℕ) → IsSupported rate channels → 0 < count → count ≤ 4096
     → length sound ≡ 2 * (channels * count)
-    → wave_reading (wave_head rate channels (2 * (channels * count)) ++ sound) ≡ Ok (record {
+    → (wanted : TagSet) → wave_reading (wave_head rate channels (2 * (channels * count)) ++ sound) wanted ≡ Ok (record {
       rate = rate;
       channels = channels;
       first_byte = 44;
       frames = count;
-      tags = no_texts;
+      tags = [];
     })
 unfolding wave_reading
-head_back rate channels count sound limits one few whole =
+head_back rate channels count sound limits one few whole wanted =
     let len = 2 * (channels * count) in
     let file = wave_head rate channels len ++ sound in
     let parts = format_part rate channels ∷ data_part sound ∷ [] in
     let bounds : (0 < len) × (len < 2 ^ 32) = few_bytes channels count limits.some_channels limits.channels_within one few in
     let frames : length sound / (2 * channels) ≡ count =
     ap (λ n. n / (2 * channels)) whole ∙ whole_frames channels count limits.some_channels limits.channels_within in
-    let texts : texts_of parts ≡ no_texts = refl in
-    let read : reading_of parts ≡ Ok (info_of (record { rate = rate; channels = channels }) (data_part sound) (texts_of parts)) =
-    reading_ok parts (record { rate = rate; channels = channels }) (data_part sound) (format_back rate channels sound limits) refl in
-    ap (λ b. if b then reading_of (file_parts file) else Err NotWave) (is_tagged rate channels len sound)
-    ∙ ap reading_of (both_parts rate channels len sound bounds.1 whole)
+    let texts : texts_in parts wanted ≡ [] = no_texts rate channels sound (tags_in wanted) in
+    let read : reading_of parts wanted ≡ Ok (info_of (record { rate = rate; channels = channels }) (data_part sound) (texts_in parts wanted)) =
+    reading_ok wanted parts (record { rate = rate; channels = channels }) (data_part sound) (format_back rate channels sound limits) refl in
+    ap (λ b. if b then reading_of (file_parts file) wanted else Err NotWave) (is_tagged rate channels len sound)
+    ∙ ap (λ ps. reading_of ps wanted) (both_parts rate channels len sound bounds.1 whole)
     ∙ read
-    ∙ ap (λ n. Ok (record { rate = rate; channels = channels; first_byte = 44; frames = n; tags = no_texts })) frames
+    ∙ ap (λ t. Ok (info_of (record { rate = rate; channels = channels }) (data_part sound) t)) texts
+    ∙ ap (λ n. Ok (record { rate = rate; channels = channels; first_byte = 44; frames = n; tags = [] })) frames
 
 -- bytes of samples
 pub length-bytes_of : (samples : List ℤ) → length (bytes_of samples) ≡ 2 * length samples
@@ -184,8 +192,9 @@ module _ (info : WaveInfo) (count : ℕ) (samples : List ℤ) (limits : IsSuppor
   written : in_form Wave info sound ≡ wave_head info.rate info.channels len ++ sound
   written = ap (λ n. head_in Wave info n ++ sound) whole ∙ ap (λ head. head ++ sound) (head_there info len bounds.0)
 
-  pub read_back : wave_reading (in_form Wave info sound) ≡ Ok (own_info info count)
-  read_back = ap wave_reading written ∙ head_back info.rate info.channels count sound limits are.some are.few whole
+  pub read_back : (wanted : TagSet) → wave_reading (in_form Wave info sound) wanted ≡ Ok (own_info info count)
+  read_back wanted =
+      ap (λ file. wave_reading file wanted) written ∙ head_back info.rate info.channels count sound limits are.some are.few whole wanted
 
   pub frames_back : frames_from (in_form Wave info sound) (own_info info count) 0 count ≡ samples
   frames_back =

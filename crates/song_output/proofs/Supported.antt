@@ -2,9 +2,10 @@
 use Rattle.std.proofs.Common.{◌≡◌, ◌≤◌, ℕ, List, length, Bool, true, false, refl, subst, Ok, Err, arith}
 use Rattle.std.specs.Prelude.{Result, Option, Some, None, nat_lt, if◌then◌else◌}
 use Rattle.std.proofs.lemmas.Bool.Decides.{nat_tests}
+use Rattle.song_files.specs.declared.tag_set.TagSet.{TagSet}
 use Rattle.wave_pcm.specs.Format.{is_supported, u16_at, u32_at, format_by, format_from}
 use Rattle.wave_pcm.specs.Parts.{Part, file_parts, is_format}
-use Rattle.wave_pcm.specs.Reading.{◌>>=◌, is_wave, wave_reading, reading_of, format_of, format_at, data_of, texts_of, info_of, is_long, is_key, MAX_CHUNKS}
+use Rattle.wave_pcm.specs.Reading.{◌>>=◌, is_wave, wave_reading, reading_of, format_of, format_at, data_of, texts_in, info_of, is_long, is_key, MAX_CHUNKS}
 use Rattle.wave_pcm.specs.declared.format.Format.{Format}
 use Rattle.wave_pcm.specs.declared.info.WaveInfo.{WaveInfo}
 use Rattle.wave_pcm.specs.declared.refusal.WaveError.{WaveError}
@@ -59,17 +60,17 @@ format_supported long (Some p) format same =
     judged_ok (is_supported tag channels rate align bits) (record { rate = rate; channels = channels }) format (Unsupported tag bits channels) read in
     subst (λ (f : Format). IsSupported f.rate f.channels) judged.1 (supported tag channels rate align bits judged.0)
 
-parts_supported : (parts : List Part) (info : WaveInfo) → reading_of parts ≡ Ok info → IsSupported info.rate info.channels
+parts_supported : (parts : List Part) (wanted : TagSet) (info : WaveInfo) → reading_of parts wanted ≡ Ok info → IsSupported info.rate info.channels
 unfolding reading_of
-parts_supported parts info same =
-    let first = then_ok (format_of parts) (λ format. data_of parts >>= (λ sound. Ok (info_of format sound (texts_of parts)))) info same in
-    let second = then_ok (data_of parts) (λ sound. Ok (info_of first.0 sound (texts_of parts))) info first.2 in
-    let is : info_of first.0 second.0 (texts_of parts) ≡ info = cc (second.2) in
+parts_supported parts wanted info same =
+    let first = then_ok (format_of parts) (λ format. data_of parts >>= (λ sound. Ok (info_of format sound (texts_in parts wanted)))) info same in
+    let second = then_ok (data_of parts) (λ sound. Ok (info_of first.0 sound (texts_in parts wanted))) info first.2 in
+    let is : info_of first.0 second.0 (texts_in parts wanted) ≡ info = cc (second.2) in
     subst (λ (i : WaveInfo). IsSupported i.rate i.channels) is
     (format_supported (is_long parts) (find is_key (take MAX_CHUNKS parts)) first.0 first.1)
 
 -- a head that is read is of one or two channels, at up to 192,000 frames a second
-pub reading_supported : (file : List ℕ) (info : WaveInfo) → wave_reading file ≡ Ok info → IsSupported info.rate info.channels
+pub reading_supported : (file : List ℕ) (wanted : TagSet) (info : WaveInfo) → wave_reading file wanted ≡ Ok info → IsSupported info.rate info.channels
 unfolding wave_reading
-reading_supported file info same =
-    parts_supported (file_parts file) info (passes (is_wave file) (reading_of (file_parts file)) NotWave info same)
+reading_supported file wanted info same =
+    parts_supported (file_parts file) wanted info (passes (is_wave file) (reading_of (file_parts file) wanted) NotWave info same)

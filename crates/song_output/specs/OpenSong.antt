@@ -1,13 +1,13 @@
 -- The song that is open between two orders, and how an order stands to it.
 use Rattle.std.specs.Prelude.{◌≡◌, ℕ, ◌+◌, ◌==◌, nat_lt, ◌&&◌, List, Option, Some, None, Ok, if◌then◌else◌, IfSome}
 use Rattle.std.specs.Str.{bytes_eq}
-use Rattle.wave_pcm.specs.Folder.{File, bytes_at}
+use Rattle.song_files.specs.Folder.{File, bytes_at}
 use Rattle.wave_pcm.specs.Pcm.{HasFrames}
-use Rattle.wave_pcm.specs.Reading.{wave_reading}
 use Rattle.player_core.specs.declared.order.PlayOrder.{PlayOrder}
 use Rattle.song_output.specs.declared.open_song.OpenSong.{OpenSong}
 use Rattle.song_output.specs.declared.open_song.OrderKind.{OrderKind}
 use Rattle.song_output.specs.declared.open_song.OrderKind.TheVariants.{Next, Ended, Other}
+use Rattle.song_output.specs.Sound.{head_of}
 
 -- by the frame that follows what was played, and the ordered one
 abbrev pub kind_by : ℕ → ℕ → OrderKind
@@ -23,7 +23,7 @@ kind_of (Some song) order =
 pub record IsOpenSong {S : Type 0} (bytes : S → List ℕ) (honest : S → Type 0) (files : List File) (song : OpenSong S) : Type 0 where
   pub is_honest : honest song.source
   pub same : bytes_at files song.uri ≡ Some (bytes song.source)
-  pub head : wave_reading (bytes song.source) ≡ Ok song.info
+  pub head : head_of (bytes song.source) ≡ Ok song.info
   pub frames : HasFrames song.info (bytes song.source)
 
 -- what is open, if anything is, is a song of these files

@@ -1,8 +1,7 @@
 -- A piece as a WAVE file of its own: the samples that it has, and what a reader finds.
-use Rattle.std.specs.Prelude.{◌≡◌, ℕ, ◌*◌, ◌<◌, ◌≤◌, List, length, ℤ, FitsSigned}
+use Rattle.std.specs.Prelude.{◌≡◌, ℕ, ◌*◌, ◌<◌, ◌≤◌, List, [], length, ℤ, FitsSigned}
 use Rattle.std.specs.Int.{w16}
 use Rattle.std.specs.List.{All}
-use Rattle.wave_pcm.specs.Tag.{no_texts}
 use Rattle.wave_pcm.specs.declared.info.WaveInfo.{WaveInfo}
 use Rattle.song_output.specs.Sound.{most_frames}
 
@@ -20,5 +19,5 @@ own_info info count = record {
   channels = info.channels;
   first_byte = 44;
   frames = count;
-  tags = no_texts;
+  tags = [];
 }

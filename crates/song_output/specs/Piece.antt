@@ -1,8 +1,7 @@
 -- What becomes of an order: the answer, what the output got, and the song that stays open.
 use Rattle.std.specs.Prelude.{◌≡◌, ℕ, ◌+◌, ◌<◌, ◌≤◌, Bool, nat_le, List, Option, Some, None, Ok, length, take, IsSomeAnd}
 use Rattle.std.specs.Io.KnownBytes.{Appends, Keeps}
-use Rattle.wave_pcm.specs.Folder.{File, bytes_at}
-use Rattle.wave_pcm.specs.Reading.{wave_reading}
+use Rattle.song_files.specs.Folder.{File, bytes_at}
 use Rattle.wave_pcm.specs.declared.info.WaveInfo.{WaveInfo}
 use Rattle.player_core.specs.declared.order.PlayOrder.{PlayOrder}
 use Rattle.player_core.specs.declared.failure.BrokenCause.TheVariants.{Source, Output}
@@ -11,7 +10,7 @@ use Rattle.song_output.specs.declared.piece.Piece.TheVariants.{Written, Failed}
 use Rattle.song_output.specs.declared.open_song.OpenSong.{OpenSong}
 use Rattle.song_output.specs.declared.output.Form.{Form}
 use Rattle.song_output.specs.OpenSong.{IsPlayedTo}
-use Rattle.song_output.specs.Sound.{frames_given, sound_from, ordered_sound}
+use Rattle.song_output.specs.Sound.{frames_given, head_of, sound_from, ordered_sound}
 
 -- known bytes grew by a front of these
 abbrev pub AppendsFront : Option (List ℕ) → Option (List ℕ) → List ℕ → Type 0
@@ -42,7 +41,7 @@ pub record IsWritten (form : Form) (files : List File) (order : PlayOrder) (befo
   pub file : List ℕ
   pub info : WaveInfo
   pub found : bytes_at files order.uri ≡ Some file
-  pub head : wave_reading file ≡ Ok info
+  pub head : head_of file ≡ Ok info
   pub whole : IsWhole form file info order before after count is_last
 
 -- what the output got of these files, by what is answered

@@ -2,7 +2,8 @@
 use Rattle.std.specs.Prelude.{ℕ, zero, suc, ◌-◌, List, [], ◌++◌, length, Option, Some, None, Result, Ok, Err, min, map, ℤ, IsErrAnd}
 use Rattle.std.specs.Int.{w16, cast_unsigned, to_le_bytes}
 use Rattle.std.specs.List.{flat_map}
-use Rattle.wave_pcm.specs.Folder.{File, bytes_at}
+use Rattle.song_files.specs.Folder.{File, bytes_at}
+use Rattle.song_files.specs.declared.tag_set.TheConstants.TagSet.{NONE}
 use Rattle.wave_pcm.specs.Pcm.{frames_from, at_volume}
 use Rattle.wave_pcm.specs.Reading.{wave_reading, IsVerdict}
 use Rattle.wave_pcm.specs.declared.info.WaveInfo.{WaveInfo}
@@ -41,6 +42,10 @@ in_form form info sound = head_in form info (length sound) ++ sound
 abbrev pub sound_from : Form → List ℕ → WaveInfo → ℕ → ℕ → List ℕ
 sound_from form file info first volume = in_form form info (bytes_of (map (at_volume volume) (frames_from file info first most_frames)))
 
+-- what the head of a file tells; of its tags none is played
+abbrev pub head_of : List ℕ → Result WaveInfo WaveError
+head_of file = wave_reading file NONE
+
 -- what an order asks for of a file, by the reading of its head; a file without a reading has no sound
 abbrev pub sound_by : Form → Result WaveInfo WaveError → List ℕ → PlayOrder → List ℕ
 sound_by form (Ok info) file order = sound_from form file info order.first_frame order.volume
@@ -48,7 +53,7 @@ sound_by form (Err e) file order = []
 
 abbrev pub sound_in : Form → Option (List ℕ) → PlayOrder → List ℕ
 sound_in form None order = []
-sound_in form (Some file) order = sound_by form (wave_reading file) file order
+sound_in form (Some file) order = sound_by form (head_of file) file order
 
 -- what an order asks for of these files
 abbrev pub ordered_sound : Form → List File → PlayOrder → List ℕ
@@ -57,4 +62,4 @@ ordered_sound form files order = sound_in form (bytes_at files order.uri) order
 -- there is no such file, or its head is refused
 abbrev pub HasNoSound : Option (List ℕ) → Type 0
 HasNoSound None = Unit {0}
-HasNoSound (Some file) = IsErrAnd (wave_reading file) IsVerdict
+HasNoSound (Some file) = IsErrAnd (head_of file) IsVerdict

@@ -1,7 +1,7 @@
 // Files whose reads a gate is told of.
 use crate::gate::{Gate, Point};
+use song_files::{FileStamp, Folder, FolderEntry, FolderFault, Source, SourceFault};
 use std::alloc::Global;
-use wave_pcm::{Folder, FolderEntry, FolderFault, Source, SourceFault};
 
 /// A file of whose reads a gate is told, before each and after it. It is what the file is: as honest, and as steady.
 #[derive(Drop)]
@@ -33,7 +33,7 @@ impl<'g, S: Source, G: Gate> Source for GatedSource<'g, S, G> {
     }
 }
 
-/// A folder whose files tell a gate of their reads; listings and openings are not told. It is what the folder is: as
+/// A folder whose files tell a gate of their reads; listings, looks and openings are not told. It is what the folder is: as
 /// honest, and as steady.
 #[derive(Drop)]
 pub struct GatedFolder<'g, F, G> {
@@ -52,6 +52,10 @@ impl<'g, F: Folder, G: Gate> Folder for GatedFolder<'g, F, G> {
 
     fn list(&mut self, alloc: Global, path: &str) -> Result<Option<Vec<FolderEntry>>, FolderFault> {
         self.folder.list(alloc, path)
+    }
+
+    fn look(&mut self, alloc: Global, path: &str) -> Result<Option<FileStamp>, FolderFault> {
+        self.folder.look(alloc, path)
     }
 
     fn open(&mut self, alloc: Global, path: &str) -> Result<Option<Self::File>, FolderFault> {

@@ -1,17 +1,18 @@
 // The opening of a song.
 ghost use Rattle.std.specs.Prelude.{◌≡◌, Ok, None, IfOk, IfSome};
-ghost use Rattle.wave_pcm.specs.Folder.{bytes_at};
+ghost use Rattle.song_files.specs.Folder.{bytes_at};
 ghost use Rattle.song_output.specs.OpenSong.{IsOpen, IsSteady, IsPlayedTo};
 ghost use Rattle.song_output.specs.Sound.{HasNoSound};
 
 use crate::open_song::OpenSong;
 use no_memory::NoMemory;
 use player_core::PlayOrder;
+use song_files::{Folder, FolderFault, TagSet};
 use std::alloc::Global;
-use wave_pcm::{Folder, FolderFault, WaveError, read_head};
+use wave_pcm::{WaveError, read_head};
 
-/// Opens the file of an order and reads its head; `None` where there is no such file, it can't be read, or its head is
-/// refused.
+/// Opens the file of an order and reads its head, without tags; `None` where there is no such file, it can't be read, or its
+/// head is refused.
 pub(crate) fn open_song<F: Folder>(
     alloc: Global,
     folder: &mut F,
@@ -30,7 +31,7 @@ pub(crate) fn open_song<F: Folder>(
         Ok(None) | Err(FolderFault::Source) => return Ok(None),
         Err(FolderFault::NoMemory) => return Err(NoMemory),
     };
-    match read_head(alloc, &mut source) {
+    match read_head(alloc, &mut source, TagSet::NONE) {
         Ok(info) => Ok(Some(OpenSong {
             ticket: order.ticket,
             uri,

@@ -1,9 +1,9 @@
 // What is done for an order.
 ghost use Rattle.std.specs.Prelude.{◌≡◌, ◌≢◌, true, Ok, Some, None, IfOk, IfSome, OnErr};
 ghost use Rattle.std.specs.Io.KnownBytes.{Keeps};
-ghost use Rattle.wave_pcm.specs.Folder.{bytes_at};
+ghost use Rattle.song_files.specs.Folder.{bytes_at};
 ghost use Rattle.wave_pcm.specs.Pcm.{HasFrames};
-ghost use Rattle.wave_pcm.specs.Source.{Keeps as KeepsSource};
+ghost use Rattle.song_files.specs.Source.{Keeps as KeepsSource};
 ghost use Rattle.song_output.specs.OpenSong.{kind_of, IsOpen, IsPlayedTo, IsSteady, IsSameSong};
 ghost use Rattle.song_output.specs.Piece.{AppendsFront, IsPlayed, IsAnswer, IsMoved, IsLeft};
 ghost use Rattle.song_output.specs.Sound.{HasNoSound, ordered_sound};
@@ -17,9 +17,9 @@ use crate::reading::read_sound;
 use crate::writing::write_bytes;
 use no_memory::NoMemory;
 use player_core::{BrokenCause, PlayOrder};
+use song_files::{Folder, Source};
 use std::alloc::Global;
 use std::io::Write;
-use wave_pcm::{Folder, Source};
 
 /// The song of an order that isn't `Ended`: the one that is open, or opened anew; `None` where it can't be. No other stays
 /// open.

@@ -2,7 +2,7 @@
 ghost use Rattle.std.specs.Prelude.{◌≡◌, ◌+◌, ◌*◌, ◌%◌, ◌<◌, ◌≤◌, ◌^◌, ◌++◌, ℕ, length, map, replicate, slice_range, Ok, None, Some};
 ghost use Rattle.std.specs.Prelude.{IfOk, IfSome, OnOk, OnErr};
 ghost use Rattle.wave_pcm.specs.Pcm.{HasFrames, at_volume, frame_len, range_from, samples_in};
-ghost use Rattle.wave_pcm.specs.Source.{Grows, Keeps};
+ghost use Rattle.song_files.specs.Source.{Grows, Keeps};
 ghost use Rattle.song_output.specs.Sound.{bytes_of, head_in, sound_from};
 
 use crate::head::wave_head;
@@ -11,8 +11,9 @@ use crate::piece::MAX_FRAMES;
 use crate::scaling::scale_bytes;
 use no_memory::NoMemory;
 use player_core::{PlayOrder, Volume};
+use song_files::{Source, read_exact};
 use std::alloc::{AllocError, Global};
-use wave_pcm::{Source, WaveError, WaveInfo, frame_range, read_exact};
+use wave_pcm::{WaveError, WaveInfo, frame_range};
 
 /// The place of the samples of a piece, and how many bytes they take, if the frames that the head tells of stand before `end`.
 fn piece_range(info: &WaveInfo, from: u64, end: u64) -> Option<(u64, u64)>

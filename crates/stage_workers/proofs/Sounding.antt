@@ -2,7 +2,7 @@
 use Rattle.std.proofs.Common.{◌≡◌, ℕ, List, sym, ◌∙◌, ap, subst}
 use Rattle.std.specs.Prelude.{Bool, Option, None, Some}
 use Rattle.std.specs.Io.KnownBytes.{Appends}
-use Rattle.wave_pcm.specs.Folder.{File}
+use Rattle.song_files.specs.Folder.{File}
 use Rattle.player_core.specs.declared.order.PlayOrder.{PlayOrder}
 use Rattle.song_output.specs.declared.piece.Piece.{Piece}
 use Rattle.song_output.specs.declared.piece.Piece.TheVariants.{Written, Failed}

@@ -1,7 +1,7 @@
 -- What the output got of an order.
 use Rattle.std.specs.Prelude.{ℕ, ◌-◌, ◌*◌, ◌<◌, ◌≤◌, List, Option, IfSome, IsSomeAnd}
 use Rattle.std.specs.Io.KnownBytes.{Appends}
-use Rattle.wave_pcm.specs.Folder.{File}
+use Rattle.song_files.specs.Folder.{File}
 use Rattle.player_core.specs.declared.order.PlayOrder.{PlayOrder}
 use Rattle.song_output.specs.declared.open_song.OpenSong.{OpenSong}
 use Rattle.song_output.specs.declared.output.Form.{Form}

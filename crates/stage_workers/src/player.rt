@@ -12,13 +12,13 @@ use crate::{Pass, SharedStage, StageError, laws};
 use disk_model::Disk;
 use live_stage::LiveError;
 use player_core::{Order, PlayOrder};
+use song_files::Folder;
 use song_output::{Gate, OpenSong, Piece, SoundOutput, play_piece};
 use std::alloc::Global;
 use std::io::Write;
 use std::sync::Wait;
 use std::sync::ledger::Ledger;
 use std::time::Clock;
-use wave_pcm::Folder;
 
 // So many milliseconds pass before an order where the two before it were short.
 const SILENCE: u64 = 100;

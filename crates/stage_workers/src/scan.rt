@@ -10,13 +10,13 @@ use crossbeam_channel::Receiver;
 use disk_model::Disk;
 use no_memory::NoMemory;
 use song_db::{MAX_CHANGES, Scan, ScanOrder};
+use song_files::Folder;
 use song_output::{Gate, GatedFolder};
 use state_codec::Changes;
 use std::alloc::Global;
 use std::sync::Wait;
 use std::sync::ledger::Ledger;
 use std::time::Clock;
-use wave_pcm::Folder;
 
 /// What a scan came to.
 #[derive(Clone, Copy, Debug, PartialEq, Eq)]

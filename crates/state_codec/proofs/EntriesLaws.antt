@@ -27,7 +27,7 @@ use Rattle.state_codec.specs.SpellingFields.{byte_bytes, u32_bytes, list_bytes}
 use Rattle.state_codec.proofs.FieldLaws.{bind_ok, ok_is, both_true, Takes, Takes-then, IsField, fits_is, such_is, within_is, byte_is}
 use Rattle.state_codec.proofs.FieldLaws.{u32_is}
 use Rattle.state_codec.proofs.ItemLaws.{counted_is}
-use Rattle.state_codec.proofs.RowLaws.{both_is_true}
+use Rattle.state_codec.proofs.TextLaws.{both_is_true}
 use Rattle.state_codec.proofs.SongsLaws.{number_is, row_of, has_of}
 
 -- ---- the number of a row

@@ -9,12 +9,11 @@ use Rattle.std.proofs.lemmas.Bool.{leb-true}
 use Rattle.std.proofs.lemmas.List.{length-append}
 use Rattle.std.proofs.lemmas.List.Concat.{length-flat_map}
 use Rattle.std.proofs.lemmas.List.Sums.{sum_by-le, sum_by-cons}
-use Rattle.wave_pcm.specs.Text.{has_control}
 use Rattle.play_queue.specs.declared.entry.Entry.{Entry}
 use Rattle.player_core.specs.declared.options.Options.{Options}
 use Rattle.player_core.specs.declared.options.Single.{Single}
 use Rattle.player_core.specs.declared.options.Single.TheVariants.{Off, On, Oneshot}
-use Rattle.song_db.specs.Row.{Row, is_good_tag}
+use Rattle.song_db.specs.Row.{Row, six_texts}
 use Rattle.song_db.specs.Uri.{is_uri}
 use Rattle.stickers.specs.Sticker.{Sticker, IsSticker}
 use Rattle.stickers.specs.Value.{is_good_value}
@@ -29,6 +28,7 @@ use Rattle.state_codec.specs.SpellingFields.{byte_bytes, u32_bytes, u64_bytes, f
 use Rattle.state_codec.specs.SpellingRows.{tag_bytes, tags_bytes, row_fields_bytes, row_bytes}
 use Rattle.state_codec.proofs.FieldLaws.{both_true}
 use Rattle.state_codec.proofs.RowLaws.{fields_fit}
+use Rattle.state_codec.proofs.TagLaws.{IsTextOrNone, tag_text_short, six_good}
 use Rattle.state_codec.proofs.Rising.{all_places, all_in_turn, all_weaker}
 
 -- each of them is no longer than this, so all together aren't longer than so many of these
@@ -51,21 +51,15 @@ uri_len uri form =
 
 -- ---- rows
 
-tag_len : (tag : Option (List ℕ)) → is_good_tag tag ≡ true → length (tag_bytes tag) ≤ 515
+tag_len : (tag : Option (List ℕ)) → IsTextOrNone tag → length (tag_bytes tag) ≤ 515
 tag_len None good = omega arith
-tag_len (Some text) good =
-    let front = both_true _ (Rattle.std.specs.Prelude.not (has_control text)) good in
-    let utf8 = both_true _ (is_utf8 text) front.0 in
-    let len = both_true _ (leb (length text) 512) utf8.0 in
-    omega (arith, text_len text, leb-true _ _ len.1)
+tag_len (Some text) good = omega (arith, text_len text, tag_text_short text good)
 
 row_len : (row : Row) → IsSavedRow row → length (row_bytes row) ≤ longest_row
 row_len row good =
     let fits = fields_fit row good in
-    let tags = flat_short tag_bytes 515 row.tags
-    (all_weaker (λ tag. is_good_tag tag ≡ true) (λ tag. length (tag_bytes tag) ≤ 515) tag_len row.tags fits.0.1.1.1.1.1) in
-    let six : length row.tags ≡ 6 = good.six in
-    let few : length (tags_bytes row.tags) ≤ 6 * 515 = subst (λ (n : ℕ). length (tags_bytes row.tags) ≤ n * 515) six tags in
+    let few : length (tags_bytes row.tags) ≤ 6 * 515 = flat_short tag_bytes 515 (six_texts row.tags)
+    (all_weaker IsTextOrNone (λ tag. length (tag_bytes tag) ≤ 515) tag_len (six_texts row.tags) (six_good row.tags fits.0.1.1.1.1.0)) in
     let d = length-append (u64_bytes row.frames) (tags_bytes row.tags) in
     let c = length-append (u64_bytes row.first_byte) (u64_bytes row.frames ++ tags_bytes row.tags) in
     let b = length-append (byte_bytes row.channels) (u64_bytes row.first_byte ++ (u64_bytes row.frames ++ tags_bytes row.tags)) in

@@ -2,6 +2,8 @@ pub mod FieldLaws
 pub mod ListLaws
 pub mod ItemLaws
 pub mod LoopLaws
+pub mod TextLaws
+pub mod TagLaws
 pub mod RowLaws
 pub mod OpLaws
 pub mod BodyLaws

@@ -1,10 +1,11 @@
 -- Lists: all items, and whether there is one.
 use Rattle.std.proofs.Common.{◌≡◌, ℕ, zero, suc, ◌+◌, Bool, true, false, cond, ltb, List, [], ◌∷◌, ◌++◌, length, refl, sym, ◌∙◌, arith}
-use Rattle.std.proofs.Common.{Some}
+use Rattle.std.proofs.Common.{Some, ◌<◌, ◌⊎◌, ◌≢◌, get_or, ap, subst}
 use Rattle.std.proofs.Common.{None, inl, inr}
 use Rattle.std.specs.Prelude.{Option, is_some, position}
 use Rattle.std.specs.List.{All, AllByRecursion, list_all, list_any, position_or_len}
-use Rattle.std.proofs.lemmas.Bool.{cases_lt, lt-ltb, le-ltb}
+use Rattle.std.proofs.lemmas.Bool.{cases_eq, cases_lt, lt-ltb, le-ltb}
+use Rattle.std.proofs.lemmas.List.{get_or_default}
 use Rattle.std.proofs.lemmas.List.Folds.{list_all-append}
 
 -- all items, by place and by recursion
@@ -16,6 +17,16 @@ pub by_all : {A : Type 0} (P : A → Type 0) (xs : List A) → AllByRecursion P 
 by_all P [] all k d lt = absurd (omega arith)
 by_all P (x ∷ xs) all zero d lt = all.0
 by_all P (x ∷ xs) all (suc k) d lt = by_all P xs all.1 k d (omega arith)
+
+-- one item more of which it holds, as a loop goes on
+pub all_more : {A : Type 0} (P : A → Type 0) (xs : List A) (i : ℕ) (x : A) → i < length xs → x ≡ get_or xs i x → P x
+    → ((k : ℕ) (d : A) → k < i → P (get_or xs k d)) → (k : ℕ) (d : A) → k < i + 1 → P (get_or xs k d)
+all_more {A} P xs i x within is here before k d under = of (cases_eq k i) where
+  of : (k ≡ i) ⊎ (k ≢ i) → P (get_or xs k d)
+  of (inl same) =
+      let there : x ≡ get_or xs k d = is ∙ get_or_default xs i x d within ∙ ap (λ (n : ℕ). get_or xs n d) (sym same) in
+      subst P there here
+  of (inr other) = before k d (omega (arith, other))
 
 pub all_pushed : {A : Type 0} (p : A → Bool) (xs : List A) (x : A) → list_all p xs ≡ true → p x ≡ true
     → list_all p (xs ++ x ∷ []) ≡ true

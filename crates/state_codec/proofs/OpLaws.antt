@@ -39,7 +39,8 @@ use Rattle.state_codec.proofs.FieldLaws.{bind_ok, ok_is, both_true, Takes, Takes
 use Rattle.state_codec.proofs.FieldLaws.{u32_is, u64_is, volume_is, flag_is, IsConsume, consume_is, single_is, text_is}
 use Rattle.state_codec.proofs.ItemLaws.{counted_is, alone_is}
 use Rattle.state_codec.proofs.ListLaws.{all_by, by_all}
-use Rattle.state_codec.proofs.RowLaws.{uri_is, row_is}
+use Rattle.state_codec.proofs.RowLaws.{row_is}
+use Rattle.state_codec.proofs.TextLaws.{uri_is}
 
 -- ---- kinds
 

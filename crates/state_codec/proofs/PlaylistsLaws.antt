@@ -29,7 +29,7 @@ use Rattle.state_codec.specs.Text.{is_text}
 use Rattle.state_codec.proofs.FieldLaws.{bind_ok, ok_is, both_true, Takes, Takes-then, IsField, fits_is, such_is, within_is, u32_is}
 use Rattle.state_codec.proofs.FieldLaws.{text_is}
 use Rattle.state_codec.proofs.ItemLaws.{all_push, all_middle, counted_is, alone_is}
-use Rattle.state_codec.proofs.RowLaws.{both_is_true, uri_is}
+use Rattle.state_codec.proofs.TextLaws.{both_is_true, uri_is}
 use Rattle.state_codec.proofs.Rising.{less_is, all_places, all_in_turn, all_weaker, rises_push, rises_above}
 
 -- ---- names that rise

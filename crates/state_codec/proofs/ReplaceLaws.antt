@@ -1,10 +1,10 @@
 -- A playlist that gets the songs of the queue in place of its own.
-use Rattle.std.proofs.Common.{◌≡◌, ◌≢◌, ◌↔◌, ℕ, suc, ◌+◌, ◌<◌, ◌≤◌, Bool, true, false, List, [], ◌∷◌, length, get_or}
+use Rattle.std.proofs.Common.{◌≡◌, ◌≢◌, ◌↔◌, ℕ, suc, ◌+◌, ◌<◌, ◌≤◌, Bool, true, false, List, [], ◌∷◌, ◌++◌, length, take, get_or}
 use Rattle.std.proofs.Common.{Option, Some, None, Result, Ok, Err, is_some, nat_le, ◌⊎◌, inl, inr, refl, sym, ap, ◌∙◌, subst, arith}
 use Rattle.std.specs.Str.{bytes_eq}
 use Rattle.std.proofs.lemmas.Bool.{cases_eq}
 use Rattle.std.proofs.lemmas.Bool.Decides.{nat_tests}
-use Rattle.std.proofs.lemmas.List.{length-map, get_or-map, get_or_default}
+use Rattle.std.proofs.lemmas.List.{length-map, get_or-map, get_or_default, take_more, map_push}
 use Rattle.std.proofs.lemmas.Slice.Eq.{bytes_eq-Decides}
 use Rattle.play_queue.specs.declared.entry.Entry.{Entry}
 use Rattle.stored_lists.specs.Limits.{MAX_LISTS, MAX_ENTRIES}
@@ -182,3 +182,10 @@ same_more uris entries at uri entry in_uris in_entries uri_is entry_is same befo
         let one : get_or uris at [] ≡ uri = get_or_default uris at [] uri in_uris ∙ sym uri_is in
         rw here (one ∙ (bytes_eq-Decides uri entry.uri).0 same ∙ sym (uri_there entries at entry in_entries entry_is))
     of (inr other) = before k (omega (arith, other))
+
+-- the URI of one entry more
+pub uris_more : (entries : List Entry) (at : ℕ) (entry : Entry) → at < length entries → ((d : Entry) → get_or entries at d ≡ entry)
+    → uris_of (take (at + 1) entries) ≡ uris_of (take at entries) ++ entry.uri ∷ []
+uris_more entries at entry within is =
+    ap uris_of (take_more entries at entry within ∙ ap (λ (e : Entry). take at entries ++ e ∷ []) (is entry))
+    ∙ map_push (λ (e : Entry). e.uri) (take at entries) entry

@@ -27,7 +27,8 @@ use Rattle.state_codec.specs.SpellingFields.{u32_bytes, text_bytes, list_bytes}
 use Rattle.state_codec.specs.SpellingRows.{row_bytes}
 use Rattle.state_codec.proofs.FieldLaws.{both_true, IsField, fits_is, within_is}
 use Rattle.state_codec.proofs.ItemLaws.{all_push, all_middle, IsItem, counted_is}
-use Rattle.state_codec.proofs.RowLaws.{form_is, both_is_true, uri_short, fields_fit, row_takes, row_again}
+use Rattle.state_codec.proofs.RowLaws.{fields_fit, row_takes, row_again}
+use Rattle.state_codec.proofs.TextLaws.{form_is, both_is_true, uri_short}
 use Rattle.state_codec.proofs.Rising.{less_is, all_places, all_in_turn, rises_push, rises_above}
 
 -- all rows stand before the URI

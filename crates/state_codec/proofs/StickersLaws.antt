@@ -26,7 +26,7 @@ use Rattle.state_codec.specs.SpellingFields.{u32_bytes, text_bytes, list_bytes}
 use Rattle.state_codec.specs.Text.{is_text}
 use Rattle.state_codec.proofs.FieldLaws.{bind_ok, ok_is, both_true, Takes, Takes-then, IsField, fits_is, such_is, within_is, text_is}
 use Rattle.state_codec.proofs.ItemLaws.{all_push, all_middle, counted_is}
-use Rattle.state_codec.proofs.RowLaws.{both_is_true, uri_short}
+use Rattle.state_codec.proofs.TextLaws.{both_is_true, uri_short}
 use Rattle.state_codec.proofs.Rising.{less_is, all_in_turn, all_weaker}
 use Rattle.state_codec.proofs.SongsLaws.{has_form}
 

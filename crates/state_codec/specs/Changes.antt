@@ -1,5 +1,5 @@
 -- The changes of one batch.
-use Rattle.std.specs.Prelude.{◌≡◌, ℕ, ◌<◌, ◌^◌, Bool, ◌&&◌, nat_le, List, length, IsTrue}
+use Rattle.std.specs.Prelude.{ℕ, ◌<◌, ◌^◌, Bool, ◌&&◌, nat_le, List, length, IsTrue}
 use Rattle.std.specs.List.{All}
 use Rattle.song_db.specs.declared.change.RowChange.{RowChange}
 use Rattle.song_db.specs.declared.change.RowChange.TheVariants.{Put, Drop}
@@ -14,7 +14,6 @@ is_count n = nat_le 1 n && nat_le n MAX_CHANGES
 -- what every row of the program keeps
 pub record IsSavedRow (row : Row) : Type 0 where
   pub form : IsTrue (is_row row)
-  pub six : length row.tags ≡ 6
   pub first_byte : row.first_byte < 2 ^ 64
   pub frames : row.frames < 2 ^ 64
 

@@ -1,13 +1,13 @@
 -- What a reader of a field answers.
-use Rattle.std.specs.Prelude.{◌≡◌, ℕ, ⊤, true, false, List, [], ◌∷◌, ◌++◌, Option, option_map, string_bytes, Result, Ok, Err}
-use Rattle.std.specs.declared.string.String.{String}
-use Rattle.std.specs.declared.alloc.Global.{Global}
+use Rattle.std.specs.Prelude.{◌≡◌, ℕ, ⊤, true, false, List, [], ◌∷◌, ◌++◌, Option, Some, None, option_copied, Result, Ok, Err}
+use Rattle.song_files.specs.Tags.{TagText, added}
+use Rattle.song_files.specs.declared.tag.Tag.{Tag}
 use Rattle.wave_pcm.specs.declared.info.WaveInfo.{WaveInfo}
 use Rattle.std.specs.Global.{Vec}
 use denote.Ref.{Bor}
 use Rattle.state_codec.specs.declared.fields.ReadError.{ReadError}
 use Rattle.state_codec.specs.declared.fields.ReadError.TheVariants.{Fault, NoMemory}
-use Rattle.song_db.specs.Row.{Row, six_texts}
+use Rattle.song_db.specs.Row.{Row}
 use Rattle.play_queue.specs.Builder.{has_id}
 use Rattle.play_queue.specs.Queue.{QueueState}
 use Rattle.play_queue.specs.declared.entry.Entry.{Entry}
@@ -43,19 +43,24 @@ abbrev pub GivesList : {A : Type 0} → Result (Vec A) ReadError → List ℕ �
 GivesList (Ok xs) rest field = field ≡ Ok (xs.items, rest)
 GivesList (Err e) rest field = Fails e field
 
--- the same of a text in memory of its own
-abbrev pub GivesString : Result (String Global) ReadError → List ℕ → Field (List ℕ) → Type 0
-GivesString (Ok text) rest field = field ≡ Ok (string_bytes text, rest)
-GivesString (Err e) rest field = Fails e field
-
--- the same of a tag
-abbrev pub GivesTag : Result (Option (String Global)) ReadError → List ℕ → Field (Option (List ℕ)) → Type 0
-GivesTag (Ok tag) rest field = field ≡ Ok (option_map string_bytes tag, rest)
+-- the same of a text of a tag, or none, that stands in the bytes
+abbrev pub GivesTag : Result (Option (Bor (List ℕ))) ReadError → List ℕ → Field (Option (List ℕ)) → Type 0
+GivesTag (Ok tag) rest field = field ≡ Ok (option_copied tag, rest)
 GivesTag (Err e) rest field = Fails e field
+
+-- with a text of a tag, or none, behind those of it that are known
+abbrev pub with_some : List TagText → Tag → Option (List ℕ) → List TagText
+with_some known tag None = known
+with_some known tag (Some text) = added known tag text
+
+-- a text of a tag, or none, was read and is among the known ones now, or the fault is that of reading it
+abbrev pub AddsTag : Result (Unit {0}) ReadError → Tag → List TagText → List TagText → List ℕ → Field (Option (List ℕ)) → Type 0
+AddsTag (Ok done) tag known now rest field = (text : Option (List ℕ)) × (field ≡ Ok (text, rest)) × (now ≡ with_some known tag text)
+AddsTag (Err e) tag known now rest field = Fails e field
 
 -- the same of a head of a WAVE file, as the fields of a row
 abbrev pub GivesHead : Result WaveInfo ReadError → List ℕ → Field RowFields → Type 0
-GivesHead (Ok info) rest field = field ≡ Ok ((info.rate, (info.channels, (info.first_byte, (info.frames, six_texts info.tags)))), rest)
+GivesHead (Ok info) rest field = field ≡ Ok ((info.rate, (info.channels, (info.first_byte, (info.frames, info.tags)))), rest)
 GivesHead (Err e) rest field = Fails e field
 
 -- one more item was read behind the known ones, or the fault is that of reading it

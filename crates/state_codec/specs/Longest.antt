@@ -4,7 +4,7 @@ use Rattle.play_queue.specs.Limits.{MAX_ENTRIES as QUEUE_LIMIT}
 use Rattle.song_db.specs.Limits.{MAX_URI_BYTES, MAX_ROWS}
 use Rattle.stickers.specs.Limits.{MAX_STICKERS, MAX_VALUE_BYTES, MAX_NAME_BYTES as STICKER_NAME_BYTES}
 use Rattle.stored_lists.specs.Limits.{MAX_LISTS, MAX_ENTRIES as LISTS_LIMIT, MAX_NAME_BYTES as LIST_NAME_BYTES}
-use Rattle.wave_pcm.specs.Limits.{MAX_TAG_BYTES}
+use Rattle.song_files.specs.Limits.{MAX_TAG_BYTES}
 
 -- a text of so many bytes behind its length
 abbrev pub longest_text : ℕ → ℕ

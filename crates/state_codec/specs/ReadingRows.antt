@@ -2,9 +2,9 @@
 use Rattle.std.specs.Prelude.{ℕ, zero, suc, List, [], ◌∷◌, length, Option, Some, None, Err, Ok, ◌==◌, if◌then◌else◌}
 use Rattle.std.specs.Int.{is_in_range}
 use Rattle.wave_pcm.specs.Limits.{MAX_RATE}
-use Rattle.wave_pcm.specs.Tag.{Texts}
-use Rattle.wave_pcm.specs.Text.{is_tag_text}
-use Rattle.song_db.specs.Row.{Row}
+use Rattle.song_files.specs.Tags.{TagText}
+use Rattle.song_files.specs.Text.{is_tag_text}
+use Rattle.song_db.specs.Row.{Row, from_six}
 use Rattle.song_db.specs.Uri.{is_uri}
 use Rattle.song_db.specs.declared.change.RowChange.{RowChange}
 use Rattle.song_db.specs.declared.change.RowChange.TheVariants.{Put, Drop}
@@ -16,22 +16,30 @@ use Rattle.state_codec.specs.Steps.{◌>>=◌}
 abbrev pub uri_at : List ℕ → Field (List ℕ)
 uri_at bytes = such is_uri text_at bytes
 
--- no tag, or one with its text
+-- no text of a tag, or one
 unfoldable pub tag_at : List ℕ → Field (Option (List ℕ))
 tag_at (zero ∷ rest) = Ok (None, rest)
 tag_at (suc zero ∷ rest) = made Some (such is_tag_text text_at rest)
 tag_at bytes = Err (length bytes)
 
--- the six tags
-abbrev pub tags_at : List ℕ → Field Texts
-tags_at bytes = items_at (λ known. tag_at) 6 [] bytes
+-- the tags of six texts, in the order of their numbers
+abbrev pub tags_at : List ℕ → Field (List TagText)
+tags_at bytes = made from_six (items_at (λ known. tag_at) 6 [] bytes)
 
 -- rate, channels, first byte, frames and tags
 abbrev pub RowFields : Type 0
-RowFields = ℕ × (ℕ × (ℕ × (ℕ × Texts)))
+RowFields = ℕ × (ℕ × (ℕ × (ℕ × List TagText)))
 
 abbrev pub row_with : List ℕ → RowFields → Row
-row_with uri x = record { uri = uri; rate = x.0; channels = x.1.0; first_byte = x.1.1.0; frames = x.1.1.1.0; tags = x.1.1.1.1 }
+row_with uri x = record {
+  uri = uri;
+  rate = x.0;
+  channels = x.1.0;
+  first_byte = x.1.1.0;
+  frames = x.1.1.1.0;
+  tags = x.1.1.1.1;
+  stamp = None;
+}
 
 abbrev pub rate_at : List ℕ → Field ℕ
 rate_at bytes = number_within 1 MAX_RATE bytes

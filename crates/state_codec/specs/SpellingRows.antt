@@ -1,18 +1,20 @@
 -- The spelling of song rows and of the changes of a batch.
 use Rattle.std.specs.Prelude.{ℕ, List, [], ◌∷◌, ◌++◌, length, Option, Some, None}
 use Rattle.std.specs.List.{flat_map}
-use Rattle.wave_pcm.specs.Tag.{Texts}
-use Rattle.song_db.specs.Row.{Row}
+use Rattle.song_files.specs.Tags.{TagText}
+use Rattle.song_db.specs.Row.{Row, six_texts}
 use Rattle.song_db.specs.declared.change.RowChange.{RowChange}
 use Rattle.song_db.specs.declared.change.RowChange.TheVariants.{Put, Drop}
 use Rattle.state_codec.specs.SpellingFields.{byte_bytes, u32_bytes, u64_bytes, text_bytes}
 
+-- no text of a tag, or one
 abbrev pub tag_bytes : Option (List ℕ) → List ℕ
 tag_bytes None = 0 ∷ []
 tag_bytes (Some text) = 1 ∷ text_bytes text
 
-abbrev pub tags_bytes : Texts → List ℕ
-tags_bytes tags = flat_map tag_bytes tags
+-- the first texts of the six tags, in the order of their numbers
+abbrev pub tags_bytes : List TagText → List ℕ
+tags_bytes tags = flat_map tag_bytes (six_texts tags)
 
 -- what follows the URI: rate, channels, first byte, frames and tags
 abbrev pub row_fields_bytes : Row → List ℕ

@@ -11,7 +11,6 @@ use std::alloc::Global;
 use std::marker::Model;
 use stickers::Stickers;
 use stored_lists::Lists;
-use wave_pcm::Tag;
 
 mod applying;
 mod batch;
@@ -121,17 +120,6 @@ impl Saved {
         ensures { result.now ≡ self.now.stickers }
     {
         &self.parts.stickers
-    }
-
-    /// Lets the songs keep the values of a tag, by which they are then counted and listed until rows change. The state stays
-    /// as it is, and a refusal leaves the values to be gathered anew each time.
-    pub fn keep_values(&mut self, alloc: Global, tag: Tag) -> Result<(), NoMemory>
-        ensures { self.new ≡ self.old }
-    {
-        self.parts
-            .songs
-            .keep_values(alloc, tag)
-            .map_err(|_| NoMemory)
     }
 
     /// The same state once more, in memory of its own.

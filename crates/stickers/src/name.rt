@@ -7,7 +7,7 @@ ghost use Rattle.stickers.specs.Sticker.{find_refusal};
 
 use crate::limits::MAX_NAME_BYTES;
 use crate::refusal::StickersError;
-use wave_pcm::has_control;
+use song_files::has_control;
 
 /// Whether a sticker may have the name: 1 to 256 bytes of UTF-8, no `=` and no control character (Unicode's category Cc).
 pub fn is_good_name(name: &str) -> bool

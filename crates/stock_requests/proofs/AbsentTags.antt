@@ -4,18 +4,19 @@ use Rattle.std.proofs.lemmas.Bool.{and_parts, eqb-true}
 use Rattle.std.specs.List.{list_all}
 use Rattle.std.specs.Str.{bytes_eq, is_utf8}
 use Rattle.std.specs.Prelude.{nat_le, length}
-use Rattle.wave_pcm.specs.declared.tags.Tag.{Tag}
-use Rattle.wave_pcm.specs.Tag.{text_of}
-use Rattle.wave_pcm.specs.Text.{has_control}
+use Rattle.song_files.specs.declared.tag.Tag.{Tag}
+use Rattle.song_files.specs.Tags.{first_text, texts_of}
+use Rattle.song_files.specs.Text.{has_control}
 use Rattle.song_db.specs.Limits.{MAX_URI_BYTES}
 use Rattle.song_db.specs.Place.{goes_on}
 use Rattle.song_db.specs.Uri.{is_good_part, is_uri, parts}
 use Rattle.filter_expr.specs.declared.case.Case.{Case}
-use Rattle.filter_expr.specs.declared.case.Case.TheVariants.{Exact, Folded}
-use Rattle.filter_expr.specs.Meaning.{Song, denotes, is_at, is_equal, is_within, is_pair}
+use Rattle.filter_expr.specs.declared.subject.Comparison.TheVariants.{Equals, Contains as Within, Pair}
+use Rattle.filter_expr.specs.Meaning.{Song, denotes, is_at, passes}
 use Rattle.stock_requests.specs.declared.expression.Operator.{Operator}
 use Rattle.stock_requests.specs.declared.expression.Operator.TheVariants.{Equal, Unequal, Contains}
 use Rattle.stock_requests.specs.Without.{in_its_place, pair_of, test_of}
+use Rattle.stock_requests.proofs.TagLess.{no_texts}
 
 good : (uri : List ℕ) → is_uri uri ≡ true → list_all is_good_part (parts uri) ≡ true
 good uri h =
@@ -54,17 +55,23 @@ nowhere uri h =
     rw one other
 
 pub test_in_its_place : (case : Case) (operator : Operator) (value : List ℕ) (tag : Tag) (song : Song) → is_uri song.uri ≡ true
-    → text_of song.texts tag ≡ None → denotes case (in_its_place operator value) song ≡ denotes case (test_of tag operator value) song
-test_in_its_place case Equal [] tag song h none = sym (ap (is_equal case []) none)
-test_in_its_place case Equal (v ∷ value) tag song h none = nowhere song.uri h ∙ sym (ap (is_equal case (v ∷ value)) none)
-test_in_its_place case Unequal [] tag song h none = nowhere song.uri h ∙ sym (ap (λ text. not (is_equal case [] text)) none)
-test_in_its_place case Unequal (v ∷ value) tag song h none = sym (ap (λ text. not (is_equal case (v ∷ value) text)) none)
-test_in_its_place case Contains [] tag song h none = sym (ap (is_within case []) none)
-test_in_its_place case Contains (v ∷ value) tag song h none = nowhere song.uri h ∙ sym (ap (is_within case (v ∷ value)) none)
+    → first_text song.tags tag ≡ None → denotes case (in_its_place operator value) song ≡ denotes case (test_of tag operator value) song
+test_in_its_place case operator value tag song h lacks = by_operator operator value
+  where
+    none : texts_of song.tags tag ≡ []
+    none = no_texts song.tags tag lacks
 
-pub pair_in_its_place : (case : Case) (value : List ℕ) (tag : Tag) (song : Song) → is_uri song.uri ≡ true → text_of song.texts tag ≡ None
+    by_operator : (operator : Operator) (value : List ℕ)
+        → denotes case (in_its_place operator value) song ≡ denotes case (test_of tag operator value) song
+    by_operator Equal [] = sym (ap (passes case Equals []) none)
+    by_operator Equal (v ∷ value) = nowhere song.uri h ∙ sym (ap (passes case Equals (v ∷ value)) none)
+    by_operator Unequal [] = nowhere song.uri h ∙ sym (ap (λ texts. not (passes case Equals [] texts)) none)
+    by_operator Unequal (v ∷ value) = sym (ap (λ texts. not (passes case Equals (v ∷ value) texts)) none)
+    by_operator Contains [] = sym (ap (passes case Within []) none)
+    by_operator Contains (v ∷ value) = nowhere song.uri h ∙ sym (ap (passes case Within (v ∷ value)) none)
+
+pub pair_in_its_place : (case : Case) (value : List ℕ) (tag : Tag) (song : Song) → is_uri song.uri ≡ true → first_text song.tags tag ≡ None
     → denotes case (in_its_place Equal value) song ≡ denotes case (pair_of tag value) song
-pair_in_its_place Exact [] tag song h none = sym (ap (is_pair Exact []) none)
-pair_in_its_place Exact (v ∷ value) tag song h none = nowhere song.uri h ∙ sym (ap (is_pair Exact (v ∷ value)) none)
-pair_in_its_place Folded [] tag song h none = sym (ap (is_pair Folded []) none)
-pair_in_its_place Folded (v ∷ value) tag song h none = nowhere song.uri h ∙ sym (ap (is_pair Folded (v ∷ value)) none)
+pair_in_its_place case [] tag song h lacks = sym (ap (passes case Pair []) (no_texts song.tags tag lacks))
+pair_in_its_place case (v ∷ value) tag song h lacks =
+    nowhere song.uri h ∙ sym (ap (passes case Pair (v ∷ value)) (no_texts song.tags tag lacks))

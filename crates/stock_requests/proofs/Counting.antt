@@ -5,12 +5,12 @@ use Rattle.std.specs.Prelude.{codes, is_some}
 use Rattle.std.specs.Result.{is_ok}
 use Rattle.std.specs.Str.{is_utf8}
 use Rattle.std.proofs.lemmas.Str.{IsUtf8-nil, is_utf8-from_IsUtf8}
-use Rattle.wave_pcm.specs.declared.tags.Tag.{Tag}
-use Rattle.wave_pcm.specs.declared.tags.Tag.TheVariants.{Title, Artist, Album, Date, Genre, Comment}
-use Rattle.wave_pcm.specs.Tag.{text_of}
-use Rattle.wave_pcm.specs.TagName.{name_of}
+use Rattle.song_files.specs.declared.tag.Tag.{Tag}
+use Rattle.song_files.specs.declared.tag.Tag.TheVariants.{Title, Artist, Album, Date, Genre, Comment}
+use Rattle.song_files.specs.Tags.{first_text}
+use Rattle.song_files.specs.Tag.{name_of, number_of, table, tag_named}
+use Rattle.song_files.specs.TagSet.{has_tag}
 use Rattle.filter_expr.specs.declared.case.Case.{Case}
-use Rattle.filter_expr.specs.declared.case.Case.TheVariants.{Exact, Folded}
 use Rattle.filter_expr.specs.declared.subject.Comparison.{Comparison}
 use Rattle.filter_expr.specs.declared.subject.Comparison.TheVariants.{Equals, Pair}
 use Rattle.filter_expr.specs.declared.subject.Subject.TheVariants.{OfTag}
@@ -27,12 +27,16 @@ use Rattle.command_text.specs.Counts.{Word}
 use Rattle.command_text.specs.Finding.{is_expression}
 use Rattle.command_text.specs.Words.{words_of}
 use Rattle.stock_requests.specs.declared.tag.ForeignTag.{ForeignTag}
+use Rattle.stock_requests.specs.declared.tag.ForeignTag.TheVariants as tags
+use Rattle.stock_requests.specs.declared.tag.Standing.{Standing}
+use Rattle.stock_requests.specs.declared.tag.Standing.TheVariants.{Native, FallsBackTo, Absent}
 use Rattle.stock_requests.specs.Counted.{CountsLacking, IsOf}
 use Rattle.stock_requests.specs.Grouped.{open_filter}
 use Rattle.stock_requests.specs.Groups.{condition, count_line, filter_words, missing_line, named_test}
 use Rattle.stock_requests.specs.Spelling.{escaped, space, spelled_line, spelled_word, spelled_words}
 use Rattle.stock_requests.specs.Tags.{standing_of}
 use Rattle.stock_requests.proofs.ReadBack.{read_back}
+use Rattle.stock_requests.proofs.TagLess.{lacks_text}
 
 -- how a filter means it
 
@@ -40,44 +44,77 @@ abbrev with_test : Tag → Comparison → Tree → Tree
 with_test own comparison tree = And tree (Test (OfTag own) comparison [])
 
 pair_lacks : (own : Tag) (tree : Tree) (case : Case) (song : Song)
-    → denotes case (with_test own Pair tree) song ≡ (denotes case tree song && not (is_some (text_of song.texts own)))
-pair_lacks own tree Exact song = refl
-pair_lacks own tree Folded song = refl
+    → denotes case (with_test own Pair tree) song ≡ (denotes case tree song && not (is_some (first_text song.tags own)))
+pair_lacks own tree case song = ap (λ lacks. denotes case tree song && lacks) (lacks_text song.tags own)
 
 test_lacks : (own : Tag) (tree : Tree) (case : Case) (song : Song)
-    → denotes case (with_test own Equals tree) song ≡ (denotes case tree song && not (is_some (text_of song.texts own)))
-test_lacks own tree case song = refl
+    → denotes case (with_test own Equals tree) song ≡ (denotes case tree song && not (is_some (first_text song.tags own)))
+test_lacks own tree case song = ap (λ lacks. denotes case tree song && lacks) (lacks_text song.tags own)
 
 alone_lacks : (own : Tag) (case : Case) (song : Song)
-    → denotes case (Test (OfTag own) Pair []) song ≡ (denotes case (Base []) song && not (is_some (text_of song.texts own)))
-alone_lacks own Exact song = refl
-alone_lacks own Folded song = refl
+    → denotes case (Test (OfTag own) Pair []) song ≡ (denotes case (Base []) song && not (is_some (first_text song.tags own)))
+alone_lacks own case song = lacks_text song.tags own
 
 -- how pairs are read
 
-named_so : (own : Tag) → key_named (name_of own) ≡ key_of (Some own) (name_of own)
-unfolding key_named
-named_so Title = refl
-named_so Artist = refl
-named_so Album = refl
-named_so Date = refl
-named_so Genre = refl
-named_so Comment = refl
+-- a tag whose name a filter reads as this tag
+record IsKnown (own : Tag) : Type 0 where
+  named : key_named (name_of own) ≡ key_of (Some own) (name_of own)
+  bare : begins_so opening (name_of own) ≡ false
 
-no_opening : (own : Tag) → begins_so opening (name_of own) ≡ false
-no_opening Title = refl
-no_opening Artist = refl
-no_opening Album = refl
-no_opening Date = refl
-no_opening Genre = refl
-no_opening Comment = refl
+title : IsKnown Title
+unfolding key_named tag_named name_of number_of table has_tag
+title = record { named = refl; bare = refl }
+
+artist : IsKnown Artist
+unfolding key_named tag_named name_of number_of table has_tag
+artist = record { named = refl; bare = refl }
+
+album : IsKnown Album
+unfolding key_named tag_named name_of number_of table has_tag
+album = record { named = refl; bare = refl }
+
+date : IsKnown Date
+unfolding key_named tag_named name_of number_of table has_tag
+date = record { named = refl; bare = refl }
+
+genre : IsKnown Genre
+unfolding key_named tag_named name_of number_of table has_tag
+genre = record { named = refl; bare = refl }
+
+comment : IsKnown Comment
+unfolding key_named tag_named name_of number_of table has_tag
+comment = record { named = refl; bare = refl }
+
+abbrev IsKnownBy : Standing → Type 0
+IsKnownBy (Native own) = IsKnown own
+IsKnownBy (FallsBackTo own) = IsKnown own
+IsKnownBy Absent = Unit {0}
+
+-- what songs have of a tag of MPD they have of such a tag
+known_standing : (tag : ForeignTag) → IsKnownBy (standing_of tag)
+known_standing tags.Title = title
+known_standing tags.Artist = artist
+known_standing tags.Album = album
+known_standing tags.Date = date
+known_standing tags.Genre = genre
+known_standing tags.Comment = comment
+known_standing tags.AlbumArtist = artist
+known_standing tags.AlbumArtistSort = artist
+known_standing tags.ArtistSort = artist
+known_standing tags.AlbumSort = album
+known_standing tag = tt
+
+known_of : (own : Tag) (tag : ForeignTag) → IsOf own tag → IsKnown own
+known_of own tag (inl e) = subst IsKnownBy e (known_standing tag)
+known_of own tag (inr e) = subst IsKnownBy e (known_standing tag)
 
 empty_utf8 : is_utf8 [] ≡ true
 empty_utf8 = is_utf8-from_IsUtf8 [] IsUtf8-nil
 
-last_pair : (number : ℕ) (own : Tag) → pair_of number (name_of own) [] ≡ Ok (Test (OfTag own) Pair [])
+last_pair : (number : ℕ) (own : Tag) → IsKnown own → pair_of number (name_of own) [] ≡ Ok (Test (OfTag own) Pair [])
 unfolding pair_of
-last_pair number own = rw (named_so own, empty_utf8) refl
+last_pair number own known = rw (known.named, empty_utf8) refl
 
 abbrev last_words : Tag → List Word
 last_words own = name_of own ∷ [] ∷ []
@@ -91,15 +128,15 @@ unfolding half_pair
 no_half number name tree h = no_bind (keyed (key_named name) name) (BadFilter (number + 1) 0) tree h
 
 -- a pair behind others
-one_more : (number : ℕ) (own : Tag) (tree last : Tree) (words : List Word) → more_pairs number tree words ≡ Ok last
+one_more : (number : ℕ) (own : Tag) → IsKnown own → (tree last : Tree) (words : List Word) → more_pairs number tree words ≡ Ok last
     → more_pairs number tree (words ++ last_words own) ≡ Ok (with_test own Pair last)
 unfolding more_pairs
-one_more number own tree last [] h =
+one_more number own known tree last [] h =
     let same : tree ≡ last = cc in
-    rw (last_pair number own) (ap (λ (t : Tree). Ok (with_test own Pair t)) same)
-one_more number own tree last (name ∷ []) h = absurd (no_half number name last h)
-one_more number own tree last (name ∷ value ∷ words) h =
-    by_pair (pair_of number name value) (λ p. one_more (number + 2) own (And tree p) last words) h
+    rw (last_pair number own known) (ap (λ (t : Tree). Ok (with_test own Pair t)) same)
+one_more number own known tree last (name ∷ []) h = absurd (no_half number name last h)
+one_more number own known tree last (name ∷ value ∷ words) h =
+    by_pair (pair_of number name value) (λ p. one_more (number + 2) own known (And tree p) last words) h
   where
     by_pair : (pair : Result Tree Refusal)
         → ((p : Tree) → more_pairs (number + 2) (And tree p) words ≡ Ok last
@@ -116,36 +153,36 @@ no_first name tree more h = by_half (half_pair 0 name) refl h
     by_half (Err refusal) e h = absurd (cc)
     by_half (Ok t) e h = no_half 0 name t e
 
-pairs_more : (own : Tag) (words : List Word) (tree : Tree) → pairs_of words ≡ Ok tree
+pairs_more : (own : Tag) → IsKnown own → (words : List Word) (tree : Tree) → pairs_of words ≡ Ok tree
     → pairs_of (words ++ last_words own) ≡ Ok (with_test own Pair tree)
 unfolding pairs_of
-pairs_more own [] tree h = absurd (cc)
-pairs_more own (name ∷ []) tree h = absurd (no_first name tree _ h)
-pairs_more own (name ∷ value ∷ words) tree h = by_pair (pair_of 0 name value) h
+pairs_more own known [] tree h = absurd (cc)
+pairs_more own known (name ∷ []) tree h = absurd (no_first name tree _ h)
+pairs_more own known (name ∷ value ∷ words) tree h = by_pair (pair_of 0 name value) h
   where
     by_pair : (pair : Result Tree Refusal) → (pair >>= λ p. more_pairs 2 p words) ≡ Ok tree
         → (pair >>= λ p. more_pairs 2 p (words ++ last_words own)) ≡ Ok (with_test own Pair tree)
     by_pair (Err refusal) h = absurd (cc)
-    by_pair (Ok p) h = one_more 2 own p tree words h
+    by_pair (Ok p) h = one_more 2 own known p tree words h
 
-alone_read : (own : Tag) → pairs_of (last_words own) ≡ Ok (Test (OfTag own) Pair [])
+alone_read : (own : Tag) → IsKnown own → pairs_of (last_words own) ≡ Ok (Test (OfTag own) Pair [])
 unfolding pairs_of more_pairs
-alone_read own = rw (last_pair 0 own) refl
+alone_read own known = rw (last_pair 0 own known) refl
 
 as_pairs : (b : Bool) (one other found : Result Tree Refusal) → b ≡ false → cond b one other ≡ found → other ≡ found
 as_pairs true one other found e h = absurd (cc)
 as_pairs false one other found e h = h
 
-filter_more : (own : Tag) (words : List Word) (tree : Tree) → is_expression words ≡ false → filter_of words ≡ Ok tree
+filter_more : (own : Tag) → IsKnown own → (words : List Word) (tree : Tree) → is_expression words ≡ false → filter_of words ≡ Ok tree
     → filter_of (words ++ last_words own) ≡ Ok (with_test own Pair tree)
 unfolding filter_of
-filter_more own [] tree e h = absurd (cc)
-filter_more own (word ∷ words) tree e h =
-    rw e (pairs_more own (word ∷ words) tree (as_pairs (begins_so opening word) _ (pairs_of (word ∷ words)) (Ok tree) e h))
+filter_more own known [] tree e h = absurd (cc)
+filter_more own known (word ∷ words) tree e h =
+    rw e (pairs_more own known (word ∷ words) tree (as_pairs (begins_so opening word) _ (pairs_of (word ∷ words)) (Ok tree) e h))
 
-filter_alone : (own : Tag) → filter_of (last_words own) ≡ Ok (Test (OfTag own) Pair [])
+filter_alone : (own : Tag) → IsKnown own → filter_of (last_words own) ≡ Ok (Test (OfTag own) Pair [])
 unfolding filter_of
-filter_alone own = rw (no_opening own) (alone_read own)
+filter_alone own known = rw known.bare (alone_read own known)
 
 -- how lines are spelled
 
@@ -181,7 +218,7 @@ all_counted own tag of = record {
   words = last_words own;
   whole = Test (OfTag own) Pair [];
   named = pair_words own tag [] of;
-  read = filter_alone own;
+  read = filter_alone own (known_of own tag of);
   lacking = alone_lacks own;
 }
 
@@ -194,7 +231,7 @@ pairs_counted own tag words tree of e h = record {
   words = words ++ last_words own;
   whole = with_test own Pair tree;
   named = ap (λ (s : List ℕ). words_of (missing_line false s tag)) (opened_pairs words e) ∙ pair_words own tag words of;
-  read = filter_more own words tree e h;
+  read = filter_more own (known_of own tag of) words tree e h;
   lacking = pair_lacks own tree;
 }
 
@@ -214,16 +251,16 @@ got : {A E : Type 0} → (read : Result A E) → is_ok read ≡ true → A
 got (Ok x) e = x
 got (Err error) e = absurd (cc)
 
-spells_test : (own : Tag) → SpellsTest (Test (OfTag own) Equals []) (name_of own ++ (codes " == " ++ codes "\"\""))
+spells_test : (own : Tag) → IsKnown own → SpellsTest (Test (OfTag own) Equals []) (name_of own ++ (codes " == " ++ codes "\"\""))
 unfolding operator_at word_at byte_at without_blanks got
-spells_test own = record {
+spells_test own known = record {
   name = name_of own;
   subject = OfTag own;
   middle = codes " == ";
   operator = (got (operator_at (OfTag own) (codes "==")) refl).0;
   quoted = codes "\"\"";
   value = [];
-  named = named_so own;
+  named = known.named;
   compared = (codes " ", codes " ", refl, refl, refl);
   spelled = empty_value;
   parts = refl;
@@ -234,15 +271,15 @@ test_parts : (own : Tag) → test_text_of own ≡ opening ∷ ([] ++ ((name_of o
 test_parts own =
     ap (λ (s : List ℕ). opening ∷ s) (sym (append_assoc (name_of own) (codes " == " ++ codes "\"\"") (codes ")")))
 
-test_spelled : (room : ℕ) (own : Tag) → Spells (suc room) (Test (OfTag own) Equals []) (test_text_of own)
+test_spelled : (room : ℕ) (own : Tag) → IsKnown own → Spells (suc room) (Test (OfTag own) Equals []) (test_text_of own)
 unfolding Spells
-test_spelled room own = record {
+test_spelled room own known = record {
   before = [];
   inside = name_of own ++ (codes " == " ++ codes "\"\"");
   after = [];
   blanks_before = refl;
   blanks_after = refl;
-  spelled = inl (inr (spells_test own));
+  spelled = inl (inr (spells_test own known));
   parts = test_parts own;
 }
 
@@ -287,11 +324,11 @@ same_word : (text : List ℕ) (own : Tag) → whole_word text own ≡ put_togeth
 unfolding escaped
 same_word text own = refl
 
-word_read : (text : List ℕ) (own : Tag) (tree : Tree) → IsReadAsSpelled → Spells 31 tree text
+word_read : (text : List ℕ) (own : Tag) → IsKnown own → (tree : Tree) → IsReadAsSpelled → Spells 31 tree text
     → whole (whole_word text own) ≡ Ok (with_test own Equals tree)
-word_read text own tree read h =
+word_read text own known tree read h =
     (read (whole_word text own) (with_test own Equals tree)).1
-    (subst (Spells 32 (with_test own Equals tree)) (sym (same_word text own)) (together_spelled 31 own tree text h (test_spelled 30 own)))
+    (subst (Spells 32 (with_test own Equals tree)) (sym (same_word text own)) (together_spelled 31 own tree text h (test_spelled 30 own known)))
 
 filter_read : (text : List ℕ) (own : Tag) (tree : Tree) → whole (whole_word text own) ≡ Ok tree → filter_of (whole_word text own ∷ []) ≡ Ok tree
 unfolding filter_of
@@ -321,6 +358,6 @@ expression_counted read own tag text tree of h = record {
   whole = with_test own Equals tree;
   named = ap (λ (s : List ℕ). words_of (missing_line true s tag)) (opened_text 30 tree text h)
       ∙ ap words_of (test_line own tag text of) ∙ read_back (codes "count") (whole_word text own ∷ []) refl;
-  read = filter_read text own (with_test own Equals tree) (word_read text own tree read h);
+  read = filter_read text own (with_test own Equals tree) (word_read text own (known_of own tag of) tree read h);
   lacking = test_lacks own tree;
 }

@@ -2,6 +2,7 @@ pub mod Texts
 pub mod WordLists
 pub mod Lines
 pub mod ReadBack
+pub mod TagLess
 pub mod AbsentTags
 pub mod Counting
 pub mod SetLaws

@@ -1,7 +1,7 @@
 -- What is counted before the values of a tag are listed.
 use Rattle.std.specs.Prelude.{◌≡◌, ◌⊎◌, ℕ, List, ◌∷◌, ◌&&◌, not, is_some, Some, Ok, codes}
-use Rattle.wave_pcm.specs.declared.tags.Tag.{Tag}
-use Rattle.wave_pcm.specs.Tag.{text_of}
+use Rattle.song_files.specs.declared.tag.Tag.{Tag}
+use Rattle.song_files.specs.Tags.{first_text}
 use Rattle.filter_expr.specs.declared.case.Case.{Case}
 use Rattle.filter_expr.specs.Meaning.{Song, denotes}
 use Rattle.filter_expr.specs.Tree.{Tree}
@@ -22,4 +22,4 @@ pub record CountsLacking (own : Tag) (tree : Tree) (line : List ℕ) : Type 0 wh
   pub whole : Tree
   pub named : words_of line ≡ Some (codes "count" ∷ words)
   pub read : filter_of words ≡ Ok whole
-  pub lacking : (case : Case) (song : Song) → denotes case whole song ≡ (denotes case tree song && not (is_some (text_of song.texts own)))
+  pub lacking : (case : Case) (song : Song) → denotes case whole song ≡ (denotes case tree song && not (is_some (first_text song.tags own)))

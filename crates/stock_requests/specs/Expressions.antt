@@ -5,7 +5,7 @@ use Rattle.std.specs.Prelude.{ℕ, zero, suc, ◌+◌, ◌-◌, ◌==◌, ◌&&�
 use Rattle.std.specs.Prelude.{Bool, true, false, Option, Some, None, if◌then◌else◌}
 use Rattle.std.specs.List.{starts_with}
 use Rattle.std.specs.Str.{str_eq_ignore_ascii_case}
-use Rattle.wave_pcm.specs.TagName.{name_of}
+use Rattle.song_files.specs.Tag.{name_of}
 use Rattle.filter_expr.specs.Parts.{opening, backslash, is_blank, is_quote, without_blanks, name_in, behind_name}
 use Rattle.stock_requests.specs.declared.expression.FilterName.{FilterName}
 use Rattle.stock_requests.specs.declared.expression.FilterName.TheVariants.{Kept, OfTag, File, Absent}

@@ -1,7 +1,7 @@
 -- The words of a filter, and the order behind it, over the daemon's tags in the place of all of MPD's.
 use Rattle.std.specs.Prelude.{ℕ, List, [], ◌∷◌, ◌++◌, ◌&&◌, ◌||◌, is_some, Bool, true, false, drop, codes, if◌then◌else◌}
 use Rattle.std.specs.Str.{bytes_eq, str_eq_ignore_ascii_case}
-use Rattle.wave_pcm.specs.TagName.{name_of}
+use Rattle.song_files.specs.Tag.{name_of}
 use Rattle.filter_expr.specs.Parts.{opening, begins_so}
 use Rattle.command_text.specs.Counts.{Word}
 use Rattle.command_text.specs.Finding.{begins_part}

@@ -4,7 +4,7 @@ use Rattle.std.specs.Prelude.{ℕ, ◌+◌, ◌-◌, ◌/◌, nat_eq, ◌==◌, 
 use Rattle.std.specs.Prelude.{Bool, true, false, Option, Some, None, option_to_list, if◌then◌else◌}
 use Rattle.std.specs.List.{starts_with}
 use Rattle.std.specs.Str.{bytes_eq}
-use Rattle.wave_pcm.specs.TagName.{name_of}
+use Rattle.song_files.specs.Tag.{name_of}
 use Rattle.command_text.specs.Answer.{line, pair}
 use Rattle.command_text.specs.Counts.{Word}
 use Rattle.stock_requests.specs.declared.change.ForeignRefusal.TheVariants as refusals

@@ -2,7 +2,7 @@
 use Rattle.std.specs.Prelude.{ℕ, List, [], ◌∷◌, Option, codes}
 use Rattle.std.specs.List.{find}
 use Rattle.std.specs.Str.{str_eq_ignore_ascii_case}
-use Rattle.wave_pcm.specs.declared.tags.Tag.TheVariants as native
+use Rattle.song_files.specs.declared.tag.Tag.TheVariants as native
 use Rattle.stock_requests.specs.declared.tag.ForeignTag.{ForeignTag}
 use Rattle.stock_requests.specs.declared.tag.ForeignTag.TheVariants as tags
 use Rattle.stock_requests.specs.declared.tag.Standing.{Standing}

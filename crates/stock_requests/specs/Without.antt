@@ -1,6 +1,6 @@
 -- What a filter tests of a tag, and what stands in its place where no song has the tag.
 use Rattle.std.specs.Prelude.{ℕ, List}
-use Rattle.wave_pcm.specs.declared.tags.Tag.{Tag}
+use Rattle.song_files.specs.declared.tag.Tag.{Tag}
 use Rattle.filter_expr.specs.declared.subject.Comparison.TheVariants.{Equals, Contains as Within, Pair}
 use Rattle.filter_expr.specs.declared.subject.Subject.TheVariants.{OfTag}
 use Rattle.filter_expr.specs.Tree.{Tree}

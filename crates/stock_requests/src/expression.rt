@@ -8,8 +8,8 @@ ghost use Rattle.stock_requests.specs.Expressions.{is_file_name, quoted, quoted_
 
 use crate::tag::{ForeignTag, Standing};
 use filter_expr::{ends_name, is_blank, is_quote};
+use song_files::Tag;
 use std::alloc::{AllocError, Global};
-use wave_pcm::Tag;
 
 /// What becomes of a name in a filter.
 #[derive(Clone, Copy, Debug)]

@@ -1,7 +1,7 @@
 //! Laws of the definitions that the contracts cite.
 ghost use Rattle.std.specs.Prelude.{◌≡◌, ◌≢◌, ◌<◌, ◌^◌, ◌||◌, ◌&&◌, not, ℕ, Bool, true, false, List, [], ◌∷◌, Ok, Some, None, IfSome};
-ghost use Rattle.wave_pcm.specs.declared.tags.Tag.{Tag};
-ghost use Rattle.wave_pcm.specs.Tag.{text_of};
+ghost use Rattle.song_files.specs.declared.tag.Tag.{Tag};
+ghost use Rattle.song_files.specs.Tags.{first_text};
 ghost use Rattle.song_db.specs.Uri.{is_uri};
 ghost use Rattle.filter_expr.specs.declared.case.Case.{Case};
 ghost use Rattle.filter_expr.specs.Grammar.{Spells};
@@ -37,9 +37,9 @@ pub fn lines_are_read_back()
 /// so does what stands in the place of a pair.
 pub fn absent_tags_have_no_text()
     ensures test { (case : Case) (operator : Operator) (value : List ℕ) (tag : Tag) (song : Song) → is_uri song.uri ≡ true
-        → text_of song.texts tag ≡ None
+        → first_text song.tags tag ≡ None
         → denotes case (in_its_place operator value) song ≡ denotes case (test_of tag operator value) song }
-    ensures pair { (case : Case) (value : List ℕ) (tag : Tag) (song : Song) → is_uri song.uri ≡ true → text_of song.texts tag ≡ None
+    ensures pair { (case : Case) (value : List ℕ) (tag : Tag) (song : Song) → is_uri song.uri ≡ true → first_text song.tags tag ≡ None
         → denotes case (in_its_place Operator.Equal value) song ≡ denotes case (pair_of tag value) song }
 {}
 

@@ -27,8 +27,8 @@ use crate::tag::{ForeignTag, Standing};
 use crate::values::Tags;
 use command_text::{CommandName, Line};
 use filter_expr::LineWord;
+use song_files::Tag;
 use std::alloc::{AllocError, Global};
-use wave_pcm::Tag;
 
 /// How a command of the daemon is handled.
 #[derive(Clone, Copy, Debug)]

@@ -2,7 +2,7 @@
 ghost use Rattle.std.specs.Prelude.{◌≡◌, ◌<◌};
 ghost use Rattle.stock_requests.specs.Tags.{all_tags, place_of, tag_named, tag_text, standing_of};
 
-use wave_pcm::Tag;
+use song_files::Tag;
 
 /// A tag of MPD (MPD protocol reference 0.23, "Tags"), in the order in which MPD prints them.
 #[derive(Clone, Copy, Debug)]

@@ -1,7 +1,7 @@
 -- Which names a playlist may have.
 use Rattle.std.specs.Prelude.{ℕ, Bool, not, ◌==◌, ◌&&◌, nat_le, List, length}
 use Rattle.std.specs.List.{list_any}
-use Rattle.wave_pcm.specs.Text.{has_control}
+use Rattle.song_files.specs.Text.{has_control}
 use Rattle.stored_lists.specs.Limits.{MAX_NAME_BYTES}
 
 -- 1 to 256 bytes, without a slash and without a control character (Unicode's category Cc)

@@ -4,7 +4,7 @@ ghost use Rattle.std.specs.List.{list_any};
 ghost use Rattle.stored_lists.specs.Name.{is_good_name};
 
 use crate::limits::MAX_NAME_BYTES;
-use wave_pcm::has_control;
+use song_files::has_control;
 
 /// Whether a playlist may have the name: 1 to 256 bytes of UTF-8, no `/` and no control character (Unicode's category Cc).
 pub fn is_good_name(name: &str) -> bool

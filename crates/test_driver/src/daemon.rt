@@ -11,6 +11,8 @@ use log::sink::Discard;
 use log::{Level, Logged};
 use mio_clients::{Clients, MemReady};
 use mpd_server::{NothingWaits, Opened, ServeEnd, ServeStatus, Workers, open_journal};
+use song_db::LibraryRules;
+use song_files::MemFolder;
 use song_output::{Form, SoundOutput};
 use stage_workers::NoWake;
 use std::alloc::{AllocError, Global};
@@ -19,7 +21,6 @@ use std::sync::Wait;
 use std::thread::Threads;
 use std::time::Clock;
 use stock_streams::StockReady;
-use wave_pcm::MemFolder;
 
 /// The clients of a daemon.
 type DaemonClients = Clients<TestStream, Arrivals, StockReady<MemReady>>;
@@ -36,6 +37,7 @@ fn serve_opened<W: Threads + Wait + Clock + Sync>(
     let workers = Workers {
         sources: MemFolder::new(alloc),
         folder: MemFolder::new(alloc),
+        rules: LibraryRules::NAMED,
         output: SoundOutput {
             writer: Vec::new(alloc),
             form: Form::Bare,

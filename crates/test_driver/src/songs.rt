@@ -2,12 +2,14 @@
 ghost use Rattle.std.specs.Prelude.{[]};
 
 use crate::stand::{Passage, Place, Stand};
+use song_files::{
+    FileFolder, FileSource, FileStamp, Folder, FolderEntry, FolderFault, Source, SourceFault,
+};
 use song_output::{GatedFolder, GatedSource, OpenSong, SoundOutput};
 use stage_workers::ScanFolder;
 use std::alloc::Global;
 use std::io::{self, ErrorKind, Write};
 use std::sync::Wait;
-use wave_pcm::{FileFolder, FileSource, Folder, FolderEntry, FolderFault, Source, SourceFault};
 
 #[derive(Drop)]
 pub struct Song<'s, R> {
@@ -60,6 +62,10 @@ impl<'s, R: Wait> Folder for Songs<'s, R> {
             Passage::Empty => Ok(None),
             _ => self.folder.list(alloc, path),
         }
+    }
+
+    fn look(&mut self, alloc: Global, path: &str) -> Result<Option<FileStamp>, FolderFault> {
+        self.folder.look(alloc, path)
     }
 
     fn open(&mut self, alloc: Global, path: &str) -> Result<Option<Self::File>, FolderFault> {

@@ -1,10 +1,10 @@
 //! What the workers of a loop have beside the stage.
 use driver_base::Printer;
+use song_files::FileSource;
 use song_output::{Form, OpenSong, SoundOutput};
 use stage_workers::Wake;
 use std::alloc::Global;
 use std::cell::RefCell;
-use wave_pcm::FileSource;
 
 /// How often the loop was woken.
 #[derive(Drop)]

@@ -6,6 +6,7 @@ use driver_base::TestDisk;
 use mio_clients::{Clients, ClientsError, MemListener, MemReady, Part};
 use player_core::PlayOrder;
 use song_db::ScanOrder;
+use song_files::FileFolder;
 use song_output::OpenGate;
 use stage_workers::{Pass, Scanned, StageError, laws};
 use std::alloc::{AllocError, Global};
@@ -13,7 +14,6 @@ use std::sync::Wait;
 use std::sync::ledger::Ledger;
 use std::time::Clock;
 use stock_streams::StockReady;
-use wave_pcm::FileFolder;
 
 /// The clients of each loop.
 pub type TestClients = Clients<TestStream, MemListener<TestStream>, StockReady<MemReady>>;

@@ -1,13 +1,14 @@
 // `wave_pcm`: a folder of real files, below the folder in which the tests run, with links, a socket and a pipe.
 use crate::assertions::equal;
 use crate::waves::WAVE_A;
+use song_files::{FileFolder, Folder, FolderFault, TagSet};
 use std::alloc::Global;
 use std::os::fd::AsRawFd;
 use std::os::unix::fs::symlink;
 use std::os::unix::net::UnixListener;
 use std::process::Abort;
 use std::{fs, io};
-use wave_pcm::{FileFolder, Folder, FolderFault, WaveError, read_head};
+use wave_pcm::{WaveError, read_head};
 
 /// How many names stand in a folder, or how many frames a file has, if there is one.
 type Told = Result<Option<u64>, FolderFault>;
@@ -103,7 +104,7 @@ fn listed(folder: &mut FileFolder<'_>, alloc: Global, path: &str) -> Told {
 
 fn opened(folder: &mut FileFolder<'_>, alloc: Global, path: &str) -> Told {
     match folder.open(alloc, path)? {
-        Some(mut file) => match read_head(alloc, &mut file) {
+        Some(mut file) => match read_head(alloc, &mut file, TagSet::NONE) {
             Ok(info) => Ok(Some(info.frames)),
             Err(WaveError::NoMemory) => Err(FolderFault::NoMemory),
             Err(_) => Err(FolderFault::Source),

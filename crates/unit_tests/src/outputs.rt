@@ -5,6 +5,9 @@ use crate::assertions::{equal, same_bytes, uri};
 use crate::waves::WAVE_A;
 use no_memory::NoMemory;
 use player_core::{BrokenCause, PlayOrder, Volume};
+use song_files::{
+    FaultySource, FileStamp, Folder, FolderEntry, FolderFault, MemFolder, ReadTrouble,
+};
 use song_output::{
     Form, Gate, GatedFolder, OpenGate, OpenSong, Piece, Point, SoundOutput, play_piece,
 };
@@ -13,7 +16,6 @@ use std::cell::Cell;
 use std::io::{self, ErrorKind, Write};
 use std::process::Abort;
 use std::test::Fail;
-use wave_pcm::{FaultySource, Folder, FolderEntry, FolderFault, MemFolder, ReadTrouble};
 
 /// No call is so late.
 const NEVER: u64 = 1_000_000;
@@ -82,6 +84,10 @@ impl<'a> Folder for Songs<'a> {
 
     fn list(&mut self, alloc: Global, path: &str) -> Result<Option<Vec<FolderEntry>>, FolderFault> {
         self.folder.list(alloc, path)
+    }
+
+    fn look(&mut self, alloc: Global, path: &str) -> Result<Option<FileStamp>, FolderFault> {
+        self.folder.look(alloc, path)
     }
 
     fn open(&mut self, alloc: Global, path: &str) -> Result<Option<Self::File>, FolderFault> {

@@ -1,7 +1,7 @@
 // `play_queue` beside a plain queue, which is the definition as a program: each edit makes the list anew, and the stamp rule looks at both
 // lists whole. Both take the same random edits, and are compared row by row.
 use crate::assertions::{equal, uri};
-use play_queue::{Entry, MAX_VERSION, Queue, QueueBuilder, Ranges, SortedUris};
+use play_queue::{EntryRef, MAX_VERSION, Queue, QueueBuilder, Ranges, SortedUris};
 use song_db::RowUri;
 use std::alloc::{AllocError, Global};
 use std::process::Abort;
@@ -293,7 +293,7 @@ impl Pair {
     }
 }
 
-fn same_row(rt: &impl Abort, entry: &Entry, row: &Row) {
+fn same_row(rt: &impl Abort, entry: EntryRef<'_>, row: &Row) {
     equal(
         rt,
         (entry.id, entry.priority, entry.stamp),

@@ -1,6 +1,6 @@
 // `player_core`: the words beside another implementation, random order, the texts of errors, and the played list where entries leave.
 use crate::assertions::{equal, same_numbers, same_text, uri};
-use play_queue::Entry;
+use play_queue::{Entries, Entry, Queue, QueueBuilder};
 use player_core::{Block, Options, PlayFailure, PlaySettings, Player, Single, word};
 use song_db::{RowUri, Uri};
 use std::alloc::Global;
@@ -62,20 +62,23 @@ fn texts_of_failures(rt: HostRuntime) -> Result<(), Fail> {
     reads(&rt, rt.alloc(), &PlayFailure::OutputFailed, "output failed")
 }
 
-/// Entries with the ids 1, 2 and so on; every third song is b.wav, the others are a.wav.
-fn entries_of(alloc: Global, count: u32) -> Result<Vec<Entry>, Fail> {
-    let mut entries = Vec::new(alloc);
+/// A queue with the ids 1, 2 and so on; every third song is b.wav, the others are a.wav.
+fn queue_of(alloc: Global, count: u32) -> Result<Queue, Fail> {
+    let mut builder = QueueBuilder::new(alloc, 1, count.saturating_add(1))
+        .ok()
+        .ok_or("a version or a next id was refused")?;
     for at in 0..count {
         let id = at + 1;
         let text = if id % 3 == 0 { "b.wav" } else { "a.wav" };
-        entries.push(Entry {
+        let entry = Entry {
             id,
             uri: RowUri::new(uri(alloc, text)?, 0),
             priority: 0,
             stamp: 1,
-        })?;
+        };
+        builder.push(entry).ok().ok_or("an entry was refused")?;
     }
-    Ok(entries)
+    Ok(builder.finish())
 }
 
 fn random_settings(order: u64) -> PlaySettings {
@@ -92,7 +95,7 @@ fn random_settings(order: u64) -> PlaySettings {
 }
 
 /// A player in stop that has played so many of them in one random round, of which each is another one.
-fn played_player(alloc: Global, entries: &[Entry], count: usize) -> Result<Player, Fail> {
+fn played_player(alloc: Global, entries: &Entries, count: usize) -> Result<Player, Fail> {
     let mut player = Player::new(alloc);
     let begun = player.resume(entries, &random_settings(0))?;
     let settings = random_settings(begun.order.unwrap_or(0));
@@ -111,12 +114,13 @@ fn removes(
     block: Block,
     drops_b: bool,
 ) -> Result<(), Fail> {
-    let entries = entries_of(alloc, 60)?;
+    let queue = queue_of(alloc, 60)?;
+    let entries = queue.entries();
     let mut dropped = Vec::new(alloc);
     if drops_b {
         dropped.push(uri(alloc, "b.wav")?)?;
     }
-    let mut player = played_player(alloc, &entries, count)?;
+    let mut player = played_player(alloc, entries, count)?;
     let mut plain = Vec::new(alloc);
     for id in player.played() {
         let place = *id as usize;
@@ -126,7 +130,7 @@ fn removes(
         }
     }
     equal(rt, player.played().len(), count);
-    let _ = player.follow_removal(&entries, &random_settings(1), block, &dropped)?;
+    let _ = player.follow_removal(entries, &random_settings(1), block, &dropped)?;
     same_numbers(rt, player.played(), &plain);
     Ok(())
 }

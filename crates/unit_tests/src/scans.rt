@@ -4,15 +4,17 @@ ghost use Rattle.std.specs.Prelude.{[]};
 use crate::assertions::{equal, same_text, uri};
 use crate::waves::WAVE_A;
 use song_db::{
-    Effect, Effects, MAX_ROWS, RowChange, Scan, ScanOrder, SongDb, SongDbError, SongRow, Uri,
+    Effect, Effects, LibraryRules, MAX_ROWS, RowChange, Scan, ScanOrder, SongDb, SongDbError,
+    SongRow, Uri,
+};
+use song_files::{
+    FaultyFolder, FaultySource, FileStamp, Folder, FolderEntry, FolderFault, MemFolder, MemSource,
+    ReadTrouble, Tag, Tags, tag_text,
 };
 use std::alloc::Global;
 use std::process::Abort;
 use std::test::Fail;
-use wave_pcm::{
-    FaultyFolder, FaultySource, Folder, FolderEntry, FolderFault, MemFolder, MemSource,
-    ReadTrouble, Tag, Tags, WaveInfo,
-};
+use wave_pcm::WaveInfo;
 
 /// A folder in memory of which one call fails, or one read of each file.
 #[derive(Drop)]
@@ -32,6 +34,10 @@ impl Folder for BrokenFolder {
 
     fn list(&mut self, alloc: Global, path: &str) -> Result<Option<Vec<FolderEntry>>, FolderFault> {
         self.folder.list(alloc, path)
+    }
+
+    fn look(&mut self, alloc: Global, path: &str) -> Result<Option<FileStamp>, FolderFault> {
+        self.folder.look(alloc, path)
     }
 
     fn open(&mut self, alloc: Global, path: &str) -> Result<Option<Self::File>, FolderFault> {
@@ -85,7 +91,13 @@ fn next(
 
 /// A scan of a place.
 fn scan_of(alloc: Global, place: &str) -> Result<Scan, Fail> {
-    let order = ScanOrder::new(1, Uri::read(alloc, place)?, known(alloc)?).ok_or("not rising")?;
+    let order = ScanOrder::new(
+        1,
+        Uri::read(alloc, place)?,
+        LibraryRules::NAMED,
+        known(alloc)?,
+    )
+    .ok_or("not rising")?;
     Ok(Scan::begin(alloc, order)?)
 }
 
@@ -195,8 +207,8 @@ fn order_of_a_scan(rt: HostRuntime) -> Result<(), Fail> {
 
 /// The row of a URI with an artist.
 fn row_of(alloc: Global, path: &str, artist: &str) -> Result<SongRow, Fail> {
-    let mut tags = Tags::new();
-    tags.set(Tag::Artist, Some(String::from_str(alloc, artist)?));
+    let mut tags = Tags::new(alloc);
+    tags.add(Tag::Artist, tag_text(artist.as_bytes()).ok_or("no text")?)?;
     let info = WaveInfo {
         rate: 8_000,
         channels: 1,
@@ -204,7 +216,7 @@ fn row_of(alloc: Global, path: &str, artist: &str) -> Result<SongRow, Fail> {
         frames: 1,
         tags,
     };
-    Ok(SongRow::new(alloc, uri(alloc, path)?, info)?.ok_or("no row")?)
+    Ok(SongRow::new(alloc, uri(alloc, path)?, info, None)?.ok_or("no row")?)
 }
 
 /// The texts of a tag are these, which a space parts.
@@ -223,18 +235,14 @@ fn has_values(
     Ok(())
 }
 
-/// These are the artists, told from what is kept and by a copy, which keeps nothing; there is no album.
+/// These are the artists, also of a copy; there is no album.
 fn has_artists(
     rt: &impl Abort,
     alloc: Global,
-    songs: &mut SongDb,
+    songs: &SongDb,
     want: &str,
 ) -> Result<(), SongDbError> {
     has_values(rt, alloc, &songs.try_clone(alloc)?, Tag::Artist, want)?;
-    has_values(rt, alloc, songs, Tag::Artist, want)?;
-    songs.keep_values(alloc, Tag::Artist)?;
-    songs.keep_values(alloc, Tag::Album)?;
-    songs.keep_values(alloc, Tag::Artist)?;
     has_values(rt, alloc, songs, Tag::Artist, want)?;
     has_values(rt, alloc, songs, Tag::Album, "")?;
     let counts = songs.value_counts(alloc)?;
@@ -246,21 +254,21 @@ fn has_artists(
     Ok(())
 }
 
-/// Values that are kept are those of the rows, also after a row behind the last one and after a batch.
+/// The values of tags are those of the rows, also after a row behind the last one and after a batch.
 #[test]
-fn values_that_are_kept(rt: HostRuntime) -> Result<(), Fail> {
+fn values_of_tags(rt: HostRuntime) -> Result<(), Fail> {
     let alloc = rt.alloc();
     let mut songs = SongDb::new(alloc);
-    has_artists(&rt, alloc, &mut songs, "")?;
-    songs.push_last(row_of(alloc, "a.wav", "Z")?)?;
-    has_artists(&rt, alloc, &mut songs, "Z")?;
-    songs.push_last(row_of(alloc, "c.wav", "A")?)?;
-    has_artists(&rt, alloc, &mut songs, "A Z")?;
+    has_artists(&rt, alloc, &songs, "")?;
+    songs.push_last(alloc, row_of(alloc, "a.wav", "Z")?)?;
+    has_artists(&rt, alloc, &songs, "Z")?;
+    songs.push_last(alloc, row_of(alloc, "c.wav", "A")?)?;
+    has_artists(&rt, alloc, &songs, "A Z")?;
     let mut changes = Vec::new(alloc);
     changes.push(RowChange::Put(row_of(alloc, "b.wav", "Z")?))?;
     changes.push(RowChange::Put(row_of(alloc, "c.wav", "M")?))?;
     songs.apply_batch(alloc, changes)?;
-    has_artists(&rt, alloc, &mut songs, "M Z")?;
+    has_artists(&rt, alloc, &songs, "M Z")?;
     Ok(())
 }
 
@@ -269,7 +277,7 @@ fn full_database(alloc: Global) -> Result<SongDb, Fail> {
     let mut songs = SongDb::new(alloc);
     for number in 100_000..100_000 + MAX_ROWS {
         let path = format!(in alloc; "{number}.wav")?;
-        songs.push_last(row_of(alloc, path.as_str(), "Z")?)?;
+        songs.push_last(alloc, row_of(alloc, path.as_str(), "Z")?)?;
     }
     Ok(songs)
 }

@@ -1,11 +1,10 @@
 // `wave_pcm`: worked files, files that another program made, and reads that go wrong.
 use crate::assertions::{equal, same_samples};
+use song_files::{FaultySource, MemSource, ReadTrouble, Tag, TagSet};
 use std::alloc::{AllocError, Global};
 use std::process::Abort;
 use std::test::Fail;
-use wave_pcm::{
-    FaultySource, MemSource, ReadTrouble, Tag, WaveError, WaveInfo, read_frames, read_head, scale,
-};
+use wave_pcm::{WaveError, WaveInfo, read_frames, read_head, scale};
 
 /// A chunk with three bytes and a pad byte, the format, two frames, and two texts.
 pub const WAVE_A: [u8; 94] =
@@ -67,7 +66,7 @@ const FRAMES: [(&[u8], u64, usize, &[i16]); 5] = [
 // The next functions have no contract: the prover then reads the long ones of the readers here alone, and in no test.
 
 fn head(alloc: Global, bytes: &[u8]) -> Result<WaveInfo, WaveError> {
-    read_head(alloc, &mut MemSource::new(bytes))
+    read_head(alloc, &mut MemSource::new(bytes), TagSet::SIX)
 }
 
 fn frames(
@@ -201,7 +200,7 @@ fn troubled(alloc: Global, reads_before: u64, trouble: ReadTrouble) -> (Option<W
         faults: 0,
         reads: 0,
     };
-    let refusal = read_head(alloc, &mut source).err();
+    let refusal = read_head(alloc, &mut source, TagSet::SIX).err();
     (refusal, source.faults)
 }
 

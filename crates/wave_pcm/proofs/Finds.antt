@@ -1,17 +1,19 @@
 -- The first part that passes a test, by the heads.
-use Rattle.std.proofs.Common.{◌≡◌, ℕ, List, [], ◌∷◌, Bool, true, false, cond, map, ap, ◌∙◌, sym, refl, Some, None, take, length}
+use Rattle.std.proofs.Common.{◌≡◌, ◌≤◌, ℕ, List, [], ◌∷◌, Bool, true, false, cond, map, ap, ◌∙◌, sym, refl, Some, None, take, length, arith}
 use Rattle.std.specs.Prelude.{Option, option_map, option_and_then, ◌||◌, nat_lt, Err, if◌then◌else◌}
 use Rattle.std.specs.List.{find}
 use Rattle.std.proofs.lemmas.List.{take-map, length-map}
-use Rattle.wave_pcm.specs.Parts.{is_text, is_data, is_format}
+use Rattle.wave_pcm.specs.Parts.{is_text, is_data, is_format, is_id3}
 use Rattle.wave_pcm.specs.Format.{format_from}
 use Rattle.wave_pcm.specs.declared.listing.TheConstants.{MAX_CHUNKS}
 use Rattle.wave_pcm.specs.declared.refusal.WaveError.TheVariants.{NoFormat, TooManyTurns}
-use Rattle.wave_pcm.specs.PartHead.{part_at, parts_at}
-use Rattle.wave_pcm.specs.Reading.{text_in, format_of, format_at, is_key, data_of, data_at}
+use Rattle.wave_pcm.specs.PartHead.{part_at, parts_at, EndsBy}
+use Rattle.wave_pcm.specs.Reading.{text_in, format_of, format_at, is_key, data_of, data_at, id3_place, place_of}
 use Rattle.wave_pcm.specs.Text.{tag_text}
 use Rattle.wave_pcm.specs.declared.parts.PartHead.{PartHead}
-use Rattle.wave_pcm.specs.declared.tags.Tag.{Tag}
+use Rattle.wave_pcm.proofs.Readings.{part_long}
+use Rattle.wave_pcm.specs.declared.info.ChunkPlace.{ChunkPlace}
+use Rattle.song_files.specs.declared.tag.Tag.{Tag}
 
 pub find-map : {X Y : Type 0} (f : X → Y) (q : Y → Bool) (xs : List X) → find q (map f xs) ≡ option_map f (find (λ x. q (f x)) xs)
 find-map f q [] = refl
@@ -65,3 +67,19 @@ data_found file heads found same short =
     ap (λ n. data_at (nat_lt MAX_CHUNKS n) (find (λ p. is_data p.kind) (parts_at file heads))) (length-map heads (part_at file))
     ∙ ap (λ b. data_at b (find (λ p. is_data p.kind) (parts_at file heads))) short
     ∙ ap (data_at false) (find-map (part_at file) (λ p. is_data p.kind) heads ∙ ap (option_map (part_at file)) (sym same))
+
+-- the place of the ID3v2 tag, by the head that was found
+id3_by : (file : List ℕ) (heads : List PartHead) (found : Option PartHead) → found ≡ find (λ h. is_id3 h.kind) heads
+    → id3_place (parts_at file heads) ≡ option_map place_of (option_map (part_at file) found)
+id3_by file heads found same =
+    ap (option_map place_of) (find-map (part_at file) (λ p. is_id3 p.kind) heads ∙ ap (option_map (part_at file)) (sym same))
+
+pub id3_found : (file : List ℕ) (heads : List PartHead) (head : PartHead) (end : ℕ) → end ≤ length file → EndsBy end head
+    → Some head ≡ find (λ h. is_id3 h.kind) heads
+    → ◌≡◌ {A = Option ChunkPlace} (Some (record { first = head.first; len = head.len })) (id3_place (parts_at file heads))
+id3_found file heads head end within ends same =
+    ap (λ n. Some (record { first = head.first; len = n })) (sym (part_long file head (omega (arith, ends, within))))
+    ∙ sym (id3_by file heads (Some head) same)
+
+pub id3_none : (file : List ℕ) (heads : List PartHead) → None ≡ find (λ h. is_id3 h.kind) heads → None ≡ id3_place (parts_at file heads)
+id3_none file heads same = sym (id3_by file heads None same)

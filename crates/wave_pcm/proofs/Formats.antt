@@ -11,7 +11,7 @@ use Rattle.wave_pcm.specs.declared.format.Format.{Format}
 use Rattle.wave_pcm.specs.declared.refusal.WaveError.{WaveError}
 use Rattle.wave_pcm.specs.declared.refusal.WaveError.TheVariants.{Unsupported, NoFormat}
 use Rattle.wave_pcm.proofs.ChunkList.{le_bytes-take}
-use Rattle.wave_pcm.proofs.Ranges.{take-range, range_is}
+use Rattle.song_files.proofs.Ranges.{take-range, range_is}
 
 le16-take : (xs : List ℕ) → from_le_bytes w16 (take 2 xs) ≡ from_le_bytes w16 xs
 le16-take [] = refl

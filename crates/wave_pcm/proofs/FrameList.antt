@@ -10,7 +10,7 @@ use Rattle.std.specs.Int.{w16, from_le_bytes, cast_signed}
 use Rattle.wave_pcm.specs.Pcm.{samples_in, frames_from, range_from}
 use Rattle.wave_pcm.specs.declared.info.WaveInfo.{WaveInfo}
 use Rattle.wave_pcm.proofs.ChunkList.{take_front}
-use Rattle.wave_pcm.proofs.Ranges.{range_is}
+use Rattle.song_files.proofs.Ranges.{range_is}
 
 abbrev sample_of : ℕ → ℕ → ℤ
 sample_of low high = cast_signed w16 (from_le_bytes w16 (low ∷ high ∷ []))

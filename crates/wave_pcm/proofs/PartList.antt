@@ -10,7 +10,7 @@ use Rattle.wave_pcm.specs.Chunks.{chunks_after, chunks_in}
 use Rattle.wave_pcm.specs.ChunkHead.{chunk_at}
 use Rattle.wave_pcm.specs.declared.chunks.ChunkHead.{ChunkHead}
 use Rattle.wave_pcm.specs.declared.parts.Kind.{Kind}
-use Rattle.wave_pcm.proofs.Ranges.{drop-range}
+use Rattle.song_files.proofs.Ranges.{drop-range}
 use Rattle.wave_pcm.specs.PartHead.{part_at, parts_at}
 use Rattle.wave_pcm.specs.declared.parts.PartHead.{PartHead}
 

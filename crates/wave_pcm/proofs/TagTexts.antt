@@ -1,47 +1,91 @@
--- The texts of the six tags, one after another.
-use Rattle.std.proofs.Common.{◌≡◌, ℕ, zero, suc, ◌+◌, ◌<◌, List, [], ◌∷◌, length, get_or, set, None, refl, ap, ◌∙◌, sym, arith}
-use Rattle.std.specs.Prelude.{Option}
-use Rattle.std.proofs.Common.{below_more}
-use Rattle.std.proofs.lemmas.List.{get_or-set_same, get_or-set_other, ext_get_or}
+-- The texts of the tags that are wanted, one tag after another.
+use Rattle.std.proofs.Common.{◌≡◌, ℕ, ◌+◌, ◌<◌, ◌≤◌, true, false, List, [], ◌∷◌, ◌++◌, length, take, get_or, nat_lt, Some, None, refl}
+use Rattle.std.proofs.Common.{sym, ap, ◌∙◌, arith}
+use Rattle.std.specs.Prelude.{Option, filter}
+use Rattle.std.specs.List.{All}
+use Rattle.std.proofs.lemmas.Bool.Decides.{nat_tests}
+use Rattle.std.proofs.lemmas.List.{append-nil, length_push, take_all}
+use Rattle.std.proofs.lemmas.List.Elements.{All-get_or, All-nil, All-push, All-weaker, filter-append, filter_map-append}
+use Rattle.song_files.specs.Limits.{MAX_TAGS}
+use Rattle.song_files.specs.Tag.{all_tags, tag_at, number_of}
+use Rattle.song_files.specs.TagSet.{has_tag}
+use Rattle.song_files.specs.Tags.{TagText, with_text, added}
+use Rattle.song_files.specs.declared.tag.Tag.{Tag}
+use Rattle.song_files.specs.declared.tag.TheConstants.{TAG_COUNT}
+use Rattle.song_files.specs.declared.tag_set.TagSet.{TagSet}
+use Rattle.song_files.proofs.TagNumbers.{all_long, take_tag}
+use Rattle.song_files.proofs.TagTexts.{with_text-last}
 use Rattle.wave_pcm.specs.Parts.{Part}
-use Rattle.wave_pcm.specs.Reading.{text_in, texts_of}
-use Rattle.wave_pcm.specs.Tag.{Texts, place_of, with_text}
-use Rattle.wave_pcm.specs.declared.tags.Tag.{Tag}
-use Rattle.wave_pcm.specs.declared.tags.Tag.TheVariants.{Title, Artist, Album, Date, Genre, Comment}
+use Rattle.wave_pcm.specs.Reading.{text_in, found_text, texts_for, texts_in, with_found}
 
-abbrev pub tags : List Tag
-tags = Title ∷ Artist ∷ Album ∷ Date ∷ Genre ∷ Comment ∷ []
+-- the texts of the tags whose numbers are below n
+pub record SoFar (parts : List Part) (wanted : TagSet) (n : ℕ) (tags : List TagText) : Type 0 where
+  pub texts : tags ≡ texts_for parts (filter (has_tag wanted) (take n all_tags))
+  pub below : All (λ (t : TagText). number_of t.tag < n) tags
+  pub few : length tags ≤ n
 
-pub tag_at : (i : ℕ) (d : Tag) → i < 6 → place_of (get_or tags i d) ≡ i
-tag_at zero d within = refl
-tag_at (suc zero) d within = refl
-tag_at (suc (suc zero)) d within = refl
-tag_at (suc (suc (suc zero))) d within = refl
-tag_at (suc (suc (suc (suc zero)))) d within = refl
-tag_at (suc (suc (suc (suc (suc zero))))) d within = refl
-tag_at (suc (suc (suc (suc (suc (suc i)))))) d within = absurd (omega arith)
+pub none_yet : (parts : List Part) (wanted : TagSet) → SoFar parts wanted 0 []
+none_yet parts wanted = record { texts = refl; below = All-nil (λ (t : TagText). number_of t.tag < 0); few = omega arith }
 
-text_at : (parts : List Part) (tag : Tag) → get_or (texts_of parts) (place_of tag) None ≡ text_in parts tag
-text_at parts Title = refl
-text_at parts Artist = refl
-text_at parts Album = refl
-text_at parts Date = refl
-text_at parts Genre = refl
-text_at parts Comment = refl
+-- of one more tag
+texts_more : (parts : List Part) (wanted : TagSet) (n : ℕ) (tags : List TagText) (tag : Tag) → SoFar parts wanted n tags
+    → tag_at n ≡ Some tag
+    → texts_for parts (filter (has_tag wanted) (take (n + 1) all_tags)) ≡ tags ++ texts_for parts (filter (has_tag wanted) (tag ∷ []))
+texts_more parts wanted n tags tag so is =
+    ap (λ (l : List Tag). texts_for parts (filter (has_tag wanted) l)) (take_tag n tag is)
+    ∙ ap (texts_for parts) (filter-append (has_tag wanted) (take n all_tags) (tag ∷ []))
+    ∙ filter_map-append (found_text parts) (filter (has_tag wanted) (take n all_tags)) (filter (has_tag wanted) (tag ∷ []))
+    ∙ ap (λ (l : List TagText). l ++ texts_for parts (filter (has_tag wanted) (tag ∷ []))) (sym so.texts)
 
--- one more text
-pub text_set : (parts : List Part) (texts : Texts) (i : ℕ) (tag : Tag) (text : Option (List ℕ)) → length texts ≡ 6 → i < 6
-    → place_of tag ≡ i → text ≡ text_in parts tag
-    → ((k : ℕ) → k < i → get_or texts k None ≡ get_or (texts_of parts) k None)
-    → (k : ℕ) → k < i + 1 → get_or (with_text texts tag text) k None ≡ get_or (texts_of parts) k None
-text_set parts texts i tag text long within place gives below =
-    below_more _ _
-    (λ k under. get_or-set_other texts (place_of tag) k text None (λ same. absurd (omega (arith, same))) ∙ below k under)
-    (ap (λ j. get_or (set texts (place_of tag) text) j None) (sym place)
-    ∙ get_or-set_same texts (place_of tag) text None (omega arith) ∙ gives ∙ sym (text_at parts tag)
-    ∙ ap (λ j. get_or (texts_of parts) j None) place)
+still_below : (n : ℕ) (tags : List TagText) → All (λ (t : TagText). number_of t.tag < n) tags
+    → All (λ (t : TagText). number_of t.tag < n + 1) tags
+still_below n tags below =
+    All-weaker (λ (t : TagText). number_of t.tag < n) (λ (t : TagText). number_of t.tag < n + 1) (λ t less. omega arith) tags below
 
--- all of them
-pub texts_all : (parts : List Part) (texts : Texts) → length texts ≡ 6 → ((k : ℕ) → k < 6
-    → get_or texts k None ≡ get_or (texts_of parts) k None) → texts ≡ texts_of parts
-texts_all parts texts long each = ext_get_or None texts (texts_of parts) long (λ k within. each k (omega arith))
+-- a tag that isn't wanted
+pub not_wanted : (parts : List Part) (wanted : TagSet) (n : ℕ) (tags : List TagText) (tag : Tag) → tag_at n ≡ Some tag
+    → has_tag wanted tag ≡ false → SoFar parts wanted n tags → SoFar parts wanted (n + 1) tags
+not_wanted parts wanted n tags tag is out so =
+    let none : texts_for parts (filter (has_tag wanted) (tag ∷ [])) ≡ [] = rw out refl in
+    record {
+      texts = sym (texts_more parts wanted n tags tag so is ∙ ap (λ (l : List TagText). tags ++ l) none ∙ append-nil tags);
+      below = still_below n tags so.below;
+      few = omega (arith, so.few);
+    }
+
+is_last : (n : ℕ) (tags : List TagText) (tag : Tag) (text : List ℕ) → number_of tag ≡ n → n < TAG_COUNT
+    → All (λ (t : TagText). number_of t.tag < n) tags → length tags ≤ n
+    → added tags tag text ≡ tags ++ (record { tag = tag; text = text }) ∷ []
+is_last n tags tag text number within below few =
+    let room : nat_lt (length tags) MAX_TAGS ≡ true = (let less : length tags < 255 = omega arith in grind (arith, nat_tests)) in
+    let taken : added tags tag text ≡ with_text tags tag text = rw room refl in
+    taken ∙ with_text-last tags tag text (λ k d under.
+    let less : number_of (get_or tags k d).tag < n = All-get_or (λ (t : TagText). number_of t.tag < n) tags k d under below in omega arith)
+
+-- and one that is
+pub one_wanted : (parts : List Part) (wanted : TagSet) (n : ℕ) (tags : List TagText) (tag : Tag) (o : Option (List ℕ))
+    → text_in parts tag ≡ o
+    → tag_at n ≡ Some tag → number_of tag ≡ n → n < TAG_COUNT → has_tag wanted tag ≡ true → SoFar parts wanted n tags
+    → SoFar parts wanted (n + 1) (with_found tags tag o)
+one_wanted parts wanted n tags tag None there is number within among so =
+    let none : texts_for parts (filter (has_tag wanted) (tag ∷ [])) ≡ [] = rw (among, there) refl in
+    record {
+      texts = sym (texts_more parts wanted n tags tag so is ∙ ap (λ (l : List TagText). tags ++ l) none ∙ append-nil tags);
+      below = still_below n tags so.below;
+      few = omega (arith, so.few);
+    }
+one_wanted parts wanted n tags tag (Some text) there is number within among so =
+    let new : TagText = record { tag = tag; text = text } in
+    let one : texts_for parts (filter (has_tag wanted) (tag ∷ [])) ≡ new ∷ [] = rw (among, there) refl in
+    let last : added tags tag text ≡ tags ++ new ∷ [] = is_last n tags tag text number within so.below so.few in
+    record {
+      texts = last ∙ sym (texts_more parts wanted n tags tag so is ∙ ap (λ (l : List TagText). tags ++ l) one);
+      below = rw last (All-push (λ (t : TagText). number_of t.tag < n + 1) tags new (still_below n tags so.below) (omega arith));
+      few = rw last (omega (arith, length_push tags new, so.few));
+    }
+
+-- of all tags
+pub whole : (parts : List Part) (wanted : TagSet) (n : ℕ) (tags : List TagText) → TAG_COUNT ≤ n → SoFar parts wanted n tags
+    → tags ≡ texts_in parts wanted
+whole parts wanted n tags past so =
+    so.texts ∙ ap (λ (l : List Tag). texts_for parts (filter (has_tag wanted) l)) (take_all n all_tags (omega (arith, all_long)))

@@ -1,15 +1,17 @@
--- The one reading of a WAVE file, or the refusal that stands first in file order.
-use Rattle.std.specs.Prelude.{◌≡◌, ℕ, ◌*◌, ◌/◌, List, [], ◌∷◌, length, take, drop, nat_lt, ◌&&◌, ◌||◌, Bool, codes}
-use Rattle.std.specs.Prelude.{Option, Some, None, Result, Ok, Err, if◌then◌else◌, option_and_then}
-use Rattle.std.specs.List.{find}
+-- The one reading of a WAVE file with the tags that are wanted, or the refusal that stands first in file order.
+use Rattle.std.specs.Prelude.{◌≡◌, ℕ, ◌*◌, ◌/◌, List, length, take, drop, nat_lt, ◌&&◌, ◌||◌, Bool, codes}
+use Rattle.std.specs.Prelude.{Option, Some, None, Result, Ok, Err, if◌then◌else◌, option_and_then, option_map}
+use Rattle.std.specs.List.{find, filter_map}
 use Rattle.std.specs.Str.{bytes_eq}
-use Rattle.wave_pcm.specs.Parts.{Part, file_parts, is_format, is_data, is_text}
+use Rattle.wave_pcm.specs.Parts.{Part, file_parts, is_format, is_data, is_id3, is_text}
 use Rattle.wave_pcm.specs.Format.{format_from}
-use Rattle.wave_pcm.specs.Tag.{Texts}
+use Rattle.song_files.specs.Tags.{TagText, added}
+use Rattle.song_files.specs.TagSet.{tags_in}
+use Rattle.song_files.specs.declared.tag_set.TagSet.{TagSet}
 use Rattle.wave_pcm.specs.Text.{tag_text}
-use Rattle.wave_pcm.specs.declared.tags.Tag.{Tag}
-use Rattle.wave_pcm.specs.declared.tags.Tag.TheVariants.{Title, Artist, Album, Date, Genre, Comment}
+use Rattle.song_files.specs.declared.tag.Tag.{Tag}
 use Rattle.wave_pcm.specs.declared.format.Format.{Format}
+use Rattle.wave_pcm.specs.declared.info.ChunkPlace.{ChunkPlace}
 use Rattle.wave_pcm.specs.declared.info.WaveInfo.{WaveInfo}
 use Rattle.wave_pcm.specs.declared.refusal.WaveError.{WaveError}
 use Rattle.wave_pcm.specs.declared.refusal.WaveError.TheVariants.{NoMemory, NotWave, NoFormat, Unsupported, NoData, ReadFault, TooManyTurns}
@@ -51,15 +53,27 @@ data_of parts = data_at (is_long parts) (find (λ p. is_data p.kind) parts)
 abbrev pub text_in : List Part → Tag → Option (List ℕ)
 text_in parts tag = option_and_then (λ p. tag_text p.body) (find (λ p. is_text tag p.kind) parts)
 
-abbrev pub texts_of : List Part → Texts
-texts_of parts = text_in parts Title ∷ text_in parts Artist ∷ text_in parts Album ∷ text_in parts Date ∷ text_in parts Genre ∷
-    text_in parts Comment ∷ []
+-- texts with that of a tag, if there is one
+abbrev pub with_found : List TagText → Tag → Option (List ℕ) → List TagText
+with_found tags tag None = tags
+with_found tags tag (Some text) = added tags tag text
+
+abbrev pub found_text : List Part → Tag → Option TagText
+found_text parts tag = option_map (λ text. record { tag = tag; text = text }) (text_in parts tag)
+
+-- the texts of these tags
+abbrev pub texts_for : List Part → List Tag → List TagText
+texts_for parts tags = filter_map (found_text parts) tags
+
+-- those of the tags that are wanted, in the order of their numbers
+abbrev pub texts_in : List Part → TagSet → List TagText
+texts_in parts wanted = texts_for parts (tags_in wanted)
 
 -- whole frames of 16 bits a channel
 abbrev pub frames_in : ℕ → List ℕ → ℕ
 frames_in channels body = length body / (2 * channels)
 
-abbrev pub info_of : Format → Part → Texts → WaveInfo
+abbrev pub info_of : Format → Part → List TagText → WaveInfo
 info_of format sound texts = record {
   rate = format.rate;
   channels = format.channels;
@@ -69,18 +83,29 @@ info_of format sound texts = record {
   tags = texts;
 }
 
-unfoldable pub reading_of : List Part → Result WaveInfo WaveError
-reading_of parts = do
+unfoldable pub reading_of : List Part → TagSet → Result WaveInfo WaveError
+reading_of parts wanted = do
   format ← format_of parts
   sound ← data_of parts
-  Ok (info_of format sound (texts_of parts))
+  Ok (info_of format sound (texts_in parts wanted))
 
 -- `RIFF`, a size that isn't looked at, `WAVE`
 abbrev pub is_wave : List ℕ → Bool
 is_wave file = bytes_eq (take 4 file) (codes "RIFF") && bytes_eq (take 4 (drop 8 file)) (codes "WAVE")
 
-unfoldable pub wave_reading : List ℕ → Result WaveInfo WaveError
-wave_reading file = if is_wave file then reading_of (file_parts file) else Err NotWave
+unfoldable pub wave_reading : List ℕ → TagSet → Result WaveInfo WaveError
+wave_reading file wanted = if is_wave file then reading_of (file_parts file) wanted else Err NotWave
+
+-- where the data of a chunk stand in the file
+abbrev pub place_of : Part → ChunkPlace
+place_of p = record { first = p.first; len = length p.body }
+
+-- where the first ID3v2 tag among the chunks of a file stands, which is none inside a list
+abbrev pub id3_place : List Part → Option ChunkPlace
+id3_place parts = option_map place_of (find (λ p. is_id3 p.kind) parts)
+
+abbrev pub id3_chunk : List ℕ → Option ChunkPlace
+id3_chunk file = id3_place (file_parts file)
 
 -- an error that is a verdict on the file
 abbrev pub IsVerdict : WaveError → Type 0

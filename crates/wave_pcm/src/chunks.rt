@@ -1,11 +1,11 @@
 // The heads of chunks.
 ghost use Rattle.std.specs.Prelude.{◌≡◌, ◌+◌, ◌-◌, ◌<◌, ◌≤◌, ◌^◌, length, take, min, IfOk, IfSome, OnErr, IsOkUnless};
-ghost use Rattle.wave_pcm.specs.Source.{Grows, Keeps};
+ghost use Rattle.song_files.specs.Source.{Grows, Keeps};
 ghost use Rattle.wave_pcm.specs.Chunks.{chunks_in, size_in, padded};
 ghost use Rattle.wave_pcm.specs.ChunkHead.{chunks_from, IsWithin};
 
-use crate::read::read_exact;
-use crate::{Source, WaveError};
+use crate::WaveError;
+use song_files::{Source, read_exact};
 
 /// How many bytes the head of a chunk has.
 const HEAD_LEN: u64 = 8;

@@ -1,12 +1,12 @@
 // The format of the samples.
 ghost use Rattle.std.specs.Prelude.{◌≡◌, ◌+◌, ◌*◌, ◌<◌, ◌≤◌, ◌^◌, length, slice_range, Ok, IfOk, IfErr};
-ghost use Rattle.wave_pcm.specs.Source.{Grows, Keeps};
+ghost use Rattle.song_files.specs.Source.{Grows, Keeps};
 ghost use Rattle.wave_pcm.specs.Format.{judged, format_by, format_from};
 ghost use Rattle.wave_pcm.specs.Reading.{Refuses};
 
+use crate::WaveError;
 use crate::parts::PartHead;
-use crate::read::read_exact;
-use crate::{Source, WaveError};
+use song_files::{Source, read_exact};
 
 /// How many bytes of a chunk `fmt ` are looked at.
 const FORMAT_LEN: u64 = 16;

@@ -1,12 +1,12 @@
 // Frames that are read and decoded.
 ghost use Rattle.std.specs.Prelude.{◌≡◌, ◌+◌, ◌*◌, ◌-◌, ◌%◌, ◌<◌, ◌≤◌, ◌^◌, ◌++◌, length, min, slice_range, IfOk, OnOk};
 ghost use Rattle.std.specs.Prelude.{OnErr, IfErr, IsErrOf, IfSome, Some, None, Err};
-ghost use Rattle.wave_pcm.specs.Source.{Grows, Keeps};
+ghost use Rattle.song_files.specs.Source.{Grows, Keeps};
 ghost use Rattle.wave_pcm.specs.WaveError.{Fails};
 ghost use Rattle.wave_pcm.specs.Pcm.{samples_in, frames_from, HasFrames, frame_len, range_from};
 
-use crate::read::read_exact;
-use crate::{Source, WaveError, WaveInfo};
+use crate::{WaveError, WaveInfo};
+use song_files::{Source, read_exact};
 use std::alloc::{AllocError, Global};
 
 /// Samples of 16 bits, the low byte first.

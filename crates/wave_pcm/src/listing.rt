@@ -1,18 +1,19 @@
 // The chunks of a file, those inside lists too.
-ghost use Rattle.std.specs.Prelude.{◌≡◌, ◌^◌, slice_range, IsTrue, ℕ, ◌+◌, ◌<◌, ◌≤◌, ◌++◌, ◌||◌, nat_lt, IfSome};
+ghost use Rattle.std.specs.Prelude.{◌≡◌, ◌^◌, slice_range, IsTrue, ℕ, List, ◌+◌, ◌<◌, ◌≤◌, ◌++◌, ◌||◌, nat_lt, IfSome};
 ghost use Rattle.std.specs.Prelude.{length, take, map, vec_len, All, IfOk, OnOk, IfErr, OnErr, IsOkUnless};
-ghost use Rattle.wave_pcm.specs.Source.{Grows, Keeps};
+ghost use Rattle.song_files.specs.Source.{Grows, Keeps};
 ghost use Rattle.wave_pcm.specs.WaveError.{Fails};
 ghost use Rattle.wave_pcm.specs.Chunks.{chunks_in};
 ghost use Rattle.wave_pcm.specs.ChunkHead.{chunk_at};
-ghost use Rattle.wave_pcm.specs.Parts.{is_format, is_data, is_text, is_text_list, text_part, parts_of, parts_in};
+ghost use Rattle.wave_pcm.specs.Parts.{is_format, is_data, is_id3, is_text, is_text_list, text_part, parts_of, parts_in};
 ghost use Rattle.std.specs.List.{find};
-ghost use Rattle.wave_pcm.specs.PartHead.{parts_at, EndsBy};
+ghost use Rattle.wave_pcm.specs.PartHead.{parts_at, EndsBy, PlaceEndsBy};
+ghost use Rattle.wave_pcm.specs.Reading.{id3_place};
 
 use crate::chunks::{ChunkHead, next_chunk};
 use crate::parts::{Kind, PartHead};
-use crate::read::read_exact;
-use crate::{Source, Tag, WaveError};
+use crate::{ChunkPlace, WaveError};
+use song_files::{Source, Tag, read_exact};
 use std::alloc::Global;
 
 /// How many chunks a file may have, those inside lists counted.
@@ -63,6 +64,29 @@ impl Listing {
         ensures within { IfSome result (EndsBy self.now.end) }
     {
         self.parts.iter().copied().find(|h| h.kind.is_text(tag))
+    }
+
+    /// The first ID3v2 tag.
+    fn first_id3(&self) -> Option<PartHead>
+        ensures found { result ≡ find (λ h. is_id3 h.kind) self.now.parts.items }
+        ensures within { IfSome result (EndsBy self.now.end) }
+    {
+        self.parts.iter().copied().find(|h| h.kind.is_id3())
+    }
+
+    /// Where the first ID3v2 tag stands.
+    pub fn id3_place(&self) -> Option<ChunkPlace>
+        ensures place { (file : List ℕ) → self.now.end ≤ length file →
+            result ≡ id3_place (parts_at file self.now.parts.items) }
+        ensures within { IfSome result (PlaceEndsBy self.now.end) }
+    {
+        match self.first_id3() {
+            Some(head) => Some(ChunkPlace {
+                first: head.first,
+                len: head.len,
+            }),
+            None => None,
+        }
     }
 }
 

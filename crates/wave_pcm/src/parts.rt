@@ -1,8 +1,8 @@
 // What a chunk is to the reader, and where its data stand.
 ghost use Rattle.std.specs.Prelude.{◌≡◌, ◌+◌, ◌<◌, ◌≤◌, ◌++◌, length, take, vec_len, All, IfOk, OnOk, OnErr, IfErr};
-ghost use Rattle.wave_pcm.specs.Parts.{file_kind, text_kind, is_info, is_format, is_data, is_nested, is_text};
+ghost use Rattle.wave_pcm.specs.Parts.{file_kind, text_kind, is_info, is_format, is_data, is_nested, is_id3, is_text};
 
-use crate::Tag;
+use song_files::Tag;
 
 /// What a chunk is to the reader.
 #[derive(Clone, Copy, Debug)]
@@ -12,6 +12,8 @@ pub enum Kind {
     /// A list of further chunks.
     Nested,
     Text(Tag),
+    /// An ID3v2 tag.
+    Id3,
     Other,
 }
 
@@ -26,6 +28,8 @@ impl Kind {
             Kind::Data
         } else if id == *b"LIST" {
             Kind::Nested
+        } else if id == *b"id3 " || id == *b"ID3 " {
+            Kind::Id3
         } else {
             Kind::Other
         }
@@ -35,20 +39,9 @@ impl Kind {
     pub fn in_list(id: [u8; 4]) -> Kind
         ensures { result ≡ text_kind id }
     {
-        if id == *b"INAM" {
-            Kind::Text(Tag::Title)
-        } else if id == *b"IART" {
-            Kind::Text(Tag::Artist)
-        } else if id == *b"IPRD" {
-            Kind::Text(Tag::Album)
-        } else if id == *b"ICRD" {
-            Kind::Text(Tag::Date)
-        } else if id == *b"IGNR" {
-            Kind::Text(Tag::Genre)
-        } else if id == *b"ICMT" {
-            Kind::Text(Tag::Comment)
-        } else {
-            Kind::Other
+        match Tag::of_info(id) {
+            Some(tag) => Kind::Text(tag),
+            None => Kind::Other,
         }
     }
 
@@ -70,11 +63,17 @@ impl Kind {
         matches!(self, Kind::Nested)
     }
 
+    pub fn is_id3(self) -> bool
+        ensures { result ≡ is_id3 self }
+    {
+        matches!(self, Kind::Id3)
+    }
+
     pub fn is_text(self, tag: Tag) -> bool
         ensures { result ≡ is_text tag self }
     {
         match self {
-            Kind::Text(own) => tag.place() == own.place(),
+            Kind::Text(own) => tag == own,
             _ => false,
         }
     }

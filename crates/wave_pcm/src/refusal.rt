@@ -1,8 +1,9 @@
 // Why a WAVE file is refused.
 ghost use Rattle.std.specs.Prelude.{◌≡◌};
 ghost use Rattle.wave_pcm.specs.WaveError.{number_of};
-ghost use Rattle.wave_pcm.specs.declared.refusal.WaveError.TheVariants.{NoMemory};
+ghost use Rattle.wave_pcm.specs.declared.refusal.WaveError.TheVariants.{NoMemory, ReadFault};
 
+use song_files::SourceFault;
 use std::alloc::{AllocError, AllocFailed};
 use thiserror::Error;
 
@@ -47,6 +48,14 @@ impl From<AllocError> for WaveError {
 
     fn from(_: AllocError) -> Self {
         WaveError::NoMemory
+    }
+}
+
+impl From<SourceFault> for WaveError {
+    ghost from_gives = { λ _ e. e ≡ ReadFault };
+
+    fn from(_: SourceFault) -> Self {
+        WaveError::ReadFault
     }
 }
 

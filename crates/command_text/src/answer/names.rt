@@ -11,7 +11,7 @@ use crate::name::CommandName;
 use crate::table::{count, name_at};
 use idle_masks::Subsystem;
 use no_memory::NoMemory;
-use wave_pcm::Tag;
+use song_files::Tag;
 
 /// Adds the line `directory: PATH`.
 pub fn write_directory(out: &mut Vec<u8>, path: &str) -> Result<(), NoMemory>

@@ -1,5 +1,5 @@
 //! The lines of a song, and of an entry of the queue (MPD protocol reference 0.23, "Other Metadata").
-ghost use Rattle.wave_pcm.specs.Tag.{text_of};
+ghost use Rattle.play_queue.specs.Shown.{shown};
 ghost use Rattle.command_text.specs.Answer.{Adds, pair};
 ghost use Rattle.command_text.specs.AnswerSongs.{file_line, format_text, tag_line, tag_lines, song_lines, priority_line, entry_lines};
 ghost use Rattle.command_text.specs.AnswerSongs.{place_lines, id_line};
@@ -8,9 +8,10 @@ use crate::answer::pairs::{append, write_number, write_pair, write_position_and_
 use crate::answer::times::{write_exact_seconds, write_whole_seconds};
 use itoa::Buffer;
 use no_memory::NoMemory;
-use play_queue::Entry;
+use play_queue::EntryRef;
 use song_db::SongRow;
-use wave_pcm::{Tag, WaveInfo};
+use song_files::{Tag, Tags};
+use wave_pcm::WaveInfo;
 
 /// Adds the line `file: URI`.
 pub fn write_file(out: &mut Vec<u8>, uri: &str) -> Result<(), NoMemory>
@@ -38,26 +39,22 @@ pub(crate) fn write_format(out: &mut Vec<u8>, key: &str, info: &WaveInfo) -> Res
     )
 }
 
-/// Adds the line of a tag, if the song has a text for it.
-fn write_tag(out: &mut Vec<u8>, row: &SongRow, tag: Tag) -> Result<(), NoMemory>
-    ensures { Adds (tag_line tag (text_of row.now.tags tag)) result out.old out.new }
+/// Adds the line `TAG: TEXT`.
+fn write_tag(out: &mut Vec<u8>, tag: Tag, text: &str) -> Result<(), NoMemory>
+    ensures { Adds (tag_line (record { tag = tag; text = text.now })) result out.old out.new }
 {
-    match row.tag(tag) {
-        Some(text) => write_pair(out, tag.name(), text.as_bytes()),
-        None => Ok(()),
-    }
+    write_pair(out, tag.name(), text.as_bytes())
 }
 
-/// Adds the lines of a song's tags.
-fn write_tags(out: &mut Vec<u8>, row: &SongRow) -> Result<(), NoMemory>
-    ensures { Adds (tag_lines row.now.tags) result out.old out.new }
+/// Adds a line for each text of a song's tags.
+fn write_tags(out: &mut Vec<u8>, tags: &Tags) -> Result<(), NoMemory>
+    ensures { Adds (tag_lines tags.now) result out.old out.new }
 {
-    write_tag(out, row, Tag::Title)?;
-    write_tag(out, row, Tag::Artist)?;
-    write_tag(out, row, Tag::Album)?;
-    write_tag(out, row, Tag::Date)?;
-    write_tag(out, row, Tag::Genre)?;
-    write_tag(out, row, Tag::Comment)
+    for at in 0..tags.len() {
+        let (tag, text) = tags.at(at);
+        write_tag(out, tag, text)?;
+    }
+    Ok(())
 }
 
 /// Adds the lines of a song: `file`, `Format`, its tags, `Time` and `duration`.
@@ -66,7 +63,7 @@ pub fn write_song(out: &mut Vec<u8>, row: &SongRow) -> Result<(), NoMemory>
 {
     write_file(out, row.uri())?;
     write_format(out, "Format", row.info())?;
-    write_tags(out, row)?;
+    write_tags(out, row.tags())?;
     let milliseconds = row.milliseconds();
     write_whole_seconds(out, "Time", milliseconds)?;
     write_exact_seconds(out, "duration", milliseconds)
@@ -87,9 +84,9 @@ pub fn write_entry(
     out: &mut Vec<u8>,
     row: &SongRow,
     position: usize,
-    entry: &Entry,
+    entry: &EntryRef<'_>,
 ) -> Result<(), NoMemory>
-    ensures { Adds (entry_lines row.now position entry.now) result out.old out.new }
+    ensures { Adds (entry_lines row.now position (shown entry.now)) result out.old out.new }
 {
     write_song(out, row)?;
     write_number(out, "Pos", position)?;

@@ -18,8 +18,8 @@ use crate::text::Text;
 use crate::topic::FindingName;
 use filter_expr::{Case, Filter, LineWord, SortOrder};
 use play_queue::Target;
+use song_files::Tag;
 use std::alloc::Global;
-use wave_pcm::Tag;
 
 /// Which songs are looked for, in which order and which part of them.
 #[derive(Debug, Drop)]

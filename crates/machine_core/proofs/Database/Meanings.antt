@@ -10,7 +10,7 @@ use Rattle.song_db.specs.Duration.{total_of}
 use Rattle.song_db.specs.Place.{place_of}
 use Rattle.song_db.specs.Query.{values_of}
 use Rattle.song_db.specs.Row.{Row}
-use Rattle.wave_pcm.specs.declared.tags.Tag.TheVariants.{Artist, Album}
+use Rattle.song_files.specs.declared.tag.Tag.TheVariants.{Artist, Album}
 use Rattle.machine_core.specs.Database.{all_below, begun, database_meaning, next_job, statistics}
 use Rattle.machine_core.specs.Lent.{lent}
 use Rattle.machine_core.specs.Meaning.{Meaning, Meant, begins, says}

@@ -16,7 +16,7 @@ use Rattle.song_db.specs.Row.{Row}
 use Rattle.filter_expr.specs.Meaning.{is_match}
 use Rattle.filter_expr.specs.Order.{is_before, sorted}
 use Rattle.filter_expr.specs.declared.order.SortOrder.{SortOrder}
-use Rattle.wave_pcm.specs.declared.tags.Tag.{Tag}
+use Rattle.song_files.specs.declared.tag.Tag.{Tag}
 use Rattle.machine_core.specs.Adding.{adds}
 use Rattle.machine_core.specs.Finding.{finding_meaning, matching, found, numbers_in, chosen, entries_found, value_lines}
 use Rattle.machine_core.specs.Finding.{in_order, in_window, part_of}

@@ -3,21 +3,27 @@ use Rattle.std.proofs.Common.{◌≡◌, ℕ, zero, suc, ◌+◌, ◌<◌, ◌�
 use Rattle.std.proofs.Common.{length, map, take, drop, get_or, length-append}
 use Rattle.std.proofs.Common.{◌||◌, Option, Some, None, Ok, Bor, codes, add-one, refl, ap, sym, ◌∙◌, arith}
 use Rattle.std.proofs.Math.Seq.{drop-cons}
+use Rattle.std.proofs.lemmas.Grind.{common_steps}
+use Rattle.std.proofs.lemmas.List.{take_more}
+use Rattle.std.proofs.lemmas.List.Elements.{filter_map-append}
 use Rattle.std.proofs.lemmas.List.Quantifiers.{position-Some}
 use Rattle.std.proofs.lemmas.Option.{slice_get-get_or}
 use Rattle.std.specs.List.{cons_option, filter_map, position_or_len, range_with_len}
+use Rattle.std.specs.Option.{option_to_list}
 use Rattle.std.specs.Str.{bytes_eq}
+use Rattle.play_queue.specs.declared.entry.Entry.{Entry}
 use Rattle.song_db.specs.Place.{place_of}
 use Rattle.song_db.specs.Query.{number_at}
 use Rattle.song_db.specs.Refusal.{AnswersExactlyIfThere}
 use Rattle.song_db.specs.Replaced.{IsRising}
 use Rattle.song_db.specs.Row.{Row, row_uri, row_at}
 use Rattle.state_codec.proofs.SongsLaws.{number_is}
+use Rattle.state_codec.specs.OpsLists.{uris_of}
 use Rattle.machine_core.specs.Lent.{lent}
 use Rattle.machine_core.specs.Named.{numbers_of, numbers_under}
 
 no_row : Row
-no_row = record { uri = []; rate = 0; channels = 0; first_byte = 0; frames = 0; tags = [] }
+no_row = record { uri = []; rate = 0; channels = 0; first_byte = 0; frames = 0; tags = []; stamp = None }
 
 -- a URI without a row has no number
 no_place : (rows : List Row) (uri : List ℕ) → row_at rows uri ≡ None → position_or_len (λ row. bytes_eq uri row.uri) rows ≡ length rows
@@ -65,6 +71,15 @@ fewer {A = A} {B = B} h (x ∷ xs) = of (h x) (fewer h xs) where
   of : (o : Option B) → length (filter_map h xs) ≤ length xs → length (cons_option o (filter_map h xs)) ≤ length (x ∷ xs)
   of None behind = omega (arith, behind)
   of (Some y) behind = omega (arith, behind)
+
+-- the number of one entry's row more
+pub one_entry_more : (songs : List Row) (entries : List Entry) (at : ℕ) (entry : Entry) → at < length entries
+    → get_or entries at entry ≡ entry → numbers_of songs (uris_of (take (at + 1) entries))
+    ≡ numbers_of songs (uris_of (take at entries)) ++ option_to_list (number_at songs entry.uri)
+one_entry_more songs entries at entry within is =
+    let more : take (at + 1) entries ≡ take at entries ++ entry ∷ [] =
+    take_more entries at entry within ∙ ap (λ (e : Entry). take at entries ++ e ∷ []) is in
+    rw more (grind (arith, common_steps, filter_map-append))
 
 -- what is there isn't refused
 pub is_there : (T : Type 0) (b : Bool) (x : T) → AnswersExactlyIfThere b (Ok x) → b ≡ true

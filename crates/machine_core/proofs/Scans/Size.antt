@@ -1,16 +1,9 @@
 -- A batch fits into one record, whatever it puts and drops.
-use Rattle.std.proofs.Common.{◌≡◌, ℕ, ◌+◌, ◌*◌, ◌≤◌, true, not, leb, List, [], ◌∷◌, ◌++◌, length, Option, Some, None}
-use Rattle.std.proofs.Common.{sym, subst, arith}
+use Rattle.std.proofs.Common.{◌≡◌, ℕ, ◌+◌, ◌*◌, ◌≤◌, leb, List, [], ◌∷◌, ◌++◌, length, Option, Some, None, arith}
 use Rattle.std.proofs.lemmas.Bool.{leb-true}
 use Rattle.std.proofs.lemmas.List.{length-append}
-use Rattle.std.proofs.lemmas.List.Concat.{length-flat_map}
-use Rattle.std.proofs.lemmas.List.Sums.{sum_by-le}
-use Rattle.std.specs.Int.{w16, to_le_bytes}
-use Rattle.std.specs.List.{AllByRecursion, flat_map}
-use Rattle.std.specs.Str.{is_utf8}
-use Rattle.wave_pcm.specs.Text.{has_control}
-use Rattle.song_db.specs.Row.{Row, is_good_tag}
-use Rattle.song_db.specs.Uri.{is_uri}
+use Rattle.std.specs.List.{flat_map}
+use Rattle.song_db.specs.Row.{Row, six_texts}
 use Rattle.song_db.specs.declared.change.RowChange.{RowChange}
 use Rattle.song_db.specs.declared.change.RowChange.TheVariants.{Put, Drop}
 use Rattle.state_codec.specs.Changes.{AreChanges, IsChange, IsSavedRow}
@@ -20,41 +13,22 @@ use Rattle.state_codec.specs.SpellingOps.{op_bytes}
 use Rattle.state_codec.specs.SpellingRows.{tag_bytes, tags_bytes, row_fields_bytes, row_bytes, change_bytes}
 use Rattle.state_codec.specs.declared.op.Op.TheVariants.{SetOrder, Batch}
 use Rattle.state_codec.proofs.FieldLaws.{both_true}
-use Rattle.state_codec.proofs.Rising.{all_places, all_in_turn, all_weaker}
+use Rattle.state_codec.proofs.LengthLaws.{flat_short, text_len, uri_len}
+use Rattle.state_codec.proofs.Rising.{all_in_turn, all_weaker}
 use Rattle.state_codec.proofs.RowLaws.{fields_fit}
+use Rattle.state_codec.proofs.TagLaws.{IsTextOrNone, tag_text_short, six_good}
 use Rattle.machine_core.specs.Meaning.{order_ops}
 use Rattle.machine_core.specs.Size.{max_request_bytes}
 
--- each of them is no longer than this, so all together aren't longer than so many of these
-flat_short : {X : Type 0} (f : X → List ℕ) (m : ℕ) (xs : List X) → AllByRecursion (λ x. length (f x) ≤ m) xs
-    → length (flat_map f xs) ≤ length xs * m
-flat_short f m xs short =
-    subst (λ (n : ℕ). n ≤ length xs * m) (sym (length-flat_map f xs))
-    (sum_by-le (λ x. length (f x)) m xs (all_places (λ x. length (f x) ≤ m) xs short))
-
-text_len : (text : List ℕ) → length (text_bytes text) ≡ 2 + length text
-text_len text = length-append (to_le_bytes w16 (length text)) text
-
-uri_len : (uri : List ℕ) → is_uri uri ≡ true → length (text_bytes uri) ≤ 1026
-uri_len uri form =
-    let utf8 = both_true (is_utf8 uri) _ form in
-    let len = both_true (leb (length uri) 1024) _ utf8.1 in
-    omega (arith, text_len uri, leb-true _ _ len.0)
-
-tag_len : (tag : Option (List ℕ)) → is_good_tag tag ≡ true → length (tag_bytes tag) ≤ 515
+tag_len : (tag : Option (List ℕ)) → IsTextOrNone tag → length (tag_bytes tag) ≤ 515
 tag_len None good = omega arith
-tag_len (Some text) good =
-    let front = both_true _ (not (has_control text)) good in
-    let utf8 = both_true _ (is_utf8 text) front.0 in
-    let len = both_true _ (leb (length text) 512) utf8.0 in
-    omega (arith, text_len text, leb-true _ _ len.1)
+tag_len (Some text) good = omega (arith, text_len text, tag_text_short text good)
 
 row_len : (row : Row) → IsSavedRow row → length (row_bytes row) ≤ 4137
 row_len row good =
     let fits = fields_fit row good in
-    let tags = flat_short tag_bytes 515 row.tags
-    (all_weaker (λ tag. is_good_tag tag ≡ true) (λ tag. length (tag_bytes tag) ≤ 515) tag_len row.tags fits.0.1.1.1.1.1) in
-    let few : length (tags_bytes row.tags) ≤ 6 * 515 = subst (λ (n : ℕ). length (tags_bytes row.tags) ≤ n * 515) good.six tags in
+    let few : length (tags_bytes row.tags) ≤ 6 * 515 = flat_short tag_bytes 515 (six_texts row.tags)
+    (all_weaker IsTextOrNone (λ tag. length (tag_bytes tag) ≤ 515) tag_len (six_texts row.tags) (six_good row.tags fits.0.1.1.1.1.0)) in
     let d = length-append (u64_bytes row.frames) (tags_bytes row.tags) in
     let c = length-append (u64_bytes row.first_byte) (u64_bytes row.frames ++ tags_bytes row.tags) in
     let b = length-append (byte_bytes row.channels) (u64_bytes row.first_byte ++ (u64_bytes row.frames ++ tags_bytes row.tags)) in

@@ -1,12 +1,12 @@
 // The commands of the database and its scans.
 ghost use Rattle.std.specs.Prelude.{◌≡◌, [], true, false, not, flat_map, unwrap_or};
 ghost use Rattle.command_text.specs.AnswerNames.{listed_commands, tag_type_line};
-ghost use Rattle.command_text.specs.AnswerSongs.{shown_tags};
 ghost use Rattle.command_text.specs.AnswerStatus.{job_line};
 ghost use Rattle.command_text.specs.declared.command.database.DatabaseCommand.TheVariants.{Update};
 ghost use Rattle.song_db.specs.Change.{has_uri};
 ghost use Rattle.song_db.specs.Query.{is_folder};
 ghost use Rattle.song_db.specs.Row.{row_at};
+ghost use Rattle.song_files.specs.TagSet.{tags_in};
 ghost use Rattle.machine_core.specs.Database.{database_meaning, folder_info, info_at, all_at, all_below, statistics};
 ghost use Rattle.machine_core.specs.Meaning.{answers, says};
 ghost use Rattle.machine_core.specs.Memory.{database_takes_memory};
@@ -18,12 +18,11 @@ use crate::job::Job;
 use crate::machine::Machine;
 use crate::work::{Failure, Work};
 use command_text::{
-    CommandRefusal, DatabaseCommand, NoMemory, Text, write_commands, write_job, write_song,
-    write_statistics,
+    CommandRefusal, DatabaseCommand, Text, write_commands, write_job, write_song, write_statistics,
 };
 use song_db::{Place, Uri};
+use song_files::TagSet;
 use std::alloc::Global;
-use wave_pcm::Tag;
 
 // The path that is named, or the empty one, which is the root.
 fn path_or_root<'a>(path: &'a Option<Text<'_>>) -> &'a str
@@ -88,26 +87,17 @@ impl Machine {
 
     // `tagtypes`
     fn list_tag_types(&self, work: &mut Work) -> Result<(), Failure>
-        ensures { Performs (says (flat_map tag_type_line shown_tags) self.now) self.now self.now work.old work.new result }
+        ensures { Performs (says (flat_map tag_type_line (tags_in TagSet.SIX)) self.now) self.now self.now work.old work.new result }
     {
         let mark = work.text.len();
-        let written = write_tag_types(&mut work.text);
+        let written = write_tag_types(&mut work.text, TagSet::SIX);
         work.keep(mark, written)
     }
 
-    // Keeps the values of a tag, so that those who ask for them next look at no song.
-    pub(super) fn keep_values(&mut self, alloc: Global, tag: Tag) -> Result<(), NoMemory>
-        ensures { self.new ≡ self.old }
+    // `stats`: the values of both tags are counted already.
+    fn put_statistics(&self, alloc: Global, work: &mut Work) -> Result<(), Failure>
+        ensures { Performs (says (statistics self.now.saved.songs) self.now) self.now self.now work.old work.new result }
     {
-        self.saved.keep_values(alloc, tag)
-    }
-
-    // `stats`, by the values that are kept of both tags.
-    fn put_statistics(&mut self, alloc: Global, work: &mut Work) -> Result<(), Failure>
-        ensures { Performs (says (statistics self.old.saved.songs) self.old) self.old self.new work.old work.new result }
-    {
-        self.keep_values(alloc, Tag::Artist)?;
-        self.keep_values(alloc, Tag::Album)?;
         let songs = self.saved.songs();
         let Ok(counts) = songs.value_counts(alloc) else {
             return Err(Failure::NoMemory);

@@ -21,9 +21,9 @@ use gathering::{
 };
 use play_queue::Target;
 use song_db::{SongDb, SongRow, Texts};
+use song_files::Tag;
 use state_codec::{ListOp, Op, RowNumbers};
 use std::alloc::Global;
-use wave_pcm::Tag;
 use writing::{write_by_uri, write_entries, write_values};
 
 mod gathering;
@@ -187,35 +187,19 @@ impl Machine {
 
     // `list`: the values of a tag, of all rows or of those that match.
     fn list_values(
-        &mut self,
+        &self,
         alloc: Global,
         tag: Tag,
         filter: Option<&Filter>,
         work: &mut Work,
     ) -> Result<(), Failure>
-        ensures { Performs (finding_meaning (ListTag tag (option_copied filter.entry)) self.old) self.old self.new
+        ensures { Performs (finding_meaning (ListTag tag (option_copied filter.entry)) self.now) self.now self.now
             work.old work.new result }
     {
-        self.keep_asked_values(alloc, tag, filter)?;
         let values = chosen_values(alloc, self.saved.songs(), tag, filter)?;
         let mark = work.text.len();
         let written = write_values(&mut work.text, tag, &values);
         work.keep(mark, written)
-    }
-
-    // Where the values of all rows are asked for, they are kept, so that the next time no row is looked at.
-    fn keep_asked_values(
-        &mut self,
-        alloc: Global,
-        tag: Tag,
-        filter: Option<&Filter>,
-    ) -> Result<(), NoMemory>
-        ensures { self.new ≡ self.old }
-    {
-        match filter {
-            Some(_) => Ok(()),
-            None => self.keep_values(alloc, tag),
-        }
     }
 }
 

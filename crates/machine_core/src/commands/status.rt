@@ -58,7 +58,7 @@ impl Machine {
     {
         let position = position?;
         let entry = self.saved.queue().get(position)?;
-        let Ok(row) = self.saved.songs().row_of(&entry.uri) else {
+        let Ok(row) = self.saved.songs().row_of(entry.uri) else {
             return None;
         };
         Some(CurrentSong {

@@ -9,10 +9,10 @@ use daemon_core::Event;
 use disk_model::Disk;
 use mpd_server::{JobFolder, Visits};
 use song_db::{Scan, ScanOrder};
+use song_files::Folder;
 use state_codec::Changes;
 use std::alloc::Global;
 use std::io::Write;
-use wave_pcm::Folder;
 
 impl<D: Disk, F: Folder, W: Write> Service<'_, D, F, W> {
     // Reads for the job that runs, if one runs: each batch of changes is an event, and the end of the scan is one.
@@ -32,8 +32,8 @@ impl<D: Disk, F: Folder, W: Write> Service<'_, D, F, W> {
         self.serve_event(Event::ScanDone { job })
     }
 
-    // Reports what the scan of this order finds, to its end. It is left off where memory runs out, and after 2^64 - 1 batches: what was
-    // not read keeps its row.
+    // Reports what the scan of this order finds by the rules of the library, to its end. It is left off where memory runs out, and after
+    // 2^64 - 1 batches: what was not read keeps its row.
     fn serve_changes(&mut self, order: ScanOrder) -> Result<(), Ending>
         requires usable { IsUsable self.old }
         requires running { IsRunning order.job self.old.live.state.machine.job }
@@ -41,7 +41,7 @@ impl<D: Disk, F: Folder, W: Write> Service<'_, D, F, W> {
         ensures running { OnOk result (IsRunning order.job self.new.live.state.machine.job) }
     {
         let job = order.job();
-        let mut scan = match Scan::begin(self.alloc, order) {
+        let mut scan = match Scan::begin(self.alloc, order.with_rules(self.rules)) {
             Ok(scan) => scan,
             Err(_) => return Ok(()),
         };

@@ -11,9 +11,10 @@ use command_text::Request;
 use daemon_core::Event;
 use disk_model::Disk;
 use live_stage::{Live, LiveError};
+use song_db::LibraryRules;
+use song_files::Folder;
 use std::alloc::Global;
 use std::io::{Read, Write};
-use wave_pcm::Folder;
 
 // How many bytes are read at once, at most.
 const PIECE: usize = 8_192;
@@ -38,13 +39,14 @@ pub(super) fn ending_with(served: Result<(), Ending>) -> Ending
     }
 }
 
-// What serves one client: its session over the stage, the folder that jobs read, and the writer of its answers.
+// What serves one client: its session over the stage, the folder that jobs read and their rules, and the writer of its answers.
 pub(super) struct Service<'a, D: Disk, F, W> {
     pub(super) alloc: Global,
     pub(super) live: Live<D>,
     pub(super) session: Session,
     pub(super) client: u64,
     pub(super) folder: &'a mut F,
+    pub(super) rules: LibraryRules,
     pub(super) writer: &'a mut W,
 }
 

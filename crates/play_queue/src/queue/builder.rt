@@ -6,36 +6,28 @@ ghost use Rattle.play_queue.specs.Refusal.{Answers, AnswersUnless};
 use super::Queue;
 use crate::entry::Entry;
 use crate::entry_list::EntryList;
-use crate::hints::Hints;
 use crate::limits::{MAX_ENTRIES, MAX_ID, MAX_VERSION};
 use crate::refusal::PartError;
 use std::alloc::Global;
-use std::collections::HashSet;
 use std::marker::Model;
 
 /// Makes a queue from its parts, as they were saved: version and next id first, and then the entries in order, each in
 /// constant time on average. A part that no queue can have is refused, and the builder stays as it was.
 #[derive(Drop)]
 pub struct QueueBuilder {
-    entries: Vec<Entry>,
-    hints: Hints,
-    ids: HashSet<u32>,
+    entries: EntryList,
     version: u32,
     next_id: u32,
 }
 
 impl Model for QueueBuilder {
-    ghost use Rattle.std.specs.Prelude.{◌≡◌, ℕ, nat_eq};
-    ghost use Rattle.std.specs.HashSet.{contains};
     ghost use Rattle.play_queue.specs.Queue.{QueueState, IsQueue};
-    ghost use Rattle.play_queue.specs.Builder.{has_id};
 
     ghost Value = { QueueState };
 
-    ghost view = { λ b. record { entries = b.entries.items; version = b.version; next_id = b.next_id } };
+    ghost view = { λ b. record { entries = b.entries; version = b.version; next_id = b.next_id } };
 
-    ghost invariant = { λ b. IsQueue (record { entries = b.entries.items; version = b.version; next_id = b.next_id })
-        × ((id : ℕ) → contains nat_eq b.ids id ≡ has_id b.entries.items id) };
+    ghost invariant = { λ b. IsQueue (record { entries = b.entries; version = b.version; next_id = b.next_id }) };
 }
 
 impl QueueBuilder {
@@ -52,9 +44,7 @@ impl QueueBuilder {
             return Err(PartError::BadNextId);
         }
         Ok(QueueBuilder {
-            entries: Vec::new(alloc),
-            hints: Hints::new(alloc),
-            ids: HashSet::new(alloc),
+            entries: EntryList::new(alloc),
             version,
             next_id,
         })
@@ -72,16 +62,13 @@ impl QueueBuilder {
             return Err(PartError::QueueFull);
         }
         let id = entry.id;
-        if id < 1 || self.next_id <= id || self.ids.contains(&id) {
+        if id < 1 || self.next_id <= id || self.entries.entries().has_id(id) {
             return Err(PartError::BadId);
         }
         if entry.stamp < 1 || self.version < entry.stamp {
             return Err(PartError::BadStamp);
         }
-        self.entries.reserve(1)?;
-        self.hints.reserve(1)?;
-        self.ids.insert(id)?;
-        self.entries.push_reserved(entry);
+        self.entries.push(entry)?;
         Ok(())
     }
 
@@ -90,7 +77,7 @@ impl QueueBuilder {
         ensures { result ≡ self }
     {
         Queue {
-            entries: EntryList::from_parts(self.entries, self.hints),
+            entries: self.entries,
             version: self.version,
             next_id: self.next_id,
         }

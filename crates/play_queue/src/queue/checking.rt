@@ -100,6 +100,6 @@ impl Queue {
         ensures { TellsPriority self.now.entries ranges.now priority result }
     {
         !has_bad(ranges.as_slice(), self.entries.len())
-            && has_other(self.entries.as_slice(), ranges.merged(), priority)
+            && has_other(self.entries.entries(), ranges.merged(), priority)
     }
 }

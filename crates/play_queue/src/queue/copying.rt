@@ -2,9 +2,6 @@
 ghost use Rattle.std.specs.Prelude.{◌≡◌, IfOk};
 
 use super::Queue;
-use crate::editing::clone_all;
-use crate::entry_list::EntryList;
-use crate::hints::Hints;
 use std::alloc::{AllocError, Global};
 
 impl Queue {
@@ -12,12 +9,8 @@ impl Queue {
     pub fn try_clone(&self, alloc: Global) -> Result<Queue, AllocError>
         ensures { IfOk result (λ copy. copy ≡ self.now) }
     {
-        let mut entries = Vec::with_capacity(alloc, self.entries.len())?;
-        clone_all(alloc, self.entries.as_slice(), &mut entries)?;
-        let mut hints = Hints::new(alloc);
-        hints.reserve(entries.len())?;
         Ok(Queue {
-            entries: EntryList::from_parts(entries, hints),
+            entries: self.entries.try_clone(alloc)?,
             version: self.version,
             next_id: self.next_id,
         })

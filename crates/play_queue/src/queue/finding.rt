@@ -8,17 +8,21 @@ use crate::limits::MAX_ENTRIES;
 use crate::places::places_of;
 use std::alloc::{AllocError, Global};
 
+/// So many ids are looked for in one pass.
+const MANY: usize = 8;
+
 impl Queue {
     /// The position of the entry with an id, if there is one.
     pub fn pos_of(&self, id: u32) -> Option<usize>
         ensures found { result ≡ position (λ entry. entry.id == id) self.now.entries }
         ensures within { IfSome result (λ at. (at < length self.now.entries) × (at < MAX_ENTRIES)) }
     {
-        self.entries.pos_of(id)
+        self.entries.entries().pos_of(id)
     }
 
-    /// The positions of the entries with these ids, in the order of the ids; or the first id that no entry has. It goes
-    /// through the entries once, however many ids there are, and takes memory for the ids alone.
+    /// The positions of the entries with these ids, in the order of the ids; or the first id that no entry has. A few ids
+    /// are looked for one by one, as by `pos_of`; for more it goes through the ids of all entries once. It takes memory for
+    /// the ids alone.
     pub fn positions_of(
         &self,
         alloc: Global,
@@ -26,7 +30,38 @@ impl Queue {
     ) -> Result<Result<Vec<usize>, u32>, AllocError>
         ensures { IfOk result (λ found. items_of found ≡ positions_of self.now.entries ids.now) }
     {
-        let places = places_of(alloc, self.entries.as_slice(), ids)?;
+        if ids.len() < MANY {
+            self.few_positions(alloc, ids)
+        } else {
+            self.many_positions(alloc, ids)
+        }
+    }
+
+    fn few_positions(
+        &self,
+        alloc: Global,
+        ids: &[u32],
+    ) -> Result<Result<Vec<usize>, u32>, AllocError>
+        ensures { IfOk result (λ found. items_of found ≡ positions_of self.now.entries ids.now) }
+    {
+        let mut positions = Vec::with_capacity(alloc, ids.len())?;
+        for wanted in ids {
+            match self.pos_of(*wanted) {
+                Some(at) => positions.push(at)?,
+                None => return Ok(Err(*wanted)),
+            }
+        }
+        Ok(Ok(positions))
+    }
+
+    fn many_positions(
+        &self,
+        alloc: Global,
+        ids: &[u32],
+    ) -> Result<Result<Vec<usize>, u32>, AllocError>
+        ensures { IfOk result (λ found. items_of found ≡ positions_of self.now.entries ids.now) }
+    {
+        let places = places_of(alloc, self.entries.entries(), ids)?;
         let mut positions = Vec::with_capacity(alloc, ids.len())?;
         for id in ids {
             match places.get(id) {

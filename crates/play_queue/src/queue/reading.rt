@@ -1,10 +1,12 @@
 // What a queue shows.
 ghost use Rattle.std.specs.Prelude.{◌≡◌, ◌↔◌, [], length, IsTrue, slice_get};
-ghost use Rattle.std.specs.Option.{option_copied};
+ghost use Rattle.std.specs.Option.{option_map};
 ghost use Rattle.play_queue.specs.Queue.{IsQueue, VersionTellsChanges};
+ghost use Rattle.play_queue.specs.Shown.{shown};
 
 use super::Queue;
-use crate::entry::Entry;
+use crate::entries::Entries;
+use crate::entry::EntryRef;
 
 impl Queue {
     /// How many entries there are.
@@ -21,18 +23,18 @@ impl Queue {
     }
 
     /// The entry at a position from 0 on, if there is one.
-    pub fn get(&self, at: usize) -> Option<&Entry>
-        ensures { option_copied result ≡ slice_get self.now.entries at }
+    pub fn get(&self, at: usize) -> Option<EntryRef<'_>>
+        ensures { option_map shown result ≡ slice_get self.now.entries at }
     {
         self.entries.get(at)
     }
 
     /// The entries in order.
-    pub fn entries(&self) -> &[Entry]
+    pub fn entries(&self) -> &Entries
         ensures entries { result.now ≡ self.now.entries }
         ensures kept { IsQueue self.now }
     {
-        self.entries.as_slice()
+        self.entries.entries()
     }
 
     /// From 1 to 2147483647; it grows by one with each change, and stays where nothing has changed.

@@ -15,13 +15,13 @@ use crate::playing::PlayState;
 use crate::refusal::PlayerError;
 use crate::removal::leave;
 use crate::settings::PlaySettings;
-use play_queue::Entry;
+use play_queue::Entries;
 
 impl Player {
     /// The output has played the last frame. It counts in play, with the present ticket alone.
     pub fn ended(
         &mut self,
-        entries: &[Entry],
+        entries: &Entries,
         settings: &PlaySettings,
         ticket: u64,
     ) -> Result<Changes, PlayerError>
@@ -39,7 +39,7 @@ impl Player {
     /// does the same, and what it starts plays. Refused by `NotPlaying` in stop.
     pub fn next(
         &mut self,
-        entries: &[Entry],
+        entries: &Entries,
         settings: &PlaySettings,
     ) -> Result<Changes, PlayerError>
         ensures ok { IfOk (next_one entries.now settings.now self.old) (λ step. OnStep step self.new result) }
@@ -55,7 +55,7 @@ impl Player {
     // The current song is over.
     fn finish(
         &mut self,
-        entries: &[Entry],
+        entries: &Entries,
         settings: &PlaySettings,
         single: Single,
     ) -> Result<Changes, PlayerError>
@@ -68,9 +68,18 @@ impl Player {
         };
         let options = settings.options;
         let consumes = is_on(options.consume);
-        let next = followed_by(entries, settings, single, &self.played, at, current);
+        let next = followed_by(
+            entries,
+            settings,
+            single,
+            &self.played,
+            at,
+            current,
+            &mut self.words,
+        );
         make_room(&mut self.played, options.random)?;
-        leave(&mut self.played, entries, consumed(consumes, at), &[]);
+        let block = consumed(entries, consumes, at);
+        leave(&mut self.played, entries, block, &[]);
         go_on_or_stop(&mut self.playing, &mut self.played, options.random, next);
         Ok(Changes {
             order: order_of(next),

@@ -14,15 +14,15 @@ use crate::refusal::PlayerError;
 use crate::removal::leave;
 use crate::settings::PlaySettings;
 use crate::staying::takes;
-use play_queue::Entry;
+use play_queue::Entries;
 use song_db::Uri;
 
 // Whether the entry at a position leaves.
-fn takes_at(block: Block, dropped: &[Uri], entries: &[Entry], at: usize) -> bool
+fn takes_at(block: Block, dropped: &[Uri], entries: &Entries, at: usize) -> bool
     ensures { result ≡ takes_at block dropped.now entries.now at }
 {
     match entries.get(at) {
-        Some(entry) => takes(block, dropped, at, entry),
+        Some(entry) => takes(block, dropped, at, &entry),
         None => false,
     }
 }
@@ -35,7 +35,7 @@ impl Player {
     /// The caller then takes the entries out of the queue, which can't be refused.
     pub fn follow_removal(
         &mut self,
-        entries: &[Entry],
+        entries: &Entries,
         settings: &PlaySettings,
         block: Block,
         dropped: &[Uri],
@@ -59,7 +59,16 @@ impl Player {
             stop_without_song(&mut self.playing);
             return Ok(Changes::NONE);
         }
-        let choice = choose(entries, settings, block, dropped, &self.played, at, current);
+        let choice = choose(
+            entries,
+            settings,
+            block,
+            dropped,
+            &self.played,
+            at,
+            current,
+            &mut self.words,
+        );
         make_room(&mut self.played, random)?;
         leave(&mut self.played, entries, block, dropped);
         go_on(&mut self.playing, &mut self.played, random, choice);
@@ -73,7 +82,7 @@ impl Player {
     /// caller can so know what it is going to save.
     pub fn order_after_removal(
         &self,
-        entries: &[Entry],
+        entries: &Entries,
         settings: &PlaySettings,
         block: Block,
         dropped: &[Uri],
@@ -84,6 +93,17 @@ impl Player {
         if !takes_at(block, dropped, entries, at) || self.playing.state != PlayState::Play {
             return None;
         }
-        choose(entries, settings, block, dropped, &self.played, at, current).order
+        let mut words = self.words_apart(settings);
+        choose(
+            entries,
+            settings,
+            block,
+            dropped,
+            &self.played,
+            at,
+            current,
+            &mut words,
+        )
+        .order
     }
 }

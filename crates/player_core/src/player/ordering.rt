@@ -1,26 +1,21 @@
 // What the output is to do.
-ghost use Rattle.std.specs.Prelude.{◌≡◌, ◌==◌, find, IfOk};
-ghost use Rattle.std.specs.Option.{option_copied};
+ghost use Rattle.std.specs.Prelude.{◌≡◌, IfOk};
+ghost use Rattle.std.specs.Option.{option_map};
+ghost use Rattle.play_queue.specs.Shown.{shown};
 ghost use Rattle.player_core.specs.Order.{current_entry, order_of};
 
 use super::Player;
 use crate::order::{Order, PlayOrder};
 use crate::playing::PlayState;
 use crate::volume::Volume;
-use play_queue::Entry;
+use play_queue::{Entries, EntryRef};
 use std::alloc::{AllocError, Global};
 
-fn with_id(entries: &[Entry], id: u32) -> Option<&Entry>
-    ensures { option_copied result ≡ find (λ entry. entry.id == id) entries.now }
-{
-    entries.iter().find(|entry| entry.id == id)
-}
-
-fn current_entry(entries: &[Entry], current: Option<u32>) -> Option<&Entry>
-    ensures { option_copied result ≡ current_entry entries.now current }
+fn current_entry(entries: &Entries, current: Option<u32>) -> Option<EntryRef<'_>>
+    ensures { option_map shown result ≡ current_entry entries.now current }
 {
     match current {
-        Some(id) => with_id(entries, id),
+        Some(id) => entries.with_id(id),
         None => None,
     }
 }
@@ -30,7 +25,7 @@ impl Player {
     pub fn order(
         &self,
         alloc: Global,
-        entries: &[Entry],
+        entries: &Entries,
         volume: Volume,
     ) -> Result<Order, AllocError>
         ensures { IfOk result (λ order. order ≡ order_of entries.now volume self.now) }

@@ -14,7 +14,7 @@ use crate::refusal::PlayerError;
 use crate::seek::{SeekTime, SongLength};
 use crate::selector::Selector;
 use crate::settings::PlaySettings;
-use play_queue::Entry;
+use play_queue::Entries;
 
 impl Player {
     /// `seek` or `seekid` of an entry, to a time in milliseconds: it is started there, at most at the end of
@@ -22,7 +22,7 @@ impl Player {
     /// and by `NoSuchSong` where no entry has the id.
     pub fn seek(
         &mut self,
-        entries: &[Entry],
+        entries: &Entries,
         settings: &PlaySettings,
         selector: Selector,
         song: SongLength,

@@ -6,9 +6,10 @@ use super::Player;
 use crate::choice::Choice;
 use crate::followed::followed_by;
 use crate::placing::placed;
+use crate::round_words::WordTable;
 use crate::settings::PlaySettings;
 use crate::shown::Shown;
-use play_queue::Entry;
+use play_queue::Entries;
 
 // The id of what is started, where no random round begins with it.
 fn started_next(next: Option<Choice>) -> Option<u32>
@@ -25,7 +26,24 @@ impl Player {
     /// The current song's position, and the position and the id of the song that its end would start in play,
     /// if no random round begins with it. In random mode it draws a word for each entry: `KeptNext` keeps
     /// what it answers.
-    pub fn shown(&self, entries: &[Entry], settings: &PlaySettings) -> Shown
+    pub fn shown(&self, entries: &Entries, settings: &PlaySettings) -> Shown
+        ensures { result ≡ shown entries.now settings.now self.now }
+    {
+        self.shown_by(entries, settings, &mut self.words_apart(settings))
+    }
+
+    // Words of a random round, apart from those that the player keeps.
+    pub(crate) fn words_apart(&self, settings: &PlaySettings) -> WordTable {
+        WordTable::new(*self.played.allocator(), settings.key, settings.order)
+    }
+
+    // What is shown, by words of which those that are made are kept.
+    pub(crate) fn shown_by(
+        &self,
+        entries: &Entries,
+        settings: &PlaySettings,
+        words: &mut WordTable,
+    ) -> Shown
         ensures { result ≡ shown entries.now settings.now self.now }
     {
         let Some((at, current)) = placed(entries, self.playing.current) else {
@@ -35,7 +53,7 @@ impl Player {
             };
         };
         let single = settings.options.single;
-        let next = followed_by(entries, settings, single, &self.played, at, current);
+        let next = followed_by(entries, settings, single, &self.played, at, current, words);
         Shown {
             current: Some(at),
             next: placed(entries, started_next(next)),

@@ -15,7 +15,7 @@ use crate::playing::PlayState;
 use crate::refusal::PlayerError;
 use crate::selector::Selector;
 use crate::settings::PlaySettings;
-use play_queue::Entry;
+use play_queue::Entries;
 use std::alloc::AllocError;
 
 fn paused(switch: Option<bool>, state: PlayState) -> PlayState
@@ -43,7 +43,7 @@ impl Player {
     /// where no entry has the id.
     pub fn play(
         &mut self,
-        entries: &[Entry],
+        entries: &Entries,
         settings: &PlaySettings,
         selector: Selector,
     ) -> Result<Changes, PlayerError>
@@ -60,7 +60,7 @@ impl Player {
     /// at position 0, or in random mode the least of a new round. In an empty queue it does nothing.
     pub fn resume(
         &mut self,
-        entries: &[Entry],
+        entries: &Entries,
         settings: &PlaySettings,
     ) -> Result<Changes, PlayerError>
         ensures ok { OnStep (resumed self.old.state entries.now settings.now self.old) self.new result }
@@ -74,7 +74,13 @@ impl Player {
                 Ok(Changes::NONE)
             }
             PlayState::Stop => {
-                let choice = to_resume(entries, settings, self.playing.current, &self.played);
+                let choice = to_resume(
+                    entries,
+                    settings,
+                    self.playing.current,
+                    &self.played,
+                    &mut self.words,
+                );
                 if choice.id.is_none() {
                     return Ok(Changes::NONE);
                 }
@@ -119,7 +125,7 @@ impl Player {
     /// before it. Refused by `NotPlaying` in stop.
     pub fn previous(
         &mut self,
-        entries: &[Entry],
+        entries: &Entries,
         settings: &PlaySettings,
     ) -> Result<(), PlayerError>
         ensures ok { OnOk result (previous_one entries.now settings.now self.old ≡ Ok self.new) }
@@ -132,7 +138,7 @@ impl Player {
         Ok(self.go_back(entries, settings)?)
     }
 
-    fn go_back(&mut self, entries: &[Entry], settings: &PlaySettings) -> Result<(), AllocError>
+    fn go_back(&mut self, entries: &Entries, settings: &PlaySettings) -> Result<(), AllocError>
         ensures ok { OnOk result (self.new ≡ gone_back entries.now settings.now self.old (placed entries.now self.old.current)) }
         ensures err { OnErr result (self.new ≡ self.old) }
     {

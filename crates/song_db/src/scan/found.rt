@@ -5,10 +5,13 @@ ghost use Rattle.song_db.specs.Found.{found_of, IsKnown, IsOf, IsSongIn, changes
 use crate::change::RowChange;
 use crate::refusal::SongDbError;
 use crate::row::SongRow;
+use crate::rules::LibraryRules;
 use crate::scan::droppable::Droppable;
 use crate::uri::Uri;
+use song_files::{FolderFault, Source};
+use song_head::read_song;
 use std::alloc::Global;
-use wave_pcm::{FolderFault, Source, WaveError, WaveInfo, read_head};
+use wave_pcm::{WaveError, WaveInfo};
 
 // What stands under the name of a song.
 #[derive(Debug, Drop)]
@@ -30,7 +33,7 @@ fn found_of(
     ensures only { IsOkUnless result SongDbError.NoMemory }
 {
     match head {
-        Ok(info) => match SongRow::new(alloc, uri, info)? {
+        Ok(info) => match SongRow::new(alloc, uri, info, None)? {
             Some(row) => Ok(Found::Song(row)),
             None => Ok(Found::NoSong),
         },
@@ -43,6 +46,7 @@ fn found_of(
 // What the opening of a file tells.
 pub(crate) fn found_in<S: Source + Drop>(
     alloc: Global,
+    rules: LibraryRules,
     uri: Uri,
     opened: Result<Option<S>, FolderFault>,
 ) -> Result<Found, SongDbError>
@@ -50,13 +54,13 @@ pub(crate) fn found_in<S: Source + Drop>(
     ensures none { opened ≡ Ok None → result ≡ Ok Found.NoSong }
     ensures memory { opened ≡ Err FolderFault.NoMemory → result ≡ Err SongDbError.NoMemory }
     ensures of { IfOk result (IsOf uri) }
-    ensures song { (source : S) → opened ≡ Ok (Some source) → S.honest source → IfOk result (IsSongIn uri (S.bytes source)) }
+    ensures song { (source : S) → opened ≡ Ok (Some source) → S.honest source → IfOk result (IsSongIn rules uri (S.bytes source)) }
     ensures known { (source : S) → opened ≡ Ok (Some source) → S.honest source → S.steady source → IfOk result IsKnown }
     ensures only { IsOkUnless result SongDbError.NoMemory }
 {
     match opened {
         Ok(Some(mut source)) => {
-            let head = read_head(alloc, &mut source);
+            let head = read_song(alloc, &mut source, rules.reading);
             found_of(alloc, uri, head)
         }
         Ok(None) => Ok(Found::NoSong),

@@ -3,6 +3,7 @@ ghost use Rattle.std.specs.Prelude.{◌≡◌, ◌↔◌, ℕ, ◌+◌, ◌<◌,
 ghost use Rattle.std.specs.Prelude.{IfOk, OnOk, IsOkUnless, IsTrue};
 ghost use Rattle.song_db.specs.Batch.{IsBatch, IsRead, after_listing, after_own, visit_after};
 ghost use Rattle.song_db.specs.Found.{IsVisitIn, visited};
+ghost use Rattle.song_db.specs.Music.{music_of};
 ghost use Rattle.song_db.specs.Pending.{listed_pending, own_pending, own_prefix, still_pending, times_pending};
 ghost use Rattle.song_db.specs.Reader.{IsFilled, IsReadOn, IsSameFolder, IsSameScan};
 ghost use Rattle.song_db.specs.Scan.{is_in, IsHonestRead, IsWholeRead};
@@ -15,8 +16,8 @@ use crate::scan::found::{found_in, settle};
 use crate::scan::visit::{Visit, visit_of};
 use crate::scan::walk::{FolderWalk, prefix_of};
 use crate::uri::Uri;
+use song_files::{Folder, FolderEntry, FolderFault};
 use std::alloc::Global;
-use wave_pcm::{Folder, FolderEntry, FolderFault};
 
 // What a scan has still to read, and what it may still drop.
 #[derive(Debug, Drop)]
@@ -44,16 +45,17 @@ impl Reader {
         folder: &mut F,
     ) -> Result<Vec<RowChange>, SongDbError>
         requires { self.old.is_begun ≡ false → self.old.walk.pending ≡ [] }
+        ensures rules { self.new.walk.rules ≡ self.old.walk.rules }
         ensures place { self.new.walk.place ≡ self.old.walk.place }
         ensures few { IfOk result (λ changes. length changes.items ≤ MAX_CHANGES) }
-        ensures read { IfOk result (λ changes. IsRead self.old.walk.place self.old.droppable self.new.droppable changes.items) }
+        ensures read { IfOk result (λ changes. IsRead self.old.walk.rules self.old.walk.place self.old.droppable self.new.droppable changes.items) }
         ensures last { IfOk result (λ changes. length changes.items < MAX_CHANGES →
             (self.new.walk.pending ≡ []) × (self.new.droppable ≡ [])) }
         ensures begun { IfOk result (λ changes. self.new.is_begun ≡ true) }
-        ensures honest_read { F.honest folder.old → IfOk result (λ changes. IsHonestRead (F.files folder.old) self.old.walk.place
+        ensures honest_read { F.honest folder.old → IfOk result (λ changes. IsHonestRead (music_of self.old.walk.rules (F.files folder.old)) self.old.walk.place
             (still_pending self.old.is_begun self.old.walk) self.new.walk.pending self.old.droppable self.new.droppable changes.items) }
         ensures whole_read { F.honest folder.old → F.steady folder.old →
-            IfOk result (λ changes. IsWholeRead (F.files folder.old) self.old.walk.place
+            IfOk result (λ changes. IsWholeRead (music_of self.old.walk.rules (F.files folder.old)) self.old.walk.place
             (still_pending self.old.is_begun self.old.walk) self.new.walk.pending self.old.droppable self.new.droppable changes.items) }
         ensures folder { IsSameFolder F.honest F.steady F.files folder.old folder.new }
         ensures only { IsOkUnless result SongDbError.NoMemory }
@@ -82,9 +84,9 @@ impl Reader {
         ensures scan { IsSameScan self.old self.new }
         ensures capacity { vec_capacity changes.new ≡ vec_capacity changes.old }
         ensures few { vec_len changes.new ≤ vec_len changes.old + 1 }
-        ensures batch { (start : List (List ℕ)) → IsBatch self.old.walk.place start self.old.droppable changes.old.items →
-            OnOk result (IsBatch self.old.walk.place start self.new.droppable changes.new.items) }
-        ensures read { F.honest folder.old → OnOk result (IsReadOn (F.files folder.old) (F.steady folder.old) self.old.walk.place
+        ensures batch { (start : List (List ℕ)) → IsBatch self.old.walk.rules self.old.walk.place start self.old.droppable changes.old.items →
+            OnOk result (IsBatch self.old.walk.rules self.old.walk.place start self.new.droppable changes.new.items) }
+        ensures read { F.honest folder.old → OnOk result (IsReadOn (music_of self.old.walk.rules (F.files folder.old)) (F.steady folder.old) self.old.walk.place
             (own_pending self.old.walk.place) self.old.droppable changes.old.items
             self.new.walk.pending self.new.droppable changes.new.items) }
         ensures folder { IsSameFolder F.honest F.steady F.files folder.old folder.new }
@@ -108,9 +110,9 @@ impl Reader {
         ensures capacity { vec_capacity changes.new ≡ vec_capacity changes.old }
         ensures few { vec_len changes.new ≤ MAX_CHANGES }
         ensures filled { IfOk result (λ is_full. IsFilled is_full (vec_len changes.new) self.new.walk.pending) }
-        ensures batch { (start : List (List ℕ)) → IsBatch self.old.walk.place start self.old.droppable changes.old.items →
-            OnOk result (IsBatch self.old.walk.place start self.new.droppable changes.new.items) }
-        ensures read { F.honest folder.old → OnOk result (IsReadOn (F.files folder.old) (F.steady folder.old) self.old.walk.place
+        ensures batch { (start : List (List ℕ)) → IsBatch self.old.walk.rules self.old.walk.place start self.old.droppable changes.old.items →
+            OnOk result (IsBatch self.old.walk.rules self.old.walk.place start self.new.droppable changes.new.items) }
+        ensures read { F.honest folder.old → OnOk result (IsReadOn (music_of self.old.walk.rules (F.files folder.old)) (F.steady folder.old) self.old.walk.place
             self.old.walk.pending self.old.droppable changes.old.items
             self.new.walk.pending self.new.droppable changes.new.items) }
         ensures folder { IsSameFolder F.honest F.steady F.files folder.old folder.new }
@@ -132,6 +134,7 @@ impl Reader {
 
     // Nothing more is read or dropped.
     pub(crate) fn give_up(&mut self)
+        ensures rules { self.new.walk.rules ≡ self.old.walk.rules }
         ensures place { self.new.walk.place ≡ self.old.walk.place }
         ensures pending { self.new.walk.pending ≡ [] }
         ensures droppable { self.new.droppable ≡ [] }
@@ -150,14 +153,14 @@ impl Reader {
         changes: &mut Vec<RowChange>,
         visit: Visit,
     ) -> Result<(), SongDbError>
-        requires visit { IsVisitIn self.old.walk.place visit }
+        requires visit { IsVisitIn self.old.walk.rules self.old.walk.place visit }
         requires room { vec_len changes.old < vec_capacity changes.old }
         ensures scan { IsSameScan self.old self.new }
         ensures capacity { vec_capacity changes.new ≡ vec_capacity changes.old }
         ensures few { vec_len changes.new ≤ vec_len changes.old + 1 }
-        ensures batch { (start : List (List ℕ)) → IsBatch self.old.walk.place start self.old.droppable changes.old.items →
-            OnOk result (IsBatch self.old.walk.place start self.new.droppable changes.new.items) }
-        ensures read { F.honest folder.old → OnOk result (IsReadOn (F.files folder.old) (F.steady folder.old) self.old.walk.place
+        ensures batch { (start : List (List ℕ)) → IsBatch self.old.walk.rules self.old.walk.place start self.old.droppable changes.old.items →
+            OnOk result (IsBatch self.old.walk.rules self.old.walk.place start self.new.droppable changes.new.items) }
+        ensures read { F.honest folder.old → OnOk result (IsReadOn (music_of self.old.walk.rules (F.files folder.old)) (F.steady folder.old) self.old.walk.place
             (visited visit ++ self.old.walk.pending) self.old.droppable changes.old.items
             self.new.walk.pending self.new.droppable changes.new.items) }
         ensures folder { IsSameFolder F.honest F.steady F.files folder.old folder.new }
@@ -166,7 +169,7 @@ impl Reader {
         match visit {
             Visit::File(uri) => {
                 let opened = folder.open(alloc, uri.as_str());
-                let found = found_in(alloc, uri, opened)?;
+                let found = found_in(alloc, self.walk.rules(), uri, opened)?;
                 settle(&mut self.droppable, changes, found);
                 Ok(())
             }
@@ -186,6 +189,7 @@ impl Reader {
         listing: Result<Option<Vec<FolderEntry>>, FolderFault>,
     ) -> Result<(), SongDbError>
         requires { is_in self.old.walk.place uri.now ≡ true }
+        ensures rules { self.new.walk.rules ≡ self.old.walk.rules }
         ensures place { self.new.walk.place ≡ self.old.walk.place }
         ensures begun { self.new.is_begun ≡ self.old.is_begun }
         ensures droppable { OnOk result (self.new.droppable ≡ after_listing uri.now listing self.old.droppable) }
@@ -212,14 +216,15 @@ impl Reader {
         alloc: Global,
         listing: Result<Option<Vec<FolderEntry>>, FolderFault>,
     ) -> Result<Visit, SongDbError>
+        ensures rules { self.new.walk.rules ≡ self.old.walk.rules }
         ensures place { self.new.walk.place ≡ self.old.walk.place }
         ensures begun { self.new.is_begun ≡ self.old.is_begun }
         ensures droppable { OnOk result (self.new.droppable ≡ after_own listing self.old.droppable) }
         ensures pending { OnOk result ((path : List ℕ) → times_pending self.new.walk.pending path
             ≡ times_pending (listed_pending (own_prefix self.old.walk.place) listing) path + times_pending self.old.walk.pending path) }
         ensures memory { listing ≡ Err FolderFault.NoMemory → result ≡ Err SongDbError.NoMemory }
-        ensures next { IfOk result (λ visit. visit ≡ visit_after self.old.walk.place listing) }
-        ensures visit { IfOk result (IsVisitIn self.old.walk.place) }
+        ensures next { IfOk result (λ visit. visit ≡ visit_after self.old.walk.rules self.old.walk.place listing) }
+        ensures visit { IfOk result (IsVisitIn self.old.walk.rules self.old.walk.place) }
         ensures only { IsOkUnless result SongDbError.NoMemory }
     {
         match listing {
@@ -233,7 +238,7 @@ impl Reader {
             }
             Ok(None) => match self.walk.place() {
                 None => Ok(Visit::Nothing),
-                Some(uri) => Ok(visit_of(uri.try_clone(alloc)?, false)),
+                Some(uri) => Ok(visit_of(self.walk.rules(), uri.try_clone(alloc)?, false)),
             },
             Err(FolderFault::Source) => {
                 self.droppable.keep_all();

@@ -7,12 +7,13 @@ ghost use Rattle.song_db.specs.Found.{IsPrefixIn, IsTaken, IsVisitIn, visit_at};
 ghost use Rattle.song_db.specs.Pending.{entries_pending, times_pending};
 ghost use Rattle.song_db.specs.Uri.{is_uri};
 
+use crate::rules::LibraryRules;
 use crate::scan::visit::{Visit, visit_of};
 use crate::uri::Uri;
+use song_files::FolderEntry;
 use std::alloc::{AllocError, Global};
 use std::cmp::Ordering;
 use std::marker::Model;
-use wave_pcm::FolderEntry;
 
 // A folder on the present path.
 #[derive(Debug, Drop)]
@@ -27,6 +28,7 @@ struct Level {
 // most, since no folder is entered below the 32nd.
 #[derive(Debug, Drop)]
 pub(crate) struct FolderWalk {
+    rules: LibraryRules,
     place: Option<Uri>,
     levels: Vec<Level>,
 }
@@ -40,6 +42,7 @@ impl Model for FolderWalk {
     ghost Value = { Walked };
 
     ghost view = { λ w. record {
+      rules = w.rules;
       place = w.place;
       pending = flat_map (λ level. entries_pending (string_bytes level.prefix) level.entries.items) w.levels.items;
     } };
@@ -48,13 +51,20 @@ impl Model for FolderWalk {
 }
 
 impl FolderWalk {
-    pub(crate) fn new(alloc: Global, place: Option<Uri>) -> FolderWalk
-        ensures { result ≡ record { place = place; pending = [] } }
+    pub(crate) fn new(alloc: Global, rules: LibraryRules, place: Option<Uri>) -> FolderWalk
+        ensures { result ≡ record { rules = rules; place = place; pending = [] } }
     {
         FolderWalk {
+            rules,
             place,
             levels: Vec::new(alloc),
         }
+    }
+
+    pub(crate) fn rules(&self) -> LibraryRules
+        ensures { result ≡ self.now.rules }
+    {
+        self.rules
     }
 
     // The folder or song of the job; `None` is the root.
@@ -89,6 +99,7 @@ impl FolderWalk {
         mut entries: Vec<FolderEntry>,
     ) -> Result<(), AllocError>
         requires { IsPrefixIn self.old.place (string_bytes prefix) }
+        ensures rules { self.new.rules ≡ self.old.rules }
         ensures place { self.new.place ≡ self.old.place }
         ensures pending { OnOk result ((uri : List ℕ) → times_pending self.new.pending uri
             ≡ times_pending (entries_pending (string_bytes prefix) entries.items) uri + times_pending self.old.pending uri) }
@@ -100,9 +111,10 @@ impl FolderWalk {
 
     // What is done at the next entry; `Nothing` where a folder is done with, too.
     pub(crate) fn next(&mut self, alloc: Global) -> Result<Visit, AllocError>
+        ensures rules { self.new.rules ≡ self.old.rules }
         ensures place { self.new.place ≡ self.old.place }
-        ensures visit { IfOk result (IsVisitIn self.old.place) }
-        ensures taken { IfOk result (λ visit. IsTaken self.old.pending visit self.new.pending) }
+        ensures visit { IfOk result (IsVisitIn self.old.rules self.old.place) }
+        ensures taken { IfOk result (λ visit. IsTaken self.old.rules self.old.pending visit self.new.pending) }
     {
         let Some(mut level) = self.levels.pop() else {
             return Ok(Visit::Nothing);
@@ -110,14 +122,14 @@ impl FolderWalk {
         let Some(entry) = level.entries.pop() else {
             return Ok(Visit::Nothing);
         };
-        let visit = visit_at(alloc, level.prefix.as_str(), &entry)?;
+        let visit = visit_at(alloc, self.rules, level.prefix.as_str(), &entry)?;
         self.levels.push_reserved(level);
         Ok(visit)
     }
 
     // Leaves all folders.
     pub(crate) fn stop(&mut self)
-        ensures { self.new ≡ record { place = self.old.place; pending = [] } }
+        ensures { self.new ≡ record { rules = self.old.rules; place = self.old.place; pending = [] } }
     {
         self.levels.clear();
     }
@@ -139,15 +151,20 @@ fn falling(entry: &FolderEntry, other: &FolderEntry) -> Ordering {
 }
 
 // What is done at an entry of a folder.
-fn visit_at(alloc: Global, prefix: &str, entry: &FolderEntry) -> Result<Visit, AllocError>
-    ensures { IfOk result (λ visit. visit ≡ visit_at (prefix.now ++ string_bytes entry.now.name) entry.now.is_folder) }
+fn visit_at(
+    alloc: Global,
+    rules: LibraryRules,
+    prefix: &str,
+    entry: &FolderEntry,
+) -> Result<Visit, AllocError>
+    ensures { IfOk result (λ visit. visit ≡ visit_at rules (prefix.now ++ string_bytes entry.now.name) entry.now.is_folder) }
 {
     let len = prefix.len().saturating_add(entry.name.len());
     let mut path = String::with_capacity(alloc, len)?;
     path.push_str(prefix)?;
     path.push_str(entry.name.as_str())?;
     match Uri::from_string(path) {
-        Some(uri) => Ok(visit_of(uri, entry.is_folder)),
+        Some(uri) => Ok(visit_of(rules, uri, entry.is_folder)),
         None => Ok(Visit::Nothing),
     }
 }

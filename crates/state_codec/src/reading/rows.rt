@@ -1,12 +1,10 @@
 // The reading of URIs, song rows and the changes of a batch.
-ghost use Rattle.std.specs.Prelude.{◌≡◌, ℕ, List, [], length, IsTrue, IfOk, option_map, string_bytes};
-ghost use Rattle.std.specs.List.{list_all};
-ghost use Rattle.wave_pcm.specs.Text.{is_tag_text};
-ghost use Rattle.song_db.specs.Row.{row_of, six_texts, is_good_tag, is_within_limits};
+ghost use Rattle.std.specs.Prelude.{◌≡◌, ℕ, List, [], length, IsTrue, IfOk, IfSome};
 ghost use Rattle.std.specs.Int.{IsInRange};
+ghost use Rattle.song_files.specs.Text.{is_tag_text};
 ghost use Rattle.state_codec.specs.Changes.{is_count};
 ghost use Rattle.state_codec.specs.Fields.{made, such, byte_at, text_at};
-ghost use Rattle.state_codec.specs.Given.{Gives, GivesList, GivesString, GivesTag, GivesHead};
+ghost use Rattle.state_codec.specs.Given.{Gives, GivesText, GivesList, GivesTag, GivesHead, AddsTag};
 ghost use Rattle.state_codec.specs.Items.{items_at};
 ghost use Rattle.state_codec.specs.ReadingRows.{uri_at, tag_at, tags_at, rate_at, channels_at};
 ghost use Rattle.state_codec.specs.ReadingRows.{row_fields_at, row_with, row_at, change_at, changes_at};
@@ -14,10 +12,11 @@ ghost use Rattle.state_codec.specs.ReadingRows.{row_fields_at, row_with, row_at,
 use crate::fields::{ReadError, Reader, are_bytes};
 use crate::op::Changes;
 use song_db::{RowChange, SongRow, Uri};
+use song_files::{Tag, Tags, is_tag_text};
 use std::alloc::Global;
-use wave_pcm::{MAX_RATE, Tag, Tags, WaveInfo, is_tag_text};
+use wave_pcm::{MAX_RATE, WaveInfo};
 
-impl Reader<'_> {
+impl<'a> Reader<'a> {
     #[tactic(auto, unfolding(crate::specs::Fields::such))]
     pub(crate) fn uri(&mut self, alloc: Global) -> Result<Uri, ReadError>
         ensures { Gives result self.new.rest.now (uri_at self.old.rest.now) }
@@ -30,21 +29,25 @@ impl Reader<'_> {
         }
     }
 
+    // The text of a tag, as it stands in the bytes.
     #[tactic(auto, unfolding(crate::specs::Fields::such))]
-    fn tag_text(&mut self, alloc: Global) -> Result<String, ReadError>
-        ensures { GivesString result self.new.rest.now (such is_tag_text text_at self.old.rest.now) }
+    fn tag_text(&mut self) -> Result<&'a str, ReadError>
+        ensures text { GivesText result self.new.rest.now (such is_tag_text text_at self.old.rest.now) }
+        ensures form { IfOk result (λ text. IsTrue (is_tag_text text.now)) }
     {
         let fault = self.fault();
         let text = self.text()?;
         if !is_tag_text(text) {
             return Err(fault);
         }
-        Ok(String::from_str(alloc, text)?)
+        Ok(text)
     }
 
+    // No text of a tag, or one.
     #[tactic(auto, unfolding(crate::specs::ReadingRows::tag_at))]
-    fn tag(&mut self, alloc: Global) -> Result<Option<String>, ReadError>
-        ensures { GivesTag result self.new.rest.now (tag_at self.old.rest.now) }
+    fn tag(&mut self) -> Result<Option<&'a str>, ReadError>
+        ensures tag { GivesTag result self.new.rest.now (tag_at self.old.rest.now) }
+        ensures form { IfOk result (λ tag. IfSome tag (λ text. IsTrue (is_tag_text text.now))) }
     {
         match self.rest {
             [0, rest @ ..] => {
@@ -53,30 +56,29 @@ impl Reader<'_> {
             }
             [1, rest @ ..] => {
                 self.rest = rest;
-                Ok(Some(self.tag_text(alloc)?))
+                Ok(Some(self.tag_text()?))
             }
             _ => Err(self.fault()),
         }
     }
 
-    #[tactic(auto, unfolding(crate::specs::Items::items_at))]
-    fn tags(&mut self, alloc: Global) -> Result<Tags, ReadError>
-        ensures tags { Gives result self.new.rest.now (tags_at self.old.rest.now) }
-        ensures six { IfOk result (λ tags. six_texts tags ≡ tags) }
+    // Adds the text of a tag to others, if there is one.
+    fn add_tag(&mut self, tag: Tag, tags: &mut Tags) -> Result<(), ReadError>
+        ensures { AddsTag result tag tags.old tags.new self.new.rest.now (tag_at self.old.rest.now) }
     {
-        let mut tags = Tags::new();
-        let title = self.tag(alloc)?;
-        tags.set(Tag::Title, title);
-        let artist = self.tag(alloc)?;
-        tags.set(Tag::Artist, artist);
-        let album = self.tag(alloc)?;
-        tags.set(Tag::Album, album);
-        let date = self.tag(alloc)?;
-        tags.set(Tag::Date, date);
-        let genre = self.tag(alloc)?;
-        tags.set(Tag::Genre, genre);
-        let comment = self.tag(alloc)?;
-        tags.set(Tag::Comment, comment);
+        if let Some(text) = self.tag()? {
+            tags.add(tag, text)?;
+        }
+        Ok(())
+    }
+
+    fn tags(&mut self, alloc: Global) -> Result<Tags, ReadError>
+        ensures { Gives result self.new.rest.now (tags_at self.old.rest.now) }
+    {
+        let mut tags = Tags::new(alloc);
+        for number in 0..6 {
+            self.add_tag(Tag::at(number), &mut tags)?;
+        }
         Ok(tags)
     }
 
@@ -120,7 +122,7 @@ impl Reader<'_> {
         let _form = uri.as_str();
         let info = self.head(alloc)?;
         // Each field was tested.
-        match SongRow::new(alloc, uri, info)? {
+        match SongRow::new(alloc, uri, info, None)? {
             Some(row) => Ok(row),
             None => unreachable!(),
         }

@@ -112,7 +112,7 @@ impl Reader<'_> {
                 Ok(row) => row,
                 Err(e) => return Err(e),
             };
-            match songs.push_last(row) {
+            match songs.push_last(alloc, row) {
                 Ok(()) => {}
                 Err(PushError::NoMemory) => return Err(ReadError::NoMemory),
                 // The row stands behind the others, and the limit was tested.

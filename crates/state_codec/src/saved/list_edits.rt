@@ -15,7 +15,7 @@ use super::SavedParts;
 use super::checking::check_rows_of;
 use crate::op::{ListOp, RowNumbers};
 use crate::refusal::ApplyError;
-use play_queue::Entry;
+use play_queue::Entries;
 use song_db::{SongDb, SongRow};
 use std::alloc::Global;
 use stored_lists::{ListsError, Songs};
@@ -94,13 +94,13 @@ impl SavedParts {
 }
 
 // The songs of entries, in memory of their own.
-fn songs_of(alloc: Global, entries: &[Entry]) -> Result<Songs, ListsError>
+fn songs_of(alloc: Global, entries: &Entries) -> Result<Songs, ListsError>
     ensures songs { IfOk result (λ songs. songs ≡ uris_of entries.now) }
     ensures only { IsOkUnless result ListsError.NoMemory }
 {
     let mut songs = Songs::new(alloc);
-    for entry in entries {
-        songs.push(entry.uri.as_uri().try_clone(alloc)?)?;
+    for at in 0..entries.len() {
+        songs.push(entries.at(at).uri.as_uri().try_clone(alloc)?)?;
     }
     Ok(songs)
 }

@@ -64,7 +64,7 @@ impl SavedParts {
         let end = end as usize;
         self.queue.check_range(start, end)?;
         let order = next_order(self.order);
-        let words = words_of(alloc, self.key, order, &self.queue.entries()[start..end])?;
+        let words = words_of(alloc, self.key, order, self.queue.entries(), start, end)?;
         self.queue.shuffle(alloc, start, end, &words)?;
         self.order = order;
         Ok(())

@@ -1,6 +1,7 @@
 // A playlist that gets the songs of the queue in place of its own.
 ghost use Rattle.std.specs.Prelude.{◌≡◌, None, OnOk, OnErr};
 ghost use Rattle.std.specs.Str.{bytes_eq};
+ghost use Rattle.play_queue.specs.Shown.{shown};
 ghost use Rattle.state_codec.specs.Applied.{after_all};
 ghost use Rattle.state_codec.specs.Editing.{AnswersApply, AnswersCheck};
 ghost use Rattle.state_codec.specs.OpsLists.{same_uris, uris_of};
@@ -9,7 +10,7 @@ ghost use Rattle.state_codec.specs.Replacing.{replace_ops, replace_refusal, repl
 use super::Saved;
 use super::checking::of_lists;
 use crate::refusal::{ApplyError, OpRefusal};
-use play_queue::Entry;
+use play_queue::{Entries, EntryRef};
 use song_db::Uri;
 use std::alloc::Global;
 
@@ -46,22 +47,22 @@ impl Saved {
 }
 
 // Whether these are the URIs of the entries, in the same order.
-fn are_uris_of(uris: &[Uri], entries: &[Entry]) -> bool
+fn are_uris_of(uris: &[Uri], entries: &Entries) -> bool
     ensures { result ≡ same_uris uris.now (uris_of entries.now) }
 {
     if uris.len() != entries.len() {
         return false;
     }
     for at in 0..uris.len() {
-        if !is_uri_of(&uris[at], &entries[at]) {
+        if !is_uri_of(&uris[at], entries.at(at)) {
             return false;
         }
     }
     true
 }
 
-fn is_uri_of(uri: &Uri, entry: &Entry) -> bool
-    ensures { result ≡ bytes_eq uri.now entry.now.uri }
+fn is_uri_of(uri: &Uri, entry: EntryRef<'_>) -> bool
+    ensures { result ≡ bytes_eq uri.now (shown entry.entry).uri }
 {
     uri.as_str() == entry.uri.as_str()
 }

@@ -1,7 +1,8 @@
 // Song rows and the changes of a batch, appended to room that was taken before.
-ghost use Rattle.std.specs.Prelude.{◌≡◌, ◌≤◌, ◌++◌, [], IsTrue, length, option_copied};
-ghost use Rattle.std.specs.List.{All, flat_map, list_all};
-ghost use Rattle.song_db.specs.Row.{row_of, six_texts, is_good_tag};
+ghost use Rattle.std.specs.Prelude.{◌≡◌, ◌≤◌, [], None, length, IfSome};
+ghost use Rattle.std.specs.List.{All, flat_map};
+ghost use Rattle.song_files.specs.Tags.{first_text};
+ghost use Rattle.song_db.specs.Row.{row_of};
 ghost use Rattle.state_codec.specs.Appended.{HasRoom, Appends};
 ghost use Rattle.state_codec.specs.Changes.{IsChange, AreChanges};
 ghost use Rattle.state_codec.specs.SpellingRows.{tag_bytes, tags_bytes, row_fields_bytes, row_bytes, change_bytes, changes_bytes};
@@ -9,25 +10,27 @@ ghost use Rattle.state_codec.specs.SpellingRows.{tag_bytes, tags_bytes, row_fiel
 use super::bytes::{put_byte, put_text, put_u32, put_u64, text_len};
 use crate::op::Changes;
 use song_db::{RowChange, SongRow};
-use wave_pcm::{Tag, Tags, WaveInfo};
+use song_files::{Tag, Tags};
+use wave_pcm::WaveInfo;
 
-fn tag_len(tag: Option<&str>) -> usize
-    requires { IsTrue (is_good_tag (option_copied tag)) }
-    ensures len { result ≡ length (tag_bytes (option_copied tag.entry)) }
+// How many bytes the first text of a tag takes, or that there is none.
+fn tag_len(tags: &Tags, tag: Tag) -> usize
+    ensures len { result ≡ length (tag_bytes (first_text tags.now tag)) }
     ensures within { result ≤ 515 }
 {
-    match tag {
+    are_short(tags);
+    match tags.get(tag) {
         None => 1,
         Some(text) => 1 + text_len(text),
     }
 }
 
-fn put_tag(out: &mut Vec<u8>, tag: Option<&str>)
-    requires good { IsTrue (is_good_tag (option_copied tag)) }
-    requires room { HasRoom out.old (length (tag_bytes (option_copied tag))) }
-    ensures { Appends out.old out.new (tag_bytes (option_copied tag.entry)) }
+fn put_tag(out: &mut Vec<u8>, tags: &Tags, tag: Tag)
+    requires { HasRoom out.old (length (tag_bytes (first_text tags.now tag))) }
+    ensures { Appends out.old out.new (tag_bytes (first_text tags.now tag)) }
 {
-    match tag {
+    are_short(tags);
+    match tags.get(tag) {
         None => put_byte(out, 0),
         Some(text) => {
             put_byte(out, 1);
@@ -36,63 +39,45 @@ fn put_tag(out: &mut Vec<u8>, tag: Option<&str>)
     }
 }
 
-fn tags_len(tags: &Tags) -> usize
-    requires { IsTrue (list_all is_good_tag (six_texts tags.now)) }
-    ensures len { result ≡ length (tags_bytes (six_texts tags.now)) }
-    ensures within { result ≤ 3090 }
+// A text of a tag is no longer than 512 bytes.
+fn are_short(tags: &Tags)
+    ensures { (tag : Tag) → IfSome (first_text tags.now tag) (λ text. length text ≤ 512) }
 {
-    let front = tag_len(tags.get(Tag::Title))
-        + tag_len(tags.get(Tag::Artist))
-        + tag_len(tags.get(Tag::Album));
-    let back = tag_len(tags.get(Tag::Date))
-        + tag_len(tags.get(Tag::Genre))
-        + tag_len(tags.get(Tag::Comment));
-    front + back
+    let _count = tags.len();
 }
 
-fn put_three(out: &mut Vec<u8>, one: Option<&str>, two: Option<&str>, three: Option<&str>)
-    requires one { IsTrue (is_good_tag (option_copied one)) }
-    requires two { IsTrue (is_good_tag (option_copied two)) }
-    requires three { IsTrue (is_good_tag (option_copied three)) }
-    requires room { HasRoom out.old (length (tag_bytes (option_copied one) ++ (tag_bytes (option_copied two) ++ tag_bytes
-        (option_copied three)))) }
-    ensures { Appends out.old out.new (tag_bytes (option_copied one.entry) ++ (tag_bytes (option_copied two.entry) ++ tag_bytes
-        (option_copied three.entry))) }
+fn tags_len(tags: &Tags) -> usize
+    ensures len { result ≡ length (tags_bytes tags.now) }
+    ensures within { result ≤ 3090 }
 {
-    put_tag(out, one);
-    put_tag(out, two);
-    put_tag(out, three);
+    let mut len = 0;
+    for number in 0..6 {
+        len += tag_len(tags, Tag::at(number));
+    }
+    len
 }
 
 fn put_tags(out: &mut Vec<u8>, tags: &Tags)
-    requires good { IsTrue (list_all is_good_tag (six_texts tags.now)) }
-    requires room { HasRoom out.old (length (tags_bytes (six_texts tags.now))) }
-    ensures { Appends out.old out.new (tags_bytes (six_texts tags.now)) }
+    requires { HasRoom out.old (length (tags_bytes tags.now)) }
+    ensures { Appends out.old out.new (tags_bytes tags.now) }
 {
-    let title = tags.get(Tag::Title);
-    let artist = tags.get(Tag::Artist);
-    let album = tags.get(Tag::Album);
-    put_three(out, title, artist, album);
-    let date = tags.get(Tag::Date);
-    let genre = tags.get(Tag::Genre);
-    let comment = tags.get(Tag::Comment);
-    put_three(out, date, genre, comment);
+    for number in 0..6 {
+        put_tag(out, tags, Tag::at(number));
+    }
 }
 
 // How many bytes follow the URI of a row.
 fn head_len(info: &WaveInfo) -> usize
-    requires { IsTrue (list_all is_good_tag (six_texts info.now.tags)) }
-    ensures len { result ≡ length (row_fields_bytes (row_of [] info.now)) }
+    ensures len { result ≡ length (row_fields_bytes (row_of [] info.now None)) }
     ensures within { result ≤ 3111 }
 {
     21 + tags_len(&info.tags)
 }
 
 fn put_head(out: &mut Vec<u8>, info: &WaveInfo)
-    requires good { IsTrue (list_all is_good_tag (six_texts info.now.tags)) }
     requires channels { info.now.channels ≤ 2 }
-    requires room { HasRoom out.old (length (row_fields_bytes (row_of [] info.now))) }
-    ensures { Appends out.old out.new (row_fields_bytes (row_of [] info.now)) }
+    requires room { HasRoom out.old (length (row_fields_bytes (row_of [] info.now None))) }
+    ensures { Appends out.old out.new (row_fields_bytes (row_of [] info.now None)) }
 {
     put_u32(out, info.rate);
     put_byte(out, info.channels as u8);

@@ -3,6 +3,7 @@ ghost use Rattle.std.specs.Prelude.{◌≡◌, ◌+◌, ◌*◌, ◌≤◌, ◌<
 ghost use Rattle.std.specs.List.{All, AllByRecursion, flat_map};
 ghost use Rattle.song_db.specs.Change.{has_uri};
 ghost use Rattle.song_db.specs.Query.{number_at};
+ghost use Rattle.play_queue.specs.Shown.{shown};
 ghost use Rattle.stickers.specs.Sticker.{in_song, sticker};
 ghost use Rattle.state_codec.specs.Appended.{HasRoom, Appends, IsShortList, IsShortSticker};
 ghost use Rattle.state_codec.specs.SavedState.{IsSavedEntry};
@@ -14,7 +15,7 @@ use super::bytes::{put_byte, put_bytes, put_text, put_u32, put_u64};
 use super::ops::{flag_byte, put_uri, single_byte};
 use super::rows::put_row;
 use crate::saved::Saved;
-use play_queue::{Entry, Queue};
+use play_queue::{Entries, EntryRef, Queue};
 use player_core::Options;
 use song_db::{RowUri, SongDb, SongRow, Uri};
 use stickers::{SongStickers, Stickers};
@@ -74,11 +75,11 @@ fn row_number(songs: &SongDb, uri: &RowUri) -> usize
     }
 }
 
-fn put_entry(out: &mut Vec<u8>, songs: &SongDb, entry: &Entry, number: usize)
-    requires number { number_at songs.now entry.now.uri ≡ Some number }
+fn put_entry(out: &mut Vec<u8>, songs: &SongDb, entry: EntryRef<'_>, number: usize)
+    requires number { number_at songs.now (shown entry).uri ≡ Some number }
     requires within { number < 65536 }
     requires room { HasRoom out.old 13 }
-    ensures { Appends out.old out.new (entry_bytes songs.now entry.now) }
+    ensures { Appends out.old out.new (entry_bytes songs.now (shown entry.entry)) }
 {
     put_u32(out, entry.id);
     put_u32(out, number as u32);
@@ -86,13 +87,14 @@ fn put_entry(out: &mut Vec<u8>, songs: &SongDb, entry: &Entry, number: usize)
     put_u32(out, entry.stamp);
 }
 
-fn put_entries(out: &mut Vec<u8>, songs: &SongDb, entries: &[Entry])
+fn put_entries(out: &mut Vec<u8>, songs: &SongDb, entries: &Entries)
     requires rows { All (IsSavedEntry songs.now) entries.now }
     requires room { HasRoom out.old (13 * length entries.now) }
     ensures { Appends out.old out.new (flat_map (entry_bytes songs.now) entries.now) }
 {
-    for entry in entries {
-        put_entry(out, songs, entry, row_number(songs, &entry.uri));
+    for at in 0..entries.len() {
+        let entry = entries.at(at);
+        put_entry(out, songs, entry, row_number(songs, entry.uri));
     }
 }
 

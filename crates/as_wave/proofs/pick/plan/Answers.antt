@@ -4,7 +4,7 @@ use Rattle.std.proofs.lemmas.Grind.{common_steps}
 use Rattle.std.proofs.lemmas.List.Elements.{All-weaker}
 use Rattle.wave_pcm.specs.Reading.{is_wave, MAX_CHUNKS}
 use Rattle.wave_pcm.specs.Chunks.{chunks_in}
-use Rattle.wave_pcm.proofs.Sources.{keeps_then}
+use Rattle.song_files.proofs.Sources.{keeps_then}
 use Rattle.as_wave.specs.ChunkHead.{chunks_at, StandsBy}
 use Rattle.as_wave.specs.Plan.{planned}
 use Rattle.as_wave.specs.StandsFor.{wave_by, converted}

@@ -1,11 +1,10 @@
 use Rattle.std.proofs.Common.{◌≡◌, ◌<◌, ◌≤◌, ◌∙◌, ap, sym, arith, length}
 use Rattle.std.proofs.lemmas.Result.{err_from_is_err_and}
 use Rattle.std.proofs.lemmas.Grind.{common_steps}
-use Rattle.wave_pcm.proofs.PartList.{All_push}
-use Rattle.wave_pcm.proofs.Sources.{keeps_then, grows_after}
+use Rattle.song_files.proofs.Sources.{keeps_then, grows_after}
 use Rattle.flac.specs.Blocks.{block_at, EndsBy}
 use Rattle.flac.specs.declared.refusal.FlacError.{FlacError}
-use Rattle.flac.proofs.BlockList.{blocks_more, blocks_refused, blocks_many}
+use Rattle.flac.proofs.BlockList.{blocks_more, blocks_refused, blocks_many, All_push}
 use Rattle.flac.proofs.Verdicts.{refuses_by}
 use Rattle.flac.proofs.blocks.list_blocks.Goals as goal
 

@@ -1,5 +1,5 @@
 use Rattle.std.proofs.Common.{◌≡◌, ◌-◌, ◌≤◌, length, vec_len, All}
-use Rattle.wave_pcm.specs.Source.{Keeps}
+use Rattle.song_files.specs.Source.{Keeps}
 use Rattle.flac.specs.Blocks.{EndsBy, blocks_from}
 use Rattle.flac.specs.Steps.{joined}
 use Rattle.flac.specs.declared.blocks.TheConstants.{MAX_BLOCKS}

@@ -1,5 +1,5 @@
 use Rattle.std.proofs.Common.{◌≡◌, ◌-◌, ◌≤◌, length, vec_len, slice_range}
-use Rattle.wave_pcm.specs.Source.{Keeps}
+use Rattle.song_files.specs.Source.{Keeps}
 use Rattle.flac.specs.Comments.{kept_of, texts_in}
 use Rattle.flac.specs.declared.comments.TheConstants.{MAX_COMMENTS}
 use Rattle.flac.proofs.FieldList.{kept_after}

@@ -1,5 +1,5 @@
 use Rattle.std.proofs.Common.{refl}
-use Rattle.wave_pcm.proofs.Texts.{no_utf8}
+use Rattle.song_files.proofs.Texts.{no_utf8}
 use Rattle.flac.proofs.comments.value_text.Goals as goal
 
 pub returns-in_default : goal.returns-in_default

@@ -1,8 +1,8 @@
 use Rattle.std.proofs.Common.{◌≡◌, ◌+◌, ◌∙◌, ap, sym, length, true, false, arith}
 use Rattle.std.proofs.lemmas.Grind.{common_steps}
 use Rattle.std.proofs.lemmas.Result.{err_from_is_err_and}
-use Rattle.wave_pcm.specs.Source.{Grows}
-use Rattle.wave_pcm.proofs.Sources.{keeps_then, grows_after}
+use Rattle.song_files.specs.Source.{Grows}
+use Rattle.song_files.proofs.Sources.{keeps_then, grows_after}
 use Rattle.flac.specs.Blocks.{blocks_from}
 use Rattle.flac.specs.Reading.{has_marker_at, reading_of, flac_reading}
 use Rattle.flac.specs.declared.blocks.TheConstants.{MAX_BLOCKS}

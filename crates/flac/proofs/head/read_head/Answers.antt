@@ -1,4 +1,4 @@
-use Rattle.wave_pcm.proofs.Sources.{grows_not}
+use Rattle.song_files.proofs.Sources.{grows_not}
 use Rattle.flac.specs.Reading.{flac_reading}
 use Rattle.flac.proofs.Verdicts.{verdicts_of, fault_of}
 use Rattle.flac.proofs.head.read_head.Goals as goal

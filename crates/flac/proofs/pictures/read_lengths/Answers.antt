@@ -1,5 +1,5 @@
 use Rattle.std.proofs.Common.{◌≡◌, ◌+◌, arith, slice_range}
-use Rattle.wave_pcm.proofs.Sources.{keeps_then}
+use Rattle.song_files.proofs.Sources.{keeps_then}
 use Rattle.flac.specs.Numbers.{be32}
 use Rattle.flac.proofs.PictureParts.{AreRead, no_head, no_media, no_text, no_data, all_there}
 use Rattle.flac.proofs.pictures.read_lengths.Goals as goal

@@ -1,5 +1,5 @@
 use Rattle.std.proofs.Common.{◌≡◌, length, arith}
-use Rattle.wave_pcm.proofs.Sources.{keeps_then}
+use Rattle.song_files.proofs.Sources.{keeps_then}
 use Rattle.flac.specs.Pictures.{picture_of}
 use Rattle.flac.proofs.PictureParts.{pictures_more, within_at}
 use Rattle.flac.proofs.pictures.read_pictures.Goals as goal

@@ -1,6 +1,6 @@
 use Rattle.std.proofs.Common.{◌≡◌, ◌≤◌, length, take, vec_len}
 use Rattle.std.specs.List.{filter_map}
-use Rattle.wave_pcm.specs.Source.{Keeps}
+use Rattle.song_files.specs.Source.{Keeps}
 use Rattle.flac.specs.Pictures.{picture_of}
 use Rattle.flac.specs.declared.pictures.TheConstants.{MAX_PICTURES}
 use Rattle.flac.proofs.pictures.read_pictures.Given as goal

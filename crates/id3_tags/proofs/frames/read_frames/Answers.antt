@@ -1,5 +1,5 @@
 use Rattle.std.proofs.Common.{◌≡◌, ◌-◌, ◌≤◌, suc, length, Some, None, arith}
-use Rattle.wave_pcm.proofs.Sources.{keeps_then}
+use Rattle.song_files.proofs.Sources.{keeps_then}
 use Rattle.id3_tags.specs.Frames.{head_at, IsWithin, texts_at, pictures_at}
 use Rattle.id3_tags.proofs.FrameList.{heads_end, heads_none, heads_more, texts_more, pictures_more, tag_made}
 use Rattle.id3_tags.proofs.frames.read_frames.Goals as goal

@@ -1,6 +1,6 @@
 use Rattle.std.proofs.Common.{◌≡◌, ◌≤◌, ◌++◌, length, take}
 use Rattle.std.specs.List.{flat_map}
-use Rattle.wave_pcm.specs.Source.{Keeps}
+use Rattle.song_files.specs.Source.{Keeps}
 use Rattle.id3_tags.specs.Frames.{heads_in, texts_at, pictures_at}
 use Rattle.id3_tags.proofs.frames.read_frames.Given as goal
 

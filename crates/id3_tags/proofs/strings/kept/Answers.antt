@@ -1,6 +1,6 @@
 use Rattle.std.proofs.Common.{◌≡◌, ◌∙◌, sym, ap, false}
-use Rattle.wave_pcm.specs.Text.{is_tag_text}
-use Rattle.wave_pcm.proofs.Texts.{no_utf8}
+use Rattle.song_files.specs.Text.{is_tag_text}
+use Rattle.song_files.proofs.Texts.{no_utf8}
 use Rattle.id3_tags.proofs.Splits.{kept_none}
 use Rattle.id3_tags.proofs.strings.kept.Goals as goal
 use Rattle.id3_tags.proofs.strings.kept.Goals.{in_default-via-in-Ok+else-is_tag_text, in_default-via-in_default}

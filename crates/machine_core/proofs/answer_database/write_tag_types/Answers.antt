@@ -1,24 +1,31 @@
-use Rattle.std.proofs.Common.{drop, get_or, ◌+◌}
+use Rattle.std.proofs.Common.{◌≤◌, ◌+◌, drop, length, arith}
 use Rattle.std.proofs.Math.ListN.{drop_of_length-le}
+use Rattle.command_text.proofs.LineLoops.{leaves_fewer, leaves_none, leaves_off, kept_lines}
 use Rattle.command_text.specs.AnswerNames.{tag_type_line}
-use Rattle.command_text.specs.AnswerSongs.{shown_tags}
-use Rattle.wave_pcm.specs.declared.tags.Tag.TheVariants.{Title}
-use Rattle.machine_core.proofs.Database.Lines.{next_item}
-use Rattle.command_text.proofs.LineLoops.{leaves_fewer, leaves_none, leaves_off}
+use Rattle.song_files.specs.Tag.{all_tags}
+use Rattle.song_files.specs.TagSet.{has_tag}
+use Rattle.song_files.proofs.TagNumbers.{all_long}
+use Rattle.machine_core.proofs.Database.Lines.{next_tag, type_in}
 use Rattle.machine_core.proofs.answer_database.write_tag_types.Goals as goal
 
-pub loop-tag-preserved : goal.loop-tag-preserved
-loop-tag-preserved c =
-    let at = c.loop-tag.tag-index in
-    leaves_fewer tag_type_line shown_tags (get_or shown_tags at Title) (drop (at + 1) shown_tags) _ _ _ _
-    (rw (← next_item shown_tags at Title c.loop-tag-test.true) at c.loop-tag.invariant) c.in_ok-write_tag_type.ensures
+pub loop-number-preserved : goal.loop-number-preserved
+loop-number-preserved c =
+    let at = c.loop-number.number in
+    let tag = c.at.result in
+    leaves_fewer (type_in c.args.tags) all_tags tag (drop (at + 1) all_tags) _ _ _ _
+    (rw (next_tag at tag c.at.ensures.tag) at c.loop-number.invariant) c.in_ok-write_if_in.ensures
 
-pub returns-in_err-write_tag_type : goal.returns-in_err-write_tag_type
-returns-in_err-write_tag_type c =
-    let at = c.loop-tag.tag-index in
-    leaves_off tag_type_line shown_tags (get_or shown_tags at Title) (drop (at + 1) shown_tags) _ _ _ _ _
-    (rw (← next_item shown_tags at Title c.loop-tag-test.true) at c.loop-tag.invariant)
-    c.in_err-write_tag_type.ensures c.from_residual.ensures.0
+pub returns-in_err-write_if_in : goal.returns-in_err-write_if_in
+returns-in_err-write_if_in c =
+    let at = c.loop-number.number in
+    let tag = c.at.result in
+    rw (← kept_lines (has_tag c.args.tags) tag_type_line all_tags)
+    (leaves_off (type_in c.args.tags) all_tags tag (drop (at + 1) all_tags) _ _ _ _ _
+    (rw (next_tag at tag c.at.ensures.tag) at c.loop-number.invariant)
+    c.in_err-write_if_in.ensures c.from_residual.ensures.0)
 
 pub returns : goal.returns
-returns c = leaves_none tag_type_line shown_tags _ _ _ (rw (drop_of_length-le shown_tags c.loop-tag-test.false) at c.loop-tag.invariant)
+returns c =
+    let over : length all_tags ≤ c.loop-number.number = omega (arith, all_long) in
+    rw (← kept_lines (has_tag c.args.tags) tag_type_line all_tags)
+    (leaves_none (type_in c.args.tags) all_tags _ _ _ (rw (drop_of_length-le all_tags over) at c.loop-number.invariant))

@@ -15,8 +15,8 @@ use crate::named::push_number;
 use command_text::{NoMemory, Search};
 use filter_expr::{Case, Filter, SortOrder, sort_rows};
 use song_db::{SongDb, SongRow, Texts, values_among};
+use song_files::Tag;
 use std::alloc::Global;
-use wave_pcm::Tag;
 
 // The rows that match, by URI.
 pub(super) fn matching_rows<'a>(

@@ -3,6 +3,7 @@ ghost use Rattle.std.specs.Prelude.{◌≡◌, None};
 ghost use Rattle.std.specs.List.{flat_map};
 ghost use Rattle.command_text.specs.Answer.{Adds};
 ghost use Rattle.command_text.specs.AnswerSongs.{song_lines};
+ghost use Rattle.play_queue.specs.Shown.{shown};
 ghost use Rattle.song_db.specs.Row.{row_at};
 ghost use Rattle.machine_core.specs.Finding.{Writes, entries_found, entry_found, found, matching, part_of, value_lines};
 
@@ -12,10 +13,10 @@ use super::windowed;
 use crate::answer::write_songs;
 use command_text::{NoMemory, Search, write_entry, write_song, write_value};
 use filter_expr::{Case, Filter};
-use play_queue::Entry;
+use play_queue::{Entries, EntryRef};
 use song_db::{SongDb, SongRow, Texts};
+use song_files::Tag;
 use std::alloc::Global;
-use wave_pcm::Tag;
 
 // Adds the rows that match, and of these a part. The rows behind the part aren't looked at.
 pub(super) fn write_matching(
@@ -92,7 +93,7 @@ pub(super) fn write_entries(
     out: &mut Vec<u8>,
     alloc: Global,
     songs: &SongDb,
-    entries: &[Entry],
+    entries: &Entries,
     case: Case,
     filter: &Filter,
 ) -> Result<(), NoMemory>
@@ -106,7 +107,7 @@ pub(super) fn write_entries(
             case,
             filter,
             position,
-            &entries[position],
+            &entries.at(position),
         )?;
     }
     Ok(())
@@ -120,11 +121,11 @@ fn write_match(
     case: Case,
     filter: &Filter,
     position: usize,
-    entry: &Entry,
+    entry: &EntryRef<'_>,
 ) -> Result<(), NoMemory>
-    ensures { Writes (entry_found case filter.now position entry.now (row_at songs.now entry.now.uri)) result out.old out.new }
+    ensures { Writes (entry_found case filter.now position (shown entry.now) (row_at songs.now (shown entry.now).uri)) result out.old out.new }
 {
-    let Ok(row) = songs.row_of(&entry.uri) else {
+    let Ok(row) = songs.row_of(entry.uri) else {
         return Ok(());
     };
     if !filter.matches(alloc, row, case)? {

@@ -3,8 +3,8 @@ use Rattle.player_core.specs.Words.{word}
 use Rattle.player_core.proofs.words.words_of.Given as goal
 
 -- the words so far
-abbrev pub invariant-loop-entry : goal.invariant-loop-entry
-invariant-loop-entry l = record {
+abbrev pub invariant-loop-id : goal.invariant-loop-id
+invariant-loop-id l = record {
   round : l.table ≡ record { key = l.fn.key; order = l.fn.order };
-  words : l.words.items ≡ map (λ entry. word l.fn.key l.fn.order entry.id) (take l.entry-index l.entries);
+  words : l.words.items ≡ map (word l.fn.key l.fn.order) (take l.id-index l.part);
 }

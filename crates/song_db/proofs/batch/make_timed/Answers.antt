@@ -18,3 +18,7 @@ returns-clause-timed c =
     rw (c.make_change-effect.ensures.rows, c.total_after.ensures, c.gain-gain.ensures.gain, c.make_change-effect.ensures.effect)
     (timed_after c.args.rows.now.items c.args.change c.args.total.now c.requires.database c.requires.timed (rw
     c.gain-gain.ensures.gain at c.gain-gain.ensures.bound))
+
+pub returns-clause-indexed : goal.returns-clause-indexed
+returns-clause-indexed c = rw c.make_change-effect.ensures.rows (c.follow.ensures c.args.rows.now.items c.args.change
+    c.requires.database.rising c.coming-row.ensures c.make_change-effect.ensures.effect c.requires.indexed)

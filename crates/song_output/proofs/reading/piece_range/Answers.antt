@@ -1,4 +1,4 @@
-use Rattle.std.proofs.Common.{◌<◌, arith}
+use Rattle.std.proofs.Common.{arith}
 use Rattle.song_output.proofs.Pieces.{range_short}
 use Rattle.song_output.proofs.reading.piece_range.Goals as goal
 

@@ -1,7 +1,7 @@
 use Rattle.std.proofs.Common.{◌≡◌, ◌+◌, ◌-◌, ◌*◌, ◌≤◌, length, take, drop, map, slice_range, arith, ap, ◌∙◌}
 use Rattle.wave_pcm.specs.Pcm.{frame_len, range_from, at_volume, samples_in}
 use Rattle.wave_pcm.proofs.FrameList.{some_same}
-use Rattle.wave_pcm.proofs.Sources.{grows_not}
+use Rattle.song_files.proofs.Sources.{grows_not}
 use Rattle.song_output.specs.Sound.{bytes_of, head_in}
 use Rattle.song_output.proofs.Pieces.{piece_is, piece_len, ordered_is}
 use Rattle.song_output.proofs.reading.read_sound.Goals as goal

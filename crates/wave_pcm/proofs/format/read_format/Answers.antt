@@ -1,5 +1,5 @@
 use Rattle.std.proofs.Common.{◌≤◌, ◌∙◌, sym, arith}
-use Rattle.wave_pcm.specs.Source.{Grows}
+use Rattle.song_files.specs.Source.{Grows}
 use Rattle.wave_pcm.proofs.Formats.{format_read, format_refuses, ok_of}
 use Rattle.wave_pcm.proofs.format.read_format.Goals as goal
 

@@ -1,27 +1,36 @@
-use Rattle.std.proofs.Common.{◌≡◌, ◌≤◌, ◌∙◌, ap, length, slice_index_or, None, arith}
-use Rattle.std.proofs.lemmas.List.{length-set}
-use Rattle.wave_pcm.specs.Tag.{place_of}
+use Rattle.std.proofs.Common.{◌≡◌, ◌≤◌, ◌∙◌, refl, sym, length}
+use Rattle.song_files.proofs.Sources.{keeps_then}
 use Rattle.wave_pcm.specs.PartHead.{parts_at}
-use Rattle.wave_pcm.specs.declared.tags.Tag.TheVariants.{Title}
-use Rattle.wave_pcm.proofs.Sources.{keeps_then}
-use Rattle.wave_pcm.proofs.TagTexts.{tags, tag_at, text_set, texts_all}
+use Rattle.wave_pcm.specs.Reading.{text_in, with_found}
+use Rattle.wave_pcm.proofs.TagTexts.{one_wanted, not_wanted, whole}
 use Rattle.wave_pcm.proofs.head.read_tags.Goals as goal
+use Rattle.wave_pcm.proofs.head.read_tags.Goals.{then-contains+in_ok-add_first_text, else-contains}
 
-pub loop-tag-preserved : goal.loop-tag-preserved
-loop-tag-preserved g c = (
-  ap length c.set.ensures ∙ length-set c.loop-tag.tags _ _ ∙ c.loop-tag.invariant.0,
-  λ told. let kept = c.loop-tag.invariant.1 told in keeps_then kept (c.in_ok-text.ensures.kept kept.is_honest),
-  λ told within.
-      let kept = c.loop-tag.invariant.1 told in
-      let inside : c.args.listing.now.end ≤ length (g.S.Source.bytes c.loop-tag.source) = rw kept.same within in
-      let place : place_of (slice_index_or tags c.loop-tag.tag-index Title) ≡ c.loop-tag.tag-index = tag_at c.loop-tag.tag-index
-      Title c.loop-tag-test.true in
-      λ k under. ap (λ texts. slice_index_or texts k None) c.set.ensures
-      ∙ text_set (parts_at (g.S.Source.bytes c.args.source.now) c.args.listing.now.parts.items) c.loop-tag.tags
-      c.loop-tag.tag-index (slice_index_or tags c.loop-tag.tag-index Title) _ c.loop-tag.invariant.0 c.loop-tag-test.true place
-      (rw kept.same at (c.in_ok-text.ensures.text kept.is_honest inside)) (c.loop-tag.invariant.2 told within) k under,
-)
+pub loop-number-preserved : goal.loop-number-preserved
+loop-number-preserved g c = elim c.if-contains.branch [
+  | then-contains+in_ok-add_first_text w ↦ record {
+    kept = λ told. let kept = c.loop-number.invariant.kept told in
+        rw w.source-is (keeps_then kept (w.in_ok-add_first_text.ensures.kept kept.is_honest));
+    so_far = λ told within.
+        let kept = c.loop-number.invariant.kept told in
+        let parts = parts_at (g.S.Source.bytes c.args.source.now) c.args.listing.now.parts.items in
+        let inside : c.args.listing.now.end ≤ length (g.S.Source.bytes c.loop-number.source) = rw kept.same within in
+        let more : w.add_first_text.new.tags ≡ with_found c.loop-number.tags c.at-tag.result (text_in parts c.at-tag.result) =
+        rw kept.same at (w.in_ok-add_first_text.ensures.text kept.is_honest inside) in
+        rw (w.tags-is, more) (one_wanted parts c.args.wanted c.loop-number.number c.loop-number.tags c.at-tag.result
+        (text_in parts c.at-tag.result) refl c.at-tag.ensures.tag c.at-tag.ensures.number c.loop-number-test.true
+        (sym c.contains.ensures ∙ w.if-contains.true) (c.loop-number.invariant.so_far told within));
+  }
+  | else-contains w ↦ record {
+    kept = λ told. rw w.source-is (c.loop-number.invariant.kept told);
+    so_far = λ told within.
+        let parts = parts_at (g.S.Source.bytes c.args.source.now) c.args.listing.now.parts.items in
+        rw w.tags-is (not_wanted parts c.args.wanted c.loop-number.number c.loop-number.tags c.at-tag.result c.at-tag.ensures.tag
+        (sym c.contains.ensures ∙ w.if-contains.false) (c.loop-number.invariant.so_far told within));
+  }
+]
 
 pub returns-clause-texts : goal.returns-clause-texts
-returns-clause-texts g c = λ told within. texts_all (parts_at (g.S.Source.bytes c.args.source.now) c.args.listing.now.parts.items)
-    c.loop-tag.tags c.loop-tag.invariant.0 (λ k under. c.loop-tag.invariant.2 told within k (omega arith))
+returns-clause-texts g c = λ told within.
+    whole (parts_at (g.S.Source.bytes c.args.source.now) c.args.listing.now.parts.items) c.args.wanted c.loop-number.number
+    c.loop-number.tags c.loop-number-test.false (c.loop-number.invariant.so_far told within)

@@ -2,7 +2,7 @@ use Rattle.std.proofs.Common.{◌≡◌, ◌+◌, ◌≤◌, ◌∙◌, ap, sym,
 use Rattle.wave_pcm.specs.Parts.{is_info, is_nested}
 use Rattle.std.specs.Str.{bytes_eq}
 use Rattle.std.specs.Prelude.{codes, ◌&&◌}
-use Rattle.wave_pcm.proofs.Ranges.{take-range}
+use Rattle.song_files.proofs.Ranges.{take-range}
 use Rattle.wave_pcm.proofs.listing.is_text_list.Goals as goal
 
 pub returns-clause-told : goal.returns-clause-told

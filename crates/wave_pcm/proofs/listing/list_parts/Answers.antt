@@ -4,7 +4,7 @@ use Rattle.wave_pcm.specs.Chunks.{chunks_in}
 use Rattle.wave_pcm.specs.ChunkHead.{chunk_at, IsWithin}
 use Rattle.wave_pcm.specs.Parts.{parts_of}
 use Rattle.wave_pcm.proofs.PartList.{whole, listed_full, chunk_listed}
-use Rattle.wave_pcm.proofs.Sources.{keeps_then}
+use Rattle.song_files.proofs.Sources.{keeps_then}
 use Rattle.wave_pcm.proofs.listing.list_parts.Goals as goal
 
 pub returns-in_default-clause-listed : goal.returns-in_default-clause-listed

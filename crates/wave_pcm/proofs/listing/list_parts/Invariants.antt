@@ -1,5 +1,5 @@
 use Rattle.std.proofs.Common.{◌≡◌, ◌+◌, ◌-◌, ◌≤◌, ◌++◌, length, take, vec_len, All}
-use Rattle.wave_pcm.specs.Source.{Keeps}
+use Rattle.song_files.specs.Source.{Keeps}
 use Rattle.wave_pcm.specs.Parts.{parts_in}
 use Rattle.wave_pcm.specs.PartHead.{parts_at, EndsBy}
 use Rattle.wave_pcm.specs.declared.listing.TheConstants.{MAX_CHUNKS, FIRST_CHUNK}

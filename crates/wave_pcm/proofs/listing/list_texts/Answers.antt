@@ -5,7 +5,7 @@ use Rattle.wave_pcm.specs.ChunkHead.{chunk_at, IsWithin}
 use Rattle.wave_pcm.specs.PartHead.{EndsBy, part_at}
 use Rattle.wave_pcm.specs.Parts.{text_part}
 use Rattle.wave_pcm.proofs.PartList.{whole, pushed, listed_full, All_push}
-use Rattle.wave_pcm.proofs.Sources.{keeps_then}
+use Rattle.song_files.proofs.Sources.{keeps_then}
 use Rattle.wave_pcm.proofs.listing.list_texts.Goals as goal
 
 pub returns-in_default-clause-listed : goal.returns-in_default-clause-listed

@@ -1,5 +1,5 @@
 use Rattle.std.proofs.Common.{◌≡◌, ℕ, ◌+◌, ◌-◌, ◌≤◌, ◌++◌, length, take, map, vec_len, All}
-use Rattle.wave_pcm.specs.Source.{Keeps}
+use Rattle.song_files.specs.Source.{Keeps}
 use Rattle.wave_pcm.specs.Chunks.{chunks_in}
 use Rattle.wave_pcm.specs.Parts.{text_part}
 use Rattle.wave_pcm.specs.PartHead.{parts_at, EndsBy}

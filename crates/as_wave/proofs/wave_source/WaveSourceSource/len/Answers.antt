@@ -1,5 +1,9 @@
-use Rattle.as_wave.proofs.PlanReads.{length-stood_for}
+use Rattle.as_wave.proofs.FormReads.{length-pcm, length-flac}
 use Rattle.as_wave.proofs.wave_source.WaveSourceSource.len.Goals as goal
 
-pub returns-in-Some : goal.returns-in-Some
-returns-in-Some g c = λ told. length-stood_for c.args.self.now.plan c.in-Some.plan (g.S.Source.bytes c.args.self.now.source) c.in-Some.is told.1
+pub returns-in-Pcm : goal.returns-in-Pcm
+returns-in-Pcm g c = λ told. length-pcm c.args.self.now.form c.in-Pcm.plan (g.S.Source.bytes c.args.self.now.source) c.in-Pcm.is told.1
+
+pub returns-in-Flac : goal.returns-in-Flac
+returns-in-Flac g c = λ told. length-flac c.args.self.now.form c.in-Flac.form c.len-in-Flac.result (g.S.Source.bytes c.args.self.now.source)
+    c.in-Flac.is told.1 c.len-in-Flac.ensures.len

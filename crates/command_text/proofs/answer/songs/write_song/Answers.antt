@@ -41,7 +41,8 @@ returns-in_err-write_tags c =
     (adds_same _ _ _ _ _ c.in_ok-write_format.ensures (ap (λ r. pair (codes "Format") (format_text r.rate r.channels)) c.info.ensures))
     (adds_stop (tag_lines c.args.row.now.tags)
     (concat ((pair (codes "Time") (whole_seconds (milliseconds c.args.row.now)))
-    ∷ (pair (codes "duration") (exact_seconds (milliseconds c.args.row.now))) ∷ [])) _ _ _ _ c.in_err-write_tags.ensures
+    ∷ (pair (codes "duration") (exact_seconds (milliseconds c.args.row.now))) ∷ [])) _ _ _ _
+    (adds_same _ _ _ _ _ c.in_err-write_tags.ensures (ap (λ t. tag_lines t) c.tags.ensures))
     c.from_residual-in_err-write_tags.ensures.0))
 
 pub returns-in_err-write_whole_seconds : goal.returns-in_err-write_whole_seconds
@@ -57,7 +58,8 @@ returns-in_err-write_whole_seconds c =
     (adds_same _ _ _ _ _ c.in_ok-write_format.ensures (ap (λ r. pair (codes "Format") (format_text r.rate r.channels)) c.info.ensures))
     (adds_then (tag_lines c.args.row.now.tags)
     (concat ((pair (codes "Time") (whole_seconds (milliseconds c.args.row.now)))
-    ∷ (pair (codes "duration") (exact_seconds (milliseconds c.args.row.now))) ∷ [])) _ _ _ _ _ c.in_ok-write_tags.ensures
+    ∷ (pair (codes "duration") (exact_seconds (milliseconds c.args.row.now))) ∷ [])) _ _ _ _ _
+    (adds_same _ _ _ _ _ c.in_ok-write_tags.ensures (ap (λ t. tag_lines t) c.tags.ensures))
     (adds_stop (pair (codes "Time") (whole_seconds (milliseconds c.args.row.now)))
     (concat ((pair (codes "duration") (exact_seconds (milliseconds c.args.row.now))) ∷ [])) _ _ _ _
     (adds_same _ _ _ _ _ c.in_err-write_whole_seconds.ensures
@@ -77,7 +79,8 @@ returns c =
     (adds_same _ _ _ _ _ c.in_ok-write_format.ensures (ap (λ r. pair (codes "Format") (format_text r.rate r.channels)) c.info.ensures))
     (adds_then (tag_lines c.args.row.now.tags)
     (concat ((pair (codes "Time") (whole_seconds (milliseconds c.args.row.now)))
-    ∷ (pair (codes "duration") (exact_seconds (milliseconds c.args.row.now))) ∷ [])) _ _ _ _ _ c.in_ok-write_tags.ensures
+    ∷ (pair (codes "duration") (exact_seconds (milliseconds c.args.row.now))) ∷ [])) _ _ _ _ _
+    (adds_same _ _ _ _ _ c.in_ok-write_tags.ensures (ap (λ t. tag_lines t) c.tags.ensures))
     (adds_then (pair (codes "Time") (whole_seconds (milliseconds c.args.row.now)))
     (concat ((pair (codes "duration") (exact_seconds (milliseconds c.args.row.now))) ∷ [])) _ _ _ _ _
     (adds_same _ _ _ _ _ c.in_ok-write_whole_seconds.ensures

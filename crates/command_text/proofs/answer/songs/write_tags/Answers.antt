@@ -1,41 +1,24 @@
-use Rattle.std.proofs.Common.{}
-use Rattle.command_text.proofs.Adding.{adds_then, adds_stop, adds_last}
+use Rattle.std.proofs.Common.{◌≤◌, ◌+◌, length, drop, arith}
+use Rattle.std.proofs.Math.ListN.{drop_of_length-le}
+use Rattle.command_text.specs.AnswerSongs.{tag_line}
+use Rattle.command_text.proofs.LineLoops.{leaves_fewer, leaves_none, leaves_off, next_at}
 use Rattle.command_text.proofs.answer.songs.write_tags.Goals as goal
+
+pub loop-at-preserved : goal.loop-at-preserved
+loop-at-preserved c =
+    let all = c.args.tags.now in
+    leaves_fewer tag_line all (record { tag = c.at-tag.result.0; text = c.at-tag.result.1.now }) (drop (c.loop-at.at + 1) all) _ _ _ _
+    (rw (next_at all c.loop-at.at (record { tag = c.at-tag.result.0; text = c.at-tag.result.1.now }) c.at-tag.ensures) at
+    c.loop-at.invariant) c.in_ok-write_tag.ensures
 
 pub returns-in_err-write_tag : goal.returns-in_err-write_tag
 returns-in_err-write_tag c =
-    adds_stop _ _ _ _ _ _ c.in_err-write_tag.ensures c.from_residual.ensures.0
-
-pub returns-in_err-write_tag-2 : goal.returns-in_err-write_tag-2
-returns-in_err-write_tag-2 c =
-    adds_then _ _ _ _ _ _ _ c.in_ok-write_tag.ensures
-    (adds_stop _ _ _ _ _ _ c.in_err-write_tag-2.ensures c.from_residual-in_err-write_tag-2.ensures.0)
-
-pub returns-in_err-write_tag-3 : goal.returns-in_err-write_tag-3
-returns-in_err-write_tag-3 c =
-    adds_then _ _ _ _ _ _ _ c.in_ok-write_tag.ensures
-    (adds_then _ _ _ _ _ _ _ c.in_ok-write_tag-2.ensures
-    (adds_stop _ _ _ _ _ _ c.in_err-write_tag-3.ensures c.from_residual-in_err-write_tag-3.ensures.0))
-
-pub returns-in_err-write_tag-4 : goal.returns-in_err-write_tag-4
-returns-in_err-write_tag-4 c =
-    adds_then _ _ _ _ _ _ _ c.in_ok-write_tag.ensures
-    (adds_then _ _ _ _ _ _ _ c.in_ok-write_tag-2.ensures
-    (adds_then _ _ _ _ _ _ _ c.in_ok-write_tag-3.ensures
-    (adds_stop _ _ _ _ _ _ c.in_err-write_tag-4.ensures c.from_residual-in_err-write_tag-4.ensures.0)))
-
-pub returns-in_err-write_tag-5 : goal.returns-in_err-write_tag-5
-returns-in_err-write_tag-5 c =
-    adds_then _ _ _ _ _ _ _ c.in_ok-write_tag.ensures
-    (adds_then _ _ _ _ _ _ _ c.in_ok-write_tag-2.ensures
-    (adds_then _ _ _ _ _ _ _ c.in_ok-write_tag-3.ensures
-    (adds_then _ _ _ _ _ _ _ c.in_ok-write_tag-4.ensures
-    (adds_stop _ _ _ _ _ _ c.in_err-write_tag-5.ensures c.from_residual-in_err-write_tag-5.ensures.0))))
+    let all = c.args.tags.now in
+    leaves_off tag_line all (record { tag = c.at-tag.result.0; text = c.at-tag.result.1.now }) (drop (c.loop-at.at + 1) all) _ _ _ _ _
+    (rw (next_at all c.loop-at.at (record { tag = c.at-tag.result.0; text = c.at-tag.result.1.now }) c.at-tag.ensures) at
+    c.loop-at.invariant) c.in_err-write_tag.ensures c.from_residual.ensures.0
 
 pub returns : goal.returns
 returns c =
-    adds_then _ _ _ _ _ _ _ c.in_ok-write_tag.ensures
-    (adds_then _ _ _ _ _ _ _ c.in_ok-write_tag-2.ensures
-    (adds_then _ _ _ _ _ _ _ c.in_ok-write_tag-3.ensures
-    (adds_then _ _ _ _ _ _ _ c.in_ok-write_tag-4.ensures
-    (adds_then _ _ _ _ _ _ _ c.in_ok-write_tag-5.ensures (adds_last _ _ _ _ c.write_tag-6.ensures)))))
+    let over : length c.args.tags.now ≤ c.loop-at.at = omega arith in
+    leaves_none tag_line c.args.tags.now _ _ _ (rw (drop_of_length-le c.args.tags.now over) at c.loop-at.invariant)

@@ -1,6 +1,6 @@
 use Rattle.std.proofs.Common.{◌≡◌, ◌+◌, ◌≤◌, ◌∙◌, [], length, drop, refl, sym, arith}
 use Rattle.std.proofs.lemmas.Result.{err_from_is_err_and}
-use Rattle.wave_pcm.proofs.Sources.{keeps_then, grows_after}
+use Rattle.song_files.proofs.Sources.{keeps_then, grows_after}
 use Rattle.flac_frames.specs.Decoder.{samples_of}
 use Rattle.flac.specs.Frames.{samples_in, side_by_side}
 use Rattle.flac.specs.Reader.{AreHeld, IsPlace, IsReaderOf}

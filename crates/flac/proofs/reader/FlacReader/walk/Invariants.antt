@@ -1,5 +1,5 @@
 use Rattle.std.proofs.Common.{◌≡◌, ◌-◌, length}
-use Rattle.wave_pcm.specs.Source.{Keeps}
+use Rattle.song_files.specs.Source.{Keeps}
 use Rattle.flac.specs.Reader.{IsReaderOf, IsPlace, SameStream}
 use Rattle.flac.proofs.reader.FlacReader.walk.Given as goal
 

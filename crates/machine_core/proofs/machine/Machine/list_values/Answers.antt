@@ -14,8 +14,7 @@ returns c =
     let m = c.args.self.now in
     let tag = c.args.tag in
     let tree = option_copied c.args.filter in
-    let same = c.keep_asked_values.ensures in
-    let songs = c.songs.ensures ∙ ap (λ (n : MachineState). n.saved.songs) (c.self.view_is ∙ same) in
-    reads _ _ m _ _ c.args.work.now _ c.keep.new.self _ _ (values_mean m tag tree) same c.len-mark.ensures refl refl
+    let songs = c.songs.ensures ∙ ap (λ (n : MachineState). n.saved.songs) c.self.view_is in
+    reads _ _ m m _ c.args.work.now _ c.keep.new.self _ _ (values_mean m tag tree) refl c.len-mark.ensures refl refl
     (adds_same _ _ _ _ _ c.write_values-written.ensures (ap (value_lines tag) (c.in_ok-values.ensures
     ∙ ap (λ (rows : List Row). values_of (chosen tree rows) tag) songs))) c.keep.ensures

@@ -9,3 +9,9 @@ invariant_of-self c x is =
     let m : MachineState = held c.self.inside in
     let same = was_err c.apply.result (c.apply.new.self ≡ m.saved) (sym c.is_err.ensures.value ∙ c.if-is_err.true) c.apply.ensures.err in
     c.self.invariant x is ∙ ap (λ s. shown_of (record m { saved = s })) (sym same)
+
+pub returns-then-is_err-clause-err : goal.returns-then-is_err-clause-err
+returns-then-is_err-clause-err c =
+    let m : MachineState = held c.self.inside in
+    let same = was_err c.apply.result (c.apply.new.self ≡ m.saved) (sym c.is_err.ensures.value ∙ c.if-is_err.true) c.apply.ensures.err in
+    ap (λ s. record m { saved = s }) same ∙ c.self.view_is

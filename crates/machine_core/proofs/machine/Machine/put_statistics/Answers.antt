@@ -10,9 +10,8 @@ pub returns : goal.returns
 returns c =
     let m = c.args.self.now in
     let rows = c.songs-songs.result.now in
-    let same = c.keep_values-2.ensures ∙ c.keep_values.ensures in
-    let songs : rows ≡ m.saved.songs = c.songs-songs.ensures ∙ ap (λ (n : MachineState). n.saved.songs) (c.self.view_is ∙ same) in
-    reads _ (statistics m.saved.songs) m _ _ c.args.work.now _ c.keep.new.self _ _ refl same c.len-mark.ensures refl refl
+    let songs : rows ≡ m.saved.songs = c.songs-songs.ensures ∙ ap (λ (n : MachineState). n.saved.songs) c.self.view_is in
+    reads _ (statistics m.saved.songs) m m _ c.args.work.now _ c.keep.new.self _ _ refl refl c.len-mark.ensures refl refl
     (adds_same _ _ _ _ _ c.write_statistics-written.ensures
     (counted rows m.saved.songs _ _ _ _ songs c.in-Ok.ensures.artists c.in-Ok.ensures.albums c.len.ensures.count c.milliseconds.ensures))
     c.keep.ensures

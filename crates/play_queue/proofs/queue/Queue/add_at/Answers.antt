@@ -5,6 +5,9 @@ use Rattle.play_queue.proofs.Added.{added-none, ruled-added_next, sound-added}
 use Rattle.play_queue.proofs.Ruling.{ruled-itself}
 use Rattle.play_queue.proofs.queue.Queue.add_at.Goals as goal
 
+pub insert-requires-clause-fresh : goal.insert-requires-clause-fresh
+insert-requires-clause-fresh c k d within = (c.self.invariant.entry k d within).id_used
+
 pub returns-in_ok-self-inside-clause-ok : goal.returns-in_ok-self-inside-clause-ok
 returns-in_ok-self-inside-clause-ok c =
     let old = c.self.inside.entries in

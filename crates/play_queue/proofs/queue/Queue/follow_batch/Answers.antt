@@ -15,8 +15,16 @@ pub follow_batch-self-inside-requires-clause-in_range : goal.follow_batch-self-i
 follow_batch-self-inside-requires-clause-in_range c =
     let keep = λ (entry : Entry). not (is_among c.args.dropped.now entry.uri) in
     let found : c.before_first-first.result ≡ prefix_len keep c.self.inside.entries =
-    rw (c.as_slice.ensures) at c.before_first-first.ensures in
+    rw (c.entries.ensures) at c.before_first-first.ensures in
     omega (arith, found, prefix_len-is keep c.self.inside.entries, front_fits keep c.self.inside.entries)
+
+pub has_any-requires : goal.has_any-requires
+has_any-requires c =
+    let keep = λ (entry : Entry). not (is_among c.args.dropped.now entry.uri) in
+    let found : c.before_first-first.result ≡ prefix_len keep c.self.inside.entries =
+    rw (c.entries.ensures) at c.before_first-first.ensures in
+    rw (c.entries-else-first-len.ensures)
+    (omega (arith, found, prefix_len-is keep c.self.inside.entries, front_fits keep c.self.inside.entries))
 
 pub returns-then-first-len : goal.returns-then-first-len
 returns-then-first-len c =
@@ -28,7 +36,7 @@ returns-then-first-len c =
     } in
     let keep = λ (entry : Entry). not (is_among c.args.dropped.now entry.uri) in
     let found : c.before_first-first.result ≡ prefix_len keep c.self.inside.entries =
-    rw (c.as_slice.ensures) at c.before_first-first.ensures in
+    rw (c.entries.ensures) at c.before_first-first.ensures in
     let first : c.before_first-first.result ≡ kept_front keep c.self.inside.entries =
     found ∙ prefix_len-is keep c.self.inside.entries in
     let others : take c.before_first-first.result q.entries ++ kept (drop c.before_first-first.result q.entries) c.args.dropped.now
@@ -38,7 +46,7 @@ returns-then-first-len c =
     elim c.then-first-len.branch [
       | then-first-len-via-then-first-len w ↦ inl (omega arith)
       | then-first-len-via-else-first-len+then-has_any w ↦ inr
-          (rw (w.as_slice-else-first-len.ensures) at (sym w.has_any.ensures ∙ w.if-has_any.true))
+          (rw (w.entries-else-first-len.ensures) at (sym w.has_any.ensures ∙ w.if-has_any.true))
     ] in
     rw (← c.self.view_is, c.follow_batch-self-inside.ensures.entries, c.follow_batch-self-inside.ensures.version, others)
     (ruled-batch q c.args.dropped.now c.args.changed.now c.before_first-first.result c.self.invariant.own_ids first some)
@@ -53,7 +61,7 @@ invariant_of-self c =
     } in
     let keep = λ (entry : Entry). not (is_among c.args.dropped.now entry.uri) in
     let found : c.before_first-first.result ≡ prefix_len keep c.self.inside.entries =
-    rw (c.as_slice.ensures) at c.before_first-first.ensures in
+    rw (c.entries.ensures) at c.before_first-first.ensures in
     let first : c.before_first-first.result ≡ kept_front keep c.self.inside.entries =
     found ∙ prefix_len-is keep c.self.inside.entries in
     let others : take c.before_first-first.result q.entries ++ kept (drop c.before_first-first.result q.entries) c.args.dropped.now
@@ -63,7 +71,7 @@ invariant_of-self c =
     elim c.then-first-len.branch [
       | then-first-len-via-then-first-len w ↦ inl (omega arith)
       | then-first-len-via-else-first-len+then-has_any w ↦ inr
-          (rw (w.as_slice-else-first-len.ensures) at (sym w.has_any.ensures ∙ w.if-has_any.true))
+          (rw (w.entries-else-first-len.ensures) at (sym w.has_any.ensures ∙ w.if-has_any.true))
     ] in
     let made = ruled-batch q c.args.dropped.now c.args.changed.now c.before_first-first.result c.self.invariant.own_ids first some in
     rw (c.follow_batch-self-inside.ensures.entries, c.follow_batch-self-inside.ensures.version, others)
@@ -80,12 +88,12 @@ returns-else-has_any c =
     } in
     let keep = λ (entry : Entry). not (is_among c.args.dropped.now entry.uri) in
     let found : c.before_first-first.result ≡ prefix_len keep c.self.inside.entries =
-    rw (c.as_slice.ensures) at c.before_first-first.ensures in
+    rw (c.entries.ensures) at c.before_first-first.ensures in
     let first : c.before_first-first.result ≡ kept_front keep c.self.inside.entries =
     found ∙ prefix_len-is keep c.self.inside.entries in
     let all : kept_front keep q.entries ≡ length q.entries = omega (arith, front_fits keep q.entries) in
     let row : list_any (λ entry. is_among c.args.changed.now entry.uri) (take c.before_first-first.result q.entries) ≡ false =
-    rw (c.as_slice-else-first-len.ensures) at (sym c.has_any.ensures ∙ c.if-has_any.false) in
+    rw (c.entries-else-first-len.ensures) at (sym c.has_any.ensures ∙ c.if-has_any.false) in
     let none : list_any (λ entry. is_among c.args.changed.now entry.uri) q.entries ≡ false =
     rw (first, all, take_all (length q.entries) q.entries (omega arith)) at row in
     rw (← c.self.view_is) (sym (ruled-batch_same q c.args.dropped.now c.args.changed.now all none))

@@ -8,7 +8,7 @@ use Rattle.play_queue.proofs.queue.Queue.set_prio.Goals as goal
 
 pub has_other-requires : goal.has_other-requires
 has_other-requires c =
-    rw (c.as_slice.ensures) (merged_ranges c.args.ranges.now c.merged-merged.result.now _ c.merged-merged.ensures
+    rw (c.entries.ensures) (merged_ranges c.args.ranges.now c.merged-merged.result.now _ c.merged-merged.ensures
     (rw (← c.self.view_is) at c.in_ok-check_prio.ensures.fits))
 
 pub prioritize-self-inside-requires-clause-ranges : goal.prioritize-self-inside-requires-clause-ranges
@@ -24,7 +24,7 @@ returns-then-has_other-clause-ok c =
       next_id =
           c.self.inside.next_id;
     } in
-    let found = rw (c.as_slice.ensures) at c.if-has_other.ensures.yes in
+    let found = rw (c.entries.ensures) at c.if-has_other.ensures.yes in
     rw (
       ← c.self.view_is,
       c.prioritize-self-inside.ensures.entries,
@@ -46,7 +46,7 @@ invariant_of-self c =
       next_id =
           c.self.inside.next_id;
     } in
-    let found = rw (c.as_slice.ensures) at c.if-has_other.ensures.yes in
+    let found = rw (c.entries.ensures) at c.if-has_other.ensures.yes in
     let made = ruled-prioritized q c.args.ranges.now c.args.priority (
       found.0,
       found.1,
@@ -68,7 +68,7 @@ returns-else-has_other-clause-ok c =
       next_id =
           c.self.inside.next_id;
     } in
-    let none = rw (c.as_slice.ensures) at c.if-has_other.ensures.no in
+    let none = rw (c.entries.ensures) at c.if-has_other.ensures.no in
     rw (← c.self.view_is)
     (sym (ruled-itself q _ (prioritized-same q.entries c.args.ranges.now c.args.priority
     (λ k d within is. none k d within (c.merged-merged.ensures.same k ∙ is)))))

@@ -1,7 +1,10 @@
-use Rattle.std.proofs.Common.{[], refl}
+use Rattle.std.proofs.Common.{refl}
 use Rattle.song_db.proofs.Batches.{empty_database}
-use Rattle.song_db.proofs.Numbered.{none_kept}
 use Rattle.song_db.proofs.song_db.SongDb.new.Goals as goal
 
 pub invariant_of-result : goal.invariant_of-result
-invariant_of-result c = rw (c.new.ensures.items, c.new-2.ensures.items) (empty_database, record { sum = refl; each = tt }, none_kept [])
+invariant_of-result c = rw (c.new.ensures.items, c.new-2.ensures) (
+  empty_database,
+  record { sum = refl; each = tt },
+  record { exact = λ tag value. refl },
+)

@@ -1,7 +1,6 @@
 use Rattle.std.proofs.Common.{◌≡◌, ◌+◌, ◌<◌, ◌^◌, true, sym, ◌∙◌, arith, rules}
 use Rattle.song_db.specs.Last.{ends_before}
 use Rattle.song_db.proofs.LastRow.{last_database, last_timed}
-use Rattle.song_db.proofs.Numbered.{none_kept}
 use Rattle.song_db.proofs.Timing.{total_fits}
 use Rattle.song_db.proofs.song_db.SongDb.push_last.Goals as goal
 
@@ -17,5 +16,5 @@ invariant_of-self-2 c =
       last_database c.self.inside.rows.items c.args.row c.self.invariant.0 before (omega arith),
       last_timed c.self.inside.rows.items c.args.row c.self.inside.total c.milliseconds.result c.self.invariant.1
           c.milliseconds.ensures.value c.milliseconds.ensures.bound,
-      rw c.clear.ensures.items (none_kept _),
+      c.with_last.ensures c.self.inside.rows.items c.self.invariant.0.rising before (rw c.take.ensures.value c.self.invariant.2),
     )

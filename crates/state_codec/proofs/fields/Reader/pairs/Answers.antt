@@ -5,7 +5,7 @@ use Rattle.state_codec.specs.Fields.{pair_at}
 use Rattle.state_codec.specs.Numbers.{is_range}
 use Rattle.state_codec.proofs.ListLaws.{all_pushed}
 use Rattle.state_codec.proofs.LoopLaws.{items_go_on, items_fail, items_done}
-use Rattle.state_codec.proofs.RowLaws.{both_is_true}
+use Rattle.state_codec.proofs.TextLaws.{both_is_true}
 use Rattle.state_codec.proofs.fields.Reader.pairs.Goals as goal
 
 pub loop-i-preserved : goal.loop-i-preserved

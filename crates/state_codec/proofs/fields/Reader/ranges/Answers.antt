@@ -4,7 +4,7 @@ use Rattle.state_codec.specs.Fields.{pair_at}
 use Rattle.state_codec.specs.Numbers.{are_few, are_ranges}
 use Rattle.state_codec.proofs.ItemLaws.{items_count}
 use Rattle.state_codec.proofs.ListLaws.{not_none}
-use Rattle.state_codec.proofs.RowLaws.{both_is_true}
+use Rattle.state_codec.proofs.TextLaws.{both_is_true}
 use Rattle.state_codec.proofs.fields.Reader.ranges.Goals as goal
 
 pub unreachable-requires : goal.unreachable-requires

@@ -1,6 +1,6 @@
 use Rattle.std.proofs.Common.{◌≡◌, Bool, true, false, cond, Some, None, Ok, ap, sym}
 use Rattle.std.specs.Prelude.{Option}
-use Rattle.song_db.specs.Row.{Row, six_texts, is_within_limits}
+use Rattle.song_db.specs.Row.{Row, is_within_limits}
 use Rattle.song_db.specs.Uri.{is_uri}
 use Rattle.state_codec.specs.ReadingRows.{RowFields, row_with}
 use Rattle.state_codec.proofs.FieldLaws.{both_true}
@@ -15,7 +15,7 @@ kept false x y o e f = absurd cc
 pub unreachable-requires : goal.unreachable-requires
 unreachable-requires c =
     let info = c.in_ok-info.info in
-    let fields : RowFields = (info.rate, (info.channels, (info.first_byte, (info.frames, six_texts info.tags)))) in
+    let fields : RowFields = (info.rate, (info.channels, (info.first_byte, (info.frames, info.tags)))) in
     let read = fields_is.takes c.args.self.now.rest.now (fields, c.head.new.self.rest.now) c.are_bytes.ensures c.in_ok-info.ensures in
     let good = row_fits c.args.uri fields c.as_str-form.ensures.form read.1 in
     not_none _ _ _ c.in_ok-row.ensures (both_true (is_uri c.args.uri) (is_within_limits (row_with c.args.uri fields)) good.form).1

@@ -2,17 +2,17 @@ use Rattle.std.proofs.Common.{ℕ, List, ◌++◌, ap, ◌∙◌, append_assoc}
 use Rattle.song_db.specs.Row.{Row, row_of}
 use Rattle.state_codec.specs.SpellingFields.{text_bytes}
 use Rattle.state_codec.specs.SpellingRows.{row_fields_bytes}
-use Rattle.state_codec.proofs.RoomLaws.{row_good}
+use Rattle.state_codec.proofs.RoomLaws.{few_channels}
 use Rattle.state_codec.proofs.writing.rows.put_row.Goals as goal
 
-pub put_head-requires-clause-good : goal.put_head-requires-clause-good
-put_head-requires-clause-good c = (row_good c.args.row.now c.args.row.now.uri c.info.result.now c.info.ensures c.uri.ensures.row).0
+pub put_head-requires-clause-channels : goal.put_head-requires-clause-channels
+put_head-requires-clause-channels c = rw (ap (λ (r : Row). r.channels) c.info.ensures) (few_channels c.args.row.now c.uri.ensures.row)
 
 pub returns : goal.returns
 returns c =
     let row = c.args.row.now in
     let old = c.args.out.now.items in
-    let fields = row_fields_bytes (row_of row.uri c.info.result.now) in
+    let fields = row_fields_bytes (row_of row.uri c.info.result.now row.stamp) in
     record {
       items =
           c.put_head.ensures.items

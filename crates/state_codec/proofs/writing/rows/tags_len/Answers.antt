@@ -1,14 +1,25 @@
-use Rattle.state_codec.proofs.RoomLaws.{tags_good}
+use Rattle.std.proofs.Common.{◌≡◌, ◌<◌, ◌+◌, ◌++◌, [], length, take, refl, ap, ◌∙◌, arith}
+use Rattle.std.specs.List.{flat_map}
+use Rattle.std.proofs.lemmas.List.{length-append}
+use Rattle.song_files.specs.Tags.{first_text}
+use Rattle.song_db.specs.Row.{six_texts}
+use Rattle.state_codec.specs.SpellingRows.{tag_bytes}
+use Rattle.state_codec.proofs.RoomLaws.{more_items}
+use Rattle.state_codec.proofs.TagLaws.{six_at}
 use Rattle.state_codec.proofs.writing.rows.tags_len.Goals as goal
 
-pub tag_len-requires-3 : goal.tag_len-requires-3
-tag_len-requires-3 c = rw c.get-3.ensures (tags_good c.args.tags.now c.requires).album
+pub loop-number-preserved : goal.loop-number-preserved
+loop-number-preserved c =
+    let i = c.loop-number.number in
+    let texts = six_texts c.args.tags.now in
+    let text = first_text c.args.tags.now c.at.result in
+    let front = flat_map tag_bytes (take i texts) in
+    let lt : i < length texts = omega arith in
+    let one : front ++ tag_bytes text ≡ [] ++ flat_map tag_bytes (take (i + 1) texts) =
+    more_items tag_bytes [] front texts i text lt (six_at c.args.tags.now i c.at.result text (omega arith) c.at.ensures.tag) refl in
+    (omega (arith, ap length one, length-append front (tag_bytes text), c.loop-number.invariant.0, c.tag_len-len.ensures.len), omega arith)
 
-pub tag_len-requires-4 : goal.tag_len-requires-4
-tag_len-requires-4 c = rw c.get-4.ensures (tags_good c.args.tags.now c.requires).date
-
-pub tag_len-requires-5 : goal.tag_len-requires-5
-tag_len-requires-5 c = rw c.get-5.ensures (tags_good c.args.tags.now c.requires).genre
-
-pub tag_len-requires-6 : goal.tag_len-requires-6
-tag_len-requires-6 c = rw c.get-6.ensures (tags_good c.args.tags.now c.requires).comment
+pub returns : goal.returns
+returns c =
+    let six : c.loop-number.number ≡ 6 = omega arith in
+    record { len = c.loop-number.invariant.0 ∙ ap (λ n. length (flat_map tag_bytes (take n (six_texts c.args.tags.now)))) six; within = omega arith }

@@ -1,5 +1,6 @@
 use Rattle.std.proofs.Common.{Ok, refl}
-use Rattle.wave_pcm.specs.declared.folder.FolderFault.TheVariants.{NoMemory}
+use Rattle.song_files.specs.declared.folder.FolderFault.TheVariants.{NoMemory}
+use Rattle.song_db.specs.Music.{music_of}
 use Rattle.song_db.specs.declared.refusal.SongDbError.TheVariants.{NoMemory as MemoryRefused}
 use Rattle.song_db.proofs.BatchSteps.{batch_own}
 use Rattle.song_db.proofs.OwnSteps.{not_failed}
@@ -8,16 +9,21 @@ use Rattle.song_db.proofs.scan.reader.Reader.begin.Goals as goal
 
 pub returns-clause-batch : goal.returns-clause-batch
 returns-clause-batch g c = λ start batch.
-    rw c.in_ok-visit.ensures.place at (c.make.ensures.batch start (rw (c.in_ok-visit.ensures.place, c.in_ok-visit.ensures.droppable)
-    (batch_own c.args.self.now.walk.place start c.args.self.now.droppable c.args.changes.now.items c.list-listing.result batch)))
+    rw (c.in_ok-visit.ensures.place, c.in_ok-visit.ensures.rules) at (c.make.ensures.batch start (rw (
+      c.in_ok-visit.ensures.place,
+      c.in_ok-visit.ensures.rules,
+      c.in_ok-visit.ensures.droppable,
+    )
+    (batch_own c.args.self.now.walk.rules c.args.self.now.walk.place start c.args.self.now.droppable c.args.changes.now.items c.list-listing.result batch)))
 
 pub returns-clause-read : goal.returns-clause-read
 returns-clause-read g c = λ honest.
-    let files = g.F.Folder.files c.args.folder.now in
+    let files = music_of c.args.self.now.walk.rules (g.F.Folder.files c.args.folder.now) in
     let steady = g.F.Folder.steady c.args.folder.now in
     let place = c.args.self.now.walk.place in
     let made = rw (
       c.in_ok-visit.ensures.place,
+      c.in_ok-visit.ensures.rules,
       c.in_ok-visit.ensures.droppable,
       c.in_ok-visit.ensures.next,
       c.list-listing.ensures.files honest,

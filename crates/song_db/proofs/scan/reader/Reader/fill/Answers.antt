@@ -1,4 +1,5 @@
 use Rattle.std.proofs.Common.{◌≡◌, ◌∙◌, arith}
+use Rattle.song_db.specs.Music.{music_of}
 use Rattle.song_db.proofs.ReaderSteps.{folder_then, read_taken, read_then}
 use Rattle.song_db.proofs.scan.reader.Reader.fill.Goals as goal
 
@@ -6,20 +7,21 @@ pub loop-preserved : goal.loop-preserved
 loop-preserved g c =
     let first = c.args.self.now.walk.place in
     let place : c.next.new.self.place ≡ first = c.next.ensures.place ∙ c.loop.invariant.scan.place in
+    let rules : c.next.new.self.rules ≡ c.args.self.now.walk.rules = c.next.ensures.rules ∙ c.loop.invariant.scan.rules in
     record {
-      scan = record { place = c.make.ensures.scan.place ∙ place; begun = c.make.ensures.scan.begun ∙ c.loop.invariant.scan.begun };
+      scan = record { rules = c.make.ensures.scan.rules ∙ rules; place = c.make.ensures.scan.place ∙ place; begun = c.make.ensures.scan.begun ∙ c.loop.invariant.scan.begun };
       capacity = c.make.ensures.capacity ∙ c.loop.invariant.capacity;
       few = omega arith;
-      batch = λ start batch. rw place at (c.in_ok-make.ensures.batch start (rw place (c.loop.invariant.batch start batch)));
+      batch = λ start batch. rw (place, rules) at (c.in_ok-make.ensures.batch start (rw (place, rules) (c.loop.invariant.batch start batch)));
       read = λ honest.
-          let files = g.F.Folder.files c.args.folder.now in
+          let files = music_of c.args.self.now.walk.rules (g.F.Folder.files c.args.folder.now) in
           let steady = g.F.Folder.steady c.args.folder.now in
-          let made = rw (place, c.loop.invariant.folder.same_files honest)
+          let made = rw (place, rules, c.loop.invariant.folder.same_files honest)
           at (c.in_ok-make.ensures.read (c.loop.invariant.folder.honesty honest)) in
           read_then files steady _ first _ _ _ _ _ _ _ _ _ c.loop.invariant.folder.steadiness
           (read_then files steady steady first _ _ _ _ _ _ _ _ _ (λ is. is) (c.loop.invariant.read honest)
           (read_taken files steady first c.loop.self.walk.pending c.next.new.self.pending c.in_ok-visit.visit c.loop.self.droppable
-          c.loop.changes.items c.in_ok-visit.ensures.taken))
+          c.loop.changes.items (rw c.loop.invariant.scan.rules at c.in_ok-visit.ensures.taken)))
           made;
       folder = folder_then g.F.Folder.honest g.F.Folder.steady g.F.Folder.files _ _ _ c.loop.invariant.folder c.make.ensures.folder;
     }

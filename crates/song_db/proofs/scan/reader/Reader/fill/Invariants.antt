@@ -1,4 +1,5 @@
 use Rattle.std.proofs.Common.{◌≡◌, ℕ, ◌≤◌, List, vec_len, vec_capacity}
+use Rattle.song_db.specs.Music.{music_of}
 use Rattle.song_db.specs.Limits.{MAX_CHANGES}
 use Rattle.song_db.specs.Batch.{IsBatch}
 use Rattle.song_db.specs.Reader.{IsReadOn, IsSameFolder, IsSameScan}
@@ -9,9 +10,9 @@ invariant-loop g l = record {
   scan : IsSameScan l.initial.self l.self;
   capacity : vec_capacity l.changes ≡ vec_capacity l.initial.changes;
   few : vec_len l.changes ≤ MAX_CHANGES;
-  batch : (start : List (List ℕ)) → IsBatch l.initial.self.walk.place start l.initial.self.droppable l.initial.changes.items
-      → IsBatch l.initial.self.walk.place start l.self.droppable l.changes.items;
-  read : g.F.Folder.honest l.initial.folder → IsReadOn (g.F.Folder.files l.initial.folder) (g.F.Folder.steady l.initial.folder)
+  batch : (start : List (List ℕ)) → IsBatch l.initial.self.walk.rules l.initial.self.walk.place start l.initial.self.droppable l.initial.changes.items
+      → IsBatch l.initial.self.walk.rules l.initial.self.walk.place start l.self.droppable l.changes.items;
+  read : g.F.Folder.honest l.initial.folder → IsReadOn (music_of l.initial.self.walk.rules (g.F.Folder.files l.initial.folder)) (g.F.Folder.steady l.initial.folder)
       l.initial.self.walk.place l.initial.self.walk.pending l.initial.self.droppable l.initial.changes.items
       l.self.walk.pending l.self.droppable l.changes.items;
   folder : IsSameFolder g.F.Folder.honest g.F.Folder.steady g.F.Folder.files l.initial.folder l.folder;

@@ -1,10 +1,13 @@
-use Rattle.std.proofs.Common.{◌≡◌, ℕ, ◌+◌, List, Option, Some, Ok, refl, sym, ap, ◌∙◌}
+use Rattle.std.proofs.Common.{◌≡◌, ℕ, ◌+◌, List, Option, Some, Ok, true, refl, sym, ap, ◌∙◌, rules}
 use Rattle.std.specs.Prelude.{Result}
 use Rattle.std.specs.String.{string_bytes}
 use Rattle.std.specs.declared.vec.Vec.{Vec}
-use Rattle.wave_pcm.specs.declared.folder.FolderEntry.{FolderEntry}
+use Rattle.song_files.specs.declared.folder.FolderEntry.{FolderEntry}
 use Rattle.song_db.specs.Pending.{Pending, times_pending, entries_pending, listed_pending, own_prefix}
+use Rattle.song_db.specs.Scan.{is_in}
+use Rattle.song_db.specs.Uri.{is_uri}
 use Rattle.song_db.proofs.Prefixes.{prefix_in, own_in}
+use Rattle.song_db.proofs.Taken.{own_visit_in}
 use Rattle.song_db.proofs.scan.reader.Reader.take_own.Goals as goal
 use Rattle.song_db.proofs.scan.reader.Reader.take_own.Goals.{in-None, in-Some+in_ok-prefix-in-Some}
 
@@ -33,3 +36,12 @@ returns-in_ok-enter-in-Ok-Some-clause-pending c = λ path. elim c.match-place.br
       (ap string_bytes w.prefix-is ∙ w.in_ok-prefix-in-Some.ensures ∙ ap own_prefix (sym (rw w.in-Some.is at (sym c.place.ensures))))
       (rw w.self-is at (c.in_ok-enter-in-Ok-Some.ensures.pending path))
 ]
+
+pub returns-in_ok-try_clone-in-Some-place-clause-visit : goal.returns-in_ok-try_clone-in-Some-place-clause-visit
+returns-in_ok-try_clone-in-Some-place-clause-visit c =
+    let form : is_uri c.in_ok-try_clone-in-Some-place.field-0 ≡ true = search rules in
+    let within : is_in c.args.self.now.walk.place c.in_ok-try_clone-in-Some-place.field-0 ≡ true
+    = rw c.in_ok-try_clone-in-Some-place.ensures (own_in c.args.self.now.walk.place c.in-Some-place.uri.now
+    (rw c.in-Some-place.is at c.place-in-Ok-None.ensures)) in
+    rw (c.visit_of.ensures, c.rules.ensures) (own_visit_in c.args.self.now.walk.rules c.args.self.now.walk.place
+    c.in_ok-try_clone-in-Some-place.field-0 within form)

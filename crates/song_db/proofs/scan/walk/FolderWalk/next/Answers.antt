@@ -1,10 +1,10 @@
-use Rattle.std.proofs.Common.{◌++◌, Some, refl, sym, ap}
+use Rattle.std.proofs.Common.{◌≡◌, ◌++◌, Some, refl, sym, ap}
 use Rattle.std.specs.String.{string_bytes}
 use Rattle.std.proofs.lemmas.List.Elements.{All-pop, All-push, All-same}
 use Rattle.song_db.specs.declared.scan.walk.Level.{Level}
 use Rattle.song_db.specs.Found.{IsPrefixIn}
 use Rattle.song_db.specs.Pending.{Walked}
-use Rattle.song_db.proofs.Taken.{taken_entry, popped}
+use Rattle.song_db.proofs.Taken.{taken_entry, popped, visit_in}
 use Rattle.song_db.proofs.scan.walk.FolderWalk.next.Goals as goal
 
 pub invariant_of-self-2 : goal.invariant_of-self-2
@@ -16,10 +16,21 @@ invariant_of-self-2 c =
 
 pub returns-clause-taken : goal.returns-clause-taken
 returns-clause-taken c =
-    rw (c.in_ok-visit.ensures, c.as_str.ensures.value)
-    (taken_entry c.args.self.now.pending _ (string_bytes c.in-Some.level.prefix ++ string_bytes c.in-Some-pop.entry.name)
+    let rules : c.self.inside.rules ≡ c.args.self.now.rules = ap (λ (w : Walked). w.rules) c.self.view_is in
+    rw (c.in_ok-visit.ensures, c.as_str.ensures.value, ← rules)
+    (taken_entry c.self.inside.rules c.args.self.now.pending _ (string_bytes c.in-Some.level.prefix ++ string_bytes c.in-Some-pop.entry.name)
     c.in-Some-pop.entry.is_folder
     (λ uri. popped (λ (level : Level). string_bytes level.prefix) (λ (level : Level). level.entries.items) c.self.inside.levels.items
     c.pop.new.self.items c.push_reserved.new.self.items c.in-Some.level _ c.in-Some-pop.entry c.args.self.now.pending uri
     (ap (λ (w : Walked). w.pending) (sym c.self.view_is)) c.in-Some.ensures.items c.in-Some-pop.ensures.items c.push_reserved.ensures.items
     refl))
+
+pub returns-clause-visit : goal.returns-clause-visit
+returns-clause-visit c =
+    let rules : c.self.inside.rules ≡ c.args.self.now.rules = ap (λ (w : Walked). w.rules) c.self.view_is in
+    let place : c.self.inside.place ≡ c.args.self.now.place = ap (λ (w : Walked). w.place) c.self.view_is in
+    let popped = All-pop (λ (level : Level). IsPrefixIn c.self.inside.place (string_bytes level.prefix)) c.self.inside.levels.items
+    c.pop.new.self.items (Some c.in-Some.level) c.in-Some.ensures.items c.self.invariant in
+    rw (← rules, ← place, c.in_ok-visit.ensures, c.as_str.ensures.value) (visit_in c.self.inside.rules c.self.inside.place
+    (string_bytes c.in-Some.level.prefix ++ string_bytes c.in-Some-pop.entry.name) c.in-Some-pop.entry.is_folder
+    (popped.1 (string_bytes c.in-Some-pop.entry.name)))

@@ -1,0 +1,19 @@
+-- The tags whose texts a test looks at.
+use Rattle.std.specs.Prelude.{ℕ, Bool, true, false, ◌&&◌, List}
+use Rattle.song_files.specs.Tag.{is_tag}
+use Rattle.song_files.specs.Tags.{TagText}
+use Rattle.song_files.specs.declared.tag.Tag.{Tag}
+use Rattle.filter_expr.specs.declared.case.Case.{Case}
+use Rattle.filter_expr.specs.declared.subject.Comparison.{Comparison}
+use Rattle.filter_expr.specs.declared.subject.Subject.{Subject}
+use Rattle.filter_expr.specs.declared.subject.Subject.TheVariants.{OfTag, Any, File}
+use Rattle.filter_expr.specs.Meaning.{is_like}
+
+abbrev pub is_of : Subject → Tag → Bool
+is_of (OfTag own) tag = is_tag tag own
+is_of Any tag = true
+is_of File tag = false
+
+-- a text that is looked at, and is like a value that isn't empty
+abbrev pub is_like_of : Case → Subject → Comparison → List ℕ → TagText → Bool
+is_like_of case subject comparison value t = is_of subject t.tag && is_like case comparison value t.text

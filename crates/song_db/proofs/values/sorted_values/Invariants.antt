@@ -1,0 +1,10 @@
+use Rattle.std.proofs.Common.{◌≡◌, drop, map}
+use Rattle.std.specs.List.{flat_map}
+use Rattle.song_files.specs.Tags.{texts_of}
+use Rattle.song_db.specs.Query.{with_texts, distinct_of, values_of}
+use Rattle.song_db.proofs.values.sorted_values.Given as goal
+
+-- the values so far, with those of the rows that are left
+abbrev pub invariant-loop-row : goal.invariant-loop-row
+invariant-loop-row l = with_texts (distinct_of (map (λ value. value.now) l.values.items)) (flat_map (λ row. texts_of row.tags
+    l.tag) (drop l.row-index l.rows)) ≡ values_of l.rows l.tag

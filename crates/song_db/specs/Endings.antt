@@ -1,0 +1,19 @@
+-- The endings of songs' names.
+use Rattle.std.specs.Prelude.{ℕ, ◌-◌, Bool, List, [], ◌∷◌, ◌++◌, length, map, drop, codes, if◌then◌else◌}
+use Rattle.std.specs.Char.{to_ascii_lowercase}
+use Rattle.std.specs.List.{list_any}
+use Rattle.std.specs.Str.{bytes_eq}
+use Rattle.song_db.specs.declared.rules.Endings.{Endings}
+
+-- the endings in small letters
+abbrev pub endings_of : Endings → List (List ℕ)
+endings_of endings =
+    codes ".wav" ∷ ((if endings.wave then codes ".wave" ∷ [] else []) ++ (if endings.flac then codes ".flac" ∷ [] else []))
+
+-- the last bytes of a path are the ending, in any case
+abbrev pub has_ending : List ℕ → List ℕ → Bool
+has_ending path ending = bytes_eq (map to_ascii_lowercase (drop (length path - length ending) path)) ending
+
+-- or one of several
+abbrev pub is_named : Endings → List ℕ → Bool
+is_named endings path = list_any (has_ending path) (endings_of endings)

@@ -1,0 +1,11 @@
+pub mod Added
+pub mod Folder
+pub mod Limits
+pub mod Listing
+pub mod Places
+pub mod Source
+pub mod Tag
+pub mod TagRows
+pub mod TagSet
+pub mod Tags
+pub mod Text

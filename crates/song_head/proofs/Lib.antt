@@ -1,0 +1,2 @@
+mod RowList
+mod Texts

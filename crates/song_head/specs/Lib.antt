@@ -1,0 +1,4 @@
+pub mod Added
+pub mod FrameTags
+pub mod Rows
+pub mod SongReading

@@ -1,7 +1,0 @@
-use Rattle.std.proofs.Common.{take}
-use Rattle.wave_pcm.specs.Listing.{IsListing}
-use Rattle.wave_pcm.proofs.memory_folder.MemFolderFolder.list.Given as goal
-
--- the entries so far are the listing of the files so far
-abbrev pub invariant-loop-file : goal.invariant-loop-file
-invariant-loop-file l = IsListing (take l.file-index l.file-items) l.path l.entries.items
