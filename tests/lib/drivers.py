@@ -15,7 +15,8 @@ Each file `tests/scripts/FOLDER/NAME.events` is a script, run in a folder of its
     < LINE              a line that the program must print behind the line before
     any other           a line of the program's input; crates/test_driver/README.md has them
 
-In all of them `%{TEXT*N}` stands for a text N times, and in a line that must be printed
+In all of them `%{TEXT*N}` stands for a text N times, `%{head GENERATION BASE LENGTH}` for the head of a journal's file (scripts.py), and
+in a line that must be printed
 
     %r                                  for a carriage return
     %sound{NAME FIRST COUNT PERCENT}    for the hex digits of so many frames of a `wave`, from a frame on, at a volume

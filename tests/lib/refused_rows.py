@@ -38,12 +38,13 @@ LOOKS = ["saved", "connect 4", "4> status", "4> idle", "order", "scan_order"]
 # ---- lines for journals and stages
 
 # A file with a fresh state, whose key is of zeros, and records behind it that set the volume to 40.
-FRESH = f"a54d50444a524e4c 02000000 0100000000000000 0000000000000000 45000000 {'00' * 40} 01000000 01000000 64 {'00' * 20}"
+STATE = f"{'00' * 40} 01000000 01000000 64 {'00' * 20}"
+FRESH = f"{scripts.head(1, 0, 69).hex()} {STATE}"
 RECORDS = 3
 FEW, FULL = (f"a has {FRESH} a5 {'02000000 0228 a5' * (count - 1)} 02000000 0228 00" for count in (RECORDS, 4_096))
 BYTES = ["a bytes", "b bytes"]
 # One in layout 1, to which no record is added.
-OLD = f"a has {FRESH.replace('02000000', '01000000', 1)} a5 02000000 0228 00"
+OLD = f"a has {scripts.head(1, 0, 69, layout=1).hex()} {STATE} a5 02000000 0228 00"
 DISK_FAULTS = ["refused 6 disk fault"], ["refused 42 broken by a disk fault"]
 # What goes before it, the line, and whether a journal or a stage stands over the files even where it is refused.
 CALLS = [

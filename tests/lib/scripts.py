@@ -26,7 +26,8 @@ Each file `tests/scripts/TOPIC/NAME.txt` is a script, run in a folder of its own
     to NAME                     what it writes goes to this file, such as /dev/full
 
 In lines of input and output `%{TEXT*N}` stands for a text N times, the inner one first where one stands in another; in it `\\n` is a
-newline.
+newline. In these and where bytes are given `%{head GENERATION BASE LENGTH}` stands for the hex digits of the head of a journal's file, as
+far as it is said: with an open gate, in the layout that is written.
 """
 
 import concurrent.futures
@@ -43,6 +44,8 @@ import under
 
 DEFAULTS = {"music": '"music"', "journal_a": '"a"', "journal_b": '"b"', "key": '"' + "5a" * 32 + '"'}
 SECONDS = under.seconds(60)
+LAYOUT = 2
+HEAD = re.compile(r"%\{head((?: \d+){0,3})\}")
 # So many seconds without a byte, and a program that is to be killed has written all.
 QUIET = 1
 
@@ -122,8 +125,17 @@ class Run:
             raise Failure(f"line {self.line}: {what} differs at byte {at}: found {found[at : at + 80]!r}, wanted {wanted[at : at + 80]!r}")
 
 
+def head(*numbers, layout=LAYOUT):
+    """The front of a journal's file: its generation, its base and its snapshot's length, as far as they are given."""
+    return b"\xa5MPDJRNL" + b"".join(number.to_bytes(size, "little") for number, size in zip((layout, *numbers), (4, 8, 8, 4)))
+
+
+def with_heads(text):
+    return HEAD.sub(lambda it: head(*map(int, it[1].split())).hex(), text)
+
+
 def whole(text):
-    count = 1
+    text, count = with_heads(text), 1
     while count:
         text, count = re.subn(r"%\{((?:(?!%\{).)+?)\*(\d+)\}", lambda it: it[1].replace("\\n", "\n") * int(it[2]), text)
     return text.encode()
@@ -166,7 +178,7 @@ def write(path, content):
 
 def prepare(line, folder):
     """Does what a line says of files."""
-    word, *words = line.split()
+    word, *words = with_heads(line).split()
     path = os.path.join(folder, words[0]) if words else folder
     if word == "config":
         os.makedirs(folder, exist_ok=True)
