@@ -1,6 +1,7 @@
 """The rows of tests/serve about sound in the form "wave": the daemon's own stream, and contrib/sound over it."""
 
 import contextlib
+import ctypes
 import fcntl
 import os
 import random
@@ -10,7 +11,7 @@ import signal
 import struct
 import time
 
-from daemons import Daemon, check, put_song, update, wait_for
+from daemons import Daemon, check, put_song, samples, update, wait_for
 from scripts import Failure
 from sounds import (
     HEAD,
@@ -29,6 +30,7 @@ from sounds import (
     pending,
     play_to_the_end,
     playing,
+    random_song,
     runs_of,
     sound_of,
     stream_of,
@@ -36,6 +38,9 @@ from sounds import (
 
 # A player of the tests: it writes what it is given into a file named by its process, rate and channels.
 PLAYER = "sh -c 'exec cat >player-$$-{rate}-{channels}'"
+
+# A song in the form for rooms.
+ROOM = random_song("room.wav", 48_000, 2, 192_000)
 
 
 def queue_in_waves(program, folder):
@@ -280,6 +285,85 @@ def song_that_no_player_takes(program, folder):
     check("a rest of the song", (whole.endswith(found[form][1]), len(found[form][1]) > len(whole) // 4), (True, True))
 
 
+def sound_for_rooms(program, folder):
+    """A snapserver is given 48,000 frames a second in two channels: the same level, as many as sound as long, and no others."""
+    level = Song("level.wav", 44_100, 2, [12_000, -8_000] * 8_820)
+    os.makedirs(folder)
+    os.mkfifo(f"{folder}/rooms")
+    recorded = Recorded(f"{folder}/rooms")
+    with playing(program, folder, [*SONGS, level, ROOM]) as daemon, Sound(folder, "--snapcast", "rooms", "sound") as sound:
+        with daemon.client() as client:
+            play_to_the_end(client, "play 0")
+            daemon.kill()
+        check("how it ends", sound.end(), (0, []))
+    data = recorded.end()
+    lengths = [round(len(it.values) / it.channels * ROOM.rate / it.rate) for it in [*SONGS, level, ROOM]]
+    check("its length", len(data), 4 * sum(lengths))
+    mono, at = samples([it for value in SONGS[1].values for it in (value, value)]), 4 * lengths[0]
+    check("a song of one channel", data[at : at + len(mono)], mono)
+    check("a song of this form", data[-len(sound_of(ROOM)[1]) :], sound_of(ROOM)[1])
+    heard_level = struct.unpack(f"<{2 * lengths[4]}h", data[4 * sum(lengths[:4]) : 4 * sum(lengths[:5])])[2_000:-2_000]
+    for value, found in zip((12_000, -8_000), (heard_level[::2], heard_level[1::2])):
+        check(f"the level {value}", max(abs(it - value) for it in found) <= 2, True)
+
+
+def rooms_that_come_and_go(program, folder):
+    """Where nobody reads the pipe for rooms the daemon plays on, and one who comes late hears the rest."""
+    os.makedirs(folder)
+    (_, whole), meanwhile = sound_of(ROOM), "it is opened again once a second, and the daemon plays on meanwhile"
+    with playing(program, folder, [ROOM], output="sound") as daemon, Sound(folder, "--snapcast", "rooms", "sound") as sound:
+        with daemon.client() as client:
+            play_to_the_end(client, "play 0")
+            daemon.kill()
+        check("how it ends", sound.end(), (0, [f"sound: rooms: No such file or directory; {meanwhile}"]))
+        os.mkfifo(f"{folder}/rooms")
+        daemon.start()
+        with Sound(folder, "--snapcast", "rooms", "sound") as sound, daemon.client() as client:
+            client.do("play 0")
+            wait_for("a line", lambda: select.select([sound.process.stderr], [], [], 0)[0])
+            check("what is said", sound.process.stderr.readline().decode(), f"sound: nobody reads rooms; {meanwhile}\n")
+            recorded = Recorded(f"{folder}/rooms")
+            play_to_the_end(client)
+            daemon.kill()
+            check("how it ends", sound.end(), (0, ["sound: rooms is read again"]))
+        rest = recorded.end()
+        check("the rest", (whole.endswith(rest), len(rest) % 4, len(rest) > 4), (True, 0, True))
+
+
+def rooms_that_begin_again(program, folder):
+    """A reader of the pipe for rooms that goes and comes back misses nothing, over a pause either."""
+    os.makedirs(folder)
+    os.mkfifo(f"{folder}/rooms")
+    found = b""
+    with playing(program, folder, [ROOM]) as daemon, Sound(folder, "--snapcast", "rooms", "sound") as sound:
+        with daemon.client() as client:
+            for before, count, behind in (("play 0", 100_000, "pause 1"), ("status", 50_000, "pause 0"), ("status", 150_000, "status")):
+                pipe = os.open(f"{folder}/rooms", os.O_RDONLY | os.O_NONBLOCK)
+                client.do(before)
+                found += read_of(pipe, count)
+                client.do(behind)
+                os.close(pipe)
+                time.sleep(0.5)
+            recorded = Recorded(f"{folder}/rooms")
+            play_to_the_end(client)
+            daemon.kill()
+        check("how it ends", sound.end(), (0, []))
+    check("all of it", found + recorded.end() == sound_of(ROOM)[1], True)
+
+
+def read_of(pipe, count):
+    """So many bytes of a pipe into which somebody writes, or will."""
+    found = bytearray()
+
+    def is_enough():
+        with contextlib.suppress(BlockingIOError):
+            found.extend(os.read(pipe, count - len(found)))
+        return len(found) == count
+
+    wait_for("what is written", is_enough)
+    return bytes(found)
+
+
 def songs_without_frames(program, folder):
     """A queue in which nothing is heard makes at most ten changes a second, and `kill` ends it at once."""
     with Daemon(program, folder).create().start() as daemon:
@@ -299,7 +383,17 @@ def songs_without_frames(program, folder):
             check("at once", time.monotonic() - begun < 5, True)
 
 
+def rows_for_rooms():
+    try:
+        ctypes.CDLL("libsoxr.so.0")
+    except OSError:
+        print("rows of sound for rooms: not run: libsoxr0 isn't installed")
+        return []
+    return [sound_for_rooms, rooms_that_come_and_go, rooms_that_begin_again]
+
+
 ROWS = [
+    *rows_for_rooms(),
     queue_in_waves,
     pause_in_waves,
     sound_into_files,
