@@ -5,13 +5,13 @@ import subprocess
 import sys
 import time
 
+from layouts import LAYOUT_AT, body
 from scripts import configuration
 
 GREETING = b"OK MPD 0.23.0\n"
 # A checkpoint is made before the next event where so many records stand in the journal's file.
 RECORDS = 4096
-# Where a file has its layout; and what a program says on standard error that brought a journal of layout 1 to layout 2.
-LAYOUT_AT = 8
+# What a program says on standard error that brought a journal of layout 1 to layout 2.
 MIGRATED = b"the journal was brought to layout 2: an older program can't read it any more\n"
 
 
@@ -169,10 +169,13 @@ class Journal:
     def other(self):
         return min(self.paths, key=self.generation)
 
+    def layout(self):
+        with open(self.in_use(), "rb") as file:
+            return file.read(LAYOUT_AT + 1)[LAYOUT_AT]
+
     def is_old(self):
         """Whether it has layout 1."""
-        with open(self.in_use(), "rb") as file:
-            return file.read(LAYOUT_AT + 1)[LAYOUT_AT] == 1
+        return self.layout() == 1
 
     def make_old(self):
         """Gives the file in use layout 1, as an older build would have written it, where it has no value that layout 1 hasn't."""
@@ -187,10 +190,12 @@ class Journal:
     def fill(self, left, volume):
         """Puts records behind those that stand, as a program would, until so many are left before a checkpoint: the volume goes up and down, and
         at last to this one. Nothing may have the files open."""
+        layout = self.layout()
         with open(self.in_use(), "r+b") as file:
             lengths, place = records_of(file.read())
             missing = RECORDS - left - len(lengths)
             volumes = [volume if (missing - it) % 2 else (volume + 1) % 101 for it in range(missing)]
             file.seek(place)
-            file.write(b"".join(b"\xa5\x02\x00\x00\x00\x02" + bytes([it]) for it in volumes) + b"\x00")
+            bodies = [body(layout, bytes([2, it])) for it in volumes]
+            file.write(b"".join(b"\xa5" + len(it).to_bytes(4, "little") + it for it in bodies) + b"\x00")
             file.truncate()

@@ -8,7 +8,7 @@ import socket
 
 from daemons import LIMIT, Client, update, wait_for
 from scripts import Failure, wave
-from translator import FOREIGN, TAGS, Translator
+from translator import FOREIGN, MODIFIED, MODIFIED_LINE, SIX, TAGS, Translator
 
 SONGS = {
     "a.wav": ["INAM=Alpha", "IART=One", "IPRD=First", "ICRD=2001", "IGNR=Folk", "ICMT=a_note"],
@@ -21,9 +21,8 @@ FIRST = ['add ""', "save old", "sticker set song a.wav n v", "command_list_begin
 VALUES = ["", "One", "First", "x", "Zoë", 'say "x"', "2001", "a'b", "back\\slash"]
 ODD = ["", " ", "zzz", '"outputs', 'outputs"x"', "Outputs", "config", "volume", "subscribe x", "listfiles", "idle", "list"]
 ODD += ["outputs\r", "\0", 'find title "\r"', "outputs \udcff", "\udcc3", 'find "(\udcff)"', "tagtypes\x01", "list Album \x01"]
-ODD += ["command_list_begin", '"noidle"', "command_list_end x", '"ping" \t', 'find Composer "' + '\\"' * 4090 + '"']
+ODD += ["command_list_begin", '"noidle"', "command_list_end x", '"ping" \t', 'find Comment "' + '\\"' * 4090 + '"']
 ODD += [f"list Album {'x' * length}" for length in (8173, 8174, 8175, 8181, 8182)]
-FEW_TAGS = ["Title", "Artist", "Album", "Date", "Genre", "Comment", "any"]
 
 
 def prepare(daemon):
@@ -33,6 +32,7 @@ def prepare(daemon):
         os.makedirs(os.path.dirname(path), exist_ok=True)
         with open(path, "wb") as file:
             file.write(wave(16_000, tags))
+        os.utime(path, (MODIFIED, MODIFIED))
     with daemon.client() as client:
         update(client)
         client.do(*FIRST)
@@ -50,16 +50,19 @@ def cased(draw, word):
     return draw.choice([word, word, word.lower(), word.upper()])
 
 
-def any_tag(draw):
-    return cased(draw, draw.choice([draw.choice(TAGS), draw.choice(FEW_TAGS[:6])]))
+def any_tag(draw, tags=TAGS):
+    return cased(draw, draw.choice([draw.choice(tags), draw.choice(SIX)]))
 
 
 class Lines:
-    """Draws command lines."""
+    """Draws command lines, in which these tags are."""
 
-    def __init__(self, draw):
-        self.draw = draw
+    def __init__(self, draw, tags=TAGS):
+        self.draw, self.tags = draw, tags
         self.kinds = [self.native] * 4 + [self.foreign] * 3 + [self.finding] * 4 + [self.listing] * 3 + [self.masking] * 3 + [self.odd]
+
+    def tag(self):
+        return any_tag(self.draw, self.tags)
 
     def line(self):
         found = self.draw.choice(self.kinds)()
@@ -111,7 +114,7 @@ class Lines:
             sign = draw.choice(["==", "!="])
             given = [f"(file {sign} {self.quoted()})", f"(filename {sign} {self.quoted()})", "(base 'd')", f"(FileName{sign}'a.wav')"]
             return draw.choice(given)
-        tag, blank = draw.choice([any_tag(draw), cased(draw, "any")]), draw.choice(["", " ", "  "])
+        tag, blank = draw.choice([self.tag(), cased(draw, "any")]), draw.choice(["", " ", "  "])
         if draw.random() < 0.3:
             return f"({blank}{tag} contains {blank}{self.quoted()}{blank})"
         return f"({blank}{tag} {draw.choice(['==', '!='])}{blank}{self.quoted()}{blank})"
@@ -129,7 +132,7 @@ class Lines:
         draw = self.draw
         if draw.random() < 0.5:
             return [self.expression() if draw.random() < 0.8 else self.damaged(self.expression())]
-        pairs = [[draw.choice([any_tag(draw), any_tag(draw), "any", "file", "filename"]), self.value()] for _ in range(draw.randint(1, 3))]
+        pairs = [[draw.choice([self.tag(), self.tag(), "any", "file", "filename"]), self.value()] for _ in range(draw.randint(1, 3))]
         if draw.random() < 0.05:
             pairs.append([draw.choice(["foo", "group", "albumartists"]), "x"])
         return [*(it for pair in pairs for it in pair), *(["odd"] if draw.random() < 0.05 else [])]
@@ -140,7 +143,7 @@ class Lines:
         words = [name, *(["found"] if name == "searchaddpl" else []), *self.filter()]
         if name in ("find", "search", "findadd", "searchadd"):
             if draw.random() < 0.5:
-                words += ["sort", draw.choice(["", "-"]) + draw.choice([any_tag(draw), "file", "filename", "Last-Modified"])]
+                words += ["sort", draw.choice(["", "-"]) + draw.choice([self.tag(), "file", "filename"])]
             if draw.random() < 0.2:
                 words += ["window", draw.choice(["0:2", "1:", "7"])]
         if name in ("findadd", "searchadd") and draw.random() < 0.2:
@@ -148,7 +151,7 @@ class Lines:
         return words
 
     def listing(self):
-        tag = any_tag(self.draw) if self.draw.random() < 0.85 else cased(self.draw, self.draw.choice(["file", "filename"]))
+        tag = self.tag() if self.draw.random() < 0.85 else cased(self.draw, self.draw.choice(["file", "filename"]))
         more = self.draw.choice([[], [], self.filter(), self.filter(), ["One"]])
         if self.draw.random() < 0.4:
             return self.grouped(tag, more)
@@ -156,25 +159,26 @@ class Lines:
 
     def grouped(self, tag, front):
         draw = self.draw
-        ends = [["group", "foo" if draw.random() < 0.03 else any_tag(draw)] for _ in range(draw.choice([1, 1, 1, 2, 2, 3]))]
+        ends = [["group", "foo" if draw.random() < 0.03 else self.tag()] for _ in range(draw.choice([1, 1, 1, 2, 2, 3]))]
         return [*draw.choice([["list", tag], ["list", tag], ["count"]]), *front, *(it for end in ends for it in end)]
 
     def masking(self):
         draw = self.draw
+        # Of fewer tags it would tell the others too.
         if draw.random() < 0.3:
-            return ["tagtypes"]
+            return ["tagtypes"] if self.tags == TAGS else ["tagtypes", "clear"]
         if draw.random() < 0.4:
             return ["tagtypes", draw.choice(["all", "clear", "clear", "all", "Clear", "foo", "enable", "disable"])]
-        tags = [any_tag(draw) for _ in range(draw.randint(1, 4))] + (["foo"] if draw.random() < 0.05 else [])
+        tags = [self.tag() for _ in range(draw.randint(1, 4))] + (["foo"] if draw.random() < 0.05 else [])
         return ["tagtypes", draw.choice(["enable", "disable"]), *tags]
 
     def odd(self):
         return self.draw.choice(ODD)
 
 
-def conversation(draw):
+def conversation(draw, tags=TAGS):
     """The bytes of some requests; one in twenty ends in the middle of one."""
-    lines, parts = Lines(draw), []
+    lines, parts = Lines(draw, tags), []
     if draw.random() < 0.3:
         parts.append(b'clear\nadd ""\nsave old replace\nrm found\ncommand_list_begin\nplay 1\nstop\ncommand_list_end\n')
     for _ in range(draw.randint(1, 12)):
@@ -263,10 +267,10 @@ TIMES = re.compile(rb"^(uptime|db_update): [0-9]+$", re.MULTILINE)
 
 
 def compare(stock, plain, draw):
-    """One conversation with a daemon that has stock clients, and with one that hasn't, through the translator."""
-    asked = conversation(draw)
+    """One conversation about six tags with a daemon that has stock clients, and with one that hasn't, through the translator."""
+    asked = conversation(draw, SIX)
     found = TIMES.sub(rb"\1: 0", told(stock.path, pieces(draw, asked)))
-    wanted = told_through(plain.path, pieces(draw, asked), Translator(), draw)
+    wanted = told_through(plain.path, pieces(draw, asked), Translator(modified=[MODIFIED_LINE]), draw)
     if found != wanted:
         same = os.path.commonprefix([found, wanted])
         raise Failure(f"{asked!r}: behind {same[-300:]!r} {found[len(same) :][:300]!r} and not {wanted[len(same) :][:300]!r}")

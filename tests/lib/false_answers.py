@@ -9,7 +9,7 @@ import random
 import conversations
 import drives
 from scripts import Failure
-from translator import BEGINS, END, NATIVE, Translator, Unreadable, words_of
+from translator import BEGINS, END, SPELLED, TAGS, Translator, Unreadable, words_of
 
 # The commands that stand in the place of others.
 PLACED = set("""ping status setvol playlistinfo lsinfo listall listplaylists list count find search findadd searchadd searchaddpl
@@ -23,7 +23,7 @@ MOST_AT_ONCE = 240
 # The driver is killed after so many seconds.
 SECONDS = 1_800
 KEYS = [b"file", b"directory", b"playlist", b"Time", b"Id", b"Pos", b"songs", b"volume", b"x"]
-KEYS += [it.title().encode() for it in sorted(NATIVE)]
+KEYS += [b"tagtype", *(it.encode() for it in TAGS[::3])]
 VALUES = [b"", b"0", b"2", b"OK", b"list_OK", b"a.wav", b"One", b'say "x"', b"a'b", b"back\\", b'"', b"\xc3\xa9", b"\xff\xfe", b"x\r"]
 VALUES += [b"\0", b"ACK [5@0] {} x", b"command_list_end", b'" clear "', b"x" * 600]
 NOISE = [b"OK", b"list_OK", b"ACK [2@0] {list} no", b"ACK ", b"ACK [", b"ACK @]}{", b"OK MPD 0.23.0", b"", b"songs: 1", b"Artist: One"]
@@ -146,7 +146,7 @@ class Daemon:
         if name == "count":
             return [b"songs: %d" % draw.randint(0, 2), b"playtime: 1"]
         if name == "list":
-            return [self.pair(words[1].title().encode() if words[1:] and words[1].isalpha() else b"x") for _ in range(count)]
+            return [self.pair(SPELLED.get(words[1].lower(), "x").encode() if words[1:] else b"x") for _ in range(count)]
         return [self.pair() for _ in range(count)]
 
     def parts(self, lines):

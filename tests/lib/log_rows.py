@@ -110,6 +110,34 @@ def job_in_the_log(program, folder):
         check("the log", told(daemon, "update ", "left out"), wanted)
 
 
+def job_that_opens_what_changed(program, folder):
+    """With `stock_clients` a job opens only files whose stamp changed: the others count as songs that are there, and a `rescan` opens all."""
+    with Daemon(program, folder, **{"stock_clients:": "true"}).create().start() as daemon, daemon.client() as client:
+        for name in ("a.wav", "d/b.wav", "d/c.wav"):
+            put_song(daemon, name, RAMP)
+        with open(f"{folder}/music/text.wav", "wb") as file:
+            file.write(b"no song")
+        update(client)
+        update(client)
+        client.do("rescan")
+        wait_for("the end of the job", lambda: client.value("status", "updating_db") is None)
+        os.remove(f"{folder}/music/d/b.wav")
+        put_song(daemon, "a.wav", RAMP[:100])
+        put_song(daemon, "new.wav", RAMP)
+        os.symlink("nowhere", f"{folder}/music/x.wav")
+        update(client)
+        wait_for("its line", lambda: told(daemon, "update 4: "))
+        daemon.kill(signal.SIGTERM)
+        left = "1 not WAVE, 0 of another format, 0 broken (debug = true names them)"
+        wanted = [
+            f"update 1: 3 songs, 3 of them new, 0 changed, 0 gone; left out: {left}; not read: 0 folders, 0 files",
+            f"update 2: 3 songs, 0 of them new, 0 changed, 0 gone; left out: {left}; not read: 0 folders, 0 files",
+            f"update 3: 3 songs, 0 of them new, 0 changed, 0 gone; left out: {left}; not read: 0 folders, 0 files",
+            f"update 4: 3 songs, 1 of them new, 1 changed, 1 gone; left out: {left}; not read: 1 folders, 0 files",
+        ]
+        check("the log", told(daemon, "update "), wanted)
+
+
 def files_left_out(program, folder):
     """With `debug` each file that is left out has a line, with why."""
     with Daemon(program, folder, **{"debug:": "true"}).create().start() as daemon, daemon.client() as client:
@@ -340,5 +368,5 @@ def kill_where_a_folder_hangs(program, folder):
         update(client)
 
 
-ROWS = [web_of_links, job_in_the_log, files_left_out, job_without_memory, full_batch_without_memory, many_unreadable]
+ROWS = [web_of_links, job_in_the_log, job_that_opens_what_changed, files_left_out, job_without_memory, full_batch_without_memory, many_unreadable]
 ROWS += [more_songs_than_fit, large_journal, journal_file_missing, kill_where_a_folder_hangs]

@@ -38,12 +38,15 @@ class Song(typing.NamedTuple):
 
     frames: int
     title: str
+    # When its file was last changed, as it is told.
+    modified: str = ""
 
     def lines(self):
         milliseconds = self.frames * 1000 // 8000
+        modified = f"Last-Modified: {self.modified}\n" if self.modified else ""
         title = f"Title: {self.title}\n" if self.title else ""
         seconds = f"{milliseconds // 1000}.{milliseconds % 1000:03}"
-        return f"Format: 8000:16:1\n{title}Time: {milliseconds // 1000}\nduration: {seconds}\n"
+        return f"{modified}Format: 8000:16:1\n{title}Time: {milliseconds // 1000}\nduration: {seconds}\n"
 
 
 class Entry(typing.NamedTuple):

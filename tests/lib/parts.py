@@ -87,6 +87,7 @@ PARTS = [
     Part("refused_memory", "refused_memory {mpd_daemon} {test_driver}", loads=True),
     Part("replace_kills", "replace_kills {mpd_daemon} --kills 40", listens=True),
     Part("sox_tree", "sox_tree {mpd_daemon} {room}/sox", wants=("sox", "soxi")),
+    Part("tags_beside_mpd", "tags_beside_mpd {mpd_daemon} {room}/tags", listens=True, wants=("mpd", "ffmpeg", "sox")),
     Part("encoders", "encoders {mpd_daemon} {room}/encoders", listens=True, wants=("flac", "ffmpeg")),
     Part("profile", "profile {mpd_daemon}"),
     Part("believed", "believed"),

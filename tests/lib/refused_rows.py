@@ -244,6 +244,8 @@ class Program:
     """A whole run of the program, which makes a journal or serves a line, over a journal of layout 1 where that is said. What is there is
     what the next run answers."""
 
+    config = CONFIG
+
     def __init__(self, program, given, is_old=False):
         self.program, self.given, self.is_old = program, given, is_old
         self.name, self.words = ("program: create", ["create"]) if given is None else (f"program: {given}", ["console"])
@@ -254,7 +256,7 @@ class Program:
         return place.run([self.program, *words, "c.toml"], given, refused)
 
     def begin(self, place):
-        scripts.write(f"{place.folder}/c.toml", CONFIG.encode())
+        scripts.write(f"{place.folder}/c.toml", self.config.encode())
         scripts.write(f"{place.folder}/music/a.wav", scripts.wave(100, ["INAM=One"]))
         if self.given is not None:
             self.run(place, ["create"], "")
@@ -320,6 +322,8 @@ ASKED += ["command_list_end", "find albumartist Anna sort Track", "status", "vol
 class Conversation(Program):
     """A stock client by hand. Each answer is the right one, or ends in a refusal for want of memory; behind one that is cut nothing comes.
     The volume is the new one where that was told, and else the old one, or either where the answer is missing."""
+
+    config = CONFIG + "stock_clients = true\n"
 
     def __init__(self, program):
         super().__init__(program, "\n".join(ASKED))

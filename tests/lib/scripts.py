@@ -11,6 +11,7 @@ Each file `tests/scripts/TOPIC/NAME.txt` is a script, run in a folder of its own
     waves NAME COUNT FRAMES     writes so many such files into a folder, 00001.wav and so on
     texts NAME COUNT            writes so many files that are no songs into a folder, 00001.txt and so on
     pipe NAME                   makes a named pipe
+    modified NAME SECONDS       a file was last changed so long after the beginning of 1970
     odd NAME HEX                writes an empty file into a folder, whose name is these bytes
     remove NAME                 removes a file, a link, or a folder with what stands in it
     link NAME TARGET            makes a symbolic link
@@ -199,6 +200,8 @@ def prepare(line, folder):
     elif word == "pipe":
         os.makedirs(os.path.dirname(path), exist_ok=True)
         os.mkfifo(path)
+    elif word == "modified":
+        os.utime(path, (int(words[1]), int(words[1])))
     elif word == "odd":
         write(os.path.join(os.fsencode(path), bytes.fromhex(words[1])), b"")
     elif word == "remove":

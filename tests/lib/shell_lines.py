@@ -75,7 +75,7 @@ class Room:
             self.write(f"checkout/player/music/{it}", wave_of([0] * 8000 * 60))
             self.write(f"from/{it}", wave_of([0] * 100))
         self.write("missing.txt", "".join(f"{it}\n" for it in SONGS).encode())
-        settings = ["journal_a=journal_a", "journal_b=journal_b", "music=own/music", "unix=socket", "output=sound"]
+        settings = ["journal_a=journal_a", "journal_b=journal_b", "music=own/music", "unix=socket", "output=sound", "stock_clients:=true"]
         self.write("CONFIG", configuration(settings).encode())
         path = f"{folder}/bin:{os.environ['PATH']}"
         self.how = {"env": {**os.environ, "PATH": path, "FROM": f"{folder}/from", "TO": f"{folder}/to"}}

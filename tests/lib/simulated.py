@@ -28,14 +28,15 @@ GROUP = 64
 BROKEN, OUT_OF_MEMORY = "refused 42 broken by a disk fault", "refused 43 out of memory"
 # What the driver prints of a scan that found no memory.
 LEFT_OFF = "left off"
-# In an episode this part of the clients are stock clients. What these ask beside what all do; what takes several steps is in tests/stock.
+# In an episode this part of the clients are stock clients, of a daemon that knows the named subset. What these ask beside what all do; what
+# takes several steps is in tests/stock.
 STOCK = (0, 0.5)
 FOREIGN = """outputs|decoders|channels|urlhandlers|listmounts|listpartitions|replay_gain_status|binarylimit 64|readcomments a.wav
 readpicture a.wav 0|albumart a.wav 0|sendmessage a b|listneighbors|password x|crossfade 0|crossfade 2|mixrampdb 0|mixrampdelay 2
 partition default|enableoutput 0|enableoutput 1|disableoutput 0|toggleoutput 7|outputset 0 a b|outputs x|getvol|playlist|status|stats
 commands|lsinfo|lsinfo /|listall d|listallinfo d/e|listall d/c.wav|listplaylists|list file|list filename base d
-tagtypes|tagtypes clear|tagtypes all|tagtypes disable Title|tagtypes enable title|tagtypes foo|list AlbumArtist
-list Disc|find Composer ""|find AlbumArtist ""|search filename WAV|playlistfind albumsort ""|playlistinfo|currentsong""".replace("\n", "|")
+tagtypes|tagtypes clear|tagtypes all|tagtypes disable Title|tagtypes enable title|tagtypes foo|list Artist
+list Genre|find Album ""|find Artist ""|search filename WAV|playlistfind date ""|playlistinfo|currentsong""".replace("\n", "|")
 
 
 def unlike(found, greeting, asked):

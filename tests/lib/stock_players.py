@@ -10,6 +10,7 @@ import tempfile
 
 from daemons import LIMIT, check, wait_for
 from scripts import Failure
+from translator import MODIFIED_LINE
 
 # Words of mpc, how it ends, and what it prints of both streams, of the songs and the queue of lib/conversations.py; None where it is a line
 # of the player's state, in which versions of mpc differ.
@@ -53,10 +54,11 @@ MPC = [
     ("load made", 0, "loading: made"),
     ("-f %file% playlist", 0, "d/c.wav|d/e.wav"),
 ]
-A = {"file": "a.wav", "format": "8000:16:1", "title": "Alpha", "artist": "One", "album": "First", "date": "2001", "genre": "Folk"}
-A |= {"comment": "a note", "time": "2", "duration": "2.000"}
-C = {"file": "d/c.wav", "format": "8000:16:1", "artist": "One", "album": "Second", "time": "2", "duration": "2.000"}
-NAKED = {"file": "a.wav", "format": "8000:16:1", "time": "2", "duration": "2.000", "pos": "0", "id": "1"}
+A = {"file": "a.wav", "title": "Alpha", "artist": "One", "album": "First", "date": "2001", "genre": "Folk"}
+SOUND = {"last-modified": MODIFIED_LINE.decode().split(": ")[1], "format": "8000:16:1", "time": "2", "duration": "2.000"}
+A |= {"comment": "a note", **SOUND}
+C = {"file": "d/c.wav", "artist": "One", "album": "Second", **SOUND}
+NAKED = {"file": "a.wav", "pos": "0", "id": "1", **SOUND}
 ALBUMS = [{"artist": "", "album": ""}, {"artist": "One", "album": ["First", "Second"]}, {"artist": "Two", "album": "First"}]
 OLD = {"playlist": "old", "last-modified": "1970-01-01T00:00:00Z"}
 ALWAYS_ON = "![2@0] {%s} the only output is always on"
@@ -71,7 +73,7 @@ PYTHON_MPD = [
     ("tagtypes all", []),
     ("currentsong", {**A, "pos": "0", "id": "1"}),
     ("playlist", [f"file: {it}" for it in ("a.wav", "b.wav", "d/c.wav", "d/e.wav", "d/é é.wav")]),
-    ("lsinfo", [{"directory": "d"}, A, {"file": "b.wav", "format": "8000:16:1", "time": "2", "duration": "2.000"}, OLD]),
+    ("lsinfo", [{"directory": "d"}, A, {"file": "b.wav", **SOUND}, OLD]),
     ("listplaylists", [OLD]),
     ("listall d", [{"directory": "d"}, *({"file": f"d/{it}.wav"} for it in ("c", "e", "é é"))]),
     ("list file albumartist One", [{"file": "a.wav"}, {"file": "d/c.wav"}]),

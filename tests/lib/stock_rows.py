@@ -1,14 +1,14 @@
 """What stock clients ask for beyond the daemon's own commands, and the lines that they must be told: of the table in docs/PROTOCOL.md, over
 the songs of lib/conversations.py. A text in place of lines is a refusal's code and text."""
 
-from translator import TAGS
+from translator import MODIFIED_LINE, TAGS
 
 A = """file: a.wav|Format: 8000:16:1|Title: Alpha|Artist: One|Album: First|Date: 2001|Genre: Folk|Comment: a note|Time: 2|duration: 2.000"""
 B = "file: b.wav|Format: 8000:16:1|Time: 2|duration: 2.000"
 C = "file: d/c.wav|Format: 8000:16:1|Artist: One|Album: Second|Time: 2|duration: 2.000"
 E = 'file: d/e.wav|Format: 8000:16:1|Title: say "x"|Artist: Two|Album: First|Comment: Title: no|Time: 2|duration: 2.000'
 Z = "file: d/é é.wav|Format: 8000:16:1|Title: Zoë|Genre: Folk|Time: 2|duration: 2.000"
-A, B, C, E, Z = (it.split("|") for it in (A, B, C, E, Z))
+A, B, C, E, Z = ([name, MODIFIED_LINE.decode(), *lines] for name, *lines in (it.split("|") for it in (A, B, C, E, Z)))
 # Behind each playlist.
 NO_TIME = "Last-Modified: 1970-01-01T00:00:00Z"
 ROOT = ["directory: d", *A, *B, "playlist: old", NO_TIME]
@@ -219,7 +219,11 @@ ROWS = [
     ('playlistfind genre "" artist Two', QUEUE[3]),
     ('playlistsearch genre "" artist ""', [line for song in QUEUE for line in song]),
     ('searchaddpl a/b title ""', "2 bad playlist name"),
-    # No song has a time of its last change.
+    # All songs were changed at one time.
+    ("find modified-since 1600000000 title Alpha", A),
+    ("find modified-since 1600000001 title Alpha", []),
+    ("find \"(modified-since '2020-09-13T12:26:40Z')\" window 1:2", B),
+    ("find \"((modified-since '2020-09-13T12:26:41Z') AND (Title == 'Alpha'))\"", []),
     ("find Artist One sort Last-Modified", [*A, *C]),
     ("search artist one sort -last-modified window 1:", C),
     ("find \"(Artist == 'One')\" sort -Last-Modified", [*A, *C]),

@@ -1,5 +1,6 @@
-"""What stock MPD clients ask for beside the daemon's own commands, translated line by line: a plain translator, for one connection of a
-daemon without `stock_clients`. It follows 'What `stock_clients` adds' of docs/PROTOCOL.md.
+"""What stock MPD clients ask for beside the daemon's own commands, translated line by line: a plain translator, for one connection. It
+follows 'What `stock_clients` adds' of docs/PROTOCOL.md. What the daemon itself has with that key, tags beyond six and times of files, is
+left to it; over one without the key the one time that all songs have is told where it is given.
 
 A client's bytes go into `ask`, which gives those for the daemon, and the daemon's into `answer`, which gives those for the client and
 leaves in `more` what the daemon is to be asked behind them. What `stats` tells of a clock stands in `times`.
@@ -10,16 +11,18 @@ import re
 import typing
 
 MOST_LINE, MOST_COMMANDS, MOST_BYTES = 8192, 16384, 2_097_152
-TAGS = """Artist ArtistSort Album AlbumSort AlbumArtist AlbumArtistSort Title Track Name Genre Date OriginalDate Composer ComposerSort
-Performer Conductor Work Movement MovementNumber Ensemble Location Grouping Comment Disc Label MUSICBRAINZ_ARTISTID MUSICBRAINZ_ALBUMID
+TAGS = """Title Artist Album Date Genre Comment ArtistSort AlbumSort AlbumArtist AlbumArtistSort Track Name OriginalDate Composer
+ComposerSort Performer Conductor Work Movement MovementNumber Ensemble Location Grouping Disc Label MUSICBRAINZ_ARTISTID MUSICBRAINZ_ALBUMID
 MUSICBRAINZ_ALBUMARTISTID MUSICBRAINZ_TRACKID MUSICBRAINZ_RELEASETRACKID MUSICBRAINZ_WORKID""".split()
+# When each song's file was last changed, in seconds, and what is told of it, which a daemon without `stock_clients` doesn't know.
+MODIFIED = 1_600_000_000
+MODIFIED_LINE = b"Last-Modified: 2020-09-13T12:26:40Z"
+SIX = TAGS[:6]
 SPELLED = {it.lower(): it for it in TAGS}
 ALL = frozenset(SPELLED)
-NATIVE = {"title", "artist", "album", "date", "genre", "comment"}
-ALIASES = {"albumartist": "Artist", "albumartistsort": "Artist", "artistsort": "Artist", "albumsort": "Album"}
-ABSENT = ALL - NATIVE - set(ALIASES)
+# Those whose answers tell songs or tags.
 SONGS = set("""currentsong playlistinfo playlistid plchanges playlistfind playlistsearch find search lsinfo listallinfo
-listplaylistinfo""".split())
+listplaylistinfo tagtypes""".split())
 # What stands behind the filter of a command, and how many words before it.
 TAILS = {"find": ("sort", "window"), "search": ("sort", "window")}
 TAILS |= {it: ("sort", "window", "position") for it in ("findadd", "searchadd")}
@@ -30,13 +33,12 @@ FILES = ("file", "filename")
 # The numbers that a range may have are less.
 NUMBERS = 2**32
 BEGINS, END = ("command_list_begin", "command_list_ok_begin"), "command_list_end"
-# A text in quotes in an expression; and such a text, one without an end, or a name behind a parenthesis with the test that it begins.
+# A text in quotes in an expression; and such a text, one without an end, or a name behind a parenthesis with what it must not be.
 VALUE = r"""'(?:[^'\\]|\\.)*'|"(?:[^"\\]|\\.)*\""""
 NAME = r"""[^ \t()'"=!]+"""
-TEST = rf"[ \t]*(?P<operator>==|!=|contains(?=[ \t]))[ \t]*(?P<value>{VALUE})"
-PIECE = re.compile(rf"""{VALUE}|['"].*|\([ \t]*(?P<name>{NAME})(?P<behind>(?:{TEST})?)""", re.DOTALL)
+PIECE = re.compile(rf"""{VALUE}|['"].*|\([ \t]*(?P<name>{NAME})(?:[ \t]*!=[ \t]*(?P<value>{VALUE}))?""", re.DOTALL)
 # A comparison as the daemon reads it.
-COMPARED = rf"(?i:{'|'.join(sorted(NATIVE))}|any)(?:[ \t]*[=!]=[ \t]*|[ \t]+contains[ \t]+)"
+COMPARED = rf"(?i:{'|'.join(TAGS)}|any)(?:[ \t]*[=!]=[ \t]*|[ \t]+contains[ \t]+)"
 COMPARED = rf"(?:{COMPARED}|(?i:base)[ \t]*|(?i:file)[ \t]*==[ \t]*)(?:{VALUE})"
 # The commands that the daemon hasn't: how many arguments they have, and the lines that they are answered by.
 PLAIN = {
@@ -155,7 +157,7 @@ def by_words(line, alone, name, given):
         return shuffled(given) if alone else None
     if name in FOREIGN:
         return foreign(name, given)
-    if name == "tagtypes":
+    if name == "tagtypes" and given:
         return tag_types(given)
     if name == "status":
         return Part([line], name, more=lambda mask: ["partition: default", "mixrampdb: 0"])
@@ -276,9 +278,6 @@ class Songs:
             self.songs.append({})
         self.songs[-1][key.lower()] = value
 
-    def value(self, song, tag):
-        return song.get(ALIASES.get(tag, tag).lower(), "")
-
     def lines(self, mask=None):
         return self.below(self.tags, self.songs)
 
@@ -287,9 +286,9 @@ class Songs:
             time = sum(round(float(it["duration"]) * 1000) for it in songs) // 1000
             return [f"songs: {len(songs)}", f"playtime: {time}"] if self.counts else []
         found = []
-        for value in sorted({self.value(it, tags[0]) for it in songs}, key=str.encode):
+        for value in sorted({it.get(tags[0], "") for it in songs}, key=str.encode):
             found.append(f"{SPELLED[tags[0]]}: {value}")
-            found += self.below(tags[1:], [it for it in songs if self.value(it, tags[0]) == value])
+            found += self.below(tags[1:], [it for it in songs if it.get(tags[0], "") == value])
         return found
 
 
@@ -312,8 +311,6 @@ def grouped(alone, name, tag, given, most):
 
 
 def tag_types(given):
-    if not given:
-        return Part([b"ping"], "tagtypes", more=lambda mask: [f"tagtype: {it}" for it in TAGS if it.lower() in mask])
     what, named = given[0], {it.lower() for it in given[1:]}
     if what in ("all", "clear"):
         masks = {"all": ALL, "clear": frozenset()}
@@ -336,24 +333,21 @@ def list_of(tag, *given):
         return None
     if kind == "album" and len(given) == 1 and not given[0].startswith("("):
         given = ["Artist", *given]
-    found, name = filter_of(given, ()) if given else [], ALIASES.get(kind, tag)
-    if kind in ABSENT:
-        natives = [line_of("count", *(found or ["base", ""]))]
-    else:
-        lacking = without_tag(name, found)
-        natives = [*([line_of("count", *lacking)] if lacking else []), line_of("list", name, *found)]
+    found = filter_of(given, ()) if given else []
+    lacking = without_tag(tag, found)
+    natives = [*([line_of("count", *lacking)] if lacking else []), line_of("list", tag, *found)]
 
     def told(line, number):
         key, _, value = line.partition(b": ")
         if key == b"songs" and value != b"0":
             return f"{SPELLED[kind]}: ".encode()
-        return f"{SPELLED[kind]}: ".encode() + value if key == ALIASES.get(kind, SPELLED[kind]).encode() else None
+        return line if key == SPELLED[kind].encode() else None
 
     return Part(natives, "list", told=told)
 
 
 def without_tag(name, words):
-    """The filter for those songs of a filter that lack a tag of the daemon's; None where an expression can't be put into another one."""
+    """The filter for those songs of a filter that lack a tag; None where an expression can't be put into another one."""
     if not words or not words[0].startswith("("):
         return [*words, name, ""]
     whole = f'({words[0]} AND ({name} == ""))'
@@ -389,108 +383,30 @@ def tail_of(words):
     """Of `sort TAG`, at the front, the tag."""
     if len(words) < 2 or words[0] != "sort":
         return list(words)
-    turned, tag = words[1].startswith("-"), words[1].removeprefix("-").lower()
-    if tag in ABSENT or tag == "last-modified":
-        return ["sort", "file", *words[2:]]
-    return ["sort", "-" * turned + name_of(words[1].removeprefix("-")), *words[2:]]
+    turned = words[1].startswith("-")
+    return ["sort", "-" * turned + name_of(words[1][turned:]), *words[2:]]
 
 
 def pair_of(tag, value, within):
     if within and not value and tag.lower() in {*ALL, *FILES, "any"}:
         return "base", ""
-    if tag.lower() in ABSENT:
-        return "base", "/" if value else ""
     return name_of(tag), value
 
 
 def name_of(tag):
-    """The daemon's own name of a tag that songs have."""
-    return {**ALIASES, "filename": "file"}.get(tag.lower(), tag)
+    """The daemon's own name of a song's file."""
+    return "file" if tag.lower() in FILES else tag
 
 
 def expression_of(text):
-    try:
-        return Expression(text).whole()
-    except Unreadable:
-        return PIECE.sub(replaced, text)
+    return PIECE.sub(replaced, text)
 
 
 def replaced(piece):
-    """Of what is no expression as a whole, the tests that are, and names behind a parenthesis."""
-    name, operator, value = piece["name"], piece["operator"], piece["value"]
-    if name is None or name.lower() in ABSENT and not value:
+    """A test of a song's file, behind a parenthesis."""
+    if piece["name"] is None or piece["name"].lower() not in FILES:
         return piece[0]
-    if name.lower() in ABSENT:
-        return "(" + test_of_none(operator, value)
-    if name.lower() in FILES and operator == "!=":
-        return "(" + other_file(value)
-    return "(" + name_of(name) + piece["behind"]
-
-
-def other_file(value):
-    return f"!(file == {value})"
-
-
-def test_of_none(operator, value):
-    """A test of a tag that no song has, so that it is empty of all: what holds for all in its place, or for none."""
-    is_empty = value in ("''", '""')
-    return 'base ""' if is_empty != (operator == "!=") else 'base "/"'
-
-
-class Expression:
-    """A filter in parentheses, read and written anew."""
-
-    def __init__(self, text):
-        self.text, self.place = text, 0
-
-    def whole(self):
-        found = self.one()
-        if self.place < len(self.text):
-            raise Unreadable
-        return found
-
-    def take(self, pattern):
-        """What stands here, with blanks before it."""
-        found = re.compile(rf"[ \t]*({pattern})", re.DOTALL).match(self.text, self.place)
-        if not found:
-            return None
-        self.place = found.end()
-        return found[1]
-
-    def need(self, pattern):
-        found = self.take(pattern)
-        if found is None:
-            raise Unreadable
-        return found
-
-    def one(self):
-        self.need(r"\(")
-        found = self.inner()
-        self.need(r"\)")
-        return f"({found})"
-
-    def inner(self):
-        if self.take("!"):
-            return "!" + self.one()
-        if self.take(r"(?=\()") is None:
-            return self.comparison()
-        found = self.one()
-        while True:
-            # Without a blank before it, it is none to the daemon.
-            word = " AND " if self.text[self.place : self.place + 1] in (" ", "\t") else "AND "
-            if not self.take(r"AND(?=[ \t])"):
-                return found
-            found += word + self.one()
-
-    def comparison(self):
-        tag, begun = self.need(NAME), self.place
-        if tag.lower() == "base":
-            self.need(VALUE)
-            return tag + self.text[begun : self.place]
-        operator, value = self.need("==|!=|contains(?=[ \t])"), self.need(VALUE)
-        if tag.lower() in FILES and operator == "!=":
-            return other_file(value)
-        return test_of_none(operator, value) if tag.lower() in ABSENT else name_of(tag) + self.text[begun : self.place]
+    return f"(!(file == {piece['value']})" if piece["value"] else "(file"
 
 
 def is_filter(text):
@@ -534,8 +450,8 @@ class Awaited:
 class Translator:
     """A connection."""
 
-    def __init__(self, times=(0, 0)):
-        self.unread, self.unheard, self.is_greeted, self.times = b"", b"", False, times
+    def __init__(self, times=(0, 0), modified=()):
+        self.unread, self.unheard, self.is_greeted, self.times, self.modified = b"", b"", False, times, modified
         # The lines of the list that is open, how it began, and whether the client is read no more.
         self.lines, self.begun, self.size, self.is_over = None, None, 0, False
         self.awaited, self.mask = collections.deque(), ALL
@@ -623,7 +539,8 @@ class Translator:
         part = now.parts[now.done]
         found = None if part.has_songs and self.is_hidden(line) else part.told(line, now.number)
         now.number += line.startswith((b"file: ", b"directory: "))
-        return [] if found is None else [found]
+        times = self.modified if part.has_songs and part.name != "listall" and line.startswith(b"file: ") else ()
+        return [] if found is None else [found, *times]
 
     def resume(self):
         """Behind the last step: nothing else is awaited."""
@@ -641,8 +558,9 @@ class Translator:
         return more
 
     def is_hidden(self, line):
-        key = line.partition(b": ")[0].decode().lower()
-        return key in NATIVE and key not in self.mask
+        key, colon, value = line.partition(b": ")
+        name = (value if key == b"tagtype" else key * bool(colon)).decode("latin-1")
+        return name in TAGS and name.lower() not in self.mask
 
     def refusal(self, now, line):
         code, name, text = re.fullmatch(rb"ACK \[(\d+)@\d+\] \{(\w*)\} (.*)", line, re.DOTALL).groups()

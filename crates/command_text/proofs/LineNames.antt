@@ -11,6 +11,7 @@ use Rattle.command_text.specs.declared.refusal.Refusal.TheVariants.{InvalidUtf8,
 use Rattle.command_text.specs.Counts.{Word}
 use Rattle.command_text.specs.Names.{named}
 use Rattle.command_text.specs.Refusals.{name_of_refusal}
+use Rattle.profile.specs.declared.profile.Profile.{Profile}
 use Rattle.command_text.specs.Reading.{line_reading, line_words, name_of_line, first_name, command_in, command_of, known_command}
 use Rattle.command_text.specs.Reading.{of_command, in_place, quoted}
 use Rattle.command_text.specs.Words.{words_of}
@@ -33,22 +34,24 @@ of_refused : (name : CommandName) (r : Result Command CommandRefusal) (refusal :
 of_refused name (Ok made) refusal e = cc
 of_refused name (Err d) refusal e = ap name_of_refusal (sym (same_err {A = NamedCommand} (OfCommand name d) refusal e))
 
-known_name : (place : Place) (word : Word) (arguments : List Word) (known : Option CommandName) (read : NamedCommand)
-    → known_command place word arguments known ≡ Ok read → known ≡ Some read.name
-known_name place word arguments None read e = cc
-known_name place word arguments (Some name) read e = of_name name (in_place place name arguments) read e
+known_name : (profile : Profile) (place : Place) (word : Word) (arguments : List Word) (known : Option CommandName) (read : NamedCommand)
+    → known_command profile place word arguments known ≡ Ok read → known ≡ Some read.name
+known_name profile place word arguments None read e = cc
+known_name profile place word arguments (Some name) read e = of_name name (in_place profile place name arguments) read e
 
-known_refused : (place : Place) (word : Word) (arguments : List Word) (known : Option CommandName) (refusal : Refusal)
-    → known_command place word arguments known ≡ Err refusal → name_of_refusal refusal ≡ known
-known_refused place word arguments None refusal e = ap name_of_refusal (sym (same_err {A = NamedCommand} (UnknownCommand word) refusal e))
-known_refused place word arguments (Some name) refusal e = of_refused name (in_place place name arguments) refusal e
+known_refused : (profile : Profile) (place : Place) (word : Word) (arguments : List Word) (known : Option CommandName) (refusal : Refusal)
+    → known_command profile place word arguments known ≡ Err refusal → name_of_refusal refusal ≡ known
+known_refused profile place word arguments None refusal e =
+    ap name_of_refusal (sym (same_err {A = NamedCommand} (UnknownCommand word) refusal e))
+known_refused profile place word arguments (Some name) refusal e = of_refused name (in_place profile place name arguments) refusal e
 
-in_name : (place : Place) (words : Result (List Word) Refusal) (read : NamedCommand) → command_in place words ≡ Ok read
+in_name : (profile : Profile) (place : Place) (words : Result (List Word) Refusal) (read : NamedCommand)
+    → command_in profile place words ≡ Ok read
     → first_name words ≡ Some read.name
 unfolding command_of
-in_name place (Err refusal) read e = cc
-in_name place (Ok []) read e = cc
-in_name place (Ok (word ∷ arguments)) read e = known_name place word arguments (named word) read e
+in_name profile place (Err refusal) read e = cc
+in_name profile place (Ok []) read e = cc
+in_name profile place (Ok (word ∷ arguments)) read e = known_name profile place word arguments (named word) read e
 
 -- why a line has no words names no command
 names_none : (bytes : Bool) (words : Option (List Word)) (refusal : Refusal)
@@ -57,24 +60,24 @@ names_none true None refusal e = ap name_of_refusal (sym (same_err {A = List Wor
 names_none true (Some words) refusal e = cc
 names_none false words refusal e = ap name_of_refusal (sym (same_err {A = List Word} InvalidUtf8 refusal e))
 
-in_refused : (place : Place) (words : Result (List Word) Refusal) (refusal : Refusal)
-    → ((r : Refusal) → words ≡ Err r → name_of_refusal r ≡ None) → command_in place words ≡ Err refusal
+in_refused : (profile : Profile) (place : Place) (words : Result (List Word) Refusal) (refusal : Refusal)
+    → ((r : Refusal) → words ≡ Err r → name_of_refusal r ≡ None) → command_in profile place words ≡ Err refusal
     → name_of_refusal refusal ≡ first_name words
 unfolding command_of
-in_refused place (Err r) refusal none e = ap name_of_refusal (sym (same_err {A = NamedCommand} r refusal e)) ∙ none r refl
-in_refused place (Ok []) refusal none e = ap name_of_refusal (sym (same_err {A = NamedCommand} NoCommand refusal e))
-in_refused place (Ok (word ∷ arguments)) refusal none e = known_refused place word arguments (named word) refusal e
+in_refused profile place (Err r) refusal none e = ap name_of_refusal (sym (same_err {A = NamedCommand} r refusal e)) ∙ none r refl
+in_refused profile place (Ok []) refusal none e = ap name_of_refusal (sym (same_err {A = NamedCommand} NoCommand refusal e))
+in_refused profile place (Ok (word ∷ arguments)) refusal none e = known_refused profile place word arguments (named word) refusal e
 
-pub read_name : (place : Place) (line : List ℕ) (read : NamedCommand) → line_reading place line ≡ Ok read
+pub read_name : (profile : Profile) (place : Place) (line : List ℕ) (read : NamedCommand) → line_reading profile place line ≡ Ok read
     → name_of_line line ≡ Some read.name
 unfolding line_reading name_of_line
-read_name place line read e = in_name place (line_words line) read e
+read_name profile place line read e = in_name profile place (line_words line) read e
 
 line_names_none : (line : List ℕ) (r : Refusal) → line_words line ≡ Err r → name_of_refusal r ≡ None
 unfolding line_words
 line_names_none line r e = names_none (is_utf8 line) (words_of line) r e
 
-pub refusal_name : (place : Place) (line : List ℕ) (refusal : Refusal) → line_reading place line ≡ Err refusal
+pub refusal_name : (profile : Profile) (place : Place) (line : List ℕ) (refusal : Refusal) → line_reading profile place line ≡ Err refusal
     → name_of_refusal refusal ≡ name_of_line line
 unfolding line_reading name_of_line
-refusal_name place line refusal e = in_refused place (line_words line) refusal (line_names_none line) e
+refusal_name profile place line refusal e = in_refused profile place (line_words line) refusal (line_names_none line) e

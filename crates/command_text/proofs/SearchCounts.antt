@@ -3,6 +3,7 @@ use Rattle.std.proofs.Common.{◌≡◌, ◌⊎◌, ◌↔◌, inl, inr, ℕ, �
 use Rattle.std.proofs.Common.{Option, Some, None, Result, Err, refl, sym, ap, ◌∙◌, arith}
 use Rattle.std.specs.Prelude.{codes, ◌%◌}
 use Rattle.std.proofs.lemmas.Bool.{and_from, and_parts, le-leb}
+use Rattle.profile.specs.declared.profile.Profile.{Profile}
 use Rattle.filter_expr.specs.declared.case.Case.{Case}
 use Rattle.filter_expr.specs.Parts.{opening, begins_so}
 use Rattle.command_text.specs.declared.command.finding.FindingCommand.{FindingCommand}
@@ -134,13 +135,15 @@ is_search adds words count =
 
 -- ---- one answer
 
-wrong_count : (case : Case) (words : List Word) → has_search_count words ≡ false → find_of case words ≡ Err WrongCount
+wrong_count : (profile : Profile) (case : Case) (words : List Word) → has_search_count words ≡ false
+    → find_of profile case words ≡ Err WrongCount
 unfolding find_of
-wrong_count case words h = rw h refl
+wrong_count profile case words h = rw h refl
 
-wrong_count_to_add : (case : Case) (words : List Word) → has_search_count words ≡ false → find_add_of case words ≡ Err WrongCount
+wrong_count_to_add : (profile : Profile) (case : Case) (words : List Word) → has_search_count words ≡ false
+    → find_add_of profile case words ≡ Err WrongCount
 unfolding find_add_of
-wrong_count_to_add case words h = rw h refl
+wrong_count_to_add profile case words h = rw h refl
 
 -- it says what the parts say, and tells a wrong count
 abbrev Says : Bool → (Parts → Result FindingCommand CommandRefusal) → (List Word → Result FindingCommand CommandRefusal) → Type 0
@@ -172,16 +175,16 @@ only_answer adds says read exact words answer (inr none) = by_count (has_search_
     by_count true h = absurd (none.0 (parts_of adds words) (is_search adds words h))
     by_count false h = exact.1 words h ∙ sym none.1
 
-pub found_so : (case : Case) (words : List Word) (answer : Result FindingCommand CommandRefusal)
-    → (find_of case words ≡ answer) ↔ IsAnswer false (found_by case) words answer
-found_so case words answer = (
-  is_answer false (found_by case) (find_of case) (find_is case, wrong_count case) words answer,
-  only_answer false (found_by case) (find_of case) (find_is case, wrong_count case) words answer,
+pub found_so : (profile : Profile) (case : Case) (words : List Word) (answer : Result FindingCommand CommandRefusal)
+    → (find_of profile case words ≡ answer) ↔ IsAnswer false (found_by profile case) words answer
+found_so profile case words answer = (
+  is_answer false (found_by profile case) (find_of profile case) (find_is profile case, wrong_count profile case) words answer,
+  only_answer false (found_by profile case) (find_of profile case) (find_is profile case, wrong_count profile case) words answer,
 )
 
-pub added_so : (case : Case) (words : List Word) (answer : Result FindingCommand CommandRefusal)
-    → (find_add_of case words ≡ answer) ↔ IsAnswer true (added_by case) words answer
-added_so case words answer = (
-  is_answer true (added_by case) (find_add_of case) (add_is case, wrong_count_to_add case) words answer,
-  only_answer true (added_by case) (find_add_of case) (add_is case, wrong_count_to_add case) words answer,
+pub added_so : (profile : Profile) (case : Case) (words : List Word) (answer : Result FindingCommand CommandRefusal)
+    → (find_add_of profile case words ≡ answer) ↔ IsAnswer true (added_by profile case) words answer
+added_so profile case words answer = (
+  is_answer true (added_by profile case) (find_add_of profile case) (add_is profile case, wrong_count_to_add profile case) words answer,
+  only_answer true (added_by profile case) (find_add_of profile case) (add_is profile case, wrong_count_to_add profile case) words answer,
 )

@@ -5,6 +5,7 @@ use Rattle.std.specs.Prelude.{codes}
 use Rattle.std.specs.Str.{bytes_eq}
 use Rattle.std.proofs.lemmas.List.{take-append-drop}
 use Rattle.std.proofs.lemmas.Slice.Eq.{bytes_eq-Decides}
+use Rattle.profile.specs.declared.profile.Profile.{Profile}
 use Rattle.filter_expr.specs.declared.case.Case.{Case}
 use Rattle.filter_expr.specs.declared.order.SortOrder.{SortOrder}
 use Rattle.filter_expr.specs.Parts.{opening, begins_so}
@@ -99,11 +100,11 @@ given_is : {A : Type 0} (read : Result A CommandRefusal) (behind : List Word) �
 given_is (Ok x) behind = refl
 given_is (Err refusal) behind = refl
 
-sort_is : (given : Option Word) (behind : List Word) → IsNext (codes "sort") given behind
-    → sort_part (words_of (codes "sort") given ++ behind) ≡ with_rest (sort_value given) behind
+sort_is : (profile : Profile) (given : Option Word) (behind : List Word) → IsNext (codes "sort") given behind
+    → sort_part profile (words_of (codes "sort") given ++ behind) ≡ with_rest (sort_value profile given) behind
 unfolding sort_part
-sort_is None behind next = rw (left_out (codes "sort") behind next) refl
-sort_is (Some value) behind next = given_is (told (sort_order value)) behind
+sort_is profile None behind next = rw (left_out (codes "sort") behind next) refl
+sort_is profile (Some value) behind next = given_is (told (sort_order profile value)) behind
 
 place_is : (total before : ℕ) (name value : Word) (behind : List Word) → total ≡ before + length (name ∷ value ∷ behind)
     → second_place total (name ∷ value ∷ behind) ≡ before + 2
@@ -156,10 +157,10 @@ joined case (Ok f) (Err e) window next middle behind is = refl
 joined case (Ok f) (Ok s) (Err e) next middle behind is = rw is refl
 joined case (Ok f) (Ok s) (Ok w) next middle behind is = rw is refl
 
-search_is : (adds : Bool) (case : Case) (words : List Word) (p : Parts) → ArePartedSo adds words p
-    → search_parts adds case words ≡ with_rest (search_of case p) (behind_window p)
+search_is : (profile : Profile) (adds : Bool) (case : Case) (words : List Word) (p : Parts) → ArePartedSo adds words p
+    → search_parts profile adds case words ≡ with_rest (search_of profile case p) (behind_window p)
 unfolding search_parts
-search_is adds case words p parted =
+search_is profile adds case words p parted =
     let counted : filter_length adds words ≡ length p.filter =
     ap (filter_length adds) parted.whole ∙ filter_counted adds p.filter (behind_filter p) parted.filter in
     let front : take (filter_length adds words) words ≡ p.filter =
@@ -173,8 +174,8 @@ search_is adds case words p parted =
       length-append p.filter (behind_filter p),
       length-append (words_of (codes "sort") p.sort) (behind_sort p),
     ) in
-    rw (front, back, sort_is p.sort (behind_sort p) parted.sort)
-    (joined case (filter_argument p.filter) (sort_value p.sort) (optional (before_window p + 2) window_of p.window)
+    rw (front, back, sort_is profile p.sort (behind_sort p) parted.sort)
+    (joined case (filter_argument profile p.filter) (sort_value profile p.sort) (optional (before_window p + 2) window_of p.window)
     (window_part (length words)) (behind_sort p) (behind_window p)
     (window_is (length words) (before_window p) p.window (behind_window p) parted.window long))
 
@@ -198,17 +199,17 @@ found_end : (search : Result Search CommandRefusal) (total : ℕ) (p : Parts) �
 found_end (Err e) total p long = refl
 found_end (Ok s) total p long = rest_is total (before_rest p) p.rest (commands.Find s) long
 
-pub find_is : (case : Case) (words : List Word) (p : Parts) → has_search_count words ≡ true → ArePartedSo false words p
-    → find_of case words ≡ found_by case p
+pub find_is : (profile : Profile) (case : Case) (words : List Word) (p : Parts) → has_search_count words ≡ true → ArePartedSo false words p
+    → find_of profile case words ≡ found_by profile case p
 unfolding find_of
-find_is case words p counts parted =
+find_is profile case words p counts parted =
     let none : p.position ≡ None = parted.position in
     let last : behind_window p ≡ p.rest = ap (λ (o : Option Word). words_of (codes "position") o ++ p.rest) none in
     let nothing : length (words_of (codes "position") p.position) ≡ 0 =
     ap (λ (o : Option Word). length (words_of (codes "position") o)) none in
     let long : length words ≡ before_rest p + length p.rest =
     omega (arith, all_counted false words p parted, ap length last, nothing) in
-    rw (counts, search_is false case words p parted, last) (found_end (search_of case p) (length words) p long)
+    rw (counts, search_is profile false case words p parted, last) (found_end (search_of profile case p) (length words) p long)
 
 abbrev added_after : ℕ → (List Word → Part Target) → Result (Search × List Word) CommandRefusal → Result FindingCommand CommandRefusal
 added_after total next read = read >>= λ x. next x.1 >>= λ t. nothing_left total t.1 (commands.Add x.0 t.0)
@@ -221,15 +222,16 @@ added_end (Err e) to total p next is long = refl
 added_end (Ok s) (Err e) total p next is long = rw is refl
 added_end (Ok s) (Ok t) total p next is long = rw is (rest_is total (before_rest p) p.rest (commands.Add s t) long)
 
-pub add_is : (case : Case) (words : List Word) (p : Parts) → has_search_count words ≡ true → ArePartedSo true words p
-    → find_add_of case words ≡ added_by case p
+pub add_is : (profile : Profile) (case : Case) (words : List Word) (p : Parts) → has_search_count words ≡ true → ArePartedSo true words p
+    → find_add_of profile case words ≡ added_by profile case p
 unfolding find_add_of
-add_is case words p counts parted =
+add_is profile case words p counts parted =
     let long : length words ≡ before_position p + length (behind_window p) = all_counted true words p parted in
     let whole : length words ≡ before_rest p + length p.rest =
     omega (arith, long, length-append (words_of (codes "position") p.position) p.rest) in
-    rw (counts, search_is true case words p parted)
-    (added_end (search_of case p) (optional (before_position p + 2) target_of p.position) (length words) p (position_part (length words))
+    rw (counts, search_is profile true case words p parted)
+    (added_end (search_of profile case p) (optional (before_position p + 2) target_of p.position) (length words) p (position_part (length
+    words))
     (position_is (length words) (before_position p) p.position p.rest parted.position long) whole)
 
 -- ---- there is one parting

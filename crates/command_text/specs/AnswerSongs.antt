@@ -1,17 +1,27 @@
 -- The lines of a song, and of an entry of the queue.
-use Rattle.std.specs.Prelude.{ℕ, ◌==◌, List, [], ◌∷◌, ◌++◌, codes, if◌then◌else◌}
+use Rattle.std.specs.Prelude.{ℕ, ◌==◌, List, [], ◌∷◌, ◌++◌, codes, Option, Some, None, if◌then◌else◌}
 use Rattle.std.specs.List.{concat, flat_map}
 use Rattle.std.specs.Fmt.{decimal}
+use Rattle.filter_expr.specs.Times.{known_time}
 use Rattle.play_queue.specs.declared.entry.Entry.{Entry}
 use Rattle.song_db.specs.Row.{Row}
 use Rattle.song_db.specs.Duration.{milliseconds}
 use Rattle.song_files.specs.Tag.{name_of}
 use Rattle.song_files.specs.Tags.{TagText}
 use Rattle.command_text.specs.Answer.{pair, number_pair}
+use Rattle.command_text.specs.AnswerDates.{time_text}
 use Rattle.command_text.specs.AnswerTimes.{whole_seconds, exact_seconds}
 
 abbrev pub file_line : List ℕ → List ℕ
 file_line uri = pair (codes "file") uri
+
+-- when the song's file was changed last, where that is known
+abbrev pub modified_line : Option ℕ → List ℕ
+modified_line None = []
+modified_line (Some time) = pair (codes "Last-Modified") (time_text time)
+
+abbrev pub head_lines : Row → List ℕ
+head_lines row = file_line row.uri ++ modified_line (known_time row.stamp)
 
 -- `RATE:16:CHANNELS`, the rate in frames a second
 abbrev pub format_text : ℕ → ℕ → List ℕ
@@ -27,7 +37,7 @@ tag_lines texts = flat_map tag_line texts
 
 abbrev pub song_lines : Row → List ℕ
 song_lines row = concat (
-    file_line row.uri
+    head_lines row
     ∷ pair (codes "Format") (format_text row.rate row.channels)
     ∷ tag_lines row.tags
     ∷ pair (codes "Time") (whole_seconds (milliseconds row))

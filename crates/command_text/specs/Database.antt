@@ -24,11 +24,12 @@ place_or_root (Some place) = place
 abbrev pub path_argument : List Word → Result (Option Word) CommandRefusal
 path_argument words = optional_argument words >>= λ word. optional 1 text_of word
 
-unfoldable pub scan_of : List Word → Result DatabaseCommand CommandRefusal
+-- the place that a scan reads, if one is given
+unfoldable pub scan_of : List Word → Result (Option Word) CommandRefusal
 scan_of words = do
   word ← optional_argument words
   place ← optional 1 scanned_place word
-  Ok (commands.Update (place_or_root place))
+  Ok (place_or_root place)
 
 -- the commands that keep the place that they name
 abbrev pub keeps_place : DatabaseName → Bool
@@ -48,7 +49,7 @@ database_of names.ListAll words = path_argument words >>= λ path. Ok (commands.
 database_of names.ListAllInfo words = path_argument words >>= λ path. Ok (commands.ListAllInfo path)
 database_of names.ListInfo words = path_argument words >>= λ path. Ok (commands.ListInfo path)
 database_of names.NotCommands words = no_argument commands.NotCommands words
-database_of names.Rescan words = scan_of words
+database_of names.Rescan words = scan_of words >>= λ place. Ok (commands.Rescan place)
 database_of names.Stats words = no_argument commands.Stats words
 database_of names.TagTypes words = no_argument commands.TagTypes words
-database_of names.Update words = scan_of words
+database_of names.Update words = scan_of words >>= λ place. Ok (commands.Update place)

@@ -2,6 +2,7 @@
 use Rattle.std.specs.Prelude.{ℕ, ◌+◌, ◌-◌, ◌%◌, List, [], ◌∷◌, length, take, drop, Bool, true, false, not, ◌==◌, ◌&&◌, ◌||◌, nat_le, Option}
 use Rattle.std.specs.Prelude.{Some, None, Result, Ok, Err, codes, if◌then◌else◌}
 use Rattle.std.specs.Str.{bytes_eq}
+use Rattle.profile.specs.declared.profile.Profile.{Profile}
 use Rattle.filter_expr.specs.declared.case.Case.{Case}
 use Rattle.filter_expr.specs.declared.case.Case.TheVariants.{Exact, Folded}
 use Rattle.filter_expr.specs.declared.order.SortOrder.{SortOrder}
@@ -72,8 +73,8 @@ part read words (Some value) = read value >>= λ x. Ok (Some x, drop 2 words)
 abbrev pub second_place : ℕ → List Word → ℕ
 second_place total words = total - length words + 2
 
-unfoldable pub sort_part : List Word → Part SortOrder
-sort_part words = part (λ word. told (sort_order word)) words (value_behind (codes "sort") words)
+unfoldable pub sort_part : Profile → List Word → Part SortOrder
+sort_part profile words = part (λ word. told (sort_order profile word)) words (value_behind (codes "sort") words)
 
 unfoldable pub window_part : ℕ → List Word → Part Window
 window_part total words =
@@ -89,48 +90,48 @@ nothing_left total [] value = Ok value
 nothing_left total (word ∷ words) value = Err (BadArgument (total - length words))
 
 -- a filter, an order and a window, and the words behind them
-unfoldable pub search_parts : Bool → Case → List Word → Result (Search × List Word) CommandRefusal
-search_parts adds case words = do
-  filter ← filter_argument (take (filter_length adds words) words)
-  sort ← sort_part (drop (filter_length adds words) words)
+unfoldable pub search_parts : Profile → Bool → Case → List Word → Result (Search × List Word) CommandRefusal
+search_parts profile adds case words = do
+  filter ← filter_argument profile (take (filter_length adds words) words)
+  sort ← sort_part profile (drop (filter_length adds words) words)
   window ← window_part (length words) sort.1
   Ok (record { case = case; filter = filter; sort = sort.0; window = window.0 }, window.1)
 
-unfoldable pub find_of : Case → List Word → Result FindingCommand CommandRefusal
-find_of case words =
+unfoldable pub find_of : Profile → Case → List Word → Result FindingCommand CommandRefusal
+find_of profile case words =
     if not (has_search_count words) then Err WrongCount
-    else (search_parts false case words >>= λ x. nothing_left (length words) x.1 (commands.Find x.0))
+    else (search_parts profile false case words >>= λ x. nothing_left (length words) x.1 (commands.Find x.0))
 
-unfoldable pub find_add_of : Case → List Word → Result FindingCommand CommandRefusal
-find_add_of case words =
+unfoldable pub find_add_of : Profile → Case → List Word → Result FindingCommand CommandRefusal
+find_add_of profile case words =
     if not (has_search_count words) then Err WrongCount
-    else (search_parts true case words >>= λ x. position_part (length words) x.1
+    else (search_parts profile true case words >>= λ x. position_part (length words) x.1
     >>= λ to. nothing_left (length words) to.1 (commands.Add x.0 to.0))
 
 -- a filter and nothing behind it
-unfoldable pub filter_alone : List Word → Result Tree CommandRefusal
-filter_alone words = if not (has_filter_count words) then Err WrongCount else filter_argument words
+unfoldable pub filter_alone : Profile → List Word → Result Tree CommandRefusal
+filter_alone profile words = if not (has_filter_count words) then Err WrongCount else filter_argument profile words
 
-unfoldable pub add_to_playlist_of : List Word → Result FindingCommand CommandRefusal
-add_to_playlist_of [] = Err WrongCount
-add_to_playlist_of (name ∷ words) =
+unfoldable pub add_to_playlist_of : Profile → List Word → Result FindingCommand CommandRefusal
+add_to_playlist_of profile [] = Err WrongCount
+add_to_playlist_of profile (name ∷ words) =
     if not (has_filter_count words) then Err WrongCount
-    else (playlist_name name >>= λ list. filter_argument words >>= λ filter. Ok (commands.AddToPlaylist list filter))
+    else (playlist_name name >>= λ list. filter_argument profile words >>= λ filter. Ok (commands.AddToPlaylist list filter))
 
-unfoldable pub list_of : List Word → Result FindingCommand CommandRefusal
-list_of [] = Err WrongCount
-list_of (tag ∷ []) = tag_argument tag >>= λ tag. Ok (commands.ListTag tag None)
-list_of (tag ∷ word ∷ words) =
+unfoldable pub list_of : Profile → List Word → Result FindingCommand CommandRefusal
+list_of profile [] = Err WrongCount
+list_of profile (tag ∷ []) = tag_argument profile tag >>= λ tag. Ok (commands.ListTag tag None)
+list_of profile (tag ∷ word ∷ words) =
     if not (has_filter_count (word ∷ words)) then Err WrongCount
-    else (tag_argument tag >>= λ tag. filter_argument (word ∷ words) >>= λ filter. Ok (commands.ListTag tag (Some filter)))
+    else (tag_argument profile tag >>= λ tag. filter_argument profile (word ∷ words) >>= λ filter. Ok (commands.ListTag tag (Some filter)))
 
-unfoldable pub finding_of : FindingName → List Word → Result FindingCommand CommandRefusal
-finding_of names.Count words = filter_alone words >>= λ filter. Ok (commands.Count filter)
-finding_of names.Find words = find_of Exact words
-finding_of names.FindAdd words = find_add_of Exact words
-finding_of names.ListTag words = list_of words
-finding_of names.QueueFind words = filter_alone words >>= λ filter. Ok (commands.InQueue Exact filter)
-finding_of names.QueueSearch words = filter_alone words >>= λ filter. Ok (commands.InQueue Folded filter)
-finding_of names.Search words = find_of Folded words
-finding_of names.SearchAdd words = find_add_of Folded words
-finding_of names.SearchAddPlaylist words = add_to_playlist_of words
+unfoldable pub finding_of : Profile → FindingName → List Word → Result FindingCommand CommandRefusal
+finding_of profile names.Count words = filter_alone profile words >>= λ filter. Ok (commands.Count filter)
+finding_of profile names.Find words = find_of profile Exact words
+finding_of profile names.FindAdd words = find_add_of profile Exact words
+finding_of profile names.ListTag words = list_of profile words
+finding_of profile names.QueueFind words = filter_alone profile words >>= λ filter. Ok (commands.InQueue Exact filter)
+finding_of profile names.QueueSearch words = filter_alone profile words >>= λ filter. Ok (commands.InQueue Folded filter)
+finding_of profile names.Search words = find_of profile Folded words
+finding_of profile names.SearchAdd words = find_add_of profile Folded words
+finding_of profile names.SearchAddPlaylist words = add_to_playlist_of profile words

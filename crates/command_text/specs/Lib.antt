@@ -22,5 +22,6 @@ pub mod Answer
 pub mod AnswerTimes
 pub mod AnswerSongs
 pub mod AnswerStatus
+pub mod AnswerDates
 pub mod AnswerNames
 pub mod NextWord

@@ -1,6 +1,7 @@
 -- The arguments that have refusals of their own: names of playlists and of stickers, tags and filters.
 use Rattle.std.specs.Prelude.{ℕ, List, Bool, ◌&&◌, Option, Some, None, Result, Ok, Err, if◌then◌else◌}
 use Rattle.std.specs.Str.{is_utf8}
+use Rattle.profile.specs.declared.profile.Profile.{Profile}
 use Rattle.song_files.specs.declared.tag.Tag.{Tag}
 use Rattle.stored_lists.specs.Name as playlists
 use Rattle.stickers.specs.Name as stickers
@@ -34,13 +35,13 @@ abbrev pub told : {A : Type 0} → Result A Refusal → Result A CommandRefusal
 told (Ok value) = Ok value
 told (Err refusal) = Err (refusal_of refusal)
 
-unfoldable pub filter_argument : List Word → Result Tree CommandRefusal
-filter_argument words = told (filter_of words)
+unfoldable pub filter_argument : Profile → List Word → Result Tree CommandRefusal
+filter_argument profile words = told (filter_of profile words)
 
 abbrev pub tag_or : Word → Option Tag → Result Tag CommandRefusal
 tag_or word None = Err (refusals.UnknownTag word)
 tag_or word (Some tag) = Ok tag
 
--- a tag by its name
-unfoldable pub tag_argument : Word → Result Tag CommandRefusal
-tag_argument word = tag_or word (tag_named word)
+-- a tag that the profile has, by its name
+unfoldable pub tag_argument : Profile → Word → Result Tag CommandRefusal
+tag_argument profile word = tag_or word (tag_named profile word)

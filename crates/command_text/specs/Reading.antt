@@ -3,6 +3,7 @@
 use Rattle.std.specs.Prelude.{◌≡◌, ℕ, List, [], ◌∷◌, Bool, true, false, not, Option, Some, None, Result, Ok, Err, if◌then◌else◌}
 use Rattle.std.specs.Global.{Vec}
 use Rattle.std.specs.Str.{is_utf8}
+use Rattle.profile.specs.declared.profile.Profile.{Profile}
 use Rattle.command_text.specs.declared.name.CommandName.{CommandName}
 use Rattle.command_text.specs.declared.name.CommandName.TheVariants as names
 use Rattle.command_text.specs.declared.command.Command.{Command}
@@ -34,15 +35,15 @@ use Rattle.command_text.specs.Playing.{playing_of}
 use Rattle.command_text.specs.Session.{session_of}
 
 -- the command of a topic with these arguments: their count, and then each from left to right
-unfoldable pub command_with : Topic → List Word → Result Command CommandRefusal
-command_with (topics.Settings name) words = settings_of name words >>= λ x. Ok (commands.Settings x)
-command_with (topics.Database name) words = database_of name words >>= λ x. Ok (commands.Database x)
-command_with (topics.Queue name) words = queue_of name words >>= λ x. Ok (commands.Queue x)
-command_with (topics.Finding name) words = finding_of name words >>= λ x. Ok (commands.Finding x)
-command_with (topics.Lists name) words = lists_of name words >>= λ x. Ok (commands.Lists x)
-command_with topics.Stickers words = stickers_of words >>= λ x. Ok (commands.Stickers x)
-command_with (topics.Playing name) words = playing_of name words >>= λ x. Ok (commands.Playing x)
-command_with (topics.Session name) words = session_of name words >>= λ x. Ok (commands.Session x)
+unfoldable pub command_with : Profile → Topic → List Word → Result Command CommandRefusal
+command_with profile (topics.Settings name) words = settings_of name words >>= λ x. Ok (commands.Settings x)
+command_with profile (topics.Database name) words = database_of name words >>= λ x. Ok (commands.Database x)
+command_with profile (topics.Queue name) words = queue_of name words >>= λ x. Ok (commands.Queue x)
+command_with profile (topics.Finding name) words = finding_of profile name words >>= λ x. Ok (commands.Finding x)
+command_with profile (topics.Lists name) words = lists_of name words >>= λ x. Ok (commands.Lists x)
+command_with profile topics.Stickers words = stickers_of words >>= λ x. Ok (commands.Stickers x)
+command_with profile (topics.Playing name) words = playing_of name words >>= λ x. Ok (commands.Playing x)
+command_with profile (topics.Session name) words = session_of name words >>= λ x. Ok (commands.Session x)
 
 -- the end of a list stands behind a list's commands alone, and some commands stand in no list
 abbrev pub is_allowed : Place → CommandName → Result (Unit {0}) CommandRefusal
@@ -51,10 +52,10 @@ is_allowed Alone name = Ok tt
 is_allowed InList name = if stands_in_lists name then Ok tt else Err refusals.NotAllowedInList
 
 -- the command of a name in a place, with these arguments
-unfoldable pub in_place : Place → CommandName → List Word → Result Command CommandRefusal
-in_place place name words = do
+unfoldable pub in_place : Profile → Place → CommandName → List Word → Result Command CommandRefusal
+in_place profile place name words = do
   here ← is_allowed place name
-  command_with (topic_of name) words
+  command_with profile (topic_of name) words
 
 -- the command or its refusal, with the name
 abbrev pub of_command : CommandName → Result Command CommandRefusal → Result NamedCommand Refusal
@@ -62,14 +63,14 @@ of_command name (Ok command) = Ok (record { name = name; command = command })
 of_command name (Err refusal) = Err (OfCommand name refusal)
 
 -- the command of a first word, of which it is known whether it is a name
-abbrev pub known_command : Place → Word → List Word → Option CommandName → Result NamedCommand Refusal
-known_command place word arguments None = Err (UnknownCommand word)
-known_command place word arguments (Some name) = of_command name (in_place place name arguments)
+abbrev pub known_command : Profile → Place → Word → List Word → Option CommandName → Result NamedCommand Refusal
+known_command profile place word arguments None = Err (UnknownCommand word)
+known_command profile place word arguments (Some name) = of_command name (in_place profile place name arguments)
 
 -- the command of the words of a line
-unfoldable pub command_of : Place → List Word → Result NamedCommand Refusal
-command_of place [] = Err NoCommand
-command_of place (word ∷ arguments) = known_command place word arguments (named word)
+unfoldable pub command_of : Profile → Place → List Word → Result NamedCommand Refusal
+command_of profile place [] = Err NoCommand
+command_of profile place (word ∷ arguments) = known_command profile place word arguments (named word)
 
 abbrev pub quoted : Option (List Word) → Result (List Word) Refusal
 quoted None = Err BadQuoting
@@ -79,13 +80,13 @@ quoted (Some words) = Ok words
 unfoldable pub line_words : List ℕ → Result (List Word) Refusal
 line_words line = if is_utf8 line then quoted (words_of line) else Err InvalidUtf8
 
-abbrev pub command_in : Place → Result (List Word) Refusal → Result NamedCommand Refusal
-command_in place (Err refusal) = Err refusal
-command_in place (Ok words) = command_of place words
+abbrev pub command_in : Profile → Place → Result (List Word) Refusal → Result NamedCommand Refusal
+command_in profile place (Err refusal) = Err refusal
+command_in profile place (Ok words) = command_of profile place words
 
 -- the command of a line
-unfoldable pub line_reading : Place → List ℕ → Result NamedCommand Refusal
-line_reading place line = command_in place (line_words line)
+unfoldable pub line_reading : Profile → Place → List ℕ → Result NamedCommand Refusal
+line_reading profile place line = command_in profile place (line_words line)
 
 -- the name of the command that a line begins with; none where the line is refused for its bytes, its quoting or its first word
 abbrev pub first_name : Result (List Word) Refusal → Option CommandName

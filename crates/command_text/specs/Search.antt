@@ -2,6 +2,7 @@
 -- songs are added, `position PLACE`, in this order, each of which may be left out. The place of a fault is the count of the words up to it.
 use Rattle.std.specs.Prelude.{◌≡◌, ◌≢◌, ◌⊎◌, ℕ, ◌+◌, List, [], ◌∷◌, ◌++◌, length, codes, Bool, true, false}
 use Rattle.std.specs.Prelude.{Option, Some, None, Result, Ok, Err}
+use Rattle.profile.specs.declared.profile.Profile.{Profile}
 use Rattle.filter_expr.specs.declared.case.Case.{Case}
 use Rattle.filter_expr.specs.declared.order.SortOrder.{SortOrder}
 use Rattle.filter_expr.specs.Parts.{opening, begins_so}
@@ -93,15 +94,15 @@ before_position p = before_window p + length (words_of (codes "window") p.window
 abbrev pub before_rest : Parts → ℕ
 before_rest p = before_position p + length (words_of (codes "position") p.position)
 
-abbrev pub sort_value : Option Word → Result (Option SortOrder) CommandRefusal
-sort_value None = Ok None
-sort_value (Some word) = told (sort_order word) >>= λ order. Ok (Some order)
+abbrev pub sort_value : Profile → Option Word → Result (Option SortOrder) CommandRefusal
+sort_value profile None = Ok None
+sort_value profile (Some word) = told (sort_order profile word) >>= λ order. Ok (Some order)
 
 -- what the parts say, or the first fault from left to right
-abbrev pub search_of : Case → Parts → Result Search CommandRefusal
-search_of case p = do
-  filter ← filter_argument p.filter
-  sort ← sort_value p.sort
+abbrev pub search_of : Profile → Case → Parts → Result Search CommandRefusal
+search_of profile case p = do
+  filter ← filter_argument profile p.filter
+  sort ← sort_value profile p.sort
   window ← optional (before_window p + 2) window_of p.window
   Ok (record { case = case; filter = filter; sort = sort; window = window })
 
@@ -110,12 +111,12 @@ abbrev pub no_rest : {A : Type 0} → ℕ → List Word → A → Result A Comma
 no_rest before [] value = Ok value
 no_rest before (word ∷ words) value = Err (BadArgument (before + 1))
 
-abbrev pub found_by : Case → Parts → Result FindingCommand CommandRefusal
-found_by case p = search_of case p >>= λ x. no_rest (before_rest p) p.rest (commands.Find x)
+abbrev pub found_by : Profile → Case → Parts → Result FindingCommand CommandRefusal
+found_by profile case p = search_of profile case p >>= λ x. no_rest (before_rest p) p.rest (commands.Find x)
 
-abbrev pub added_by : Case → Parts → Result FindingCommand CommandRefusal
-added_by case p =
-    search_of case p >>= λ x. optional (before_position p + 2) target_of p.position
+abbrev pub added_by : Profile → Case → Parts → Result FindingCommand CommandRefusal
+added_by profile case p =
+    search_of profile case p >>= λ x. optional (before_position p + 2) target_of p.position
     >>= λ to. no_rest (before_rest p) p.rest (commands.Add x to)
 
 -- words that come two by two

@@ -2,6 +2,7 @@
 //! which the caller cuts off.
 
 mod ack;
+mod dates;
 mod names;
 mod pairs;
 mod songs;

@@ -14,6 +14,7 @@ use crate::table::topic_of;
 use crate::topic::Topic;
 use crate::words::Word;
 use filter_expr::LineWord;
+use profile::Profile;
 use std::alloc::Global;
 
 pub mod database;
@@ -56,14 +57,15 @@ pub struct NamedCommand<'w> {
 
 impl<'w> Command<'w> {
     /// The command that these words ask for in this place, with its name, or the first refusal: no word, an unknown command, not
-    /// allowed here, the count of arguments, the arguments from left to right.
+    /// allowed here, the count of arguments, the arguments from left to right. Tags and the like go by the names that the profile has.
     #[tactic(auto, unfolding(crate::specs::Reading::command_of))]
     pub fn read(
         alloc: Global,
+        profile: Profile,
         place: Place,
         words: &'w [LineWord<'_>],
     ) -> Result<NamedCommand<'w>, ReadError>
-        ensures exact { Gives result (command_of place words.now) }
+        ensures exact { Gives result (command_of profile place words.now) }
         // Most commands are read without memory.
         ensures memory { result ≡ Err ReadError.NoMemory → MayWantMemory words.now }
     {
@@ -72,21 +74,22 @@ impl<'w> Command<'w> {
         };
         match CommandName::named(first.bytes()) {
             None => Err(unknown(alloc, first.bytes())),
-            Some(name) => Command::of(alloc, place, name, arguments),
+            Some(name) => Command::of(alloc, profile, place, name, arguments),
         }
     }
 
     /// The command of this name in this place with these arguments, or the first refusal, as `read` gives them.
     pub fn of(
         alloc: Global,
+        profile: Profile,
         place: Place,
         name: CommandName,
         arguments: &'w [LineWord<'_>],
     ) -> Result<NamedCommand<'w>, ReadError>
-        ensures exact { Gives result (of_command name (in_place place name arguments.now)) }
+        ensures exact { Gives result (of_command name (in_place profile place name arguments.now)) }
         ensures memory { result ≡ Err ReadError.NoMemory → takes_memory (topic_of name) ≡ true }
     {
-        match in_place(alloc, place, name, arguments) {
+        match in_place(alloc, profile, place, name, arguments) {
             Ok(command) => Ok(NamedCommand { name, command }),
             Err(stop) => Err(refused(name, stop)),
         }
@@ -117,15 +120,16 @@ fn unknown(alloc: Global, word: &[u8]) -> ReadError
 #[tactic(auto, unfolding(crate::specs::Reading::in_place))]
 fn in_place<'w>(
     alloc: Global,
+    profile: Profile,
     place: Place,
     name: CommandName,
     words: &'w [LineWord<'_>],
 ) -> Result<Command<'w>, Stop>
-    ensures exact { Reads result (in_place place name words.now) }
+    ensures exact { Reads result (in_place profile place name words.now) }
     ensures memory { result ≡ Err stops.NoMemory → takes_memory (topic_of name) ≡ true }
 {
     allowed(place, name)?;
-    with(alloc, topic_of(name), words)
+    with(alloc, profile, topic_of(name), words)
 }
 
 /// Whether the command may stand here.
@@ -149,15 +153,20 @@ fn allowed(place: Place, name: CommandName) -> Result<(), CommandRefusal>
 
 /// The command of a topic with these arguments.
 #[tactic(auto, unfolding(crate::specs::Reading::command_with))]
-fn with<'w>(alloc: Global, topic: Topic, words: &'w [LineWord<'_>]) -> Result<Command<'w>, Stop>
-    ensures exact { Reads result (command_with topic words.now) }
+fn with<'w>(
+    alloc: Global,
+    profile: Profile,
+    topic: Topic,
+    words: &'w [LineWord<'_>],
+) -> Result<Command<'w>, Stop>
+    ensures exact { Reads result (command_with profile topic words.now) }
     ensures memory { result ≡ Err stops.NoMemory → takes_memory topic ≡ true }
 {
     match topic {
         Topic::Settings(name) => Ok(Command::Settings(settings::read(name, words)?)),
         Topic::Database(name) => Ok(Command::Database(database::read(alloc, name, words)?)),
         Topic::Queue(name) => Ok(Command::Queue(queue::read(alloc, name, words)?)),
-        Topic::Finding(name) => Ok(Command::Finding(finding::read(alloc, name, words)?)),
+        Topic::Finding(name) => Ok(Command::Finding(finding::read(alloc, profile, name, words)?)),
         Topic::Lists(name) => Ok(Command::Lists(lists::read(name, words)?)),
         Topic::Stickers => Ok(Command::Stickers(sticker::read(words)?)),
         Topic::Playing(name) => Ok(Command::Playing(playing::read(name, words)?)),

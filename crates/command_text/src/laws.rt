@@ -7,6 +7,7 @@ ghost use Rattle.std.specs.Str.{is_utf8};
 ghost use Rattle.std.specs.Cmp.Lexicographic.{slice_cmp};
 ghost use Rattle.std.specs.Ordering.{nat_cmp};
 ghost use Rattle.filter_expr.specs.declared.case.Case.{Case};
+ghost use Rattle.profile.specs.declared.profile.Profile.{Profile};
 ghost use Rattle.command_text.specs.declared.command.NamedCommand.{NamedCommand};
 ghost use Rattle.command_text.specs.declared.command.finding.FindingCommand.{FindingCommand};
 ghost use Rattle.command_text.specs.declared.name.CommandName.{CommandName};
@@ -42,16 +43,17 @@ pub fn words_are_text()
 pub fn searches_have_one_reading()
     ensures once { (adds : Bool) (words : List Word) (p q : Parts) →
         ArePartedSo adds words p → ArePartedSo adds words q → p ≡ q }
-    ensures found { (case : Case) (words : List Word) (answer : Result FindingCommand CommandRefusal) →
-        (find_of case words ≡ answer) ↔ IsAnswer false (found_by case) words answer }
-    ensures added { (case : Case) (words : List Word) (answer : Result FindingCommand CommandRefusal) →
-        (find_add_of case words ≡ answer) ↔ IsAnswer true (added_by case) words answer }
+    ensures found { (profile : Profile) (case : Case) (words : List Word) (answer : Result FindingCommand CommandRefusal) →
+        (find_of profile case words ≡ answer) ↔ IsAnswer false (found_by profile case) words answer }
+    ensures added { (profile : Profile) (case : Case) (words : List Word) (answer : Result FindingCommand CommandRefusal) →
+        (find_add_of profile case words ≡ answer) ↔ IsAnswer true (added_by profile case) words answer }
 {}
 
 /// Where words are no filter, one word is the fault, and whatever stands behind it, they are refused in the same way and at the
 /// same place; or the fault is that no more words stand there.
 pub fn a_bad_filter_stays_bad()
-    ensures { (words : List Word) (refusal : FilterRefusal) → filter_of words ≡ Err refusal → IsRefusedSo words refusal }
+    ensures { (profile : Profile) (words : List Word) (refusal : FilterRefusal) →
+        filter_of profile words ≡ Err refusal → IsRefusedSo profile words refusal }
 {}
 
 /// Each name is listed; the command is found by its text, and by no other word.
@@ -64,10 +66,10 @@ pub fn names_are_found()
 
 /// Whether a line is read or refused, its command is named in the same way.
 pub fn a_line_has_one_name()
-    ensures read { (place : Place) (line : List ℕ) (read : NamedCommand) →
-        line_reading place line ≡ Ok read → name_of_line line ≡ Some read.name }
-    ensures refused { (place : Place) (line : List ℕ) (refusal : Refusal) →
-        line_reading place line ≡ Err refusal → name_of_refusal refusal ≡ name_of_line line }
+    ensures read { (profile : Profile) (place : Place) (line : List ℕ) (read : NamedCommand) →
+        line_reading profile place line ≡ Ok read → name_of_line line ≡ Some read.name }
+    ensures refused { (profile : Profile) (place : Place) (line : List ℕ) (refusal : Refusal) →
+        line_reading profile place line ≡ Err refusal → name_of_refusal refusal ≡ name_of_line line }
 {}
 
 /// How long a line of want of memory can be, so that its room can be taken before.

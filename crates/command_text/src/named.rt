@@ -9,6 +9,7 @@ use crate::stop::Stop;
 use crate::text::{Text, utf8};
 use crate::words::Word;
 use filter_expr::{Filter, FilterError, LineWord, SortOrder, tag_named};
+use profile::Profile;
 use song_files::Tag;
 use std::alloc::Global;
 
@@ -69,31 +70,35 @@ fn unknown_tag(alloc: Global, name: &[u8]) -> Stop
 
 /// The filter that these words spell.
 #[tactic(auto, unfolding(crate::specs::NameArguments::filter_argument))]
-pub(crate) fn filter_argument(alloc: Global, words: &[LineWord<'_>]) -> Result<Filter, Stop>
-    ensures { Reads result (filter_argument words.now) }
+pub(crate) fn filter_argument(
+    alloc: Global,
+    profile: Profile,
+    words: &[LineWord<'_>],
+) -> Result<Filter, Stop>
+    ensures { Reads result (filter_argument profile words.now) }
 {
-    match Filter::parse(alloc, words) {
+    match Filter::parse(alloc, profile, words) {
         Ok(filter) => Ok(filter),
         Err(error) => Err(told(alloc, error)),
     }
 }
 
 /// The order that the word asks for.
-pub(crate) fn sort_order(alloc: Global, word: &[u8]) -> Result<SortOrder, Stop>
-    ensures { Reads result (told (sort_order word.now)) }
+pub(crate) fn sort_order(alloc: Global, profile: Profile, word: &[u8]) -> Result<SortOrder, Stop>
+    ensures { Reads result (told (sort_order profile word.now)) }
 {
-    match SortOrder::read(word) {
+    match SortOrder::read(profile, word) {
         Ok(order) => Ok(order),
         Err(error) => Err(told(alloc, error)),
     }
 }
 
-/// A tag by its name.
+/// A tag that the profile has, by its name.
 #[tactic(auto, unfolding(crate::specs::NameArguments::tag_argument))]
-pub(crate) fn tag_argument(alloc: Global, word: &[u8]) -> Result<Tag, Stop>
-    ensures { Reads result (tag_argument word.now) }
+pub(crate) fn tag_argument(alloc: Global, profile: Profile, word: &[u8]) -> Result<Tag, Stop>
+    ensures { Reads result (tag_argument profile word.now) }
 {
-    match tag_named(word) {
+    match tag_named(profile, word) {
         Some(tag) => Ok(tag),
         None => Err(unknown_tag(alloc, word)),
     }

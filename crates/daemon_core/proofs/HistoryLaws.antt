@@ -177,11 +177,11 @@ keeps_runs earlier c s r rises agree = keeps_ran earlier c s r r.ending rises ag
 keeps_asked : (earlier : List Moment) (c : ℕ) (refused : Option ℕ) (s : State) (request : Request) → Rises s.clients →
     Agree earlier s.clients → Keeps earlier (asked c refused s request)
 keeps_asked earlier c refused s (Single line) rises agree =
-    keeps_runs earlier c s (ran Alone [] refused 0 unspent (line ∷ []) s.machine) rises agree
+    keeps_runs earlier c s (ran Alone [] refused 0 (unspent s.machine) (line ∷ []) s.machine) rises agree
 keeps_asked earlier c refused s (CommandList lines) rises agree =
-    keeps_runs earlier c s (ran InList [] refused 0 unspent lines s.machine) rises agree
+    keeps_runs earlier c s (ran InList [] refused 0 (unspent s.machine) lines s.machine) rises agree
 keeps_asked earlier c refused s (OkList lines) rises agree =
-    keeps_runs earlier c s (ran InList list_ok refused 0 unspent lines s.machine) rises agree
+    keeps_runs earlier c s (ran InList list_ok refused 0 (unspent s.machine) lines s.machine) rises agree
 keeps_asked earlier c refused s Noidle rises agree = record { rises = rises; agree = agree; quiet = λ _ _. refl }
 
 keeps_waiting : (earlier : List Moment) (c : ℕ) (s : State) (request : Request) → Rises s.clients → Agree earlier s.clients →

@@ -85,9 +85,9 @@ reading_ends spent m (Ok named) =
     (command_kill named.command)
 
 line_ends : (place : Place) (spent : Spent) (line : List ℕ) (m : MachineState) →
-    EndsAs (reads_kill (line_reading place line)) (attempted place spent line m)
+    EndsAs (reads_kill (line_reading m.saved.profile place line)) (attempted place spent line m)
 unfolding attempted
-line_ends place spent line m = reading_ends spent m (line_reading place line)
+line_ends place spent line m = reading_ends spent m (line_reading m.saved.profile place line)
 
 -- the commands of a request
 follow_kills : (separator : List ℕ) (index : ℕ) (behind : List Op → Spent) (m : MachineState) (rest : Spent → MachineState → Ran)
@@ -113,7 +113,7 @@ ran_kills place separator refused index spent [] m = refl
 ran_kills place separator refused index spent (line ∷ lines) m =
     unless_refused m index line _ _ (is_refused_at refused index)
     (follow_kills separator index (spent_behind place line m spent) m (λ n t. ran place separator refused (suc index) n lines t)
-    (reads_kill (line_reading place line))
+    (reads_kill (line_reading m.saved.profile place line))
     (λ x. comes_to_kill place refused (suc index) (spent_behind place line m spent x.ops) lines x.after)
     (attempted place spent line m) (line_ends place spent line m)
     (λ x. ran_kills place separator refused (suc index) (spent_behind place line m spent x.ops) lines x.after))
@@ -128,14 +128,14 @@ of_ran_ends c s r (Waits mask) = refl
 asked_ends : (c : ℕ) (refused : Option ℕ) (s : State) (request : Request) →
     let a = asked c refused s request in a.ended ≡ request_kills refused s.machine request
 asked_ends c refused s (Single line) =
-    let r : Ran = ran Alone [] refused 0 unspent (line ∷ []) s.machine in
-    of_ran_ends c s r r.ending ∙ ran_kills Alone [] refused 0 unspent (line ∷ []) s.machine
+    let r : Ran = ran Alone [] refused 0 (unspent s.machine) (line ∷ []) s.machine in
+    of_ran_ends c s r r.ending ∙ ran_kills Alone [] refused 0 (unspent s.machine) (line ∷ []) s.machine
 asked_ends c refused s (CommandList lines) =
-    let r : Ran = ran InList [] refused 0 unspent lines s.machine in
-    of_ran_ends c s r r.ending ∙ ran_kills InList [] refused 0 unspent lines s.machine
+    let r : Ran = ran InList [] refused 0 (unspent s.machine) lines s.machine in
+    of_ran_ends c s r r.ending ∙ ran_kills InList [] refused 0 (unspent s.machine) lines s.machine
 asked_ends c refused s (OkList lines) =
-    let r : Ran = ran InList list_ok refused 0 unspent lines s.machine in
-    of_ran_ends c s r r.ending ∙ ran_kills InList list_ok refused 0 unspent lines s.machine
+    let r : Ran = ran InList list_ok refused 0 (unspent s.machine) lines s.machine in
+    of_ran_ends c s r r.ending ∙ ran_kills InList list_ok refused 0 (unspent s.machine) lines s.machine
 asked_ends c refused s Noidle = refl
 
 waiting_ends : (noidle : Bool) (c : ℕ) (s : State) → let a = waits_no_more noidle c s in a.ended ≡ false
@@ -180,9 +180,9 @@ runs_empty : (c : ℕ) (s : State) (r : Ran) → Empties (runs c s r)
 runs_empty c s r = ran_empties c s r r.ending
 
 asked_empties : (c : ℕ) (refused : Option ℕ) (s : State) (request : Request) → Empties (asked c refused s request)
-asked_empties c refused s (Single line) = runs_empty c s (ran Alone [] refused 0 unspent (line ∷ []) s.machine)
-asked_empties c refused s (CommandList lines) = runs_empty c s (ran InList [] refused 0 unspent lines s.machine)
-asked_empties c refused s (OkList lines) = runs_empty c s (ran InList list_ok refused 0 unspent lines s.machine)
+asked_empties c refused s (Single line) = runs_empty c s (ran Alone [] refused 0 (unspent s.machine) (line ∷ []) s.machine)
+asked_empties c refused s (CommandList lines) = runs_empty c s (ran InList [] refused 0 (unspent s.machine) lines s.machine)
+asked_empties c refused s (OkList lines) = runs_empty c s (ran InList list_ok refused 0 (unspent s.machine) lines s.machine)
 asked_empties c refused s Noidle = λ h. absurd (false≢true h)
 
 goes_on_empties : (a : Acted) → a.ended ≡ false → Empties a

@@ -65,9 +65,9 @@ module _ (P : MachineState → Type 0) (kept : IsKept P) where
   fits_lasts m meant true keeps = keeps
   fits_lasts m meant false keeps = tt
 
-  within_lasts : (size : ℕ) (m : MachineState) (meant : Meant) → Keeps m meant → Keeps m (within size meant)
+  within_lasts : (size : ℕ) (m : MachineState) (meant : Meant) → Keeps m meant → Keeps m (within m.saved.profile size meant)
   within_lasts size m (Err refusal) keeps = tt
-  within_lasts size m (Ok x) keeps = fits_lasts m (Ok x) (nat_le (size + length (ops_bytes x.ops)) max_request_bytes) keeps
+  within_lasts size m (Ok x) keeps = fits_lasts m (Ok x) (nat_le (size + length (ops_bytes m.saved.profile x.ops)) max_request_bytes) keeps
 
   both_last : (spent : Spent) (command : Command) (m : MachineState) → Keeps m (within_both spent command m)
   both_last spent command m =
@@ -97,7 +97,7 @@ module _ (P : MachineState → Type 0) (kept : IsKept P) where
 
   line_lasts : (place : Place) (spent : Spent) (line : List ℕ) (m : MachineState) → DidKeeps m (attempted place spent line m)
   unfolding attempted
-  line_lasts place spent line m = reading_lasts spent m (line_reading place line)
+  line_lasts place spent line m = reading_lasts spent m (line_reading m.saved.profile place line)
 
   -- the commands of a request
   abbrev RanKeeps : MachineState → Ran → Type 0
@@ -142,11 +142,11 @@ module _ (P : MachineState → Type 0) (kept : IsKept P) where
 
   asked_lasts : (c : ℕ) (refused : Option ℕ) (s : State) (request : Request) → ActKeeps s (asked c refused s request)
   asked_lasts c refused s (Single line) =
-      runs_lasts c s (ran Alone [] refused 0 unspent (line ∷ []) s.machine) (ran_lasts Alone [] refused 0 unspent (line ∷ []) s.machine)
+      runs_lasts c s (ran Alone [] refused 0 (unspent s.machine) (line ∷ []) s.machine) (ran_lasts Alone [] refused 0 (unspent s.machine) (line ∷ []) s.machine)
   asked_lasts c refused s (CommandList lines) =
-      runs_lasts c s (ran InList [] refused 0 unspent lines s.machine) (ran_lasts InList [] refused 0 unspent lines s.machine)
+      runs_lasts c s (ran InList [] refused 0 (unspent s.machine) lines s.machine) (ran_lasts InList [] refused 0 (unspent s.machine) lines s.machine)
   asked_lasts c refused s (OkList lines) =
-      runs_lasts c s (ran InList list_ok refused 0 unspent lines s.machine) (ran_lasts InList list_ok refused 0 unspent lines s.machine)
+      runs_lasts c s (ran InList list_ok refused 0 (unspent s.machine) lines s.machine) (ran_lasts InList list_ok refused 0 (unspent s.machine) lines s.machine)
   asked_lasts c refused s Noidle = λ h. h
 
   waiting_lasts : (noidle : Bool) (c : ℕ) (s : State) → ActKeeps s (waits_no_more noidle c s)

@@ -67,9 +67,9 @@ runs_within : (c : ℕ) (s : State) (r : Ran) → r.looks ≤ max_looks → let 
 runs_within c s r within = of_ran_within c s r r.ending within
 
 asked_within : (c : ℕ) (refused : Option ℕ) (s : State) (request : Request) → let a = asked c refused s request in a.looks ≤ max_looks
-asked_within c refused s (Single line) = runs_within c s _ (ran_within Alone [] refused 0 unspent (line ∷ []) s.machine (omega arith))
-asked_within c refused s (CommandList lines) = runs_within c s _ (ran_within InList [] refused 0 unspent lines s.machine (omega arith))
-asked_within c refused s (OkList lines) = runs_within c s _ (ran_within InList list_ok refused 0 unspent lines s.machine (omega arith))
+asked_within c refused s (Single line) = runs_within c s _ (ran_within Alone [] refused 0 (unspent s.machine) (line ∷ []) s.machine (omega arith))
+asked_within c refused s (CommandList lines) = runs_within c s _ (ran_within InList [] refused 0 (unspent s.machine) lines s.machine (omega arith))
+asked_within c refused s (OkList lines) = runs_within c s _ (ran_within InList list_ok refused 0 (unspent s.machine) lines s.machine (omega arith))
 asked_within c refused s Noidle = omega arith
 
 waits_within : (noidle : Bool) (c : ℕ) (s : State) → let a = waits_no_more noidle c s in a.looks ≤ max_looks

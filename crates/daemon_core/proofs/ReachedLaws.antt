@@ -101,9 +101,9 @@ runs_reaches c s refused r free (inr e) = inr (ap (runs c s) e)
 
 asked_reaches : (c : ℕ) (refused : Option ℕ) (s : State) (request : Request) →
     ActReaches refused (asked c refused s request) (asked c None s request)
-asked_reaches c refused s (Single line) = runs_reaches c s refused _ _ (ran_reaches Alone [] refused 0 unspent (line ∷ []) s.machine)
-asked_reaches c refused s (CommandList lines) = runs_reaches c s refused _ _ (ran_reaches InList [] refused 0 unspent lines s.machine)
-asked_reaches c refused s (OkList lines) = runs_reaches c s refused _ _ (ran_reaches InList list_ok refused 0 unspent lines s.machine)
+asked_reaches c refused s (Single line) = runs_reaches c s refused _ _ (ran_reaches Alone [] refused 0 (unspent s.machine) (line ∷ []) s.machine)
+asked_reaches c refused s (CommandList lines) = runs_reaches c s refused _ _ (ran_reaches InList [] refused 0 (unspent s.machine) lines s.machine)
+asked_reaches c refused s (OkList lines) = runs_reaches c s refused _ _ (ran_reaches InList list_ok refused 0 (unspent s.machine) lines s.machine)
 asked_reaches c refused s Noidle = inr refl
 
 requested_reaches : (c : ℕ) (refused : Option ℕ) (s : State) (request : Request) (found : Option (Option Subsystems)) →
@@ -136,9 +136,9 @@ ran_place : (c : ℕ) (s : State) (r : Ran) → r.refused_at ≡ None → let a 
 ran_place c s r none = of_ran_place c s r r.ending ∙ none
 
 asked_names_none : (c : ℕ) (s : State) (request : Request) → let a = asked c None s request in a.refused_at ≡ None
-asked_names_none c s (Single line) = ran_place c s _ (ran_names_none Alone [] 0 unspent (line ∷ []) s.machine)
-asked_names_none c s (CommandList lines) = ran_place c s _ (ran_names_none InList [] 0 unspent lines s.machine)
-asked_names_none c s (OkList lines) = ran_place c s _ (ran_names_none InList list_ok 0 unspent lines s.machine)
+asked_names_none c s (Single line) = ran_place c s _ (ran_names_none Alone [] 0 (unspent s.machine) (line ∷ []) s.machine)
+asked_names_none c s (CommandList lines) = ran_place c s _ (ran_names_none InList [] 0 (unspent s.machine) lines s.machine)
+asked_names_none c s (OkList lines) = ran_place c s _ (ran_names_none InList list_ok 0 (unspent s.machine) lines s.machine)
 asked_names_none c s Noidle = refl
 
 waiting_names_none : (noidle : Bool) (c : ℕ) (s : State) → let a = waits_no_more noidle c s in a.refused_at ≡ None

@@ -1,6 +1,6 @@
 -- The ops of an event rebuild the saved half, where those of a command do, and fit into a record.
 use Rattle.std.proofs.Common.{◌≡◌, ℕ, suc, ◌+◌, ◌≤◌, Bool, true, false, List, [], ◌∷◌, ◌++◌, length, Option, Some, None, cond}
-use Rattle.std.proofs.Common.{refl, ◌∙◌, ap, arith, length-append}
+use Rattle.std.proofs.Common.{refl, subst, ◌∙◌, ap, arith, length-append}
 use Rattle.std.specs.Prelude.{Result, Ok, Err, nat_le}
 use Rattle.std.specs.Option.{option_and_then}
 use Rattle.std.proofs.lemmas.Bool.{leb-true}
@@ -26,8 +26,11 @@ use Rattle.machine_core.specs.Reports.{when_fed, when_ended, when_broken}
 use Rattle.machine_core.specs.Scanning.{when_found, when_scanned}
 use Rattle.machine_core.specs.Size.{max_request_bytes, within}
 use Rattle.machine_core.specs.State.{MachineState}
+use Rattle.machine_core.proofs.Sizes.{body_len, checksum_fits, profile_stays}
+use Rattle.profile.specs.declared.profile.Profile.{Profile}
 use Rattle.state_codec.proofs.AppliedLaws.{all_applied-append}
 use Rattle.state_codec.specs.Applied.{all_applied}
+use Rattle.state_codec.specs.Sealed.{checksum_len}
 use Rattle.state_codec.specs.Spelling.{ops_bytes}
 use Rattle.state_codec.specs.SpellingOps.{op_bytes}
 use Rattle.state_codec.specs.declared.op.Op.{Op}
@@ -51,7 +54,7 @@ CommandsRebuild = (command : Command) (m : MachineState) (x : Meaning) → meani
 -- what was done is rebuilt by its ops, which fit
 pub record Rebuilt (size : ℕ) (m after : MachineState) (ops : List Op) : Type 0 where
   pub state : all_applied ops m.saved ≡ Some after.saved
-  pub fits : size + length (ops_bytes ops) ≤ max_request_bytes
+  pub fits : size + length (ops_bytes m.saved.profile ops) ≤ max_request_bytes
 
 abbrev pub Rebuilds : ℕ → MachineState → Did → Type 0
 Rebuilds size m (Goes x) = Rebuilt size m x.after x.ops
@@ -59,16 +62,16 @@ Rebuilds size m (Refuses refusal) = Unit {0}
 Rebuilds size m (Ends ending) = Unit {0}
 
 within_rebuilds : (size : ℕ) (m : MachineState) (name : CommandName) (x : Meaning) (fits : Bool) →
-    nat_le (size + length (ops_bytes x.ops)) max_request_bytes ≡ fits → all_applied x.ops m.saved ≡ Some x.after.saved →
+    nat_le (size + length (ops_bytes m.saved.profile x.ops)) max_request_bytes ≡ fits → all_applied x.ops m.saved ≡ Some x.after.saved →
     Rebuilds size m (did_of name (cond fits (Ok x) (Err RequestTooLarge)))
 within_rebuilds size m name x true h same = record { state = same; fits = leb-true _ _ h }
 within_rebuilds size m name x false h same = tt
 
 did_rebuilds : (law : CommandsRebuild) (size : ℕ) (m : MachineState) (name : CommandName) (command : Command) (meant : Meant) →
-    meaning command m ≡ meant → Rebuilds size m (did_of name (within size meant))
+    meaning command m ≡ meant → Rebuilds size m (did_of name (within m.saved.profile size meant))
 did_rebuilds law size m name command (Err refusal) is = tt
 did_rebuilds law size m name command (Ok x) is =
-    within_rebuilds size m name x (nat_le (size + length (ops_bytes x.ops)) max_request_bytes) refl (law command m x is)
+    within_rebuilds size m name x (nat_le (size + length (ops_bytes m.saved.profile x.ops)) max_request_bytes) refl (law command m x is)
 
 unless_rebuilds : (size : ℕ) (m : MachineState) (ending : Option Ending) (did : Did) → Rebuilds size m did →
     Rebuilds size m (unless_it_ends ending did)
@@ -77,8 +80,8 @@ unless_rebuilds size m (Some ending) did h = tt
 
 -- one that would look at too much is refused before it does anything
 weighed_rebuilds : (size : ℕ) (m : MachineState) (name : CommandName) (meant : Meant) (fits : Bool) →
-    Rebuilds size m (did_of name (within size meant)) →
-    Rebuilds size m (did_of name (within size (cond fits meant (Err RequestTooLarge))))
+    Rebuilds size m (did_of name (within m.saved.profile size meant)) →
+    Rebuilds size m (did_of name (within m.saved.profile size (cond fits meant (Err RequestTooLarge))))
 weighed_rebuilds size m name meant true same = same
 weighed_rebuilds size m name meant false same = tt
 
@@ -98,16 +101,17 @@ read_rebuilds law spent m (Err refusal) = tt
 attempted_rebuilds : (law : CommandsRebuild) (place : Place) (spent : Spent) (line : List ℕ) (m : MachineState) →
     Rebuilds spent.size m (attempted place spent line m)
 unfolding attempted
-attempted_rebuilds law place spent line m = read_rebuilds law spent m (line_reading place line)
+attempted_rebuilds law place spent line m = read_rebuilds law spent m (line_reading m.saved.profile place line)
 
-ops_bytes-append : (a b : List Op) → length (ops_bytes (a ++ b)) ≡ length (ops_bytes a) + length (ops_bytes b)
-ops_bytes-append [] b = omega arith
-ops_bytes-append (op ∷ a) b =
+ops_bytes-append : (profile : Profile) (a b : List Op)
+    → length (ops_bytes profile (a ++ b)) ≡ length (ops_bytes profile a) + length (ops_bytes profile b)
+ops_bytes-append profile [] b = omega arith
+ops_bytes-append profile (op ∷ a) b =
     omega (
       arith,
-      length-append (op_bytes op) (ops_bytes (a ++ b)),
-      length-append (op_bytes op) (ops_bytes a),
-      ops_bytes-append a b,
+      length-append (op_bytes profile op) (ops_bytes profile (a ++ b)),
+      length-append (op_bytes profile op) (ops_bytes profile a),
+      ops_bytes-append profile a b,
     )
 
 -- so is what a request did
@@ -120,7 +124,12 @@ follow_rebuilds separator index place line spent m rest (Goes x) within same lat
     let l = later (spent_behind place line m spent x.ops) x.after same.fits in
     record {
       state = all_applied-append x.ops r.ops m.saved ∙ ap (option_and_then (all_applied r.ops)) same.state ∙ l.state;
-      fits = omega (arith, l.fits, ops_bytes-append x.ops r.ops);
+      fits = omega (
+        arith,
+        subst (λ p. spent.size + length (ops_bytes m.saved.profile x.ops) + length (ops_bytes p r.ops) ≤ max_request_bytes)
+            (profile_stays x.ops m.saved x.after.saved same.state) l.fits,
+        ops_bytes-append m.saved.profile x.ops r.ops,
+      );
     }
 follow_rebuilds separator index place line spent m rest (Refuses refusal) within same later =
     record { state = refl; fits = omega (arith, within) }
@@ -143,56 +152,64 @@ ran_rebuilds law place separator refused index spent (line ∷ lines) m within =
     (attempted place spent line m) within (attempted_rebuilds law place spent line m)
     (λ n t fits. ran_rebuilds law place separator refused (suc index) n lines t fits))
 
--- so is what any event does
-same : (s : State) → Rebuilt 0 s.machine s.machine []
-same s = record { state = refl; fits = omega arith }
+-- so is what any event does, with the sum behind its ops
+abbrev pub WholeRebuilt : MachineState → MachineState → List Op → Type 0
+WholeRebuilt m after ops = Rebuilt (checksum_len m.saved.profile) m after ops
 
-of_ran_rebuilds : (c : ℕ) (s : State) (r : Ran) (ending : Ending) → Rebuilt 0 s.machine r.after r.ops →
-    let a = of_ran c s r ending in Rebuilt 0 s.machine a.after.machine a.ops
+-- a sum alone
+none_fits : (m : MachineState) → checksum_len m.saved.profile + length (ops_bytes m.saved.profile []) ≤ max_request_bytes
+none_fits m = omega (arith, checksum_fits m.saved.profile)
+
+same : (s : State) → WholeRebuilt s.machine s.machine []
+same s = record { state = refl; fits = none_fits s.machine }
+
+of_ran_rebuilds : (c : ℕ) (s : State) (r : Ran) (ending : Ending) → WholeRebuilt s.machine r.after r.ops →
+    let a = of_ran c s r ending in WholeRebuilt s.machine a.after.machine a.ops
 of_ran_rebuilds c s r Answered h = record { state = h.state; fits = h.fits }
 of_ran_rebuilds c s r Closed h = record { state = h.state; fits = h.fits }
 of_ran_rebuilds c s r Killed h = record { state = h.state; fits = h.fits }
 of_ran_rebuilds c s r (Waits mask) h = record { state = h.state; fits = h.fits }
 
-runs_rebuilds : (c : ℕ) (s : State) (r : Ran) → Rebuilt 0 s.machine r.after r.ops →
-    let a = runs c s r in Rebuilt 0 s.machine a.after.machine a.ops
+runs_rebuilds : (c : ℕ) (s : State) (r : Ran) → WholeRebuilt s.machine r.after r.ops →
+    let a = runs c s r in WholeRebuilt s.machine a.after.machine a.ops
 runs_rebuilds c s r h = of_ran_rebuilds c s r r.ending h
 
 asked_rebuilds : (law : CommandsRebuild) (c : ℕ) (refused : Option ℕ) (s : State) (request : Request) →
-    let a = asked c refused s request in Rebuilt 0 s.machine a.after.machine a.ops
+    let a = asked c refused s request in WholeRebuilt s.machine a.after.machine a.ops
 asked_rebuilds law c refused s (Single line) =
-    runs_rebuilds c s _ (ran_rebuilds law Alone [] refused 0 unspent (line ∷ []) s.machine (omega arith))
+    runs_rebuilds c s _ (ran_rebuilds law Alone [] refused 0 (unspent s.machine) (line ∷ []) s.machine (checksum_fits s.machine.saved.profile))
 asked_rebuilds law c refused s (CommandList lines) =
-    runs_rebuilds c s _ (ran_rebuilds law InList [] refused 0 unspent lines s.machine (omega arith))
+    runs_rebuilds c s _ (ran_rebuilds law InList [] refused 0 (unspent s.machine) lines s.machine (checksum_fits s.machine.saved.profile))
 asked_rebuilds law c refused s (OkList lines) =
-    runs_rebuilds c s _ (ran_rebuilds law InList list_ok refused 0 unspent lines s.machine (omega arith))
+    runs_rebuilds c s _ (ran_rebuilds law InList list_ok refused 0 (unspent s.machine) lines s.machine (checksum_fits s.machine.saved.profile))
 asked_rebuilds law c refused s Noidle = same s
 
-waiting_rebuilds : (noidle : Bool) (c : ℕ) (s : State) → let a = waits_no_more noidle c s in Rebuilt 0 s.machine a.after.machine a.ops
-waiting_rebuilds true c s = record { state = refl; fits = omega arith }
-waiting_rebuilds false c s = record { state = refl; fits = omega arith }
+waiting_rebuilds : (noidle : Bool) (c : ℕ) (s : State) → let a = waits_no_more noidle c s in WholeRebuilt s.machine a.after.machine a.ops
+waiting_rebuilds true c s = record { state = refl; fits = none_fits s.machine }
+waiting_rebuilds false c s = record { state = refl; fits = none_fits s.machine }
 
 requested_rebuilds : (law : CommandsRebuild) (c : ℕ) (refused : Option ℕ) (s : State) (request : Request)
-    (found : Option (Option Subsystems)) → let a = requested_by c refused s request found in Rebuilt 0 s.machine a.after.machine a.ops
+    (found : Option (Option Subsystems)) → let a = requested_by c refused s request found in WholeRebuilt s.machine a.after.machine a.ops
 requested_rebuilds law c refused s request None = same s
 requested_rebuilds law c refused s request (Some None) = asked_rebuilds law c refused s request
 requested_rebuilds law c refused s request (Some (Some mask)) = waiting_rebuilds (is_noidle request) c s
 
 connect_rebuilds : (c : ℕ) (s : State) (found : Option Watched) →
-    let a = connects_client c s found in Rebuilt 0 s.machine a.after.machine a.ops
-connect_rebuilds c s None = record { state = refl; fits = omega arith }
+    let a = connects_client c s found in WholeRebuilt s.machine a.after.machine a.ops
+connect_rebuilds c s None = record { state = refl; fits = none_fits s.machine }
 connect_rebuilds c s (Some w) = same s
 
 happened_rebuilds : (s : State) (h : Happening) → IsRebuilt s.machine h →
-    let a = happened s h in Rebuilt 0 s.machine a.after.machine a.ops
-happened_rebuilds s h is = record { state = is.state; fits = omega (arith, is.fits) }
+    let a = happened s h in WholeRebuilt s.machine a.after.machine a.ops
+happened_rebuilds s h is =
+    record { state = is.state; fits = omega (arith, is.fits, body_len s.machine.saved.profile h.ops) }
 
 acted_rebuilds : (law : CommandsRebuild) (s : State) (event : Event) (refused : Option ℕ) → IsReported event s.machine →
-    let a = acted s event refused in Rebuilt 0 s.machine a.after.machine a.ops
+    let a = acted s event refused in WholeRebuilt s.machine a.after.machine a.ops
 acted_rebuilds law s (events.Connect c) refused reported = connect_rebuilds c s (watched s.clients c)
 acted_rebuilds law s (events.Request c request) refused reported =
     requested_rebuilds law c refused s request (waiting_of (watched s.clients c))
-acted_rebuilds law s (events.Gone c) refused reported = record { state = refl; fits = omega arith }
+acted_rebuilds law s (events.Gone c) refused reported = record { state = refl; fits = none_fits s.machine }
 acted_rebuilds law s (events.Fed ticket frames) refused reported = happened_rebuilds s (when_fed ticket frames s.machine) reported
 acted_rebuilds law s (events.Ended ticket) refused reported = happened_rebuilds s (when_ended ticket s.machine) reported
 acted_rebuilds law s (events.Broken ticket cause) refused reported = happened_rebuilds s (when_broken ticket cause s.machine) reported
@@ -200,7 +217,7 @@ acted_rebuilds law s (events.Batch job changes) refused reported = happened_rebu
 acted_rebuilds law s (events.ScanDone job) refused reported = happened_rebuilds s (when_scanned job s.machine) reported
 
 pub step_rebuilds : (law : CommandsRebuild) (s : State) (event : Event) (refused : Option ℕ) → IsReported event s.machine →
-    let r = step s event refused in Rebuilt 0 s.machine r.after.machine r.ops
+    let r = step s event refused in WholeRebuilt s.machine r.after.machine r.ops
 unfolding step
 step_rebuilds law s event refused reported =
     let h = acted_rebuilds law s event refused reported in record { state = h.state; fits = h.fits }

@@ -30,6 +30,8 @@ use Rattle.machine_core.specs.Size.{max_request_bytes, within}
 use Rattle.machine_core.specs.State.{MachineState}
 use Rattle.machine_core.specs.Work.{AddsNothing, AddsOps, AddsText, HasRoom, Went, ack_room}
 use Rattle.machine_core.specs.declared.work.Work.{Work}
+use Rattle.profile.specs.declared.profile.Profile.{Profile}
+use Rattle.state_codec.specs.Sealed.{checksum_len}
 use Rattle.state_codec.specs.Spelling.{ops_bytes}
 use Rattle.state_codec.specs.declared.op.Op.{Op}
 use Rattle.daemon_core.specs.Handled.{Does}
@@ -52,10 +54,11 @@ use Rattle.daemon_core.proofs.PendingLaws.{contains-set_of, set_ext}
 use Rattle.daemon_core.proofs.ReachedLaws.{of_ran_place}
 
 -- Room that was taken before changes nothing.
-adds_from : (more : List Op) (before mid after : Work) → AddsNothing before mid → AddsOps more mid after → AddsOps more before after
-adds_from more before mid after nothing adds = record {
+adds_from : (more : List Op) (bytes : ℕ) (before mid after : Work) → AddsNothing before mid → AddsOps more bytes mid after
+    → AddsOps more bytes before after
+adds_from more bytes before mid after nothing adds = record {
   ops = adds.ops ∙ ap (λ x. x ++ more) nothing.ops;
-  size = adds.size ∙ ap (λ n. n + length (ops_bytes more)) nothing.size;
+  size = adds.size ∙ ap (λ n. n + bytes) nothing.size;
   fits = adds.fits;
 }
 
@@ -74,31 +77,36 @@ runs_from between did s t before mid after (Ok set) nothing h = record {
   means = h.means;
   stands = h.stands;
   text = h.text ∙ (let m = h.meaning in ap (λ x. x ++ (m.text ++ between)) nothing.text);
-  ops = let m = h.meaning in adds_from m.ops before mid after nothing h.ops;
+  ops = let m = h.meaning in adds_from m.ops (length (ops_bytes s.saved.profile m.ops)) before mid after nothing h.ops;
   changed = h.changed;
   room = h.room;
 }
 runs_from between did s t before mid after (Err stop) nothing h =
     record { stands = h.stands; nothing = nothing_from before mid after nothing h.nothing; why = h.why }
 
+-- what is read under the profile of a machine
+pub read_under : {p q : Profile} (place : Place) (words : List (List ℕ)) (r : Result NamedCommand ReadError) → p ≡ q
+    → Gives r (command_of p place words) → Gives r (command_of q place words)
+read_under place words r same h = subst (λ (x : Profile). Gives r (command_of x place words)) same h
+
 -- a line that was read
 pub read_performed : (place : Place) (spent : Spent) (line : List ℕ) (words : List (List ℕ)) (m : MachineState) (named : NamedCommand) →
-    line_words line ≡ Ok words → command_of place words ≡ Ok named → performed spent named m ≡ attempted place spent line m
+    line_words line ≡ Ok words → command_of m.saved.profile place words ≡ Ok named → performed spent named m ≡ attempted place spent line m
 unfolding attempted line_reading
 read_performed place spent line words m named parted read =
-    sym (ap (λ w. read_and_performed spent m (command_in place w)) parted ∙ ap (read_and_performed spent m) read)
+    sym (ap (λ w. read_and_performed spent m (command_in m.saved.profile place w)) parted ∙ ap (read_and_performed spent m) read)
 
 -- a line whose words were refused, or that no command is read from
 pub words_refused : (place : Place) (spent : Spent) (line : List ℕ) (m : MachineState) (refusal : Refusal) → line_words line ≡ Err refusal →
     attempted place spent line m ≡ Refuses refusal
 unfolding attempted line_reading
-words_refused place spent line m refusal parted = ap (λ w. read_and_performed spent m (command_in place w)) parted
+words_refused place spent line m refusal parted = ap (λ w. read_and_performed spent m (command_in m.saved.profile place w)) parted
 
 pub command_refused : (place : Place) (spent : Spent) (line : List ℕ) (words : List (List ℕ)) (m : MachineState) (refusal : Refusal) →
-    line_words line ≡ Ok words → command_of place words ≡ Err refusal → attempted place spent line m ≡ Refuses refusal
+    line_words line ≡ Ok words → command_of m.saved.profile place words ≡ Err refusal → attempted place spent line m ≡ Refuses refusal
 unfolding attempted line_reading
 command_refused place spent line words m refusal parted read =
-    ap (λ w. read_and_performed spent m (command_in place w)) parted ∙ ap (read_and_performed spent m) read
+    ap (λ w. read_and_performed spent m (command_in m.saved.profile place w)) parted ∙ ap (read_and_performed spent m) read
 
 -- a command that ends its request, and one that means something
 pub performed_ends : (spent : Spent) (named : NamedCommand) (m : MachineState) (ending : Ending) → ending_of named.command ≡ Some ending →
@@ -118,17 +126,19 @@ pub performed_refuses : (spent : Spent) (named : NamedCommand) (m : MachineState
     performed spent named m ≡ Refuses (OfCommand named.name refusal)
 performed_refuses spent named m refusal is same = performed_did spent named m (Err refusal) is same
 
-within_limit : (size : ℕ) (x : Meaning) → size + length (ops_bytes x.ops) ≤ max_request_bytes → within size (Ok x) ≡ Ok x
-within_limit size x fits =
-    ap (λ b. cond b (Ok x) (Err RequestTooLarge)) (le-leb (size + length (ops_bytes x.ops)) max_request_bytes fits)
+within_limit : (profile : Profile) (size : ℕ) (x : Meaning) → size + length (ops_bytes profile x.ops) ≤ max_request_bytes
+    → within profile size (Ok x) ≡ Ok x
+within_limit profile size x fits =
+    ap (λ b. cond b (Ok x) (Err RequestTooLarge)) (le-leb (size + length (ops_bytes profile x.ops)) max_request_bytes fits)
 
 pub performed_goes : (named : NamedCommand) (s t : MachineState) (before after : Work) (looks : ℕ)
-    (went : Went (weighed looks (looks_of named.command s) (meaning named.command s)) t before after) →
+    (went : Went s.saved.profile (weighed looks (looks_of named.command s) (meaning named.command s)) t before after) →
     ending_of named.command ≡ None → performed (spent_of before.size looks) named s ≡ Goes went.meaning
 performed_goes named s t before after looks went is =
     let x : Meaning = went.meaning in
     performed_did (spent_of before.size looks) named s (Ok x) is
-    (ap (within before.size) went.means ∙ within_limit before.size x (let a = went.ops in omega (arith, a.size, a.fits)))
+    (ap (within s.saved.profile before.size) went.means
+    ∙ within_limit s.saved.profile before.size x (let a = went.ops in omega (arith, a.size, a.fits)))
 
 -- Sets of subsystems join in any grouping.
 or_assoc : (a b c : Bool) → ((a || b) || c) ≡ (a || (b || c))
@@ -391,7 +401,7 @@ ran_all place between lines (r ∷ rest) index first s before now after looks al
 
 -- a command that went well, and what stands behind it
 pub went_on : (named : NamedCommand) (separator : List ℕ) (s t : MachineState) (before mid after : Work) (looks : ℕ) (set : Subsystems) →
-    Went (weighed looks (looks_of named.command s) (meaning named.command s)) t before mid → ending_of named.command ≡ None →
+    Went s.saved.profile (weighed looks (looks_of named.command s) (meaning named.command s)) t before mid → ending_of named.command ≡ None →
     AddsText separator mid after → HasRoom ack_room after → set ≡ changed s t →
     WentOn separator (performed (spent_of before.size looks) named s) s t before after set
 went_on named separator s t before mid after looks set went is adds room same =
@@ -415,7 +425,7 @@ words_stop place spent line m (errors.Refused refusal) stop read is =
 words_stop place spent line m errors.NoMemory stop read is = subst (IsStop (attempted place spent line m)) (sym is) tt
 
 pub command_stop : (place : Place) (spent : Spent) (line : List ℕ) (words slice : List (List ℕ)) (m : MachineState) (error : ReadError)
-    (stop : Stop) → line_words line ≡ Ok words → slice ≡ words → Gives {A = NamedCommand} (Err error) (command_of place slice) →
+    (stop : Stop) → line_words line ≡ Ok words → slice ≡ words → Gives {A = NamedCommand} (Err error) (command_of m.saved.profile place slice) →
     stop ≡ stop_of_reading error → IsStop (attempted place spent line m) stop
 command_stop place spent line words slice m (errors.Refused refusal) stop parted same read is =
     subst (IsStop (attempted place spent line m)) (sym is)
@@ -426,7 +436,7 @@ command_stop place spent line words slice m errors.NoMemory stop parted same rea
 -- a command that was read runs as its line does, and looks at what its line looks at
 pub line_runs : (place : Place) (between line : List ℕ) (words slice : List (List ℕ)) (named : NamedCommand) (s t : MachineState)
     (before mid after : Work) (looks : ℕ) (r : Result Subsystems Stop) → line_words line ≡ Ok words → slice ≡ words →
-    command_of place slice ≡ Ok named → AddsNothing before mid →
+    command_of s.saved.profile place slice ≡ Ok named → AddsNothing before mid →
     RunsLine between (performed (spent_of mid.size looks) named s) s t mid after r →
     RunsLine between (attempted place (spent_of before.size looks) line s) s t before after r
 line_runs place between line words slice named s t before mid after looks r parted same read nothing h =
@@ -436,11 +446,11 @@ line_runs place between line words slice named s t before mid after looks r part
     ∙ read_performed place (spent_of before.size looks) line slice s named (parted ∙ ap Ok (sym same)) read) h)
 
 pub line_looks : (place : Place) (line : List ℕ) (words slice : List (List ℕ)) (named : NamedCommand) (m : MachineState) →
-    line_words line ≡ Ok words → slice ≡ words → command_of place slice ≡ Ok named →
+    line_words line ≡ Ok words → slice ≡ words → command_of m.saved.profile place slice ≡ Ok named →
     looks_of named.command m ≡ looks_of_line place line m
 unfolding looks_of_line line_reading
 line_looks place line words slice named m parted same read =
-    sym (ap (λ w. looks_read (command_in place w) m) (parted ∙ ap Ok (sym same)) ∙ ap (λ r. looks_read r m) read)
+    sym (ap (λ w. looks_read (command_in m.saved.profile place w) m) (parted ∙ ap Ok (sym same)) ∙ ap (λ r. looks_read r m) read)
 
 pub looks_counted : {n m : ℕ} (r : Result Subsystems Stop) (looks more : ℕ) → n ≡ m → more ≡ looked looks n →
     CountsLooks (looked looks m) more r
@@ -481,23 +491,24 @@ pub end_counts : (command : Command) (m : MachineState) (ending : Ending) (looks
 end_counts command m ending looks is =
     looked_none looks (looks_of command m) (subst (λ o. LooksIfEnding o (looks_of command m)) is (command_end command m))
 
-unread_counts : (place : Place) (line : List ℕ) (m : MachineState) (refusal : Refusal) (looks : ℕ) → line_reading place line ≡ Err refusal →
-    looks ≡ looked looks (looks_of_line place line m)
+unread_counts : (place : Place) (line : List ℕ) (m : MachineState) (refusal : Refusal) (looks : ℕ) →
+    line_reading m.saved.profile place line ≡ Err refusal → looks ≡ looked looks (looks_of_line place line m)
 unfolding looks_of_line
 unread_counts place line m refusal looks read =
     looked_none looks (looks_of_line place line m) (ap (λ r. looks_read r m) read)
 
-words_unread : (place : Place) (line : List ℕ) (refusal : Refusal) → line_words line ≡ Err refusal → line_reading place line ≡ Err refusal
+words_unread : (profile : Profile) (place : Place) (line : List ℕ) (refusal : Refusal) → line_words line ≡ Err refusal
+    → line_reading profile place line ≡ Err refusal
 unfolding line_reading
-words_unread place line refusal parted = ap (command_in place) parted
+words_unread profile place line refusal parted = ap (command_in profile place) parted
 
-command_unread : (place : Place) (line : List ℕ) (words : List (List ℕ)) (refusal : Refusal) → line_words line ≡ Ok words →
-    command_of place words ≡ Err refusal → line_reading place line ≡ Err refusal
+command_unread : (profile : Profile) (place : Place) (line : List ℕ) (words : List (List ℕ)) (refusal : Refusal) →
+    line_words line ≡ Ok words → command_of profile place words ≡ Err refusal → line_reading profile place line ≡ Err refusal
 unfolding line_reading
-command_unread place line words refusal parted read = ap (command_in place) parted ∙ read
+command_unread profile place line words refusal parted read = ap (command_in profile place) parted ∙ read
 
 stop_counts : (place : Place) (line : List ℕ) (m : MachineState) (refusal : Refusal) (stop : Stop) (looks : ℕ) →
-    line_reading place line ≡ Err refusal → stop ≡ stops.Refused refusal →
+    line_reading m.saved.profile place line ≡ Err refusal → stop ≡ stops.Refused refusal →
     CountsLooks (looked looks (looks_of_line place line m)) looks (Err stop)
 stop_counts place line m refusal stop looks read is =
     subst (λ (it : Stop). CountsLooks (looked looks (looks_of_line place line m)) looks (Err it)) (sym is)
@@ -507,15 +518,15 @@ pub words_count : (place : Place) (line : List ℕ) (m : MachineState) (error : 
     GivesWords (Err error) (line_words line) → stop ≡ stop_of_reading error →
     CountsLooks (looked looks (looks_of_line place line m)) looks (Err stop)
 words_count place line m (errors.Refused refusal) stop looks read is =
-    stop_counts place line m refusal stop looks (words_unread place line refusal read) is
+    stop_counts place line m refusal stop looks (words_unread m.saved.profile place line refusal read) is
 words_count place line m errors.NoMemory stop looks read is =
     subst (λ (it : Stop). CountsLooks (looked looks (looks_of_line place line m)) looks (Err it)) (sym is) tt
 
 pub command_counts : (place : Place) (line : List ℕ) (words slice : List (List ℕ)) (m : MachineState) (error : ReadError) (stop : Stop)
-    (looks : ℕ) → line_words line ≡ Ok words → slice ≡ words → Gives {A = NamedCommand} (Err error) (command_of place slice) →
+    (looks : ℕ) → line_words line ≡ Ok words → slice ≡ words → Gives {A = NamedCommand} (Err error) (command_of m.saved.profile place slice) →
     stop ≡ stop_of_reading error → CountsLooks (looked looks (looks_of_line place line m)) looks (Err stop)
 command_counts place line words slice m (errors.Refused refusal) stop looks parted same read is =
-    stop_counts place line m refusal stop looks (command_unread place line slice refusal (parted ∙ ap Ok (sym same)) read) is
+    stop_counts place line m refusal stop looks (command_unread m.saved.profile place line slice refusal (parted ∙ ap Ok (sym same)) read) is
 command_counts place line words slice m errors.NoMemory stop looks parted same read is =
     subst (λ (it : Stop). CountsLooks (looked looks (looks_of_line place line m)) looks (Err it)) (sym is) tt
 
@@ -529,12 +540,13 @@ of_ran_same c clients m n r (Waits mask) = refl
 
 -- the lines of a request were run, and its end was made
 pub lines_do : (c : ℕ) (place : Place) (between : List ℕ) (lines : List (List ℕ)) (before mid after : CoreParts) (fresh work : Work)
-    (end : RequestEnd) (handled : Handled) → fresh.text.items ≡ [] → fresh.ops.items ≡ [] → fresh.size ≡ 0 →
+    (end : RequestEnd) (handled : Handled) → fresh.text.items ≡ [] → fresh.ops.items ≡ [] →
+    fresh.size ≡ checksum_len before.machine.saved.profile →
     RunsLines place between lines before.machine mid.machine fresh work end → mid.watch ≡ before.watch →
     Does (of_ran c (state_of mid) (ran_of mid.machine work end) end.ending) after handled →
-    Does (runs c (state_of before) (ran place between handled.outcome.refused_at 0 unspent lines before.machine)) after handled
+    Does (runs c (state_of before) (ran place between handled.outcome.refused_at 0 (unspent before.machine) lines before.machine)) after handled
 lines_do c place between lines before mid after fresh work end handled text ops size ran_so watch does =
-    let r : Ran = ran place between end.refused_at 0 unspent lines before.machine in
+    let r : Ran = ran place between end.refused_at 0 (unspent before.machine) lines before.machine in
     let here : ran place between end.refused_at 0 (spent_of fresh.size 0) lines before.machine ≡ r =
     ap (λ n. ran place between end.refused_at 0 (spent_of n 0) lines before.machine) size in
     let same : ran_of mid.machine work end ≡ r = λ i. record {
@@ -550,7 +562,7 @@ lines_do c place between lines before mid after fresh work end handled text ops 
     } in
     let at : handled.outcome.refused_at ≡ end.refused_at =
     does.refused_at ∙ of_ran_place c (state_of mid) (ran_of mid.machine work end) end.ending in
-    subst (λ place_at. Does (runs c (state_of before) (ran place between place_at 0 unspent lines before.machine)) after handled) (sym at)
+    subst (λ place_at. Does (runs c (state_of before) (ran place between place_at 0 (unspent before.machine) lines before.machine)) after handled) (sym at)
     (subst (λ a. Does a after handled)
     ((λ i. of_ran c (record { machine = mid.machine; clients = watch i }) (same i) (same i).ending)
     ∙ of_ran_same c before.watch mid.machine before.machine r r.ending) does)

@@ -6,7 +6,7 @@ use Rattle.machine_core.specs.Followed.{current_row}
 use Rattle.machine_core.specs.Happening.{Happening, nothing_happens}
 use Rattle.machine_core.specs.Meaning.{Meaning}
 use Rattle.machine_core.specs.Reports.{fed_in, broken_in}
-use Rattle.machine_core.specs.Scanning.{is_running, telling, finds, ends_scan}
+use Rattle.machine_core.specs.Scanning.{is_running, kept_changes, telling, finds, ends_scan}
 use Rattle.machine_core.specs.State.{MachineState, settings_of}
 use Rattle.machine_core.specs.Steps.{current_length, puts}
 use Rattle.machine_core.specs.declared.steps.PlayerStep.TheVariants as steps
@@ -83,8 +83,8 @@ song_kept = record {
   fed = λ ticket frames m. fed_song (current_row m.saved m.player) ticket frames m.player;
   ended = λ ticket m. moves_song (steps.Ended ticket) m;
   broken = λ ticket cause m. broken_song (current_entry m.saved.queue.entries m.player.current) ticket cause m.player;
-  found = λ job changes m. if_running m (finds (telling m.saved.songs changes) m) (is_running job m)
-      (found_song (telling m.saved.songs changes) m);
+  found = λ job changes m. if_running m (finds (telling m.saved.songs (kept_changes m.saved.profile changes)) m) (is_running job m)
+      (found_song (telling m.saved.songs (kept_changes m.saved.profile changes)) m);
   scanned = λ job m. if_running m (ends_scan m) (is_running job m) (λ h. h);
 }
 

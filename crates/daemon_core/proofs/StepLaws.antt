@@ -4,8 +4,9 @@ use Rattle.std.specs.Global.{Vec}
 use Rattle.std.specs.Prelude.{IfSome}
 use Rattle.idle_masks.specs.Watched.{marked, reports_of, after_reports}
 use Rattle.machine_core.specs.Size.{max_request_bytes}
+use Rattle.machine_core.proofs.Sizes.{body_len}
 use Rattle.state_codec.specs.Applied.{all_applied}
-use Rattle.state_codec.specs.Spelling.{ops_bytes}
+use Rattle.state_codec.specs.Spelling.{body_bytes}
 use Rattle.daemon_core.specs.Handled.{Does}
 use Rattle.daemon_core.specs.Outcome.{IsOutcome, command_count}
 use Rattle.daemon_core.specs.Parts.{state_of}
@@ -47,7 +48,8 @@ rebuilt_by law s event o t reported h =
 
 pub fits_by : (law : CommandsRebuild) (s : State) (event : Event) (o : Outcome) (t : State) → IsReported event s.machine
     → IsOutcome s event o t →
-    length (ops_bytes o.ops.items) ≤ max_request_bytes
+    length (body_bytes s.machine.saved.profile o.ops.items) ≤ max_request_bytes
 fits_by law s event o t reported h =
     let r = step_rebuilds law s event o.refused_at reported in
-    omega (arith, r.fits, ap (λ ops. length (ops_bytes ops)) h.ops)
+    let p = s.machine.saved.profile in
+    omega (arith, r.fits, body_len p (step s event o.refused_at).ops, ap (λ ops. length (body_bytes p ops)) h.ops)

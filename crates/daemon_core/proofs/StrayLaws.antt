@@ -15,7 +15,7 @@ use Rattle.machine_core.specs.Changed.{changed, same_state, same_playing, same_j
 use Rattle.machine_core.specs.Followed.{current_row}
 use Rattle.machine_core.specs.Happening.{nothing_happens}
 use Rattle.machine_core.specs.Reports.{when_fed, when_ended, when_broken, fed_in, broken_in, happens, player_happens}
-use Rattle.machine_core.specs.Scanning.{is_running, finds, telling, ends_scan}
+use Rattle.machine_core.specs.Scanning.{is_running, finds, kept_changes, telling, ends_scan}
 use Rattle.machine_core.specs.State.{MachineState, settings_of}
 use Rattle.machine_core.specs.Steps.{steps}
 use Rattle.machine_core.specs.declared.job.Job.{Job}
@@ -227,7 +227,7 @@ acted_stray s (events.Fed ticket frames) refused h = ap (happened s) (fed_late s
 acted_stray s (events.Ended ticket) refused h = ap (happened s) (ended_late s.machine ticket h)
 acted_stray s (events.Broken ticket cause) refused h = ap (happened s) (broken_late s.machine ticket cause h)
 acted_stray s (events.Batch job changes) refused h =
-    ap (λ b. happened s (cond b (finds (telling s.machine.saved.songs changes) s.machine) (nothing_happens s.machine)))
+    ap (λ b. happened s (cond b (finds (telling s.machine.saved.songs (kept_changes s.machine.saved.profile changes)) s.machine) (nothing_happens s.machine)))
     (not_running job s.machine h)
 acted_stray s (events.ScanDone job) refused h =
     ap (λ b. happened s (cond b (ends_scan s.machine) (nothing_happens s.machine))) (not_running job s.machine h)

@@ -22,7 +22,7 @@ use Rattle.machine_core.specs.Looks.{looks_of, max_looks}
 use Rattle.machine_core.specs.Happening.{Happening, nothing_happens}
 use Rattle.machine_core.specs.Meaning.{Meaning, Meant}
 use Rattle.machine_core.specs.Reports.{when_ended}
-use Rattle.machine_core.specs.Scanning.{ends_scan, finds, is_running, telling, when_found, when_scanned}
+use Rattle.machine_core.specs.Scanning.{ends_scan, finds, is_running, kept_changes, telling, when_found, when_scanned}
 use Rattle.machine_core.specs.Size.{max_request_bytes, within}
 use Rattle.machine_core.specs.State.{MachineState}
 use Rattle.song_db.specs.declared.change.RowChange.{RowChange}
@@ -50,7 +50,7 @@ pub record MachineTells : Type 0 where
       → (when_ended ticket m).after.saved ≡ m.saved → (when_ended ticket m).ops ≡ []
   pub ended_same : (ticket : ℕ) (m : MachineState) → (when_ended ticket m).ops ≡ [] → (when_ended ticket m).after.saved ≡ m.saved
   pub found : (job : ℕ) (changes : List RowChange) (m : MachineState) → is_running job m ≡ true
-      → ((when_found job changes m).ops ≡ [] ↔ telling m.saved.songs changes ≡ [])
+      → ((when_found job changes m).ops ≡ [] ↔ telling m.saved.songs (kept_changes m.saved.profile changes) ≡ [])
 
 -- it makes no op exactly where it leaves what is saved
 record Tells (Leaves : Type 0) (m : MachineState) (ops : List Op) : Type 0 where
@@ -75,15 +75,15 @@ within_tells m name x true tells = tells
 within_tells m name x false tells = tt
 
 did_tells : (known : MachineTells) (size : ℕ) (m : MachineState) (name : CommandName) (command : Command) (meant : Meant) →
-    meaning command m ≡ meant → DidTells m (did_of name (within size meant))
+    meaning command m ≡ meant → DidTells m (did_of name (within m.saved.profile size meant))
 did_tells known size m name command (Err refusal) is = tt
 did_tells known size m name command (Ok x) is =
-    within_tells m name x (nat_le (size + length (ops_bytes x.ops)) max_request_bytes)
+    within_tells m name x (nat_le (size + length (ops_bytes m.saved.profile x.ops)) max_request_bytes)
     (record { none = λ saved leaves. known.none command m x saved is leaves; same = λ empty. known.same command m x is empty })
 
 -- one that would look at too much is refused before it does anything
 weighed_tells : (size : ℕ) (m : MachineState) (name : CommandName) (meant : Meant) (fits : Bool) →
-    DidTells m (did_of name (within size meant)) → DidTells m (did_of name (within size (cond fits meant (Err RequestTooLarge))))
+    DidTells m (did_of name (within m.saved.profile size meant)) → DidTells m (did_of name (within m.saved.profile size (cond fits meant (Err RequestTooLarge))))
 weighed_tells size m name meant true tells = tells
 weighed_tells size m name meant false tells = tt
 
@@ -106,7 +106,7 @@ read_tells known spent m (Err refusal) = tt
 attempted_tells : (known : MachineTells) (place : Place) (spent : Spent) (line : List ℕ) (m : MachineState) →
     DidTells m (attempted place spent line m)
 unfolding attempted
-attempted_tells known place spent line m = read_tells known spent m (line_reading place line)
+attempted_tells known place spent line m = read_tells known spent m (line_reading m.saved.profile place line)
 
 -- so does what a request ran
 nothing_in : (a b : List Op) → a ++ b ≡ [] → (a ≡ []) × (b ≡ [])
@@ -162,11 +162,11 @@ runs_tells c s r Leaves tells = of_ran_tells c s r r.ending Leaves tells
 asked_tells : (known : MachineTells) (c : ℕ) (refused : Option ℕ) (s : State) (request : Request) →
     let a = asked c refused s request in Tells (RequestLeaves refused s.machine request) s.machine a.ops
 asked_tells known c refused s (Single line) =
-    runs_tells c s _ _ (ran_tells known Alone [] refused 0 unspent (line ∷ []) s.machine)
+    runs_tells c s _ _ (ran_tells known Alone [] refused 0 (unspent s.machine) (line ∷ []) s.machine)
 asked_tells known c refused s (CommandList lines) =
-    runs_tells c s _ _ (ran_tells known InList [] refused 0 unspent lines s.machine)
+    runs_tells c s _ _ (ran_tells known InList [] refused 0 (unspent s.machine) lines s.machine)
 asked_tells known c refused s (OkList lines) =
-    runs_tells c s _ _ (ran_tells known InList list_ok refused 0 unspent lines s.machine)
+    runs_tells c s _ _ (ran_tells known InList list_ok refused 0 (unspent s.machine) lines s.machine)
 asked_tells known c refused s Noidle = silent s.machine
 
 waiting_tells : (noidle : Bool) (c : ℕ) (s : State) → let a = waits_no_more noidle c s in Tells (Unit {0}) s.machine a.ops
@@ -186,17 +186,17 @@ connect_tells c s None = silent s.machine
 connect_tells c s (Some w) = silent s.machine
 
 found_tells : (known : MachineTells) (job : ℕ) (changes : List RowChange) (m : MachineState) →
-    let h = when_found job changes m in Tells (is_running job m ≡ true → telling m.saved.songs changes ≡ []) m h.ops
+    let h = when_found job changes m in Tells (is_running job m ≡ true → telling m.saved.songs (kept_changes m.saved.profile changes) ≡ []) m h.ops
 found_tells known job changes m = record {
   none = λ saved leaves. of (is_running job m) refl leaves;
   same = λ empty runs. (known.found job changes m runs).0 empty;
 }
   where
-    of : (b : Bool) → is_running job m ≡ b → (is_running job m ≡ true → telling m.saved.songs changes ≡ []) →
+    of : (b : Bool) → is_running job m ≡ b → (is_running job m ≡ true → telling m.saved.songs (kept_changes m.saved.profile changes) ≡ []) →
         let h = when_found job changes m in h.ops ≡ []
     of true runs leaves = (known.found job changes m runs).1 (leaves runs)
     of false runs leaves =
-        ap (λ (b : Bool). let h : Happening = cond b (finds (telling m.saved.songs changes) m) (nothing_happens m) in h.ops) runs
+        ap (λ (b : Bool). let h : Happening = cond b (finds (telling m.saved.songs (kept_changes m.saved.profile changes)) m) (nothing_happens m) in h.ops) runs
 
 scanned_tells : (job : ℕ) (m : MachineState) → let h = when_scanned job m in Tells (Unit {0}) m h.ops
 scanned_tells job m = of (is_running job m)

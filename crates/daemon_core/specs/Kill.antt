@@ -44,14 +44,14 @@ goes_on (Ends ending) rest = false
 unfoldable pub comes_to_kill : Place → Option ℕ → ℕ → Spent → List (List ℕ) → MachineState → Bool
 comes_to_kill place refused index spent [] m = false
 comes_to_kill place refused index spent (line ∷ lines) m =
-    not (is_refused_at refused index) && (reads_kill (line_reading place line)
+    not (is_refused_at refused index) && (reads_kill (line_reading m.saved.profile place line)
     || goes_on (attempted place spent line m) (λ x.
     comes_to_kill place refused (suc index) (spent_behind place line m spent x.ops) lines x.after))
 
 abbrev pub request_kills : Option ℕ → MachineState → Request → Bool
-request_kills refused m (Single line) = comes_to_kill Alone refused 0 unspent (line ∷ []) m
-request_kills refused m (CommandList lines) = comes_to_kill InList refused 0 unspent lines m
-request_kills refused m (OkList lines) = comes_to_kill InList refused 0 unspent lines m
+request_kills refused m (Single line) = comes_to_kill Alone refused 0 (unspent m) (line ∷ []) m
+request_kills refused m (CommandList lines) = comes_to_kill InList refused 0 (unspent m) lines m
+request_kills refused m (OkList lines) = comes_to_kill InList refused 0 (unspent m) lines m
 request_kills refused m Noidle = false
 
 -- a client that is connected and doesn't wait asks so

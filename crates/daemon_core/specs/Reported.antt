@@ -6,14 +6,14 @@ use Rattle.machine_core.specs.Scanning.{when_found, when_scanned}
 use Rattle.machine_core.specs.Size.{max_request_bytes}
 use Rattle.machine_core.specs.State.{MachineState}
 use Rattle.state_codec.specs.Applied.{all_applied}
-use Rattle.state_codec.specs.Spelling.{ops_bytes}
+use Rattle.state_codec.specs.Spelling.{body_bytes}
 use Rattle.daemon_core.specs.declared.event.Event.{Event}
 use Rattle.daemon_core.specs.declared.event.Event.TheVariants as events
 
 -- they rebuild the saved half, and fit into one record
 pub record IsRebuilt (m : MachineState) (h : Happening) : Type 0 where
   pub state : all_applied h.ops m.saved ≡ Some h.after.saved
-  pub fits : length (ops_bytes h.ops) ≤ max_request_bytes
+  pub fits : length (body_bytes m.saved.profile h.ops) ≤ max_request_bytes
 
 -- nothing is said here of clients and their requests
 abbrev pub IsReported : Event → MachineState → Type 0

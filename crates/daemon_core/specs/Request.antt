@@ -12,6 +12,7 @@ use Rattle.machine_core.specs.Meaning.{Meaning}
 use Rattle.machine_core.specs.State.{MachineState}
 use Rattle.machine_core.specs.Work.{AddsNothing, AddsOps, AddsText, HasRoom, ack_room}
 use Rattle.machine_core.specs.declared.work.Work.{Work}
+use Rattle.state_codec.specs.Spelling.{ops_bytes}
 use Rattle.daemon_core.specs.Run.{Did, Goes, Refuses, Ends, Ran, ran, spent_of}
 use Rattle.daemon_core.specs.declared.outcome.Ending.{Ending}
 use Rattle.daemon_core.specs.declared.outcome.Ending.TheVariants.{Answered}
@@ -42,7 +43,7 @@ pub record WentOn (separator : List ℕ) (did : Did) (before after : MachineStat
   pub means : did ≡ Goes meaning
   pub stands : after ≡ meaning.after
   pub text : done.text.items ≡ work.text.items ++ (meaning.text ++ separator)
-  pub ops : AddsOps meaning.ops work done
+  pub ops : AddsOps meaning.ops (length (ops_bytes before.saved.profile meaning.ops)) work done
   pub changed : set ≡ changed before after
   pub room : HasRoom ack_room done
 

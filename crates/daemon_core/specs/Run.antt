@@ -22,6 +22,7 @@ use Rattle.machine_core.specs.Looks.{looked, looks_of, max_looks, weighed}
 use Rattle.machine_core.specs.Meaning.{Meaning, Meant}
 use Rattle.machine_core.specs.Size.{within}
 use Rattle.machine_core.specs.State.{MachineState}
+use Rattle.state_codec.specs.Sealed.{checksum_len}
 use Rattle.state_codec.specs.Spelling.{ops_bytes}
 use Rattle.state_codec.specs.declared.op.Op.{Op}
 use Rattle.daemon_core.specs.declared.outcome.Ending.{Ending}
@@ -56,7 +57,7 @@ abbrev pub unless_it_ends : Option Ending → Did → Did
 unless_it_ends None did = did
 unless_it_ends (Some ending) did = Ends ending
 
--- what the commands of a request have spent so far of what it may: the bytes of their ops, and how much they have looked at
+-- what the commands of a request have spent so far of what it may: the bytes of a record of their ops, and how much they have looked at
 pub record Spent : Type 0 where
   pub size : ℕ
   pub looks : ℕ
@@ -64,12 +65,13 @@ pub record Spent : Type 0 where
 abbrev pub spent_of : ℕ → ℕ → Spent
 spent_of size looks = record { size = size; looks = looks }
 
-abbrev pub unspent : Spent
-unspent = spent_of 0 0
+-- the record of a request begins with what stands behind its ops
+abbrev pub unspent : MachineState → Spent
+unspent m = spent_of (checksum_len m.saved.profile) 0
 
 -- what a command means, within what is left of both
 abbrev pub within_both : Spent → Command → MachineState → Meant
-within_both spent command m = within spent.size (weighed spent.looks (looks_of command m) (meaning command m))
+within_both spent command m = within m.saved.profile spent.size (weighed spent.looks (looks_of command m) (meaning command m))
 
 -- what a command does, where those before it have spent so much
 unfoldable pub performed : Spent → NamedCommand → MachineState → Did
@@ -81,7 +83,7 @@ read_and_performed spent m (Ok named) = performed spent named m
 
 -- what the line of one command does
 unfoldable pub attempted : Place → Spent → List ℕ → MachineState → Did
-attempted place spent line m = read_and_performed spent m (line_reading place line)
+attempted place spent line m = read_and_performed spent m (line_reading m.saved.profile place line)
 
 abbrev pub looks_read : Result NamedCommand Refusal → MachineState → ℕ
 looks_read (Err refusal) m = 0
@@ -89,11 +91,12 @@ looks_read (Ok named) m = looks_of named.command m
 
 -- how much the command of a line looks at
 unfoldable pub looks_of_line : Place → List ℕ → MachineState → ℕ
-looks_of_line place line m = looks_read (line_reading place line) m
+looks_of_line place line m = looks_read (line_reading m.saved.profile place line) m
 
 -- what is spent behind the command of a line, which makes these ops
 abbrev pub spent_behind : Place → List ℕ → MachineState → Spent → List Op → Spent
-spent_behind place line m spent ops = spent_of (spent.size + length (ops_bytes ops)) (looked spent.looks (looks_of_line place line m))
+spent_behind place line m spent ops =
+    spent_of (spent.size + length (ops_bytes m.saved.profile ops)) (looked spent.looks (looks_of_line place line m))
 
 -- What a request did: the machine after it, its answer, the subsystems that one of its commands changed, its ops in order, how
 -- it ended, the place of the command that it reached and that was refused memory, if there was one, and how much its commands looked at,

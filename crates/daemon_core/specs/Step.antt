@@ -31,9 +31,9 @@ connects_client c s None =
 
 -- A client that does not wait: `noidle` is nothing to it, a line is a request of one command, a list one of several.
 abbrev pub asked : ℕ → Option ℕ → State → Request → Acted
-asked c refused s (Single line) = runs c s (ran Alone [] refused 0 unspent (line ∷ []) s.machine)
-asked c refused s (CommandList lines) = runs c s (ran InList [] refused 0 unspent lines s.machine)
-asked c refused s (OkList lines) = runs c s (ran InList list_ok refused 0 unspent lines s.machine)
+asked c refused s (Single line) = runs c s (ran Alone [] refused 0 (unspent s.machine) (line ∷ []) s.machine)
+asked c refused s (CommandList lines) = runs c s (ran InList [] refused 0 (unspent s.machine) lines s.machine)
+asked c refused s (OkList lines) = runs c s (ran InList list_ok refused 0 (unspent s.machine) lines s.machine)
 asked c refused s Noidle = nothing s
 
 -- A client that waits: `noidle` ends its waiting, and anything else closes it without a byte.

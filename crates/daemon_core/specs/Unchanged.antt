@@ -7,7 +7,7 @@ use Rattle.command_text.specs.declared.request.Request.TheVariants.{Single, List
 use Rattle.idle_masks.specs.Watched.{watched}
 use Rattle.idle_masks.specs.declared.subsystem.Subsystems.{Subsystems}
 use Rattle.machine_core.specs.Reports.{when_ended}
-use Rattle.machine_core.specs.Scanning.{is_running, telling}
+use Rattle.machine_core.specs.Scanning.{is_running, kept_changes, telling}
 use Rattle.machine_core.specs.State.{MachineState}
 use Rattle.state_codec.specs.declared.op.Op.{Op}
 use Rattle.daemon_core.specs.Run.{Did, Goes, Refuses, Ends, attempted, is_refused_at, Spent, spent_behind, unspent}
@@ -32,9 +32,9 @@ CommandsLeave place refused index spent (line ∷ lines) m =
     (attempted place spent line m)
 
 abbrev pub RequestLeaves : Option ℕ → MachineState → Request → Type 0
-RequestLeaves refused m (Single line) = CommandsLeave Alone refused 0 unspent (line ∷ []) m
-RequestLeaves refused m (CommandList lines) = CommandsLeave InList refused 0 unspent lines m
-RequestLeaves refused m (OkList lines) = CommandsLeave InList refused 0 unspent lines m
+RequestLeaves refused m (Single line) = CommandsLeave Alone refused 0 (unspent m) (line ∷ []) m
+RequestLeaves refused m (CommandList lines) = CommandsLeave InList refused 0 (unspent m) lines m
+RequestLeaves refused m (OkList lines) = CommandsLeave InList refused 0 (unspent m) lines m
 RequestLeaves refused m Noidle = Unit {0}
 
 -- no command is run of a client that isn't connected, or waits
@@ -52,5 +52,6 @@ LeavesSaved s (events.Gone c) refused = Unit {0}
 LeavesSaved s (events.Fed ticket frames) refused = Unit {0}
 LeavesSaved s (events.Ended ticket) refused = (when_ended ticket s.machine).after.saved ≡ s.machine.saved
 LeavesSaved s (events.Broken ticket cause) refused = Unit {0}
-LeavesSaved s (events.Batch job changes) refused = is_running job s.machine ≡ true → telling s.machine.saved.songs changes ≡ []
+LeavesSaved s (events.Batch job changes) refused =
+    is_running job s.machine ≡ true → telling s.machine.saved.songs (kept_changes s.machine.saved.profile changes) ≡ []
 LeavesSaved s (events.ScanDone job) refused = Unit {0}

@@ -68,7 +68,8 @@ impl Core {
         self.parts.machine.order(alloc)
     }
 
-    /// What is to be read for the job that runs, by the rules `LibraryRules::NAMED`; none where no job runs.
+    /// What is to be read for the job that runs, by the rules of the profile; none where no job runs. Of `rescan` no stamp is known, so
+    /// that each file is opened.
     pub fn scan_order(&self, alloc: Global) -> Result<Option<ScanOrder>, NoMemory>
         ensures { IfOk result (λ order. order ≡ scan_order self.now.machine) }
     {
@@ -81,8 +82,10 @@ impl Core {
             Some(uri) => Some(uri.try_clone(alloc)?),
             None => None,
         };
-        let songs = machine.saved().songs();
-        match songs.scan_order(alloc, job.number, place, LibraryRules::NAMED) {
+        let saved = machine.saved();
+        let rules = LibraryRules::of(saved.profile());
+        match saved.songs().scan_order(alloc, job.number, place, rules) {
+            Ok(order) if job.opens_all => Ok(Some(order.without_stamps())),
             Ok(order) => Ok(Some(order)),
             Err(_) => Err(NoMemory),
         }

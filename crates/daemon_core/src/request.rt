@@ -177,7 +177,7 @@ impl CoreParts {
         requires closes { CanCloseAll self.old }
         requires known { IsSome (watched self.old.watch client) }
         ensures ok { IfOk result (λ handled. Does (runs client (state_of self.old)
-            (ran place (separator separated) handled.outcome.refused_at 0 unspent lines.entry self.old.machine)) self.new handled) }
+            (ran place (separator separated) handled.outcome.refused_at 0 (unspent self.old.machine) lines.entry self.old.machine)) self.new handled) }
         ensures place { IfOk result (λ handled. IfSome handled.outcome.refused_at (λ k. k < length lines.entry)) }
         ensures err { OnErr result (state_of self.new ≡ state_of self.old) }
     {
@@ -185,7 +185,8 @@ impl CoreParts {
             return Err(NoMemory);
         }
         let outputs = Vec::with_capacity(alloc, 1)?;
-        let mut work = Work::new(alloc)?;
+        let profile = self.machine.saved().profile();
+        let mut work = Work::new(alloc, profile)?;
         let end = run_lines(&mut self.machine, alloc, place, separated, lines, &mut work);
         Ok(self.end_request(alloc, client, work, end, outputs))
     }
@@ -335,7 +336,8 @@ fn run_line(
         Ok(words) => words,
         Err(error) => return Err(stop_of_reading(error)),
     };
-    match Command::read(alloc, place, words.as_slice()) {
+    let profile = machine.saved().profile();
+    match Command::read(alloc, profile, place, words.as_slice()) {
         Ok(command) => run_command(machine, alloc, separated, command, work, looks),
         Err(error) => Err(stop_of_reading(error)),
     }

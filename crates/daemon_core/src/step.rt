@@ -2,7 +2,7 @@
 ghost use Rattle.std.specs.Prelude.{◌≡◌, ◌≤◌, Some, length, IfOk, OnErr};
 ghost use Rattle.machine_core.specs.Size.{max_request_bytes};
 ghost use Rattle.state_codec.specs.Applied.{all_applied};
-ghost use Rattle.state_codec.specs.Spelling.{ops_bytes};
+ghost use Rattle.state_codec.specs.Spelling.{body_bytes};
 ghost use Rattle.daemon_core.specs.Outcome.{IsOutcome};
 
 use crate::daemon::Core;
@@ -69,7 +69,8 @@ impl Core {
 
         // The ops, applied to what was saved, give what is to be saved, and fit into one record.
         ensures rebuilt { IfOk result (λ outcome. all_applied outcome.ops.items self.old.machine.saved ≡ Some self.new.machine.saved) }
-        ensures fits { IfOk result (λ outcome. length (ops_bytes outcome.ops.items) ≤ max_request_bytes) }
+        ensures fits { IfOk result (λ outcome.
+            length (body_bytes self.old.machine.saved.profile outcome.ops.items) ≤ max_request_bytes) }
 
         ensures err { OnErr result (self.new ≡ self.old) }
     {

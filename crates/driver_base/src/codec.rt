@@ -3,7 +3,7 @@ use crate::fault::Fault;
 use crate::given::read_bytes;
 use crate::printer::Printer;
 use crate::words::{first_word, number};
-use play_journal::LAYOUT;
+use profile::Profile;
 use state_codec::Saved;
 use std::alloc::Global;
 
@@ -11,6 +11,9 @@ mod applying;
 pub mod ops;
 mod shown;
 pub mod snapshots;
+
+/// The layout in which bytes are read until a line says another.
+pub const LAYOUT: u32 = 2;
 
 #[derive(Drop)]
 pub struct Codec {
@@ -23,12 +26,12 @@ pub struct Codec {
 }
 
 impl Codec {
-    /// A new state under a key of zeros, and no bytes; they are read in the layout that is written.
+    /// A new state under a key of zeros, and no bytes; they are read in the layout of the named subset.
     pub fn new(alloc: Global) -> Self {
         Codec {
             alloc,
             layout: LAYOUT,
-            state: Saved::fresh(alloc, [0; 32]),
+            state: Saved::fresh(alloc, Profile::Named, [0; 32]),
             given: Vec::new(alloc),
         }
     }
@@ -69,6 +72,7 @@ impl Codec {
     // Does what a line asks for of the state.
     fn tell(&mut self, printer: &mut Printer, word: &str) -> Result<(), Fault> {
         match word {
+            "widen" => self.state.widen(),
             "spelled" => return self.tell_spelled(printer),
             "respelled" => return self.tell_again(printer),
             "shown" => shown::tell_state(printer, &self.state),
@@ -87,7 +91,7 @@ impl Codec {
     }
 
     fn renew(&mut self, text: &str) -> Result<(), Fault> {
-        self.state = Saved::fresh(self.alloc, [number(text)?; 32]);
+        self.state = Saved::fresh(self.alloc, Profile::Named, [number(text)?; 32]);
         Ok(())
     }
 

@@ -11,6 +11,7 @@ use crate::words::first_word;
 use daemon_core::{Event, NoMemory, RecoverError};
 use live_stage::{LiveError, StartError};
 use play_journal::JournalError;
+use profile::Profile;
 use song_db::RowChange;
 use state_codec::{ApplyError, BodyError, CodecError};
 use std::alloc::Global;
@@ -20,6 +21,8 @@ use std::mem;
 #[derive(Drop)]
 pub struct Desk {
     pub printer: Printer,
+    /// The profile under which a journal or a stage is made or opened.
+    pub profile: Profile,
     a: File,
     b: File,
     /// Files that were put aside for copies of them.
@@ -49,6 +52,7 @@ impl Desk {
     pub fn new(alloc: Global) -> Self {
         Desk {
             printer: Printer::new(alloc),
+            profile: Profile::Named,
             a: File::empty(alloc),
             b: File::empty(alloc),
             aside: None,
@@ -103,6 +107,16 @@ impl Desk {
         Ok(())
     }
 
+    // The profile of the lives from now on.
+    fn choose(&mut self, word: &str) -> Result<(), Fault> {
+        self.profile = match word {
+            "named" => Profile::Named,
+            "wide" => Profile::Wide,
+            _ => return Err(Fault::NoDirective),
+        };
+        Ok(())
+    }
+
     /// Does what a line asks for that begins no life.
     pub fn take(&mut self, host: &HostRuntime, word: &str, rest: &str) -> Result<(), Fault> {
         match word {
@@ -110,12 +124,13 @@ impl Desk {
             "b" => return self.b.take_words(&mut self.printer, rest),
             "aside" => return self.put_aside(),
             "back" => return self.bring_back(),
+            "profile" => return self.choose(rest),
             "real" => {
                 let (path, calls) = first_word(rest);
                 return call_file(host, &mut self.printer, path, calls);
             }
             "fake" => return call_fake(&mut self.printer, rest),
-            "keeps" => return keep_order(&mut self.printer, rest),
+            "keeps" => return keep_order(&mut self.printer, self.profile, rest),
             "file" | "remove" | "shorten" | "folder" => return take_song_line(host, word, rest),
             "bare" => self.empty(),
             "refusals" => tell_refusals(&mut self.printer),

@@ -9,6 +9,7 @@ use crate::words::first_word;
 use disk_model::{FuseDisk, MemDisk};
 use play_journal::laws::{found_is_said, keeps_order};
 use play_journal::{Journal, JournalError, Refused, Stored};
+use profile::Profile;
 use std::alloc::Global;
 
 /// The journal of each life, so that all is proved at one type.
@@ -18,11 +19,15 @@ pub type TestJournal = Journal<TestDisk>;
 
 fn created(
     alloc: Global,
+    profile: Profile,
     a: TestDisk,
     b: TestDisk,
     snapshot: &[u8],
 ) -> Result<TestJournal, Refused<TestDisk>> {
-    Journal::create(alloc, a, b, snapshot)
+    match profile {
+        Profile::Named => Journal::create(alloc, a, b, 2, snapshot),
+        Profile::Wide => Journal::create(alloc, a, b, 3, snapshot),
+    }
 }
 
 fn opened(
@@ -42,14 +47,26 @@ fn checkpointed(
     alloc: Global,
     snapshot: &[u8],
 ) -> Result<(), JournalError> {
-    journal.checkpoint(alloc, snapshot)
+    if journal.layout() == 3 {
+        journal.checkpoint(alloc, 3, snapshot)
+    } else {
+        journal.checkpoint(alloc, 2, snapshot)
+    }
 }
 
-fn ordered(alloc: Global, snapshot: &[u8], bodies: &[Vec<u8>]) -> Result<Stored, JournalError> {
+fn ordered(
+    alloc: Global,
+    profile: Profile,
+    snapshot: &[u8],
+    bodies: &[Vec<u8>],
+) -> Result<Stored, JournalError> {
     found_is_said();
     let a = FuseDisk::new(MemDisk::new(alloc), NEVER);
     let b = FuseDisk::new(MemDisk::new(alloc), NEVER);
-    keeps_order(alloc, a, b, snapshot, bodies)
+    match profile {
+        Profile::Named => keeps_order(alloc, a, b, 2, snapshot, bodies),
+        Profile::Wide => keeps_order(alloc, a, b, 3, snapshot, bodies),
+    }
 }
 
 /// What was found in the files.
@@ -66,7 +83,7 @@ fn tell_refused(printer: &mut Printer, error: JournalError) {
 
 fn make(desk: &mut Desk, life: &mut Life, snapshot: &[u8]) {
     let (a, b) = desk.take_disks();
-    match created(desk.printer.alloc, a, b, snapshot) {
+    match created(desk.printer.alloc, desk.profile, a, b, snapshot) {
         Ok(journal) => *life = Life::Journal(journal),
         Err(Refused { error, a, b }) => desk.refuse(error.number(), error, a, b),
     }
@@ -135,7 +152,7 @@ pub fn take_journal_line(
 }
 
 /// A journal is made of a snapshot and records, with ` ; ` between them, and prints what it has when it is opened again.
-pub fn keep_order(printer: &mut Printer, words: &str) -> Result<(), Fault> {
+pub fn keep_order(printer: &mut Printer, profile: Profile, words: &str) -> Result<(), Fault> {
     let (snapshot, words) = words.split_once(" ; ").ok_or(Fault::NoBytes)?;
     let snapshot = read_bytes(printer.alloc, snapshot)?;
     let mut bodies = Vec::new(printer.alloc);
@@ -144,7 +161,7 @@ pub fn keep_order(printer: &mut Printer, words: &str) -> Result<(), Fault> {
             return Err(Fault::NoMemory);
         }
     }
-    match ordered(printer.alloc, &snapshot, &bodies) {
+    match ordered(printer.alloc, profile, &snapshot, &bodies) {
         Ok(stored) => tell_stored(printer, &stored),
         Err(error) => tell_refused(printer, error),
     }

@@ -11,6 +11,7 @@ use crate::words::first_word;
 use daemon_core::Event;
 use live_stage::{Live, LiveError, Refused, RefusedTurns, Turn, TurnResult, Turns};
 use player_core::Order;
+use profile::Profile;
 use song_db::ScanOrder;
 use std::alloc::Global;
 use std::mem;
@@ -20,12 +21,22 @@ pub type Stage = Live<TestDisk>;
 
 // The prover reads the long contracts of a stage in these functions alone.
 
-fn created(alloc: Global, a: TestDisk, b: TestDisk) -> Result<Stage, Refused<TestDisk>> {
-    Live::create(alloc, a, b, [0; 32])
+fn created(
+    alloc: Global,
+    profile: Profile,
+    a: TestDisk,
+    b: TestDisk,
+) -> Result<Stage, Refused<TestDisk>> {
+    Live::create(alloc, profile, a, b, [0; 32])
 }
 
-fn opened(alloc: Global, a: TestDisk, b: TestDisk) -> Result<Stage, Refused<TestDisk>> {
-    Live::open(alloc, a, b)
+fn opened(
+    alloc: Global,
+    profile: Profile,
+    a: TestDisk,
+    b: TestDisk,
+) -> Result<Stage, Refused<TestDisk>> {
+    Live::open(alloc, profile, a, b)
 }
 
 fn turned(stage: &mut Stage, alloc: Global, event: Event) -> TurnResult<TestDisk> {
@@ -70,14 +81,14 @@ fn begin(desk: &mut Desk, life: &mut Life, begun: Result<Stage, Refused<TestDisk
 /// Makes a stage over the files, whose key is of zeros.
 pub fn make_stage(desk: &mut Desk, life: &mut Life) {
     let (a, b) = desk.take_disks();
-    let begun = created(desk.printer.alloc, a, b);
+    let begun = created(desk.printer.alloc, desk.profile, a, b);
     begin(desk, life, begun);
 }
 
 /// Opens the stage in the files.
 pub fn open_stage(desk: &mut Desk, life: &mut Life) {
     let (a, b) = desk.take_disks();
-    let begun = opened(desk.printer.alloc, a, b);
+    let begun = opened(desk.printer.alloc, desk.profile, a, b);
     begin(desk, life, begun);
 }
 

@@ -1,20 +1,22 @@
 -- What stands between parentheses, as it is read.
-use Rattle.std.proofs.Common.{◌≡◌, ◌⊎◌, inl, inr, ℕ, zero, suc, Bool, true, false, cond, List, [], ◌∷◌, ◌++◌, length, Result, Ok, Err, Some}
-use Rattle.std.proofs.Common.{refl, sym, ap, ◌∙◌, subst, append_assoc}
+use Rattle.std.proofs.Common.{◌≡◌, ◌⊎◌, inl, inr, ℕ, zero, suc, Bool, true, false, cond, List, [], ◌∷◌, ◌++◌, length, Result, Ok, Err, Option}
+use Rattle.std.proofs.Common.{Some, None, refl, sym, ap, ◌∙◌, subst, append_assoc}
 use Rattle.std.proofs.lemmas.List.{append-nil}
 use Rattle.std.specs.Prelude.{codes}
+use Rattle.profile.specs.declared.profile.Profile.{Profile}
 use Rattle.filter_expr.specs.declared.name.Key.{Key}
 use Rattle.filter_expr.specs.declared.name.Key.TheVariants as keys
 use Rattle.filter_expr.specs.declared.operator.Operator.{Operator}
-use Rattle.filter_expr.specs.Grammar.{AreBlanks, SpellsBase, SpellsTest, SpellsNegation, SpellsGroup, SpellsInside, Spells}
+use Rattle.filter_expr.specs.Grammar.{AreBlanks, SpellsBase, SpellsSince, SpellsTest, SpellsNegation, SpellsGroup, SpellsInside, Spells}
 use Rattle.filter_expr.specs.Names.{key_named}
 use Rattle.filter_expr.specs.Parts.{Fault, ◌>>=◌, opening, closing, exclamation, begins_so, without_blanks, byte_at, between_gaps, key_at}
 use Rattle.filter_expr.specs.Parts.{value_at}
 use Rattle.filter_expr.specs.Parts.Fault.{Bad, Deep}
-use Rattle.filter_expr.specs.Reading.{Reader, operator_at, test_tree, test_of, closed, test_at, negation_at, others_at, group_at, inside_at}
+use Rattle.filter_expr.specs.Reading.{Reader, operator_at, since_of, test_tree, test_of, closed, test_at, negation_at, others_at, group_at, inside_at}
 use Rattle.filter_expr.specs.Reading.{expression_at, is_nil, alone, most_open, whole}
+use Rattle.filter_expr.specs.Times.{time_in}
 use Rattle.filter_expr.specs.Tree.{Tree}
-use Rattle.filter_expr.specs.Tree.Tree.{Base, Not, And}
+use Rattle.filter_expr.specs.Tree.Tree.{Base, Since, Not, And}
 use Rattle.filter_expr.proofs.Comparisons.{regroup, spaced, operator_found}
 use Rattle.filter_expr.proofs.Keys.{key_found_so}
 use Rattle.filter_expr.proofs.Pieces.{bind_ok, guard_ok, ok_same, byte_found, blanks_found, value_found}
@@ -47,24 +49,30 @@ wider : (these those : Tree → List ℕ → Type 0) (text : List ℕ) (x : Tree
     → ((tree : Tree) (front : List ℕ) → these tree front → those tree front) → FoundClosed these text x → FoundClosed those text x
 wider these those text x f found = (found.0, found.1, f x.0 found.0 found.2, found.3, found.4)
 
--- a test, or `base V`
-abbrev pub SpellsSimple : Tree → List ℕ → Type 0
-SpellsSimple tree text = SpellsBase tree text ⊎ SpellsTest tree text
+-- a test, `base V` or `modified-since V`
+abbrev pub SpellsSimple : Profile → Tree → List ℕ → Type 0
+SpellsSimple profile tree text = SpellsBase profile tree text ⊎ (SpellsSince profile tree text ⊎ SpellsTest profile tree text)
+
+-- a time that was read
+since_found : (read : Option ℕ) (left : ℕ) (rest : List ℕ) (x : Tree × List ℕ) → since_of read left rest ≡ Ok x
+    → (time : ℕ) × (read ≡ Some time) × ((Since time, rest) ≡ x)
+since_found None left rest x h = absurd (cc)
+since_found (Some time) left rest x h = (time, refl, ok_same (Since time, rest) x h)
 
 glued : (name behind middle inner quoted rest : List ℕ) → behind ≡ middle ++ inner → inner ≡ quoted ++ rest
     → name ++ behind ≡ (name ++ (middle ++ quoted)) ++ rest
 glued name behind middle inner quoted rest e f =
     ap (λ (s : List ℕ). name ++ s) (e ∙ ap (λ (s : List ℕ). middle ++ s) f) ∙ sym (regroup name middle quoted rest)
 
-named_found : (name : List ℕ) (key : Key) (behind : List ℕ) (x : Tree × List ℕ) → key_named name ≡ Some key → test_of key behind ≡ Ok x
-    → FoundBy SpellsSimple (name ++ behind) x
+named_found : (profile : Profile) (name : List ℕ) (key : Key) (behind : List ℕ) (x : Tree × List ℕ) → key_named profile name ≡ Some key
+    → test_of key behind ≡ Ok x → FoundBy (SpellsSimple profile) (name ++ behind) x
 unfolding test_of
-named_found name keys.Base behind x named h =
+named_found profile name keys.Base behind x named h =
     let read = bind_ok {A = List ℕ × List ℕ} {B = Tree × List ℕ} (value_at (without_blanks behind)) (λ value. Ok (Base value.0, value.1)) x
     h in
     let blanks = blanks_found behind in
     let value = value_found (without_blanks behind) read.0.0 read.0.1 read.1 in
-    subst (FoundBy SpellsSimple (name ++ behind)) (ok_same (Base read.0.0, read.0.1) x read.2) (
+    subst (FoundBy (SpellsSimple profile) (name ++ behind)) (ok_same (Base read.0.0, read.0.1) x read.2) (
       name ++ (blanks.0 ++ value.0),
       inl (record {
         name = name;
@@ -79,16 +87,40 @@ named_found name keys.Base behind x named h =
       }),
       glued name behind blanks.0 (without_blanks behind) value.0 read.0.1 blanks.2 value.2,
     )
-named_found name (keys.Of subject) behind x named h =
+named_found profile name keys.Since behind x named h =
+    let bare = without_blanks behind in
+    let read = bind_ok {A = List ℕ × List ℕ} {B = Tree × List ℕ} (value_at bare)
+    (λ value. since_of (time_in value.0) (length bare) value.1) x h in
+    let blanks = blanks_found behind in
+    let value = value_found bare read.0.0 read.0.1 read.1 in
+    let time = since_found (time_in read.0.0) (length bare) read.0.1 x read.2 in
+    subst (FoundBy (SpellsSimple profile) (name ++ behind)) time.2 (
+      name ++ (blanks.0 ++ value.0),
+      inr (inl (record {
+        name = name;
+        gap = blanks.0;
+        quoted = value.0;
+        value = read.0.0;
+        time = time.0;
+        named = named;
+        blanks = blanks.1;
+        spelled = value.1;
+        read = time.1;
+        parts = refl;
+        says = refl;
+      })),
+      glued name behind blanks.0 bare value.0 read.0.1 blanks.2 value.2,
+    )
+named_found profile name (keys.Of subject) behind x named h =
     let first = bind_ok {A = Operator × List ℕ} {B = Tree × List ℕ} (operator_at subject behind)
     (λ operator. value_at (without_blanks operator.1) >>= λ value. Ok (test_tree subject operator.0 value.0, value.1)) x h in
     let read = bind_ok {A = List ℕ × List ℕ} {B = Tree × List ℕ} (value_at (without_blanks first.0.1))
     (λ value. Ok (test_tree subject first.0.0 value.0, value.1)) x first.2 in
     let operator = operator_found subject behind first.0 first.1 in
     let value = value_found (without_blanks first.0.1) read.0.0 read.0.1 read.1 in
-    subst (FoundBy SpellsSimple (name ++ behind)) (ok_same (test_tree subject first.0.0 read.0.0, read.0.1) x read.2) (
+    subst (FoundBy (SpellsSimple profile) (name ++ behind)) (ok_same (test_tree subject first.0.0 read.0.0, read.0.1) x read.2) (
       name ++ (operator.0 ++ value.0),
-      inr (record {
+      inr (inr (record {
         name = name;
         subject = subject;
         middle = operator.0;
@@ -101,18 +133,19 @@ named_found name (keys.Of subject) behind x named h =
         spelled = value.1;
         parts = refl;
         says = refl;
-      }),
+      })),
       glued name behind operator.0 (without_blanks first.0.1) value.0 read.0.1 operator.2 value.2,
     )
 
-test_found : (text : List ℕ) (x : Tree × List ℕ) → test_at text ≡ Ok x → FoundClosed SpellsSimple text x
+test_found : (profile : Profile) (text : List ℕ) (x : Tree × List ℕ) → test_at profile text ≡ Ok x
+    → FoundClosed (SpellsSimple profile) text x
 unfolding test_at
-test_found text x h =
-    let key = bind_ok {A = Key × List ℕ} {B = Tree × List ℕ} (key_at text) (λ key. test_of key.0 key.1 >>= closed) x h in
+test_found profile text x h =
+    let key = bind_ok {A = Key × List ℕ} {B = Tree × List ℕ} (key_at profile text) (λ key. test_of key.0 key.1 >>= closed) x h in
     let test = bind_ok {A = Tree × List ℕ} {B = Tree × List ℕ} (test_of key.0.0 key.0.1) closed x key.2 in
-    let name = key_found_so text key.0.1 key.0.0 key.1 in
-    let found = named_found name.0 key.0.0 key.0.1 test.0 name.1 test.1 in
-    closed_found SpellsSimple text test.0 x (found.0, found.1, name.2 ∙ found.2) test.2
+    let name = key_found_so profile text key.0.1 key.0.0 key.1 in
+    let found = named_found profile name.0 key.0.0 key.0.1 test.0 name.1 test.1 in
+    closed_found (SpellsSimple profile) text test.0 x (found.0, found.1, name.2 ∙ found.2) test.2
 
 -- what is read inside is spelled
 abbrev pub IsSound : Reader → (Tree → List ℕ → Type 0) → Type 0
@@ -181,18 +214,18 @@ group_found read spells sound text x h =
     let found = sound text first.0 first.1 in
     others_found read spells sound (length first.0.1) text first.0 x (found.0, (zero, found.1), found.2) first.2
 
-inside_found : (read : Reader) (spells : Tree → List ℕ → Type 0) → IsSound read spells → (text : List ℕ) (x : Tree × List ℕ)
-    → inside_at read text ≡ Ok x → FoundClosed (SpellsInside spells) text x
+inside_found : (profile : Profile) (read : Reader) (spells : Tree → List ℕ → Type 0) → IsSound read spells → (text : List ℕ) (x : Tree × List ℕ)
+    → inside_at profile read text ≡ Ok x → FoundClosed (SpellsInside profile spells) text x
 unfolding inside_at
-inside_found read spells sound text x h = by_cases (begins_so opening text) (begins_so exclamation text) h
+inside_found profile read spells sound text x h = by_cases (begins_so opening text) (begins_so exclamation text) h
   where
-    by_cases : (o e : Bool) → cond o (group_at read text) (cond e (negation_at read text) (test_at text)) ≡ Ok x
-        → FoundClosed (SpellsInside spells) text x
-    by_cases true e k = wider (SpellsSome spells) (SpellsInside spells) text x (λ tree front s. inr (inr s))
+    by_cases : (o e : Bool) → cond o (group_at read text) (cond e (negation_at read text) (test_at profile text)) ≡ Ok x
+        → FoundClosed (SpellsInside profile spells) text x
+    by_cases true e k = wider (SpellsSome spells) (SpellsInside profile spells) text x (λ tree front s. inr (inr s))
         (group_found read spells sound text x k)
-    by_cases false true k = wider (SpellsNegation spells) (SpellsInside spells) text x (λ tree front s. inr (inl s))
+    by_cases false true k = wider (SpellsNegation spells) (SpellsInside profile spells) text x (λ tree front s. inr (inl s))
         (negation_found read spells sound text x k)
-    by_cases false false k = wider SpellsSimple (SpellsInside spells) text x (λ tree front s. inl s) (test_found text x k)
+    by_cases false false k = wider (SpellsSimple profile) (SpellsInside profile spells) text x (λ tree front s. inl s) (test_found profile text x k)
 
 pub enclosed_parts : (b i a x : List ℕ) → opening ∷ (b ++ (i ++ (a ++ closing ∷ x))) ≡ (opening ∷ (b ++ (i ++ (a ++ closing ∷ [])))) ++ x
 enclosed_parts b i a x =
@@ -200,16 +233,16 @@ enclosed_parts b i a x =
     ∙ ap (λ (s : List ℕ). b ++ (i ++ s)) (append_assoc a (closing ∷ []) x)))
 
 -- what is read is spelled
-pub expression_found : (room : ℕ) → IsSound (expression_at room) (Spells room)
+pub expression_found : (profile : Profile) (room : ℕ) → IsSound (expression_at profile room) (Spells profile room)
 unfolding expression_at Spells
-expression_found zero text x h =
+expression_found profile zero text x h =
     let none = bind_ok {A = List ℕ} {B = Tree × List ℕ} (byte_at opening text) (λ rest. Err (Deep (length text))) x h in
     absurd (let refused : ◌≡◌ {A = Result (Tree × List ℕ) Fault} (Err (Deep (length text))) (Ok x) = none.2 in cc)
-expression_found (suc room) text x h =
+expression_found profile (suc room) text x h =
     let first = bind_ok {A = List ℕ} {B = Tree × List ℕ} (byte_at opening text)
-    (λ rest. inside_at (expression_at room) (without_blanks rest)) x h in
+    (λ rest. inside_at profile (expression_at profile room) (without_blanks rest)) x h in
     let blanks = blanks_found first.0 in
-    let found = inside_found (expression_at room) (Spells room) (expression_found room) (without_blanks first.0) x first.2 in
+    let found = inside_found profile (expression_at profile room) (Spells profile room) (expression_found profile room) (without_blanks first.0) x first.2 in
     let parts : text ≡ opening ∷ (blanks.0 ++ (found.0 ++ (found.1 ++ closing ∷ x.1))) =
     byte_found opening text first.0 first.1 ∙ ap (λ (s : List ℕ). opening ∷ s) (blanks.2 ∙ ap (λ (s : List ℕ). blanks.0 ++ s) found.4) in (
       opening ∷ (blanks.0 ++ (found.0 ++ (found.1 ++ closing ∷ []))),
@@ -229,11 +262,11 @@ nothing_behind : (rest : List ℕ) → is_nil rest ≡ true → rest ≡ []
 nothing_behind [] h = refl
 nothing_behind (b ∷ rest) h = absurd (cc)
 
-pub whole_found : (word : List ℕ) (tree : Tree) → whole word ≡ Ok tree → Spells most_open tree word
+pub whole_found : (profile : Profile) (word : List ℕ) (tree : Tree) → whole profile word ≡ Ok tree → Spells profile most_open tree word
 unfolding whole
-whole_found word tree h =
-    let read = bind_ok {A = Tree × List ℕ} {B = Tree} (expression_at most_open word) alone tree h in
+whole_found profile word tree h =
+    let read = bind_ok {A = Tree × List ℕ} {B = Tree} (expression_at profile most_open word) alone tree h in
     let end = guard_ok (is_nil read.0.1) read.0.0 tree (Bad (length read.0.1)) read.2 in
-    let found = expression_found most_open word read.0 read.1 in
+    let found = expression_found profile most_open word read.0 read.1 in
     let same : word ≡ found.0 = found.2 ∙ ap (λ (s : List ℕ). found.0 ++ s) (nothing_behind read.0.1 end.0) ∙ append-nil found.0 in
-    subst (λ (t : Tree). Spells most_open t word) end.1 (subst (Spells most_open read.0.0) (sym same) found.1)
+    subst (λ (t : Tree). Spells profile most_open t word) end.1 (subst (Spells profile most_open read.0.0) (sym same) found.1)

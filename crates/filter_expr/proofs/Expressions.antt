@@ -2,6 +2,7 @@
 use Rattle.std.proofs.Common.{◌≡◌, ℕ, zero, suc, ◌-◌, ◌<◌, ◌≤◌, true, false, List, [], ◌∷◌, length, Result, Ok, Err, refl, sym, ap, ◌∙◌}
 use Rattle.std.proofs.Common.{subst, arith}
 use Rattle.std.specs.Prelude.{codes}
+use Rattle.profile.specs.declared.profile.Profile.{Profile}
 use Rattle.filter_expr.specs.declared.parts.Stop.{Stop}
 use Rattle.filter_expr.specs.Gives.{Stops}
 use Rattle.filter_expr.specs.Parts.{Fault, ◌>>=◌, opening, closing, exclamation, begins_so, without_blanks, byte_at, gap_at, between_gaps}
@@ -15,39 +16,39 @@ less_one : (n : ℕ) → suc n - 1 ≡ n
 less_one n = omega arith
 
 -- it begins with a parenthesis, whatever may stand behind
-pub expression_form : (room : ℕ) (text : List ℕ) → (f : List ℕ → Result (Tree × List ℕ) Fault)
-    × (expression_at room text ≡ (byte_at opening text >>= f))
+pub expression_form : (profile : Profile) (room : ℕ) (text : List ℕ) → (f : List ℕ → Result (Tree × List ℕ) Fault)
+    × (expression_at profile room text ≡ (byte_at opening text >>= f))
 unfolding expression_at
-expression_form zero text = (λ rest. Err (Deep (length text)), refl)
-expression_form (suc room) text = (λ rest. inside_at (expression_at room) (without_blanks rest), refl)
+expression_form profile zero text = (λ rest. Err (Deep (length text)), refl)
+expression_form profile (suc room) text = (λ rest. inside_at profile (expression_at profile room) (without_blanks rest), refl)
 
-pub expression_deep : (room : ℕ) (text rest : List ℕ) → room ≡ 0 → byte_at opening text ≡ Ok rest
-    → expression_at room text ≡ Err (Deep (length text))
+pub expression_deep : (profile : Profile) (room : ℕ) (text rest : List ℕ) → room ≡ 0 → byte_at opening text ≡ Ok rest
+    → expression_at profile room text ≡ Err (Deep (length text))
 unfolding expression_at
-expression_deep zero text rest e h = ap (λ r. r >>= λ rest. Err (Deep (length text))) h
-expression_deep (suc room) text rest e h = absurd (omega (arith, e))
+expression_deep profile zero text rest e h = ap (λ r. r >>= λ rest. Err (Deep (length text))) h
+expression_deep profile (suc room) text rest e h = absurd (omega (arith, e))
 
-pub expression_inside : (room : ℕ) (text rest inner : List ℕ) → (room ≡ 0 → ⊥) → byte_at opening text ≡ Ok rest
-    → inner ≡ without_blanks rest → expression_at room text ≡ inside_at (expression_at (room - 1)) inner
+pub expression_inside : (profile : Profile) (room : ℕ) (text rest inner : List ℕ) → (room ≡ 0 → ⊥) → byte_at opening text ≡ Ok rest
+    → inner ≡ without_blanks rest → expression_at profile room text ≡ inside_at profile (expression_at profile (room - 1)) inner
 unfolding expression_at
-expression_inside zero text rest inner e h i = absurd (e refl)
-expression_inside (suc room) text rest inner e h i =
-    ap (λ r. r >>= λ rest. inside_at (expression_at room) (without_blanks rest)) h ∙ ap (inside_at (expression_at room)) (sym i)
-    ∙ ap (λ n. inside_at (expression_at n) inner) (sym (less_one room))
+expression_inside profile zero text rest inner e h i = absurd (e refl)
+expression_inside profile (suc room) text rest inner e h i =
+    ap (λ r. r >>= λ rest. inside_at profile (expression_at profile room) (without_blanks rest)) h
+    ∙ ap (inside_at profile (expression_at profile room)) (sym i) ∙ ap (λ n. inside_at profile (expression_at profile n) inner) (sym (less_one room))
 
-pub inside_group : (read : Reader) (inner : List ℕ) → begins_so opening inner ≡ true → inside_at read inner ≡ group_at read inner
+pub inside_group : (profile : Profile) (read : Reader) (inner : List ℕ) → begins_so opening inner ≡ true → inside_at profile read inner ≡ group_at read inner
 unfolding inside_at
-inside_group read inner h = rw h refl
+inside_group profile read inner h = rw h refl
 
-pub inside_negation : (read : Reader) (inner : List ℕ) → begins_so opening inner ≡ false → begins_so exclamation inner ≡ true
-    → inside_at read inner ≡ negation_at read inner
+pub inside_negation : (profile : Profile) (read : Reader) (inner : List ℕ) → begins_so opening inner ≡ false → begins_so exclamation inner ≡ true
+    → inside_at profile read inner ≡ negation_at read inner
 unfolding inside_at
-inside_negation read inner h k = rw (h, k) refl
+inside_negation profile read inner h k = rw (h, k) refl
 
-pub inside_test : (read : Reader) (inner : List ℕ) → begins_so opening inner ≡ false → begins_so exclamation inner ≡ false
-    → inside_at read inner ≡ test_at inner
+pub inside_test : (profile : Profile) (read : Reader) (inner : List ℕ) → begins_so opening inner ≡ false → begins_so exclamation inner ≡ false
+    → inside_at profile read inner ≡ test_at profile inner
 unfolding inside_at
-inside_test read inner h k = rw (h, k) refl
+inside_test profile read inner h k = rw (h, k) refl
 
 pub group_form : (read : Reader) (text : List ℕ) → group_at read text ≡ (read text >>= λ x. others_at read (length x.1) x)
 unfolding group_at

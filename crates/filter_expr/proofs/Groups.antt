@@ -3,6 +3,7 @@ use Rattle.std.proofs.Common.{◌≡◌, inl, inr, ℕ, zero, suc, ◌+◌, ◌-
 use Rattle.std.proofs.Common.{sym, ap, ◌∙◌, arith, length-append}
 use Rattle.std.proofs.lemmas.List.{append-nil}
 use Rattle.std.specs.Prelude.{codes}
+use Rattle.profile.specs.declared.profile.Profile.{Profile}
 use Rattle.filter_expr.specs.Grammar.{AreBlanks, IsGap, SpellsGroup, SpellsInside, Spells, IsReadAsSpelled, SpellsOnce}
 use Rattle.filter_expr.specs.Parts.{Fault, ◌>>=◌, opening, closing, begins_so, without_blanks, between_gaps}
 use Rattle.filter_expr.specs.Reading.{Reader, others_at, inside_at, expression_at, alone, most_open, whole}
@@ -94,10 +95,10 @@ group_opens spells opens (suc n) tree front (left, right, first, before, after, 
     let behind = before ++ (codes "AND" ++ (after ++ last)) in
     (start.0 ++ behind, parts ∙ ap (λ (s : List ℕ). s ++ behind) start.1)
 
-group_inside : (read : Reader) (spells : Tree → List ℕ → Type 0) → IsComplete read spells → Opens spells
+group_inside : (profile : Profile) (read : Reader) (spells : Tree → List ℕ → Type 0) → IsComplete read spells → Opens spells
     → (n : ℕ) (tree : Tree) (front tail : List ℕ) → begins_so closing (without_blanks tail) ≡ true → SpellsGroup spells n tree front
-    → ReadInside read tree (front ++ tail) tail
-group_inside read spells complete opens n tree front tail end h =
+    → ReadInside profile read tree (front ++ tail) tail
+group_inside profile read spells complete opens n tree front tail end h =
     let start = group_opens spells opens n tree front h in
     let text : front ++ tail ≡ opening ∷ (start.0 ++ tail) = ap (λ (s : List ℕ). s ++ tail) start.1 in
     let again = group_again read spells complete opens n tree front tail h in
@@ -105,50 +106,51 @@ group_inside read spells complete opens n tree front tail end h =
     let enough : n + left ≡ length again.0.1 = omega (arith, again.2) in
     let first = ap (λ (r : Result (Tree × List ℕ) Fault). r >>= λ x. others_at read (length x.1) x) again.1 in (
       bare_from opening (front ++ tail) (start.0 ++ tail) text (blanks_stop opening (start.0 ++ tail) refl),
-      inside_group read (front ++ tail) (ap (begins_so opening) text) ∙ group_form read (front ++ tail) ∙ first
+      inside_group profile read (front ++ tail) (ap (begins_so opening) text) ∙ group_form read (front ++ tail) ∙ first
           ∙ again.3 left (length again.0.1) enough ∙ others_end read left (tree, tail) end,
     )
 
-inside_again : (read : Reader) (spells : Tree → List ℕ → Type 0) → IsComplete read spells → Opens spells
-    → (tree : Tree) (front tail : List ℕ) → begins_so closing (without_blanks tail) ≡ true → SpellsInside spells tree front
-    → ReadInside read tree (front ++ tail) tail
-inside_again read spells complete opens tree front tail end (inl h) = simple_inside read tree front tail h
-inside_again read spells complete opens tree front tail end (inr (inl h)) = negation_inside read spells complete opens tree front tail h
-inside_again read spells complete opens tree front tail end (inr (inr h)) =
-    group_inside read spells complete opens h.0 tree front tail end h.1
+inside_again : (profile : Profile) (read : Reader) (spells : Tree → List ℕ → Type 0) → IsComplete read spells → Opens spells
+    → (tree : Tree) (front tail : List ℕ) → begins_so closing (without_blanks tail) ≡ true → SpellsInside profile spells tree front
+    → ReadInside profile read tree (front ++ tail) tail
+inside_again profile read spells complete opens tree front tail end (inl h) = simple_inside profile read tree front tail h
+inside_again profile read spells complete opens tree front tail end (inr (inl h)) = negation_inside profile read spells complete opens tree front tail h
+inside_again profile read spells complete opens tree front tail end (inr (inr h)) =
+    group_inside profile read spells complete opens h.0 tree front tail end h.1
 
-spells_opens : (room : ℕ) → Opens (Spells room)
+spells_opens : (profile : Profile) (room : ℕ) → Opens (Spells profile room)
 unfolding Spells
-spells_opens zero tree front h = absurd h
-spells_opens (suc room) tree front h = (h.before ++ (h.inside ++ (h.after ++ closing ∷ [])), h.parts)
+spells_opens profile zero tree front h = absurd h
+spells_opens profile (suc room) tree front h = (h.before ++ (h.inside ++ (h.after ++ closing ∷ [])), h.parts)
 
 end_seen : (after rest : List ℕ) → AreBlanks after → begins_so closing (without_blanks (after ++ closing ∷ rest)) ≡ true
 end_seen after rest h = ap (begins_so closing) (blanks_again after (closing ∷ rest) h ∙ blanks_stop closing rest refl)
 
 -- what is spelled is read
-pub expression_again : (room : ℕ) → IsComplete (expression_at room) (Spells room)
+pub expression_again : (profile : Profile) (room : ℕ) → IsComplete (expression_at profile room) (Spells profile room)
 unfolding expression_at Spells
-expression_again zero tree front rest h = absurd h
-expression_again (suc room) tree front rest h =
+expression_again profile zero tree front rest h = absurd h
+expression_again profile (suc room) tree front rest h =
     let tail = h.after ++ closing ∷ rest in
     let text : front ++ rest ≡ opening ∷ (h.before ++ (h.inside ++ tail)) =
     ap (λ (s : List ℕ). s ++ rest) h.parts ∙ sym (enclosed_parts h.before h.inside h.after rest) in
-    let again = inside_again (expression_at room) (Spells room) (expression_again room) (spells_opens room) tree h.inside tail
+    let again = inside_again profile (expression_at profile room) (Spells profile room) (expression_again profile room) (spells_opens profile room) tree h.inside tail
     (end_seen h.after rest h.blanks_after) h.spelled in
-    ap (expression_at (suc room)) text
-    ∙ ap (λ (r : Result (List ℕ) Fault). r >>= λ s. inside_at (expression_at room) (without_blanks s))
+    ap (expression_at profile (suc room)) text
+    ∙ ap (λ (r : Result (List ℕ) Fault). r >>= λ s. inside_at profile (expression_at profile room) (without_blanks s))
     (byte_again opening (h.before ++ (h.inside ++ tail)))
-    ∙ ap (inside_at (expression_at room)) (blanks_again h.before (h.inside ++ tail) h.blanks_before ∙ again.0) ∙ again.1
+    ∙ ap (inside_at profile (expression_at profile room)) (blanks_again h.before (h.inside ++ tail) h.blanks_before ∙ again.0) ∙ again.1
     ∙ closed_again tree h.after rest h.blanks_after
 
-pub whole_again : (word : List ℕ) (tree : Tree) → Spells most_open tree word → whole word ≡ Ok tree
+pub whole_again : (profile : Profile) (word : List ℕ) (tree : Tree) → Spells profile most_open tree word → whole profile word ≡ Ok tree
 unfolding whole
-whole_again word tree h =
-    ap (λ (s : List ℕ). expression_at most_open s >>= alone) (sym (append-nil word))
-    ∙ ap (λ (r : Result (Tree × List ℕ) Fault). r >>= alone) (expression_again most_open tree word [] h)
+whole_again profile word tree h =
+    ap (λ (s : List ℕ). expression_at profile most_open s >>= alone) (sym (append-nil word))
+    ∙ ap (λ (r : Result (Tree × List ℕ) Fault). r >>= alone) (expression_again profile most_open tree word [] h)
 
 pub read_as_spelled : IsReadAsSpelled
-read_as_spelled word tree = (whole_found word tree, whole_again word tree)
+read_as_spelled profile word tree = (whole_found profile word tree, whole_again profile word tree)
 
 pub spells_once : SpellsOnce
-spells_once word tree other h k = ok_same tree other (sym (whole_again word tree h) ∙ whole_again word other k)
+spells_once profile word tree other h k =
+    ok_same tree other (sym (whole_again profile word tree h) ∙ whole_again profile word other k)

@@ -9,8 +9,9 @@ use Rattle.std.specs.Char.{to_ascii_lowercase}
 use Rattle.std.specs.Str.{str_eq_ignore_ascii_case}
 use Rattle.song_files.specs.Tag.{Row as TagRow, table, same_letters, tag_named as any_tag_named}
 use Rattle.song_files.specs.declared.tag.Tag.{Tag}
+use Rattle.profile.specs.declared.profile.Profile.{Profile}
 use Rattle.filter_expr.specs.declared.name.Key.{Key}
-use Rattle.filter_expr.specs.Names.{known, key_of, key_named}
+use Rattle.filter_expr.specs.Names.{known, knows_times, key_of, key_named}
 use Rattle.filter_expr.specs.Parts.{is_blank, ends_name, name_in, behind_name, key_at, key_from, key_found}
 use Rattle.std.proofs.lemmas.Slice.Eq.{bytes_eq-Decides}
 
@@ -85,15 +86,18 @@ tag_name name tag h = by_cases (find (λ (row : TagRow). same_letters row.name n
     by_cases None e h = absurd (cc)
     by_cases (Some row) e h = row_name name table row all_names e
 
-pub key_name : (name : List ℕ) (key : Key) → key_named name ≡ Some key → IsName name
+pub key_name : (profile : Profile) (name : List ℕ) (key : Key) → key_named profile name ≡ Some key → IsName name
 unfolding key_named
-key_name name key h = by_cases (any_tag_named name) refl h
+key_name profile name key h = by_cases (any_tag_named name) refl h
   where
     none_key : (name : List ℕ) → str_eq_ignore_ascii_case name (codes "any") ≡ false → str_eq_ignore_ascii_case name (codes "file") ≡ false
-        → str_eq_ignore_ascii_case name (codes "base") ≡ false → key_of None name ≡ None
-    none_key name n1 n2 n3 = rw (n1, n2, n3) refl
+        → str_eq_ignore_ascii_case name (codes "base") ≡ false
+        → str_eq_ignore_ascii_case name (codes "modified-since") ≡ false → (times : Bool) → knows_times profile ≡ times
+        → key_of profile None name ≡ None
+    none_key name n1 n2 n3 n4 true e = rw (n1, n2, n3, n4, e) refl
+    none_key name n1 n2 n3 n4 false e = rw (n1, n2, n3, n4, e) refl
 
-    other_name : (name : List ℕ) (key : Key) → key_of None name ≡ Some key → IsName name
+    other_name : (name : List ℕ) (key : Key) → key_of profile None name ≡ Some key → IsName name
     other_name name key h =
         elim (cases_Bool (str_eq_ignore_ascii_case name (codes "any"))) [
           | inl t ↦ same_letters_name name (codes "any") t (record { whole = refl; some = omega arith })
@@ -101,12 +105,15 @@ key_name name key h = by_cases (any_tag_named name) refl h
             | inl t ↦ same_letters_name name (codes "file") t (record { whole = refl; some = omega arith })
             | inr n8 ↦ elim (cases_Bool (str_eq_ignore_ascii_case name (codes "base"))) [
               | inl t ↦ same_letters_name name (codes "base") t (record { whole = refl; some = omega arith })
-              | inr n9 ↦ absurd (let none = none_key name n7 n8 n9 in cc)
+              | inr n9 ↦ elim (cases_Bool (str_eq_ignore_ascii_case name (codes "modified-since"))) [
+                | inl t ↦ same_letters_name name (codes "modified-since") t (record { whole = refl; some = omega arith })
+                | inr n10 ↦ absurd (let none = none_key name n7 n8 n9 n10 (knows_times profile) refl in cc)
+              ]
             ]
           ]
         ]
 
-    by_cases : (found : Option Tag) → any_tag_named name ≡ found → key_of (known found) name ≡ Some key → IsName name
+    by_cases : (found : Option Tag) → any_tag_named name ≡ found → key_of profile (known profile found) name ≡ Some key → IsName name
     by_cases None e k = other_name name key k
     by_cases (Some tag) e k = tag_name name tag e
 
@@ -123,9 +130,9 @@ ends_blanks [] tail h e = e
 ends_blanks (b ∷ gap) tail h e = blank_ends b (and_parts (is_blank b) (list_all is_blank gap) h).0
 
 -- a name begins with none of the bytes that end it
-pub name_starts : (name : List ℕ) (key : Key) → key_named name ≡ Some key
+pub name_starts : (profile : Profile) (name : List ℕ) (key : Key) → key_named profile name ≡ Some key
     → (b : ℕ) × (more : List ℕ) × (name ≡ b ∷ more) × (ends_name b ≡ false)
-name_starts name key h = by_cases name (key_name name key h)
+name_starts profile name key h = by_cases name (key_name profile name key h)
   where
     by_cases : (name : List ℕ) → IsName name → (b : ℕ) × (more : List ℕ) × (name ≡ b ∷ more) × (ends_name b ≡ false)
     by_cases [] good = absurd (omega (arith, good.some))
@@ -164,31 +171,33 @@ name_parts (b ∷ text) = by_cases (ends_name b) refl (name_parts text)
     by_cases true e more = rw e refl
     by_cases false e more = rw e (ap (λ (s : List ℕ). b ∷ s) more)
 
-from_name : (name : List ℕ) (key : Key) (behind : List ℕ) → 0 < length name → key_named name ≡ Some key
-    → key_from name behind ≡ Ok (key, behind)
-from_name [] key behind lt h = absurd (omega arith)
-from_name (b ∷ name) key behind lt h = ap (λ found. key_found found (b ∷ name) behind) h
+from_name : (profile : Profile) (name : List ℕ) (key : Key) (behind : List ℕ) → 0 < length name → key_named profile name ≡ Some key
+    → key_from profile name behind ≡ Ok (key, behind)
+from_name profile [] key behind lt h = absurd (omega arith)
+from_name profile (b ∷ name) key behind lt h = ap (λ found. key_found found (b ∷ name) behind) h
 
-pub key_again : (name tail : List ℕ) (key : Key) → key_named name ≡ Some key → EndsName tail → key_at (name ++ tail) ≡ Ok (key, tail)
+pub key_again : (profile : Profile) (name tail : List ℕ) (key : Key) → key_named profile name ≡ Some key → EndsName tail
+    → key_at profile (name ++ tail) ≡ Ok (key, tail)
 unfolding key_at
-key_again name tail key h e =
-    let good = key_name name key h in
-    rw (name_read name tail good.whole e, behind_read name tail good.whole e) (from_name name key tail good.some h)
+key_again profile name tail key h e =
+    let good = key_name profile name key h in
+    rw (name_read name tail good.whole e, behind_read name tail good.whole e) (from_name profile name key tail good.some h)
 
-name_from : (name behind rest : List ℕ) (key : Key) → key_from name behind ≡ Ok (key, rest) → (key_named name ≡ Some key) × (behind ≡ rest)
-name_from [] behind rest key h = absurd (cc)
-name_from (b ∷ name) behind rest key h = by_cases (key_named (b ∷ name)) refl h
+name_from : (profile : Profile) (name behind rest : List ℕ) (key : Key) → key_from profile name behind ≡ Ok (key, rest)
+    → (key_named profile name ≡ Some key) × (behind ≡ rest)
+name_from profile [] behind rest key h = absurd (cc)
+name_from profile (b ∷ name) behind rest key h = by_cases (key_named profile (b ∷ name)) refl h
   where
-    by_cases : (found : Option Key) → key_named (b ∷ name) ≡ found → key_found found (b ∷ name) behind ≡ Ok (key, rest)
-        → (key_named (b ∷ name) ≡ Some key) × (behind ≡ rest)
+    by_cases : (found : Option Key) → key_named profile (b ∷ name) ≡ found → key_found found (b ∷ name) behind ≡ Ok (key, rest)
+        → (key_named profile (b ∷ name) ≡ Some key) × (behind ≡ rest)
     by_cases None e k = absurd (cc)
     by_cases (Some other) e k =
         let same : ◌≡◌ {A = Key × List ℕ} (other, behind) (key, rest) = cc in
         (e ∙ ap (λ (p : Key × List ℕ). Some p.0) same, ap (λ (p : Key × List ℕ). p.1) same)
 
-pub key_found_so : (text rest : List ℕ) (key : Key) → key_at text ≡ Ok (key, rest)
-    → (name : List ℕ) × (key_named name ≡ Some key) × (text ≡ name ++ rest)
+pub key_found_so : (profile : Profile) (text rest : List ℕ) (key : Key) → key_at profile text ≡ Ok (key, rest)
+    → (name : List ℕ) × (key_named profile name ≡ Some key) × (text ≡ name ++ rest)
 unfolding key_at
-key_found_so text rest key h =
-    let found = name_from (name_in text) (behind_name text) rest key h in
+key_found_so profile text rest key h =
+    let found = name_from profile (name_in text) (behind_name text) rest key h in
     (name_in text, found.0, name_parts text ∙ ap (λ (s : List ℕ). name_in text ++ s) found.1)

@@ -1,11 +1,14 @@
 mod Ascii
 mod Chosen
 mod Comparisons
+mod Days
 mod Enclosing
 mod Expressions
+mod Fronts
 mod Groups
 mod Keys
 mod LikeTexts
+mod Numerals
 mod Occurrence
 mod Pairs
 mod Pieces

@@ -11,7 +11,8 @@ use Rattle.filter_expr.specs.declared.case.Case.{Case}
 use Rattle.filter_expr.specs.declared.subject.Comparison.{Comparison}
 use Rattle.filter_expr.specs.declared.subject.Subject.{Subject}
 use Rattle.filter_expr.specs.declared.subject.Subject.TheVariants.{OfTag, Any, File}
-use Rattle.filter_expr.specs.Looked.{is_like_of}
+use Rattle.filter_expr.specs.Fallback.{told_tag}
+use Rattle.filter_expr.specs.Looked.{is_like_of, told_subject}
 use Rattle.filter_expr.specs.Meaning.{Song, is_like, is_absent, passes, texts_for}
 
 any_suc : (p : TagText → Bool) (tags : List TagText) (at : ℕ) (t : TagText) → slice_get tags at ≡ Some t
@@ -63,8 +64,9 @@ of_all q [] = refl
 of_all q (t ∷ tags) = ap (λ (b : Bool). q t.text || b) (of_all q tags)
 
 pub looked_at : (case : Case) (subject : Subject) (comparison : Comparison) (value : List ℕ) (song : Song) → (subject ≡ File → ⊥)
-    → list_any (is_like case comparison value) (texts_for subject song) ≡ list_any (is_like_of case subject comparison value) song.tags
-looked_at case (OfTag tag) comparison value song other = of_tag (is_like case comparison value) tag song.tags
+    → list_any (is_like case comparison value) (texts_for subject song)
+    ≡ list_any (is_like_of case (told_subject song.tags subject) comparison value) song.tags
+looked_at case (OfTag tag) comparison value song other = of_tag (is_like case comparison value) (told_tag song.tags tag) song.tags
 looked_at case Any comparison value song other = of_all (is_like case comparison value) song.tags
 looked_at case File comparison value song other = absurd (other refl)
 

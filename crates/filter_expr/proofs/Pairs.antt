@@ -1,6 +1,7 @@
 -- How pairs are read, one after the other.
 use Rattle.std.proofs.Common.{◌≡◌, ℕ, zero, suc, ◌+◌, ◌-◌, ◌<◌, ◌≤◌, List, [], ◌∷◌, length, take, drop, Result, Ok, Err, refl, ap}
 use Rattle.std.proofs.Common.{arith, length-drop}
+use Rattle.profile.specs.declared.profile.Profile.{Profile}
 use Rattle.filter_expr.specs.declared.name.Key.{Key}
 use Rattle.filter_expr.specs.declared.refusal.FilterError.{FilterError}
 use Rattle.filter_expr.specs.declared.refusal.FilterError.TheVariants as errors
@@ -23,30 +24,32 @@ pub gives_error : {X Y : Type 0} (view : X → Y) (error : FilterError) (r : Res
     → (e : FilterError) × (r ≡ Err e) × (e ≡ error) → Refuses error read → Gives view r read
 gives_error view error r read err h = rw (err.1, err.2) h
 
-half_then : (number : ℕ) (name : List ℕ) (f : Tree → Result Tree Refusal) → half_pair number name ≡ (half_pair number name >>= f)
+half_then : (profile : Profile) (number : ℕ) (name : List ℕ) (f : Tree → Result Tree Refusal) → half_pair profile number name ≡ (half_pair profile number name >>= f)
 unfolding half_pair
-half_then number name f = by_cases (keyed (key_named name) name)
+half_then profile number name f = by_cases (keyed (key_named profile name) name)
   where
     by_cases : (read : Result Key Refusal)
         → (read >>= λ key. Err (BadFilter (number + 1) 0)) ≡ ((read >>= λ key. Err (BadFilter (number + 1) 0)) >>= f)
     by_cases (Ok key) = refl
     by_cases (Err error) = refl
 
-pub pairs_form : (words : List (List ℕ)) → pairs_of words ≡ (pair_at 0 words >>= λ pair. more_pairs 2 pair (drop 2 words))
+pub pairs_form : (profile : Profile) (words : List (List ℕ))
+    → pairs_of profile words ≡ (pair_at profile 0 words >>= λ pair. more_pairs profile 2 pair (drop 2 words))
 unfolding pairs_of
-pairs_form words = refl
+pairs_form profile words = refl
 
-pub pairs_step : (number : ℕ) (tree : Tree) (words : List (List ℕ)) → 0 < length words
-    → more_pairs number tree words ≡ (pair_at number words >>= λ pair. more_pairs (number + 2) (And tree pair) (drop 2 words))
+pub pairs_step : (profile : Profile) (number : ℕ) (tree : Tree) (words : List (List ℕ)) → 0 < length words
+    → more_pairs profile number tree words
+    ≡ (pair_at profile number words >>= λ pair. more_pairs profile (number + 2) (And tree pair) (drop 2 words))
 unfolding more_pairs
-pairs_step number tree [] lt = absurd (omega arith)
-pairs_step number tree (name ∷ []) lt = half_then number name (λ pair. more_pairs (number + 2) (And tree pair) [])
-pairs_step number tree (name ∷ value ∷ words) lt = refl
+pairs_step profile number tree [] lt = absurd (omega arith)
+pairs_step profile number tree (name ∷ []) lt = half_then profile number name (λ pair. more_pairs profile (number + 2) (And tree pair) [])
+pairs_step profile number tree (name ∷ value ∷ words) lt = refl
 
-pub pairs_end : (number : ℕ) (tree : Tree) (words : List (List ℕ)) → length words ≤ number
-    → more_pairs number tree (drop number words) ≡ Ok tree
+pub pairs_end : (profile : Profile) (number : ℕ) (tree : Tree) (words : List (List ℕ)) → length words ≤ number
+    → more_pairs profile number tree (drop number words) ≡ Ok tree
 unfolding more_pairs
-pairs_end number tree words le = ap (more_pairs number tree) (none_left number words le)
+pairs_end profile number tree words le = ap (more_pairs profile number tree) (none_left number words le)
   where
     none_left : (n : ℕ) (ws : List (List ℕ)) → length ws ≤ n → drop n ws ≡ []
     none_left zero [] h = refl

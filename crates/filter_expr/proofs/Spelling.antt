@@ -1,5 +1,6 @@
 -- What is spelled is read, whatever stands behind.
-use Rattle.std.proofs.Common.{◌≡◌, inl, inr, ℕ, false, List, ◌∷◌, ◌++◌, Result, Ok, Some, refl, sym, ap, ◌∙◌, subst, append_assoc}
+use Rattle.std.proofs.Common.{◌≡◌, inl, inr, ℕ, false, List, ◌∷◌, ◌++◌, length, Result, Ok, Option, Some, refl, sym, ap, ◌∙◌, subst, append_assoc}
+use Rattle.profile.specs.declared.profile.Profile.{Profile}
 use Rattle.filter_expr.specs.declared.name.Key.{Key}
 use Rattle.filter_expr.specs.declared.name.Key.TheVariants as keys
 use Rattle.filter_expr.specs.declared.operator.Operator.{Operator}
@@ -7,9 +8,10 @@ use Rattle.filter_expr.specs.declared.subject.Subject.{Subject}
 use Rattle.filter_expr.specs.Grammar.{AreBlanks, IsOperator, SpellsValue, SpellsNegation}
 use Rattle.filter_expr.specs.Names.{key_named}
 use Rattle.filter_expr.specs.Parts.{Fault, ◌>>=◌, opening, closing, exclamation, ends_name, begins_so, without_blanks, byte_at, value_at}
-use Rattle.filter_expr.specs.Reading.{Reader, test_tree, test_of, closed, test_at, negation_at, inside_at}
+use Rattle.filter_expr.specs.Reading.{Reader, since_of, test_tree, test_of, closed, test_at, negation_at, inside_at}
+use Rattle.filter_expr.specs.Times.{time_in}
 use Rattle.filter_expr.specs.Tree.{Tree}
-use Rattle.filter_expr.specs.Tree.Tree.{Base, Not}
+use Rattle.filter_expr.specs.Tree.Tree.{Base, Since, Not}
 use Rattle.filter_expr.proofs.Comparisons.{regroup, operator_again, operator_ends}
 use Rattle.filter_expr.proofs.Enclosing.{SpellsSimple}
 use Rattle.filter_expr.proofs.Expressions.{inside_negation, inside_test}
@@ -34,6 +36,16 @@ base_again gap quoted value tail blanks spelled =
     let read = ap value_at here ∙ value_again quoted value tail spelled in
     ap (λ (r : Result (List ℕ × List ℕ) Fault). r >>= λ v. Ok (Base v.0, v.1)) read
 
+since_again : (gap quoted value tail : List ℕ) (time : ℕ) → AreBlanks gap → SpellsValue quoted value → time_in value ≡ Some time
+    → test_of keys.Since (gap ++ (quoted ++ tail)) ≡ Ok (Since time, tail)
+unfolding test_of
+since_again gap quoted value tail time blanks spelled is =
+    let text = gap ++ (quoted ++ tail) in
+    let here = blanks_again gap (quoted ++ tail) blanks ∙ value_bare quoted value tail spelled in
+    let read = ap value_at here ∙ value_again quoted value tail spelled in
+    ap (λ (r : Result (List ℕ × List ℕ) Fault). r >>= λ v. since_of (time_in v.0) (length (without_blanks text)) v.1) read
+    ∙ ap (λ (t : Option ℕ). since_of t (length (without_blanks text)) tail) is
+
 compared_again : (subject : Subject) (operator : Operator) (middle quoted value tail : List ℕ) → IsOperator subject operator middle
     → SpellsValue quoted value → test_of (keys.Of subject) (middle ++ (quoted ++ tail)) ≡ Ok (test_tree subject operator value, tail)
 unfolding test_of
@@ -44,25 +56,32 @@ compared_again subject operator middle quoted value tail compared spelled =
     sign.1
     ∙ ap (λ (r : Result (List ℕ × List ℕ) Fault). r >>= λ v. Ok (test_tree subject operator v.0, v.1)) read
 
-named_again : (name behind : List ℕ) (key : Key) (x : Tree × List ℕ) → key_named name ≡ Some key → EndsName behind
-    → test_of key behind ≡ Ok x → test_at (name ++ behind) ≡ closed x
+named_again : (profile : Profile) (name behind : List ℕ) (key : Key) (x : Tree × List ℕ) → key_named profile name ≡ Some key → EndsName behind
+    → test_of key behind ≡ Ok x → test_at profile (name ++ behind) ≡ closed x
 unfolding test_at
-named_again name behind key x named ends h =
-    ap (λ (r : Result (Key × List ℕ) Fault). r >>= λ k. test_of k.0 k.1 >>= closed) (key_again name behind key named ends)
+named_again profile name behind key x named ends h =
+    ap (λ (r : Result (Key × List ℕ) Fault). r >>= λ k. test_of k.0 k.1 >>= closed) (key_again profile name behind key named ends)
     ∙ ap (λ (r : Result (Tree × List ℕ) Fault). r >>= closed) h
 
-simple_again : (tree : Tree) (front tail : List ℕ) → SpellsSimple tree front → test_at (front ++ tail) ≡ closed (tree, tail)
-simple_again tree front tail (inl h) =
+simple_again : (profile : Profile) (tree : Tree) (front tail : List ℕ) → SpellsSimple profile tree front
+    → test_at profile (front ++ tail) ≡ closed (tree, tail)
+simple_again profile tree front tail (inl h) =
     let read = base_again h.gap h.quoted h.value tail h.blanks h.spelled in
     let ends = ends_blanks h.gap (h.quoted ++ tail) h.blanks (value_ends h.quoted h.value tail h.spelled) in
-    ap (λ (s : List ℕ). test_at (s ++ tail)) h.parts ∙ ap test_at (regroup h.name h.gap h.quoted tail)
-    ∙ named_again h.name (h.gap ++ (h.quoted ++ tail)) keys.Base (Base h.value, tail) h.named ends read
+    ap (λ (s : List ℕ). test_at profile (s ++ tail)) h.parts ∙ ap (test_at profile) (regroup h.name h.gap h.quoted tail)
+    ∙ named_again profile h.name (h.gap ++ (h.quoted ++ tail)) keys.Base (Base h.value, tail) h.named ends read
     ∙ ap (λ (t : Tree). closed (t, tail)) (sym h.says)
-simple_again tree front tail (inr h) =
+simple_again profile tree front tail (inr (inl h)) =
+    let read = since_again h.gap h.quoted h.value tail h.time h.blanks h.spelled h.read in
+    let ends = ends_blanks h.gap (h.quoted ++ tail) h.blanks (value_ends h.quoted h.value tail h.spelled) in
+    ap (λ (s : List ℕ). test_at profile (s ++ tail)) h.parts ∙ ap (test_at profile) (regroup h.name h.gap h.quoted tail)
+    ∙ named_again profile h.name (h.gap ++ (h.quoted ++ tail)) keys.Since (Since h.time, tail) h.named ends read
+    ∙ ap (λ (t : Tree). closed (t, tail)) (sym h.says)
+simple_again profile tree front tail (inr (inr h)) =
     let read = compared_again h.subject h.operator h.middle h.quoted h.value tail h.compared h.spelled in
     let ends = operator_ends h.subject h.operator h.middle (h.quoted ++ tail) h.compared in
-    ap (λ (s : List ℕ). test_at (s ++ tail)) h.parts ∙ ap test_at (regroup h.name h.middle h.quoted tail)
-    ∙ named_again h.name (h.middle ++ (h.quoted ++ tail)) (keys.Of h.subject) (test_tree h.subject h.operator h.value, tail) h.named ends
+    ap (λ (s : List ℕ). test_at profile (s ++ tail)) h.parts ∙ ap (test_at profile) (regroup h.name h.middle h.quoted tail)
+    ∙ named_again profile h.name (h.middle ++ (h.quoted ++ tail)) (keys.Of h.subject) (test_tree h.subject h.operator h.value, tail) h.named ends
     read ∙ ap (λ (t : Tree). closed (t, tail)) (sym h.says)
 
 -- a test begins with no blank, parenthesis or exclamation mark
@@ -72,27 +91,29 @@ StartsName text = (b : ℕ) × (more : List ℕ) × (text ≡ b ∷ more) × (en
 starts_longer : (name front behind : List ℕ) → front ≡ name ++ behind → StartsName name → StartsName front
 starts_longer name front behind e h = (h.0, h.1 ++ behind, e ∙ ap (λ (s : List ℕ). s ++ behind) h.2, h.3)
 
-simple_starts : (tree : Tree) (front : List ℕ) → SpellsSimple tree front → StartsName front
-simple_starts tree front (inl h) = starts_longer h.name front (h.gap ++ h.quoted) h.parts (name_starts h.name keys.Base h.named)
-simple_starts tree front (inr h) = starts_longer h.name front (h.middle ++ h.quoted) h.parts
-    (name_starts h.name (keys.Of h.subject) h.named)
+simple_starts : (profile : Profile) (tree : Tree) (front : List ℕ) → SpellsSimple profile tree front → StartsName front
+simple_starts profile tree front (inl h) = starts_longer h.name front (h.gap ++ h.quoted) h.parts (name_starts profile h.name keys.Base h.named)
+simple_starts profile tree front (inr (inl h)) = starts_longer h.name front (h.gap ++ h.quoted) h.parts
+    (name_starts profile h.name keys.Since h.named)
+simple_starts profile tree front (inr (inr h)) = starts_longer h.name front (h.middle ++ h.quoted) h.parts
+    (name_starts profile h.name (keys.Of h.subject) h.named)
 
 -- it stands behind an opening parenthesis and no blank, and is read up to what stands behind it
-abbrev pub ReadInside : Reader → Tree → List ℕ → List ℕ → Type 0
-ReadInside read tree text tail = (without_blanks text ≡ text) × (inside_at read text ≡ closed (tree, tail))
+abbrev pub ReadInside : Profile → Reader → Tree → List ℕ → List ℕ → Type 0
+ReadInside profile read tree text tail = (without_blanks text ≡ text) × (inside_at profile read text ≡ closed (tree, tail))
 
 pub bare_from : (b : ℕ) (text more : List ℕ) → text ≡ b ∷ more → without_blanks (b ∷ more) ≡ b ∷ more → without_blanks text ≡ text
 bare_from b text more e h = subst (λ (s : List ℕ). without_blanks s ≡ s) (sym e) h
 
-pub simple_inside : (read : Reader) (tree : Tree) (front tail : List ℕ) → SpellsSimple tree front
-    → ReadInside read tree (front ++ tail) tail
-simple_inside read tree front tail h =
-    let start = simple_starts tree front h in
+pub simple_inside : (profile : Profile) (read : Reader) (tree : Tree) (front tail : List ℕ) → SpellsSimple profile tree front
+    → ReadInside profile read tree (front ++ tail) tail
+simple_inside profile read tree front tail h =
+    let start = simple_starts profile tree front h in
     let text : front ++ tail ≡ start.0 ∷ (start.1 ++ tail) = ap (λ (s : List ℕ). s ++ tail) start.2 in (
       bare_from start.0 (front ++ tail) (start.1 ++ tail) text (blanks_stop start.0 (start.1 ++ tail) (no_blank start.0 start.3)),
-      inside_test read (front ++ tail) (ap (begins_so opening) text ∙ no_byte opening start.0 refl start.3)
+      inside_test profile read (front ++ tail) (ap (begins_so opening) text ∙ no_byte opening start.0 refl start.3)
           (ap (begins_so exclamation) text ∙ no_byte exclamation start.0 refl start.3)
-          ∙ simple_again tree front tail h,
+          ∙ simple_again profile tree front tail h,
     )
 
 -- what is spelled inside is read, and begins with a parenthesis
@@ -119,15 +140,16 @@ negated_again read inner gap spelling tail blanks stop h =
     ∙ ap (λ (r : Result (Tree × List ℕ) Fault). r >>= λ y. closed (Not y.0, y.1))
     (ap read (blanks_again gap (spelling ++ tail) blanks ∙ stop) ∙ h)
 
-pub negation_inside : (read : Reader) (spells : Tree → List ℕ → Type 0) → IsComplete read spells → Opens spells
-    → (tree : Tree) (front tail : List ℕ) → SpellsNegation spells tree front → ReadInside read tree (front ++ tail) tail
-negation_inside read spells complete opens tree front tail h =
+pub negation_inside : (profile : Profile) (read : Reader) (spells : Tree → List ℕ → Type 0) → IsComplete read spells → Opens spells
+    → (tree : Tree) (front tail : List ℕ) → SpellsNegation spells tree front
+    → ReadInside profile read tree (front ++ tail) tail
+negation_inside profile read spells complete opens tree front tail h =
     let text : front ++ tail ≡ exclamation ∷ (h.gap ++ (h.spelling ++ tail)) =
     ap (λ (s : List ℕ). s ++ tail) h.parts ∙ ap (λ (s : List ℕ). exclamation ∷ s) (append_assoc h.gap h.spelling tail) in
     let stop = opened_bare spells opens h.inner h.spelling tail h.spelled in
     let again = negated_again read h.inner h.gap h.spelling tail h.blanks stop (complete h.inner h.spelling tail h.spelled) in (
       bare_from exclamation (front ++ tail) (h.gap ++ (h.spelling ++ tail)) text
           (blanks_stop exclamation (h.gap ++ (h.spelling ++ tail)) refl),
-      inside_negation read (front ++ tail) (ap (begins_so opening) text) (ap (begins_so exclamation) text) ∙ ap (negation_at read) text
+      inside_negation profile read (front ++ tail) (ap (begins_so opening) text) (ap (begins_so exclamation) text) ∙ ap (negation_at read) text
           ∙ again ∙ ap (λ (t : Tree). closed (t, tail)) (sym h.says),
     )

@@ -1,7 +1,9 @@
 -- Which texts are expressions, and of which trees: by the parts that a text is put together from.
-use Rattle.std.specs.Prelude.{◌≡◌, ◌≢◌, ◌⊎◌, ◌↔◌, ℕ, zero, suc, ◌<◌, List, [], ◌∷◌, ◌++◌, length, true, Some, Ok, codes}
+use Rattle.std.specs.Prelude.{◌≡◌, ◌≢◌, ◌⊎◌, ◌↔◌, ℕ, zero, suc, ◌<◌, List, [], ◌∷◌, ◌++◌, length, true, Some, Ok}
+use Rattle.std.specs.Prelude.{codes}
 use Rattle.std.specs.List.{list_all}
 use Rattle.std.specs.Str.{is_utf8}
+use Rattle.profile.specs.declared.profile.Profile.{Profile}
 use Rattle.filter_expr.specs.declared.name.Key.TheVariants as keys
 use Rattle.filter_expr.specs.declared.operator.Operator.{Operator}
 use Rattle.filter_expr.specs.declared.operator.Operator.TheVariants as operators
@@ -10,8 +12,9 @@ use Rattle.filter_expr.specs.declared.subject.Subject.TheVariants.{File}
 use Rattle.filter_expr.specs.Names.{key_named}
 use Rattle.filter_expr.specs.Parts.{opening, closing, exclamation, backslash, is_blank, is_quote}
 use Rattle.filter_expr.specs.Reading.{test_tree, most_open, whole}
+use Rattle.filter_expr.specs.Times.{time_in}
 use Rattle.filter_expr.specs.Tree.{Tree}
-use Rattle.filter_expr.specs.Tree.Tree.{Base, Not, And}
+use Rattle.filter_expr.specs.Tree.Tree.{Base, Since, Not, And}
 
 abbrev pub AreBlanks : List ℕ → Type 0
 AreBlanks gap = list_all is_blank gap ≡ true
@@ -48,26 +51,40 @@ IsOperator subject operators.Contains middle =
     (before after : List ℕ) × IsGap before × IsGap after × (middle ≡ before ++ (codes "contains" ++ after))
 
 -- `base V`
-pub record SpellsBase (tree : Tree) (text : List ℕ) : Type 0 where
+pub record SpellsBase (profile : Profile) (tree : Tree) (text : List ℕ) : Type 0 where
   pub name : List ℕ
   pub gap : List ℕ
   pub quoted : List ℕ
   pub value : List ℕ
-  pub named : key_named name ≡ Some keys.Base
+  pub named : key_named profile name ≡ Some keys.Base
   pub blanks : AreBlanks gap
   pub spelled : SpellsValue quoted value
   pub parts : text ≡ name ++ (gap ++ quoted)
   pub says : tree ≡ Base value
 
+-- `modified-since V`
+pub record SpellsSince (profile : Profile) (tree : Tree) (text : List ℕ) : Type 0 where
+  pub name : List ℕ
+  pub gap : List ℕ
+  pub quoted : List ℕ
+  pub value : List ℕ
+  pub time : ℕ
+  pub named : key_named profile name ≡ Some keys.Since
+  pub blanks : AreBlanks gap
+  pub spelled : SpellsValue quoted value
+  pub read : time_in value ≡ Some time
+  pub parts : text ≡ name ++ (gap ++ quoted)
+  pub says : tree ≡ Since time
+
 -- `TAG == V` and its kin
-pub record SpellsTest (tree : Tree) (text : List ℕ) : Type 0 where
+pub record SpellsTest (profile : Profile) (tree : Tree) (text : List ℕ) : Type 0 where
   pub name : List ℕ
   pub subject : Subject
   pub middle : List ℕ
   pub operator : Operator
   pub quoted : List ℕ
   pub value : List ℕ
-  pub named : key_named name ≡ Some (keys.Of subject)
+  pub named : key_named profile name ≡ Some (keys.Of subject)
   pub compared : IsOperator subject operator middle
   pub spelled : SpellsValue quoted value
   pub parts : text ≡ name ++ (middle ++ quoted)
@@ -91,9 +108,10 @@ SpellsGroup spells (suc others) tree text =
     × spells right last × (text ≡ first ++ (before ++ (codes "AND" ++ (after ++ last)))) × (tree ≡ And left right)
 
 -- what stands between parentheses
-abbrev pub SpellsInside : (Tree → List ℕ → Type 0) → Tree → List ℕ → Type 0
-SpellsInside spells tree text =
-    (SpellsBase tree text ⊎ SpellsTest tree text) ⊎ (SpellsNegation spells tree text ⊎ ((others : ℕ) × SpellsGroup spells others tree text))
+abbrev pub SpellsInside : Profile → (Tree → List ℕ → Type 0) → Tree → List ℕ → Type 0
+SpellsInside profile spells tree text =
+    (SpellsBase profile tree text ⊎ (SpellsSince profile tree text ⊎ SpellsTest profile tree text))
+    ⊎ (SpellsNegation spells tree text ⊎ ((others : ℕ) × SpellsGroup spells others tree text))
 
 -- between parentheses, and blanks within them
 pub record IsEnclosed (spells : List ℕ → Type 0) (text : List ℕ) : Type 0 where
@@ -106,14 +124,17 @@ pub record IsEnclosed (spells : List ℕ → Type 0) (text : List ℕ) : Type 0 
   pub parts : text ≡ opening ∷ (before ++ (inside ++ (after ++ closing ∷ [])))
 
 -- an EXPR of a tree, in which at most so many parentheses are open at once
-unfoldable pub Spells : ℕ → Tree → List ℕ → Type 0
-Spells zero tree text = ⊥
-Spells (suc room) tree text = IsEnclosed (SpellsInside (Spells room) tree) text
+unfoldable pub Spells : Profile → ℕ → Tree → List ℕ → Type 0
+Spells profile zero tree text = ⊥
+Spells profile (suc room) tree text = IsEnclosed (SpellsInside profile (Spells profile room) tree) text
 
 -- a word is read as an expression just where it spells it
 abbrev pub IsReadAsSpelled : Type 0
-IsReadAsSpelled = (word : List ℕ) (tree : Tree) → (whole word ≡ Ok tree) ↔ Spells most_open tree word
+IsReadAsSpelled =
+    (profile : Profile) (word : List ℕ) (tree : Tree) → (whole profile word ≡ Ok tree) ↔ Spells profile most_open tree word
 
 -- a word spells one expression at most
 abbrev pub SpellsOnce : Type 0
-SpellsOnce = (word : List ℕ) (tree other : Tree) → Spells most_open tree word → Spells most_open other word → tree ≡ other
+SpellsOnce =
+    (profile : Profile) (word : List ℕ) (tree other : Tree) → Spells profile most_open tree word → Spells profile most_open other word
+    → tree ≡ other

@@ -1,4 +1,6 @@
 pub mod AsciiSong
+pub mod Calendar
+pub mod Fallback
 pub mod Folding
 pub mod Gives
 pub mod Grammar
@@ -12,6 +14,7 @@ pub mod Looked
 pub mod Looks
 pub mod Meaning
 pub mod SortWord
+pub mod Times
 pub mod Tree
 pub mod TreeCode
 pub mod Words

@@ -7,12 +7,19 @@ use Rattle.filter_expr.specs.declared.case.Case.{Case}
 use Rattle.filter_expr.specs.declared.subject.Comparison.{Comparison}
 use Rattle.filter_expr.specs.declared.subject.Subject.{Subject}
 use Rattle.filter_expr.specs.declared.subject.Subject.TheVariants.{OfTag, Any, File}
+use Rattle.filter_expr.specs.Fallback.{told_tag}
 use Rattle.filter_expr.specs.Meaning.{is_like}
 
 abbrev pub is_of : Subject → Tag → Bool
 is_of (OfTag own) tag = is_tag tag own
 is_of Any tag = true
 is_of File tag = false
+
+-- the subject with the tag whose texts are told for its own
+abbrev pub told_subject : List TagText → Subject → Subject
+told_subject tags (OfTag tag) = OfTag (told_tag tags tag)
+told_subject tags Any = Any
+told_subject tags File = File
 
 -- a text that is looked at, and is like a value that isn't empty
 abbrev pub is_like_of : Case → Subject → Comparison → List ℕ → TagText → Bool

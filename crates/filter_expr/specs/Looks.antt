@@ -1,5 +1,5 @@
 -- How often songs are looked at by a filter.
-use Rattle.std.specs.Prelude.{ℕ, ◌+◌, ◌-◌, ◌*◌, min, List, [], ◌∷◌, length, count_by, Option, Some, None}
+use Rattle.std.specs.Prelude.{ℕ, ◌+◌, ◌-◌, ◌*◌, min, List, [], ◌∷◌, length, count_by, Option, Some, None, if◌then◌else◌}
 use Rattle.std.specs.Option.{option_or}
 use Rattle.song_db.specs.Row.{Row}
 use Rattle.song_db.specs.Valued.{has_value}
@@ -8,21 +8,24 @@ use Rattle.filter_expr.specs.declared.case.Case.{Case}
 use Rattle.filter_expr.specs.declared.case.Case.TheVariants.{Exact, Folded}
 use Rattle.filter_expr.specs.declared.subject.Comparison.TheVariants.{Contains}
 use Rattle.filter_expr.specs.declared.subject.Subject.TheVariants.{OfTag}
+use Rattle.filter_expr.specs.Fallback.{has_fallback}
 use Rattle.filter_expr.specs.Tree.{Tree}
-use Rattle.filter_expr.specs.Tree.Tree.{Test, Base, Not, And}
+use Rattle.filter_expr.specs.Tree.Tree.{Test, Base, Since, Not, And}
 
 -- how many tests a filter has, counted up to 4294967295
 abbrev pub tests_of : Tree → ℕ
 tests_of (Test subject comparison value) = 1
 tests_of (Base base) = 1
+tests_of (Since time) = 1
 tests_of (Not inner) = tests_of inner
 tests_of (And left right) = min (tests_of left + tests_of right) 4294967295
 
 -- A tag's value that each song has that is denoted where the case counts: one of the parts that must all hold says so, of several the last.
+-- Where the texts of other tags may stand in for a tag's, there is none.
 abbrev pub needed_value : Tree → Option (Tag × List ℕ)
 needed_value (Test (OfTag tag) Contains value) = None
 needed_value (Test (OfTag tag) comparison []) = None
-needed_value (Test (OfTag tag) comparison (v ∷ value)) = Some (tag, v ∷ value)
+needed_value (Test (OfTag tag) comparison (v ∷ value)) = if has_fallback tag then None else Some (tag, v ∷ value)
 needed_value (And left right) = option_or (needed_value right) (needed_value left)
 needed_value tree = None
 

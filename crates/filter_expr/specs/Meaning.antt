@@ -1,5 +1,5 @@
 -- The rows that a filter denotes, once exact and once folded.
-use Rattle.std.specs.Prelude.{ℕ, Bool, true, false, not, ◌==◌, ◌&&◌, ◌||◌, List, [], ◌∷◌, map}
+use Rattle.std.specs.Prelude.{ℕ, Bool, true, false, not, ◌==◌, ◌&&◌, ◌||◌, List, [], ◌∷◌, map, Option}
 use Rattle.std.specs.List.{list_any}
 use Rattle.std.specs.Str.{bytes_eq}
 use Rattle.song_db.specs.Place.{is_below}
@@ -11,9 +11,11 @@ use Rattle.filter_expr.specs.declared.subject.Subject.{Subject}
 use Rattle.filter_expr.specs.declared.subject.Subject.TheVariants.{OfTag, Any, File}
 use Rattle.filter_expr.specs.declared.subject.Comparison.{Comparison}
 use Rattle.filter_expr.specs.declared.subject.Comparison.TheVariants.{Equals, Contains, Pair}
+use Rattle.filter_expr.specs.Fallback.{told_tag}
 use Rattle.filter_expr.specs.Folding.{folded, in_case}
+use Rattle.filter_expr.specs.Times.{known_time, is_since}
 use Rattle.filter_expr.specs.Tree.{Tree}
-use Rattle.filter_expr.specs.Tree.Tree.{Test, Base, Not, And}
+use Rattle.filter_expr.specs.Tree.Tree.{Test, Base, Since, Not, And}
 
 abbrev pub begins_with : List ℕ → List ℕ → Bool
 begins_with [] text = true
@@ -53,17 +55,18 @@ abbrev pub passes : Case → Comparison → List ℕ → List (List ℕ) → Boo
 passes case comparison [] texts = passes_empty comparison texts
 passes case comparison (v ∷ value) texts = list_any (is_like case comparison (v ∷ value)) texts
 
--- what a filter sees of a song: its URI and its tags
+-- what a filter sees of a song: its URI, its tags, and when its file was changed last
 pub record Song : Type 0 where
   pub uri : List ℕ
   pub tags : List TagText
+  pub modified : Option ℕ
 
 abbrev pub song_of : Row → Song
-song_of row = record { uri = row.uri; tags = row.tags }
+song_of row = record { uri = row.uri; tags = row.tags; modified = known_time row.stamp }
 
--- the texts that a test looks at: those of one tag, of all tags, or the URI
+-- the texts that a test looks at: those that are told for one tag, those of all tags, or the URI
 abbrev pub texts_for : Subject → Song → List (List ℕ)
-texts_for (OfTag tag) song = texts_of song.tags tag
+texts_for (OfTag tag) song = texts_of song.tags (told_tag song.tags tag)
 texts_for Any song = map (λ (t : TagText). t.text) song.tags
 texts_for File song = song.uri ∷ []
 
@@ -79,6 +82,7 @@ is_at (b ∷ base) uri = bytes_eq (b ∷ base) uri || is_below (b ∷ base) uri
 abbrev pub denotes : Case → Tree → Song → Bool
 denotes case (Test subject comparison value) song = does_hold case subject comparison value song
 denotes case (Base base) song = is_at base song.uri
+denotes case (Since time) song = is_since time song.modified
 denotes case (Not tree) song = not (denotes case tree song)
 denotes case (And left right) song = denotes case left song && denotes case right song
 

@@ -1,29 +1,37 @@
 -- The names of what a test looks at; the case of ASCII letters doesn't count.
-use Rattle.std.specs.Prelude.{ℕ, List, Option, Some, None, codes, if◌then◌else◌}
+use Rattle.std.specs.Prelude.{ℕ, List, Bool, true, false, ◌&&◌, Option, Some, None, codes, if◌then◌else◌}
 use Rattle.std.specs.Str.{str_eq_ignore_ascii_case}
+use Rattle.profile.specs.Profile.{tags_of}
+use Rattle.profile.specs.declared.profile.Profile.{Profile}
+use Rattle.profile.specs.declared.profile.Profile.TheVariants.{Named, Wide}
 use Rattle.song_files.specs.Tag.{tag_named as any_tag_named}
 use Rattle.song_files.specs.TagSet.{has_tag}
 use Rattle.song_files.specs.declared.tag.Tag.{Tag}
-use Rattle.song_files.specs.declared.tag_set.TheConstants.TagSet.{SIX}
 use Rattle.filter_expr.specs.declared.subject.Subject.TheVariants.{OfTag, Any, File}
 use Rattle.filter_expr.specs.declared.name.Key.{Key}
-use Rattle.filter_expr.specs.declared.name.Key.TheVariants.{Of, Base}
+use Rattle.filter_expr.specs.declared.name.Key.TheVariants.{Of, Base, Since}
 
--- a tag that filters know: one of the six
-abbrev pub known : Option Tag → Option Tag
-known None = None
-known (Some tag) = if has_tag SIX tag then Some tag else None
+-- a tag that the profile has
+abbrev pub known : Profile → Option Tag → Option Tag
+known profile None = None
+known profile (Some tag) = if has_tag (tags_of profile) tag then Some tag else None
 
-abbrev pub tag_named : List ℕ → Option Tag
-tag_named name = known (any_tag_named name)
+abbrev pub tag_named : Profile → List ℕ → Option Tag
+tag_named profile name = known profile (any_tag_named name)
+
+-- whether songs are told apart by when their files were changed
+abbrev pub knows_times : Profile → Bool
+knows_times Named = false
+knows_times Wide = true
 
 -- a tag, or something else that is named
-abbrev pub key_of : Option Tag → List ℕ → Option Key
-key_of (Some tag) name = Some (Of (OfTag tag))
-key_of None name =
+abbrev pub key_of : Profile → Option Tag → List ℕ → Option Key
+key_of profile (Some tag) name = Some (Of (OfTag tag))
+key_of profile None name =
     if str_eq_ignore_ascii_case name (codes "any") then Some (Of Any)
     else (if str_eq_ignore_ascii_case name (codes "file") then Some (Of File)
-    else (if str_eq_ignore_ascii_case name (codes "base") then Some Base else None))
+    else (if str_eq_ignore_ascii_case name (codes "base") then Some Base
+    else (if knows_times profile && str_eq_ignore_ascii_case name (codes "modified-since") then Some Since else None)))
 
-unfoldable pub key_named : List ℕ → Option Key
-key_named name = key_of (tag_named name) name
+unfoldable pub key_named : Profile → List ℕ → Option Key
+key_named profile name = key_of profile (tag_named profile name) name

@@ -1,6 +1,7 @@
 -- The parts of an expression's text, each with what stands behind it, or the first fault from the left.
 use Rattle.std.specs.Prelude.{ℕ, Bool, true, false, ◌==◌, ◌||◌, List, [], ◌∷◌, length, Result, Ok, Err, Option, Some, None, if◌then◌else◌}
 use Rattle.std.specs.Str.{is_utf8}
+use Rattle.profile.specs.declared.profile.Profile.{Profile}
 use Rattle.filter_expr.specs.declared.name.Key.{Key}
 use Rattle.filter_expr.specs.Names.{key_named}
 
@@ -89,12 +90,12 @@ abbrev pub key_found : Option Key → List ℕ → List ℕ → Result (Key × L
 key_found None name behind = Err (Unknown name)
 key_found (Some key) name behind = Ok (key, behind)
 
-abbrev pub key_from : List ℕ → List ℕ → Result (Key × List ℕ) Fault
-key_from [] behind = Err (Bad (length behind))
-key_from (b ∷ name) behind = key_found (key_named (b ∷ name)) (b ∷ name) behind
+abbrev pub key_from : Profile → List ℕ → List ℕ → Result (Key × List ℕ) Fault
+key_from profile [] behind = Err (Bad (length behind))
+key_from profile (b ∷ name) behind = key_found (key_named profile (b ∷ name)) (b ∷ name) behind
 
-unfoldable pub key_at : List ℕ → Result (Key × List ℕ) Fault
-key_at text = key_from (name_in text) (behind_name text)
+unfoldable pub key_at : Profile → List ℕ → Result (Key × List ℕ) Fault
+key_at profile text = key_from profile (name_in text) (behind_name text)
 
 -- a byte in front of what is read behind it
 abbrev pub with_front : ℕ → Result (List ℕ × List ℕ) Fault → Result (List ℕ × List ℕ) Fault

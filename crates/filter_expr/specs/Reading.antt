@@ -1,5 +1,7 @@
 -- The filter that words spell, or the first fault from the left.
-use Rattle.std.specs.Prelude.{ℕ, zero, suc, List, [], ◌∷◌, length, Bool, true, false, Result, Ok, Err, codes, if◌then◌else◌}
+use Rattle.std.specs.Prelude.{ℕ, zero, suc, List, [], ◌∷◌, length, Bool, true, false, Option, Some, None, Result, Ok, Err, codes}
+use Rattle.std.specs.Prelude.{if◌then◌else◌}
+use Rattle.profile.specs.declared.profile.Profile.{Profile}
 use Rattle.filter_expr.specs.declared.subject.Subject.{Subject}
 use Rattle.filter_expr.specs.declared.subject.Subject.TheVariants.{File}
 use Rattle.filter_expr.specs.declared.subject.Comparison.TheVariants.{Equals, Contains}
@@ -10,8 +12,9 @@ use Rattle.filter_expr.specs.declared.operator.Operator.TheVariants as operators
 use Rattle.filter_expr.specs.Parts.{Fault, ◌>>=◌, opening, closing, exclamation, equals_sign, begins_so, without_blanks, byte_at, word_at}
 use Rattle.filter_expr.specs.Parts.{between_gaps, key_at, value_at}
 use Rattle.filter_expr.specs.Parts.Fault.{Bad, Deep}
+use Rattle.filter_expr.specs.Times.{time_in}
 use Rattle.filter_expr.specs.Tree.{Tree}
-use Rattle.filter_expr.specs.Tree.Tree.{Test, Base, Not, And}
+use Rattle.filter_expr.specs.Tree.Tree.{Test, Base, Since, Not, And}
 
 -- `==`, or, but for a file, `!=` or `contains`
 unfoldable pub operator_at : Subject → List ℕ → Result (Operator × List ℕ) Fault
@@ -27,11 +30,19 @@ test_tree subject operators.Equal value = Test subject Equals value
 test_tree subject operators.Unequal value = Not (Test subject Equals value)
 test_tree subject operators.Contains value = Test subject Contains value
 
--- `TAG == V` and its kin, or `base V`, behind its name
+-- a value that is a time, where so many bytes stand from it to the end of the text
+abbrev pub since_of : Option ℕ → ℕ → List ℕ → Result (Tree × List ℕ) Fault
+since_of None left rest = Err (Bad left)
+since_of (Some time) left rest = Ok (Since time, rest)
+
+-- `TAG == V` and its kin, `base V` or `modified-since V`, behind its name
 unfoldable pub test_of : Key → List ℕ → Result (Tree × List ℕ) Fault
 test_of keys.Base text = do
   value ← value_at (without_blanks text)
   Ok (Base value.0, value.1)
+test_of keys.Since text = do
+  value ← value_at (without_blanks text)
+  since_of (time_in value.0) (length (without_blanks text)) value.1
 test_of (keys.Of subject) text = do
   operator ← operator_at subject text
   value ← value_at (without_blanks operator.1)
@@ -46,9 +57,9 @@ closed x = do
   rest ← byte_at closing (without_blanks x.1)
   Ok (x.0, rest)
 
-unfoldable pub test_at : Reader
-test_at text = do
-  key ← key_at text
+unfoldable pub test_at : Profile → Reader
+test_at profile text = do
+  key ← key_at profile text
   test ← test_of key.0 key.1
   closed test
 
@@ -73,19 +84,19 @@ group_at read text = do
   others_at read (length x.1) x
 
 -- what stands behind an opening parenthesis
-unfoldable pub inside_at : Reader → Reader
-inside_at read text =
+unfoldable pub inside_at : Profile → Reader → Reader
+inside_at profile read text =
     if begins_so opening text then group_at read text
-    else (if begins_so exclamation text then negation_at read text else test_at text)
+    else (if begins_so exclamation text then negation_at read text else test_at profile text)
 
 -- an EXPR in which so many parentheses may be open at once
-unfoldable pub expression_at : ℕ → Reader
-expression_at zero text = do
+unfoldable pub expression_at : Profile → ℕ → Reader
+expression_at profile zero text = do
   rest ← byte_at opening text
   Err (Deep (length text))
-expression_at (suc room) text = do
+expression_at profile (suc room) text = do
   rest ← byte_at opening text
-  inside_at (expression_at room) (without_blanks rest)
+  inside_at profile (expression_at profile room) (without_blanks rest)
 
 abbrev pub is_nil : List ℕ → Bool
 is_nil [] = true
@@ -99,5 +110,5 @@ most_open = 32
 abbrev pub alone : Tree × List ℕ → Result Tree Fault
 alone x = if is_nil x.1 then Ok x.0 else Err (Bad (length x.1))
 
-unfoldable pub whole : List ℕ → Result Tree Fault
-whole word = expression_at most_open word >>= alone
+unfoldable pub whole : Profile → List ℕ → Result Tree Fault
+whole profile word = expression_at profile most_open word >>= alone

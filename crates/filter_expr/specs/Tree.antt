@@ -5,10 +5,12 @@ use Rattle.filter_expr.specs.declared.expression.Expression.TheVariants as kept
 use Rattle.filter_expr.specs.declared.subject.Subject.{Subject}
 use Rattle.filter_expr.specs.declared.subject.Comparison.{Comparison}
 
--- a test of a subject against a value, the songs at and under a place, what doesn't hold, and two that hold
+-- a test of a subject against a value, the songs at and under a place, those whose files were changed at a time or later, what doesn't
+-- hold, and two that hold
 pub data Tree : Type 0 where
   Test : Subject → Comparison → List ℕ → Tree
   Base : List ℕ → Tree
+  Since : ℕ → Tree
   Not : Tree → Tree
   And : Tree → Tree → Tree
 
@@ -16,5 +18,6 @@ pub data Tree : Type 0 where
 abbrev pub tree_of : Expression → Tree
 tree_of (kept.Test subject comparison value) = Test subject comparison value
 tree_of (kept.Base base) = Base (string_bytes base)
+tree_of (kept.Since time) = Since time
 tree_of (kept.Not' p inner) = Not (tree_of inner)
 tree_of (kept.And' p left q right) = And (tree_of left) (tree_of right)

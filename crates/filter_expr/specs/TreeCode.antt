@@ -10,7 +10,7 @@ use Rattle.filter_expr.specs.declared.subject.Subject.TheVariants.{OfTag, Any, F
 use Rattle.filter_expr.specs.declared.subject.Comparison.{Comparison}
 use Rattle.filter_expr.specs.declared.subject.Comparison.TheVariants.{Equals, Contains, Pair}
 use Rattle.filter_expr.specs.Tree.{Tree}
-use Rattle.filter_expr.specs.Tree.Tree.{Test, Base, Not, And}
+use Rattle.filter_expr.specs.Tree.Tree.{Test, Base, Since, Not, And}
 
 -- what a node is, its subject, and its value
 abbrev Step : Type 0
@@ -39,6 +39,7 @@ comparison_number Pair = 2
 abbrev steps : Tree → List Step → List Step
 steps (Test subject comparison value) after = (comparison_number comparison, (subject_number subject, value)) ∷ after
 steps (Base base) after = (3, (0, base)) ∷ after
+steps (Since time) after = (6, (time, [])) ∷ after
 steps (Not tree) after = (4, (0, [])) ∷ steps tree after
 steps (And left right) after = (5, (0, [])) ∷ steps left (steps right after)
 
@@ -57,7 +58,8 @@ placed step trees =
     else (if step.0 == 1 then Test (subject_at step.1.0) Contains step.1.1 ∷ trees
     else (if step.0 == 2 then Test (subject_at step.1.0) Pair step.1.1 ∷ trees
     else (if step.0 == 3 then Base step.1.1 ∷ trees
-    else (if step.0 == 4 then with_not trees else with_and trees))))
+    else (if step.0 == 4 then with_not trees
+    else (if step.0 == 6 then Since step.1.0 ∷ trees else with_and trees)))))
 
 -- the trees of nodes
 abbrev trees_of : List Step → List Tree
@@ -78,6 +80,7 @@ trees_again (Test subject Equals value) after = ap (λ (s : Subject). Test s Equ
 trees_again (Test subject Contains value) after = ap (λ (s : Subject). Test s Contains value ∷ trees_of after) (subject_again subject)
 trees_again (Test subject Pair value) after = ap (λ (s : Subject). Test s Pair value ∷ trees_of after) (subject_again subject)
 trees_again (Base base) after = refl
+trees_again (Since time) after = refl
 trees_again (Not tree) after = ap with_not (trees_again tree after)
 trees_again (And left right) after =
     ap with_and (trees_again left (steps right after)) ∙ ap (λ (ts : List Tree). with_and (left ∷ ts)) (trees_again right after)

@@ -1,6 +1,7 @@
 -- The filter that the words of a command spell, or the first refusal from the left.
 use Rattle.std.specs.Prelude.{◌≡◌, ℕ, ◌+◌, ◌-◌, List, [], ◌∷◌, length, drop, Result, Ok, Err, Option, Some, None, if◌then◌else◌}
 use Rattle.std.specs.Str.{is_utf8}
+use Rattle.profile.specs.declared.profile.Profile.{Profile}
 use Rattle.filter_expr.specs.declared.name.Key.{Key}
 use Rattle.filter_expr.specs.declared.name.Key.TheVariants as keys
 use Rattle.filter_expr.specs.declared.subject.Comparison.TheVariants.{Pair}
@@ -12,8 +13,9 @@ use Rattle.filter_expr.specs.Names.{key_named}
 use Rattle.filter_expr.specs.Parts.{Fault, opening, begins_so}
 use Rattle.filter_expr.specs.Parts.Fault.{Bad, Unknown, Deep}
 use Rattle.filter_expr.specs.Reading.{whole}
+use Rattle.filter_expr.specs.Times.{time_in}
 use Rattle.filter_expr.specs.Tree.{Tree}
-use Rattle.filter_expr.specs.Tree.Tree.{Test, Base, And}
+use Rattle.filter_expr.specs.Tree.Tree.{Test, Base, Since, And}
 
 -- Why words spell no filter: from this byte of this word on no filter goes on so, no tag has this name, or one parenthesis more is open at
 -- this byte than may be. Words and bytes count from 0.
@@ -42,44 +44,51 @@ abbrev pub alone : List (List ℕ) → Tree → Result Tree Refusal
 alone [] tree = Ok tree
 alone (word ∷ words) tree = Err (BadFilter 1 0)
 
-abbrev pub pair_tree : Key → List ℕ → Tree
-pair_tree keys.Base value = Base value
-pair_tree (keys.Of subject) value = Test subject Pair value
+abbrev pub since_pair : ℕ → Option ℕ → Result Tree Refusal
+since_pair number None = Err (BadFilter number 0)
+since_pair number (Some time) = Ok (Since time)
+
+-- what a value says, whose word has this number
+abbrev pub pair_tree : ℕ → Key → List ℕ → Result Tree Refusal
+pair_tree number keys.Base value = Ok (Base value)
+pair_tree number (keys.Of subject) value = Ok (Test subject Pair value)
+pair_tree number keys.Since value = since_pair number (time_in value)
 
 abbrev pub keyed : Option Key → List ℕ → Result Key Refusal
 keyed None name = Err (UnknownTag name)
 keyed (Some key) name = Ok key
 
 -- the pair of a tag and a value, whose words have this number and the next
-unfoldable pub pair_of : ℕ → List ℕ → List ℕ → Result Tree Refusal
-pair_of number name value = do
-  key ← keyed (key_named name) name
-  if is_utf8 value then Ok (pair_tree key value) else Err (BadFilter (number + 1) 0)
+unfoldable pub pair_of : Profile → ℕ → List ℕ → List ℕ → Result Tree Refusal
+pair_of profile number name value = do
+  key ← keyed (key_named profile name) name
+  if is_utf8 value then pair_tree (number + 1) key value else Err (BadFilter (number + 1) 0)
 
 -- a tag without a value
-unfoldable pub half_pair : ℕ → List ℕ → Result Tree Refusal
-half_pair number name = keyed (key_named name) name >>= λ key. Err (BadFilter (number + 1) 0)
+unfoldable pub half_pair : Profile → ℕ → List ℕ → Result Tree Refusal
+half_pair profile number name = keyed (key_named profile name) name >>= λ key. Err (BadFilter (number + 1) 0)
 
 -- the pair in front
-abbrev pub pair_at : ℕ → List (List ℕ) → Result Tree Refusal
-pair_at number [] = Err (BadFilter number 0)
-pair_at number (name ∷ []) = half_pair number name
-pair_at number (name ∷ value ∷ words) = pair_of number name value
+abbrev pub pair_at : Profile → ℕ → List (List ℕ) → Result Tree Refusal
+pair_at profile number [] = Err (BadFilter number 0)
+pair_at profile number (name ∷ []) = half_pair profile number name
+pair_at profile number (name ∷ value ∷ words) = pair_of profile number name value
 
 -- what holds beside the pairs behind it, the first of which has this number
-unfoldable pub more_pairs : ℕ → Tree → List (List ℕ) → Result Tree Refusal
-more_pairs number tree [] = Ok tree
-more_pairs number tree (name ∷ []) = half_pair number name
-more_pairs number tree (name ∷ value ∷ words) = pair_of number name value >>= λ pair. more_pairs (number + 2) (And tree pair) words
+unfoldable pub more_pairs : Profile → ℕ → Tree → List (List ℕ) → Result Tree Refusal
+more_pairs profile number tree [] = Ok tree
+more_pairs profile number tree (name ∷ []) = half_pair profile number name
+more_pairs profile number tree (name ∷ value ∷ words) =
+    pair_of profile number name value >>= λ pair. more_pairs profile (number + 2) (And tree pair) words
 
-unfoldable pub pairs_of : List (List ℕ) → Result Tree Refusal
-pairs_of words = pair_at 0 words >>= λ pair. more_pairs 2 pair (drop 2 words)
+unfoldable pub pairs_of : Profile → List (List ℕ) → Result Tree Refusal
+pairs_of profile words = pair_at profile 0 words >>= λ pair. more_pairs profile 2 pair (drop 2 words)
 
 -- A word that begins with a parenthesis is an expression, and stands alone; others are pairs, which hold together.
-unfoldable pub filter_of : List (List ℕ) → Result Tree Refusal
-filter_of [] = Err (BadFilter 0 0)
-filter_of (word ∷ words) =
-    if begins_so opening word then (read_in_word 0 word (whole word) >>= alone words) else pairs_of (word ∷ words)
+unfoldable pub filter_of : Profile → List (List ℕ) → Result Tree Refusal
+filter_of profile [] = Err (BadFilter 0 0)
+filter_of profile (word ∷ words) =
+    if begins_so opening word then (read_in_word 0 word (whole profile word) >>= alone words) else pairs_of profile (word ∷ words)
 
 -- what a call answered is what the words spell, unless it found no memory
 abbrev pub Refuses : {Y : Type 0} → FilterError → Result Y Refusal → Type 0

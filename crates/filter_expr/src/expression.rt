@@ -8,9 +8,11 @@ ghost use Rattle.filter_expr.specs.Looks.{needed_value, tests_of};
 ghost use Rattle.filter_expr.specs.Tree.{tree_of};
 ghost use Rattle.filter_expr.specs.declared.case.Case.TheVariants.{Exact, Folded};
 
+use crate::fallback::has_fallback;
 use crate::folded_row::FoldedRow;
 use crate::row_text::{does_hold_exact, is_at};
 use crate::subject::{Comparison, Subject};
+use crate::time::{is_since, known_time};
 use crate::value::TestValue;
 use song_db::SongRow;
 use song_files::Tag;
@@ -21,6 +23,7 @@ use std::alloc::{AllocError, Global};
 pub(crate) enum Expression {
     Test(Subject, Comparison, TestValue),
     Base(String),
+    Since(u64),
     Not(Box<Expression>),
     And(Box<Expression>, Box<Expression>),
 }
@@ -42,12 +45,14 @@ impl Expression {
                 does_hold_exact(*subject, *comparison, value, row)
             }
             Expression::Base(base) => is_at(base.as_str(), row.uri()),
+            Expression::Since(time) => is_since(*time, known_time(row.stamp())),
             Expression::Not(inner) => !inner.matches_exact(row),
             Expression::And(_, _) => unreachable!(),
         }
     }
 
     /// A tag and a value that each song denoted where the case counts has: the expression, or a part of its outermost `AND`, says so.
+    /// Where the texts of other tags may stand in for a tag's, there is none.
     pub(crate) fn needed_value(&self) -> Option<(Tag, &TestValue)>
         ensures value { option_map (λ needed. (needed.0, needed.1.now)) result ≡ needed_value (tree_of self.now) }
         ensures all { IfSome result (λ needed. (row : Row) → is_match Exact (tree_of self.now) row ≡ true
@@ -63,6 +68,9 @@ impl Expression {
         match left {
             Expression::Test(Subject::OfTag(tag), comparison, value) => {
                 if *comparison == Comparison::Contains || value.text().is_empty() {
+                    return None;
+                }
+                if has_fallback(*tag) {
                     return None;
                 }
                 Some((*tag, value))
@@ -93,6 +101,7 @@ impl Expression {
                 row.does_hold(alloc, *subject, *comparison, value)
             }
             Expression::Base(base) => Ok(is_at(base.as_str(), row.path())),
+            Expression::Since(time) => Ok(is_since(*time, row.modified())),
             Expression::Not(inner) => Ok(!inner.matches_folded(alloc, row)?),
             Expression::And(_, _) => unreachable!(),
         }
@@ -103,7 +112,7 @@ impl Expression {
         ensures { result ≡ tests_of (tree_of self.now) }
     {
         match self {
-            Expression::Test(_, _, _) | Expression::Base(_) => 1,
+            Expression::Test(_, _, _) | Expression::Base(_) | Expression::Since(_) => 1,
             Expression::Not(inner) => inner.tests(),
             Expression::And(others, last) => others.tests().saturating_add(last.tests()),
         }

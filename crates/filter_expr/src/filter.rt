@@ -16,6 +16,7 @@ use crate::value::TestValue;
 use crate::word::LineWord;
 use crate::words;
 use no_memory::NoMemory;
+use profile::Profile;
 use song_db::{SongDb, SongRow};
 use song_files::Tag;
 use std::alloc::Global;
@@ -39,15 +40,19 @@ impl Model for Filter {
 }
 
 impl Filter {
-    /// The filter that words spell: one word that is an expression, or pairs of a tag and a value, which hold together (MPD protocol
-    /// reference 0.23, "Filters").
+    /// The filter that words spell, by the names that the profile has: one word that is an expression, or pairs of a tag and a value,
+    /// which hold together (MPD protocol reference 0.23, "Filters").
     ///
     /// `BadFilter`, `UnknownTag` or `TooDeep` tells of the leftmost fault of words that spell none.
-    pub fn parse<'w>(alloc: Global, words: &'w [LineWord<'_>]) -> Result<Filter, FilterError<'w>>
-        ensures exact { Gives (λ filter. filter) result (filter_of words.now) }
+    pub fn parse<'w>(
+        alloc: Global,
+        profile: Profile,
+        words: &'w [LineWord<'_>],
+    ) -> Result<Filter, FilterError<'w>>
+        ensures exact { Gives (λ filter. filter) result (filter_of profile words.now) }
     {
         Ok(Filter {
-            root: words::filter_of(alloc, words)?,
+            root: words::filter_of(alloc, profile, words)?,
         })
     }
 

@@ -10,6 +10,7 @@ ghost use Rattle.filter_expr.specs.declared.case.Case.TheVariants.{Folded};
 use crate::lowered::compare_ascii;
 use crate::row_text::{occurs_in, passes_empty};
 use crate::subject::{Comparison, Subject};
+use crate::time::known_time;
 use crate::value::{TestValue, fold};
 use song_db::SongRow;
 use std::alloc::{AllocError, Global};
@@ -134,6 +135,13 @@ impl<'a> FoldedRow<'a> {
         self.row.uri()
     }
 
+    /// When the song's file was changed last, where that is known.
+    pub(crate) fn modified(&self) -> Option<u64>
+        ensures { result ≡ self.now.modified }
+    {
+        known_time(self.row.stamp())
+    }
+
     /// Whether the song passes a test where the case doesn't count.
     pub(crate) fn does_hold(
         &mut self,
@@ -152,7 +160,10 @@ impl<'a> FoldedRow<'a> {
         let row = self.row;
         match subject {
             Subject::File => self.is_like(alloc, comparison, value, row.uri()),
-            _ => self.one_is_like(alloc, subject, comparison, value),
+            _ => {
+                let told = subject.told(row.tags());
+                self.one_is_like(alloc, told, comparison, value)
+            }
         }
     }
 

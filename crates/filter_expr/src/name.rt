@@ -1,35 +1,48 @@
 // The names of tags and of a filter's other keys, in any case.
 ghost use Rattle.std.specs.Prelude.{◌≡◌, codes};
 ghost use Rattle.std.specs.Str.{str_eq_ignore_ascii_case};
-ghost use Rattle.filter_expr.specs.Names.{tag_named, key_named};
+ghost use Rattle.filter_expr.specs.Names.{tag_named, knows_times, key_named};
 
 use crate::subject::Subject;
-use song_files::{Tag, TagSet};
+use profile::Profile;
+use song_files::Tag;
 
 /// What a name stands for in a filter.
 #[derive(Clone, Copy, Debug)]
 pub(crate) enum Key {
     Of(Subject),
     Base,
+    /// Since when a song's file was changed.
+    Since,
 }
 
-/// The tag of a name, if filters know it; the case of ASCII letters doesn't count.
-pub fn tag_named(name: &[u8]) -> Option<Tag>
-    ensures { result ≡ tag_named name.now }
+/// The tag of a name, if the profile has it; the case of ASCII letters doesn't count.
+pub fn tag_named(profile: Profile, name: &[u8]) -> Option<Tag>
+    ensures { result ≡ tag_named profile name.now }
 {
     let tag = Tag::named(name)?;
-    if !TagSet::SIX.contains(tag) {
+    if !profile.tags().contains(tag) {
         return None;
     }
     Some(tag)
 }
 
-/// What the name stands for: a tag, `any`, `file` or `base`.
-#[tactic(auto, unfolding(crate::specs::Names::key_named))]
-pub(crate) fn key_named(name: &[u8]) -> Option<Key>
-    ensures { result ≡ key_named name.now }
+/// Whether songs are told apart by when their files were changed.
+pub(crate) fn knows_times(profile: Profile) -> bool
+    ensures { result ≡ knows_times profile }
 {
-    if let Some(tag) = tag_named(name) {
+    match profile {
+        Profile::Named => false,
+        Profile::Wide => true,
+    }
+}
+
+/// What the name stands for: a tag, `any`, `file`, `base` or, where times are known, `modified-since`.
+#[tactic(auto, unfolding(crate::specs::Names::key_named))]
+pub(crate) fn key_named(profile: Profile, name: &[u8]) -> Option<Key>
+    ensures { result ≡ key_named profile name.now }
+{
+    if let Some(tag) = tag_named(profile, name) {
         return Some(Key::Of(Subject::OfTag(tag)));
     }
     if is_named(name, b"any") {
@@ -38,6 +51,8 @@ pub(crate) fn key_named(name: &[u8]) -> Option<Key>
         Some(Key::Of(Subject::File))
     } else if is_named(name, b"base") {
         Some(Key::Base)
+    } else if knows_times(profile) && is_named(name, b"modified-since") {
+        Some(Key::Since)
     } else {
         None
     }

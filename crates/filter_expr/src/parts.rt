@@ -8,6 +8,7 @@ ghost use Rattle.filter_expr.specs.Parts.{name_in, behind_name, key_at, backslas
 ghost use Rattle.filter_expr.specs.declared.parts.Stop.TheVariants as stops;
 
 use crate::name::{Key, key_named};
+use profile::Profile;
 use std::alloc::{AllocError, AllocFailed, Global};
 
 /// Why a part of a text wasn't read: a fault, with how many bytes stand from it to the end of the text, or want of memory.
@@ -128,15 +129,15 @@ pub(crate) fn between_gaps<'a>(word: &[u8], text: &'a [u8]) -> Result<&'a [u8], 
 
 /// What the name in front names.
 #[tactic(auto, unfolding(crate::specs::Parts::key_at))]
-pub(crate) fn key_at(text: &[u8]) -> Result<(Key, &[u8]), Stop<'_>>
-    ensures exact { Gives (λ x. (x.0, x.1.now)) result (key_at text.now) }
+pub(crate) fn key_at(profile: Profile, text: &[u8]) -> Result<(Key, &[u8]), Stop<'_>>
+    ensures exact { Gives (λ x. (x.0, x.1.now)) result (key_at profile text.now) }
     ensures bound { IfOk result (λ x. length x.1.now ≤ length text.now) }
 {
     let (name, rest) = text.split_at(name_length(text));
     if name.is_empty() {
         return Err(Stop::Bad(rest.len()));
     }
-    match key_named(name) {
+    match key_named(profile, name) {
         None => Err(Stop::Unknown(name)),
         Some(key) => Ok((key, rest)),
     }

@@ -1,8 +1,9 @@
 // Reads an expression from its text.
 ghost use Rattle.std.specs.Prelude.{◌≡◌, ◌<◌, ◌≤◌, ℕ, length, IfOk, string_bytes};
 ghost use Rattle.filter_expr.specs.Gives.{Gives};
-ghost use Rattle.filter_expr.specs.Reading.{operator_at, test_of, test_tree, closed, test_at, negation_at, group_at, inside_at};
+ghost use Rattle.filter_expr.specs.Reading.{operator_at, since_of, test_of, test_tree, closed, test_at, negation_at, group_at, inside_at};
 ghost use Rattle.filter_expr.specs.Reading.{expression_at, whole};
+ghost use Rattle.filter_expr.specs.Times.{time_in};
 ghost use Rattle.filter_expr.specs.Tree.{tree_of};
 ghost use Rattle.filter_expr.specs.Tree.Tree.{And};
 
@@ -13,7 +14,9 @@ use crate::parts::{
     Stop, begins_so, between_gaps, byte_at, key_at, value_at, without_blanks, word_at,
 };
 use crate::subject::{Comparison, Subject};
+use crate::time::time_in;
 use crate::value::TestValue;
+use profile::Profile;
 use std::alloc::{AllocError, Global};
 
 /// How many parentheses may be open at once.
@@ -54,6 +57,21 @@ fn test(
     }
 }
 
+/// A value that is a time, where so many bytes stand from it to the end of the text.
+fn since_of<'a>(
+    value: &str,
+    left: usize,
+    rest: &'a [u8],
+) -> Result<(Expression, &'a [u8]), Stop<'a>>
+    ensures exact { Gives (λ x. (tree_of x.0, x.1.now)) result (since_of (time_in value.now) left rest.now) }
+    ensures rest { IfOk result (λ x. x.1.now ≡ rest.now) }
+{
+    match time_in(value.as_bytes()) {
+        None => Err(Stop::Bad(left)),
+        Some(time) => Ok((Expression::Since(time), rest)),
+    }
+}
+
 /// The rest of a test behind its name.
 #[tactic(auto, unfolding(crate::specs::Reading::test_of))]
 fn test_of(alloc: Global, key: Key, text: &[u8]) -> Result<(Expression, &[u8]), Stop<'_>>
@@ -64,6 +82,11 @@ fn test_of(alloc: Global, key: Key, text: &[u8]) -> Result<(Expression, &[u8]), 
         Key::Base => {
             let (base, rest) = value_at(alloc, without_blanks(text))?;
             Ok((Expression::Base(base), rest))
+        }
+        Key::Since => {
+            let bare = without_blanks(text);
+            let (value, rest) = value_at(alloc, bare)?;
+            since_of(value.as_str(), bare.len(), rest)
         }
         Key::Of(subject) => {
             let (operator, behind) = operator_at(subject, text)?;
@@ -85,11 +108,11 @@ fn closed(tree: Expression, text: &[u8]) -> Result<(Expression, &[u8]), Stop<'_>
 
 /// A test and its closing parenthesis.
 #[tactic(auto, unfolding(crate::specs::Reading::test_at))]
-fn test_at(alloc: Global, text: &[u8]) -> Result<(Expression, &[u8]), Stop<'_>>
-    ensures exact { Gives (λ x. (tree_of x.0, x.1.now)) result (test_at text.now) }
+fn test_at(alloc: Global, profile: Profile, text: &[u8]) -> Result<(Expression, &[u8]), Stop<'_>>
+    ensures exact { Gives (λ x. (tree_of x.0, x.1.now)) result (test_at profile text.now) }
     ensures shorter { IfOk result (λ x. length x.1.now < length text.now) }
 {
-    let (key, behind) = key_at(text)?;
+    let (key, behind) = key_at(profile, text)?;
     let (tree, rest) = test_of(alloc, key, behind)?;
     closed(tree, rest)
 }
@@ -97,24 +120,34 @@ fn test_at(alloc: Global, text: &[u8]) -> Result<(Expression, &[u8]), Stop<'_>>
 /// A negation and its closing parenthesis.
 #[cycle(expression)]
 #[tactic(auto, unfolding(crate::specs::Reading::negation_at))]
-fn negation_at(alloc: Global, room: u32, text: &[u8]) -> Result<(Expression, &[u8]), Stop<'_>>
-    ensures exact { Gives (λ x. (tree_of x.0, x.1.now)) result (negation_at (expression_at room) text.now) }
+fn negation_at(
+    alloc: Global,
+    profile: Profile,
+    room: u32,
+    text: &[u8],
+) -> Result<(Expression, &[u8]), Stop<'_>>
+    ensures exact { Gives (λ x. (tree_of x.0, x.1.now)) result (negation_at (expression_at profile room) text.now) }
     ensures shorter { IfOk result (λ x. length x.1.now < length text.now) }
 {
     let inner = byte_at(b'!', text)?;
-    let (tree, rest) = expression_at(alloc, room, without_blanks(inner))?;
+    let (tree, rest) = expression_at(alloc, profile, room, without_blanks(inner))?;
     closed(Expression::Not(Box::new(alloc, tree)?), rest)
 }
 
 /// One expression or several with AND between them, and the closing parenthesis.
 #[cycle(expression)]
-fn group_at(alloc: Global, room: u32, text: &[u8]) -> Result<(Expression, &[u8]), Stop<'_>>
-    ensures exact { Gives (λ x. (tree_of x.0, x.1.now)) result (group_at (expression_at room) text.now) }
+fn group_at(
+    alloc: Global,
+    profile: Profile,
+    room: u32,
+    text: &[u8],
+) -> Result<(Expression, &[u8]), Stop<'_>>
+    ensures exact { Gives (λ x. (tree_of x.0, x.1.now)) result (group_at (expression_at profile room) text.now) }
     ensures shorter { IfOk result (λ x. length x.1.now < length text.now) }
 {
-    let (mut tree, mut rest) = expression_at(alloc, room, text)?;
+    let (mut tree, mut rest) = expression_at(alloc, profile, room, text)?;
     'others: while !begins_so(b')', without_blanks(rest)) {
-        let (right, behind) = expression_at(alloc, room, between_gaps(b"AND", rest)?)?;
+        let (right, behind) = expression_at(alloc, profile, room, between_gaps(b"AND", rest)?)?;
         tree = both(alloc, tree, right)?;
         rest = behind;
     }
@@ -135,8 +168,13 @@ pub(crate) fn both(
 
 /// An expression in which so many parentheses may be open at once.
 #[cycle(expression)]
-fn expression_at(alloc: Global, room: u32, text: &[u8]) -> Result<(Expression, &[u8]), Stop<'_>>
-    ensures exact { Gives (λ x. (tree_of x.0, x.1.now)) result (expression_at room text.now) }
+fn expression_at(
+    alloc: Global,
+    profile: Profile,
+    room: u32,
+    text: &[u8],
+) -> Result<(Expression, &[u8]), Stop<'_>>
+    ensures exact { Gives (λ x. (tree_of x.0, x.1.now)) result (expression_at profile room text.now) }
     ensures shorter { IfOk result (λ x. length x.1.now < length text.now) }
 {
     let rest = byte_at(b'(', text)?;
@@ -145,20 +183,20 @@ fn expression_at(alloc: Global, room: u32, text: &[u8]) -> Result<(Expression, &
     }
     let inner = without_blanks(rest);
     if begins_so(b'(', inner) {
-        group_at(alloc, room - 1, inner)
+        group_at(alloc, profile, room - 1, inner)
     } else if begins_so(b'!', inner) {
-        negation_at(alloc, room - 1, inner)
+        negation_at(alloc, profile, room - 1, inner)
     } else {
-        test_at(alloc, inner)
+        test_at(alloc, profile, inner)
     }
 }
 
 /// The expression that the whole text spells.
 #[tactic(auto, unfolding(crate::specs::Reading::whole))]
-pub(crate) fn whole(alloc: Global, text: &[u8]) -> Result<Expression, Stop<'_>>
-    ensures exact { Gives tree_of result (whole text.now) }
+pub(crate) fn whole(alloc: Global, profile: Profile, text: &[u8]) -> Result<Expression, Stop<'_>>
+    ensures exact { Gives tree_of result (whole profile text.now) }
 {
-    let (tree, rest) = expression_at(alloc, MOST_OPEN, text)?;
+    let (tree, rest) = expression_at(alloc, profile, MOST_OPEN, text)?;
     if !rest.is_empty() {
         return Err(Stop::Bad(rest.len()));
     }

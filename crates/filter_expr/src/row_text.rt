@@ -5,6 +5,7 @@ ghost use Rattle.filter_expr.specs.Looked.{is_like_of};
 ghost use Rattle.filter_expr.specs.Meaning.{is_absent, is_like, occurs_in, passes_empty, song_of, texts_for, does_hold, is_at};
 ghost use Rattle.filter_expr.specs.declared.case.Case.TheVariants.{Exact};
 
+use crate::fallback::told_tag;
 use crate::subject::{Comparison, Subject};
 use crate::value::TestValue;
 use memchr::memmem;
@@ -43,7 +44,7 @@ fn is_absent(subject: Subject, row: &SongRow) -> bool
     ensures { result ≡ is_absent (texts_for subject (song_of row.now)) }
 {
     match subject {
-        Subject::OfTag(tag) => row.tag(tag).is_none(),
+        Subject::OfTag(tag) => row.tag(told_tag(row.tags(), tag)).is_none(),
         Subject::Any => row.tags().is_empty(),
         Subject::File => false,
     }
@@ -63,7 +64,10 @@ pub(crate) fn does_hold_exact(
     }
     match subject {
         Subject::File => is_like_exact(comparison, value.text(), row.uri()),
-        _ => one_is_like(subject, comparison, value.text(), row.tags()),
+        _ => {
+            let tags = row.tags();
+            one_is_like(subject.told(tags), comparison, value.text(), tags)
+        }
     }
 }
 

@@ -1,13 +1,14 @@
 // What a test looks at, and how it compares.
 ghost use Rattle.std.specs.Prelude.{◌≡◌};
-ghost use Rattle.filter_expr.specs.Looked.{is_of};
+ghost use Rattle.filter_expr.specs.Looked.{is_of, told_subject};
 
-use song_files::Tag;
+use crate::fallback::told_tag;
+use song_files::{Tag, Tags};
 
 /// What of a song a test looks at.
 #[derive(Clone, Copy, Debug, PartialEq, Eq)]
 pub enum Subject {
-    /// The texts of a tag, which may be absent.
+    /// The texts that are told for a tag, which may be absent.
     OfTag(Tag),
     /// The texts of all tags.
     Any,
@@ -16,6 +17,17 @@ pub enum Subject {
 }
 
 impl Subject {
+    /// The subject with the tag whose texts are told for its own.
+    pub(crate) fn told(self, tags: &Tags) -> Subject
+        ensures { result ≡ told_subject tags.now self }
+    {
+        match self {
+            Subject::OfTag(tag) => Subject::OfTag(told_tag(tags, tag)),
+            Subject::Any => Subject::Any,
+            Subject::File => Subject::File,
+        }
+    }
+
     /// Whether a test looks at the texts of a tag.
     pub(crate) fn is_of(self, tag: Tag) -> bool
         ensures { result ≡ is_of self tag }

@@ -14,8 +14,10 @@ use crate::parts::{Stop, begins_so};
 use crate::reading::{both, whole};
 use crate::refusal::{FilterError, FilterPlace};
 use crate::subject::Comparison;
+use crate::time::time_in;
 use crate::value::TestValue;
 use crate::word::LineWord;
+use profile::Profile;
 use std::alloc::{AllocError, Global};
 
 /// Why a word of this number wasn't read.
@@ -37,10 +39,14 @@ fn error_in<'a>(number: usize, word: &[u8], stop: Stop<'a>) -> FilterError<'a>
 }
 
 /// The expression that the first word spells.
-fn expression_of(alloc: Global, word: &[u8]) -> Result<Expression, FilterError<'_>>
-    ensures { Gives tree_of result (read_in_word 0 word.now (whole word.now)) }
+fn expression_of(
+    alloc: Global,
+    profile: Profile,
+    word: &[u8],
+) -> Result<Expression, FilterError<'_>>
+    ensures { Gives tree_of result (read_in_word 0 word.now (whole profile word.now)) }
 {
-    match whole(alloc, word) {
+    match whole(alloc, profile, word) {
         Ok(tree) => Ok(tree),
         Err(stop) => Err(error_in(0, word, stop)),
     }
@@ -56,10 +62,10 @@ fn bad_word<'a>(number: usize) -> FilterError<'a>
     })
 }
 
-fn keyed(name: &[u8]) -> Result<Key, FilterError<'_>>
-    ensures { Gives (λ key. key) result (keyed (key_named name.now) name.now) }
+fn keyed(profile: Profile, name: &[u8]) -> Result<Key, FilterError<'_>>
+    ensures { Gives (λ key. key) result (keyed (key_named profile name.now) name.now) }
 {
-    match key_named(name) {
+    match key_named(profile, name) {
         Some(key) => Ok(key),
         None => Err(FilterError::UnknownTag(name)),
     }
@@ -69,18 +75,19 @@ fn keyed(name: &[u8]) -> Result<Key, FilterError<'_>>
 #[tactic(auto, unfolding(crate::specs::Words::pair_of))]
 fn pair_of<'a>(
     alloc: Global,
+    profile: Profile,
     number: usize,
     name: &'a [u8],
     value: &[u8],
 ) -> Result<Expression, FilterError<'a>>
     requires { number + 1 < 2 ^ 64 }
-    ensures { Gives tree_of result (pair_of number name.now value.now) }
+    ensures { Gives tree_of result (pair_of profile number name.now value.now) }
 {
-    let key = keyed(name)?;
+    let key = keyed(profile, name)?;
     let Some(value) = text(alloc, value)? else {
         return Err(bad_word(number + 1));
     };
-    Ok(pair(alloc, key, value)?)
+    pair(alloc, number + 1, key, value)
 }
 
 /// A text of these bytes, if they are UTF-8.
@@ -93,11 +100,21 @@ fn text(alloc: Global, bytes: &[u8]) -> Result<Option<String>, AllocError>
     }
 }
 
-fn pair(alloc: Global, key: Key, value: String) -> Result<Expression, AllocError>
-    ensures { IfOk result (λ tree. tree_of tree ≡ pair_tree key (string_bytes value)) }
+/// What a value says, whose word has this number.
+fn pair<'a>(
+    alloc: Global,
+    number: usize,
+    key: Key,
+    value: String,
+) -> Result<Expression, FilterError<'a>>
+    ensures { Gives tree_of result (pair_tree number key (string_bytes value)) }
 {
     match key {
         Key::Base => Ok(Expression::Base(value)),
+        Key::Since => match time_in(value.as_str().as_bytes()) {
+            None => Err(bad_word(number)),
+            Some(time) => Ok(Expression::Since(time)),
+        },
         Key::Of(subject) => {
             let value = TestValue::new(alloc, value)?;
             Ok(Expression::Test(subject, Comparison::Pair, value))
@@ -107,38 +124,43 @@ fn pair(alloc: Global, key: Key, value: String) -> Result<Expression, AllocError
 
 /// A tag without a value.
 #[tactic(auto, unfolding(crate::specs::Words::half_pair))]
-fn half_pair(number: usize, name: &[u8]) -> Result<Expression, FilterError<'_>>
+fn half_pair(profile: Profile, number: usize, name: &[u8]) -> Result<Expression, FilterError<'_>>
     requires { number + 1 < 2 ^ 64 }
-    ensures { Gives tree_of result (half_pair number name.now) }
+    ensures { Gives tree_of result (half_pair profile number name.now) }
 {
-    keyed(name)?;
+    keyed(profile, name)?;
     Err(bad_word(number + 1))
 }
 
 /// The pair in front of these words, the first of which has this number.
 fn pair_at<'w>(
     alloc: Global,
+    profile: Profile,
     number: usize,
     words: &'w [LineWord<'_>],
 ) -> Result<Expression, FilterError<'w>>
     requires { number + 1 < 2 ^ 64 }
-    ensures { Gives tree_of result (pair_at number words.now) }
+    ensures { Gives tree_of result (pair_at profile number words.now) }
 {
     match words {
         [] => Err(bad_word(number)),
-        [name] => half_pair(number, name.bytes()),
-        [name, value, ..] => pair_of(alloc, number, name.bytes(), value.bytes()),
+        [name] => half_pair(profile, number, name.bytes()),
+        [name, value, ..] => pair_of(alloc, profile, number, name.bytes(), value.bytes()),
     }
 }
 
 /// What holds where all the pairs of these words do.
-fn pairs_of<'w>(alloc: Global, words: &'w [LineWord<'_>]) -> Result<Expression, FilterError<'w>>
-    ensures { Gives tree_of result (pairs_of words.now) }
+fn pairs_of<'w>(
+    alloc: Global,
+    profile: Profile,
+    words: &'w [LineWord<'_>],
+) -> Result<Expression, FilterError<'w>>
+    ensures { Gives tree_of result (pairs_of profile words.now) }
 {
-    let mut tree = pair_at(alloc, 0, words)?;
+    let mut tree = pair_at(alloc, profile, 0, words)?;
     let mut number = 2;
     'pairs: while number < words.len() {
-        let pair = pair_at(alloc, number, &words[number..])?;
+        let pair = pair_at(alloc, profile, number, &words[number..])?;
         tree = both(alloc, tree, pair)?;
         number += 2;
     }
@@ -149,17 +171,18 @@ fn pairs_of<'w>(alloc: Global, words: &'w [LineWord<'_>]) -> Result<Expression, 
 #[tactic(auto, unfolding(crate::specs::Words::filter_of))]
 pub(crate) fn filter_of<'w>(
     alloc: Global,
+    profile: Profile,
     words: &'w [LineWord<'_>],
 ) -> Result<Expression, FilterError<'w>>
-    ensures { Gives tree_of result (filter_of words.now) }
+    ensures { Gives tree_of result (filter_of profile words.now) }
 {
     let Some((word, others)) = words.split_first() else {
         return Err(bad_word(0));
     };
     if !begins_so(b'(', word.bytes()) {
-        return pairs_of(alloc, words);
+        return pairs_of(alloc, profile, words);
     }
-    let tree = expression_of(alloc, word.bytes())?;
+    let tree = expression_of(alloc, profile, word.bytes())?;
     if !others.is_empty() {
         return Err(bad_word(1));
     }

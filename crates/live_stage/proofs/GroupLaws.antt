@@ -9,15 +9,17 @@ use Rattle.std.proofs.lemmas.Bool.Decides.{nat_tests}
 use Rattle.std.proofs.lemmas.List.{append-nil, reverse-append}
 use Rattle.std.proofs.lemmas.List.Sums.{sum_by-append}
 use Rattle.std.proofs.lemmas.List.Folds.{list_any-append}
-use Rattle.play_journal.specs.Content.{Content, present_layout, with_record, with_records}
+use Rattle.play_journal.specs.Content.{Content, with_record, with_records}
 use Rattle.play_journal.specs.File.{records_len}
 use Rattle.play_journal.proofs.GroupLaws.{records_len-one, records_len-append, no_records}
 use Rattle.machine_core.specs.Looks.{max_looks}
+use Rattle.profile.specs.declared.profile.Profile.{Profile}
 use Rattle.state_codec.specs.declared.op.Op.{Op}
+use Rattle.state_codec.specs.Layout.{written_layout}
 use Rattle.state_codec.specs.SavedState.{SavedState}
 use Rattle.state_codec.specs.Applied.{all_applied}
 use Rattle.state_codec.specs.Ops.{IsOp}
-use Rattle.state_codec.specs.Spelling.{ops_bytes}
+use Rattle.state_codec.specs.Spelling.{body_bytes}
 use Rattle.daemon_core.specs.declared.event.Event.{Event}
 use Rattle.daemon_core.specs.State.{State}
 use Rattle.daemon_core.specs.Step.{Stepped, step}
@@ -25,16 +27,17 @@ use Rattle.daemon_core.specs.Replay.{Entry, stepped}
 use Rattle.daemon_core.proofs.LooksLaws.{step_within}
 use Rattle.live_stage.specs.declared.staging.Begin.{Begin}
 use Rattle.live_stage.specs.declared.refusal.LiveError.{LiveError}
-use Rattle.live_stage.specs.Answer.{Answer, IsNumbered}
+use Rattle.live_stage.specs.Answer.{Answer, IsNumbered, profile_of_step}
 use Rattle.live_stage.specs.Found.{state_of}
 use Rattle.live_stage.specs.Group.{AreParted, BearTheirStates, EndsThere, TookEach, answer_bytes, answer_looks, are_last, asked_by}
-use Rattle.live_stage.specs.Group.{bodies_after, body_of, file_with, group_file, history_in, may_follow, most_answer_bytes, most_looks, takes_more}
+use Rattle.live_stage.specs.Group.{bodies_after, body_of, body_of_step, file_with, group_file, history_in, may_follow, most_answer_bytes, most_looks, takes_more}
 use Rattle.live_stage.specs.LiveState.{LiveState}
 use Rattle.live_stage.specs.Numbers.{Numbers, FileNumbers, greatest, is_due, longest_record, most_bytes, most_records, next_numbers}
 use Rattle.live_stage.specs.Numbers.{record_bytes}
 use Rattle.live_stage.specs.Staging.{AddsStep, AreStaged, AreTaken, IsAnswerOf, KeepsToBounds, file_begun, numbers_begun, numbers_staged}
 use Rattle.live_stage.specs.Transcript.{IsStepOf, IsTranscript, entry_of, history_of, numbers_after, replayed}
 use Rattle.live_stage.proofs.FoundLaws.{record_added}
+use Rattle.live_stage.proofs.ProfileLaws.{profile_stays}
 
 abbrev pub Reply : Type 0
 Reply = Result Answer LiveError
@@ -91,10 +94,10 @@ took_on takes before (a ∷ turns) t so_far one = (
 
 -- ---- numbers
 
-next_are : (before : Numbers) (ops : List Op)
-    → next_numbers before ops ≡ record { event = before.event + 1; last_record = before.last_record + length (body_of ops) }
-next_are before [] = ap (λ (n : ℕ). let now : Numbers = record { event = before.event + 1; last_record = n } in now) (omega arith)
-next_are before (op ∷ ops) = refl
+next_are : (p : Profile) (before : Numbers) (ops : List Op)
+    → next_numbers before ops ≡ record { event = before.event + 1; last_record = before.last_record + length (body_of p ops) }
+next_are p before [] = ap (λ (n : ℕ). let now : Numbers = record { event = before.event + 1; last_record = n } in now) (omega arith)
+next_are p before (op ∷ ops) = refl
 
 pub numbers_are_after : (s : State) (first : Numbers) (whole : List Entry) → numbers_after s first whole
     ≡ record { event = first.event + length whole; last_record = first.last_record + length (bodies_after s whole) }
@@ -108,11 +111,11 @@ numbers_are_after s first (entry ∷ earlier) =
     let numbers : ℕ → ℕ → Numbers = λ event last. record { event = event; last_record = last } in
     let bodies = bodies_after s earlier in
     let event : first.event + length earlier + 1 ≡ first.event + length (entry ∷ earlier) = omega arith in
-    let last : first.last_record + length bodies + length (body_of now.ops) ≡ first.last_record + length (bodies ++ body_of now.ops) =
-    omega (arith, length-append bodies (body_of now.ops)) in
+    let last : first.last_record + length bodies + length (body_of_step now) ≡ first.last_record + length (bodies ++ body_of_step now) =
+    omega (arith, length-append bodies (body_of_step now)) in
     ap (λ (n : Numbers). next_numbers n now.ops) (numbers_are_after s first earlier)
-    ∙ next_are (numbers (first.event + length earlier) (first.last_record + length bodies)) now.ops
-    ∙ ap (λ (n : ℕ). numbers n (first.last_record + length bodies + length (body_of now.ops))) event
+    ∙ next_are (profile_of_step now) (numbers (first.event + length earlier) (first.last_record + length bodies)) now.ops
+    ∙ ap (λ (n : ℕ). numbers n (first.last_record + length bodies + length (body_of_step now))) event
     ∙ ap (λ (n : ℕ). numbers (first.event + length (entry ∷ earlier)) n) last
 
 -- the numbers behind the answers of a group
@@ -127,13 +130,13 @@ staged_are begin s turns bodies is =
 -- ---- records
 
 -- how many records ops make, and how many bytes these take
-pub body_few : (ops : List Op) → length (body_of ops) ≤ 1
-body_few [] = omega arith
-body_few (op ∷ ops) = omega arith
+pub body_few : (p : Profile) (ops : List Op) → length (body_of p ops) ≤ 1
+body_few p [] = omega arith
+body_few p (op ∷ ops) = omega arith
 
-pub body_bytes : (ops : List Op) → records_len (body_of ops) ≡ record_bytes ops
-body_bytes [] = refl
-body_bytes (op ∷ ops) = records_len-one (ops_bytes (op ∷ ops))
+pub body_takes : (p : Profile) (ops : List Op) → records_len (body_of p ops) ≡ record_bytes p ops
+body_takes p [] = refl
+body_takes p (op ∷ ops) = records_len-one (body_bytes p (op ∷ ops))
 
 pub file_records : (file : FileNumbers) (bodies : List (List ℕ)) → (let f = file_with file bodies in f.records) ≡ file.records + length bodies
 file_records file [] = omega arith
@@ -167,15 +170,15 @@ due_stays file bodies fits due =
     ]
 
 -- a content with these records stands for the state behind them
-stands_on : (content : Content) (bodies : List (List ℕ)) (ops : List Op) (s after : SavedState) → content.layout ≡ present_layout
-    → state_of (Some (with_records content bodies)) ≡ Some s → AllByRecursion IsOp ops → all_applied ops s ≡ Some after
-    → state_of (Some (with_records content (bodies ++ body_of ops))) ≡ Some after
-stands_on content bodies [] s after layout stands valid applies =
+stands_on : (p : Profile) (content : Content) (bodies : List (List ℕ)) (ops : List Op) (s after : SavedState) → s.profile ≡ p
+    → content.layout ≡ written_layout p → state_of (Some (with_records content bodies)) ≡ Some s → AllByRecursion IsOp ops → all_applied ops s ≡ Some after
+    → state_of (Some (with_records content (bodies ++ body_of p ops))) ≡ Some after
+stands_on p content bodies [] s after own layout stands valid applies =
     ap (λ (l : List (List ℕ)). state_of (Some (with_records content l))) (append-nil bodies) ∙ stands ∙ applies
-stands_on content bodies (op ∷ ops) s after layout stands valid applies =
+stands_on p content bodies (op ∷ ops) s after own layout stands valid applies =
     ap (λ (l : List (List ℕ)). state_of (Some (record content { records = l })))
-    (sym (append_assoc content.records bodies (body_of (op ∷ ops))))
-    ∙ record_added (with_records content bodies) op ops s after stands layout valid applies
+    (sym (append_assoc content.records bodies (body_of p (op ∷ ops))))
+    ∙ record_added p (with_records content bodies) op ops s after own stands layout valid applies
 
 -- ---- an event more is staged
 
@@ -186,6 +189,7 @@ none_staged D begin s = record {
   overdue = tt;
   state = refl;
   records = refl;
+  profile = refl;
   stands = λ content layout stands. ap (λ (c : Content). state_of (Some c)) (no_records content) ∙ stands;
 }
 
@@ -203,6 +207,9 @@ module _ (D : Type 0) (begin : Begin) (s : State) (turns : List Answer) (core : 
   same : made ≡ stepped (replayed s whole) (entry_of t.asked t)
   same = ap (λ (c : State). step c event t.refused_at) so_far.state
       ∙ ap (λ (e : Event). step (replayed s whole) e t.refused_at) (sym answer.asked)
+
+  step_profile : profile_of_step made ≡ core.machine.saved.profile
+  step_profile = profile_stays made.ops core.machine.saved made.after.machine.saved added.applies
 
   is_step : (old : LiveState D) → old.state ≡ s → old.numbers ≡ numbers_begun begin
       → IsStepOf old whole (stepped (replayed old.state whole) (entry_of t.asked t)) t
@@ -228,12 +235,14 @@ module _ (D : Type 0) (begin : Begin) (s : State) (turns : List Answer) (core : 
     before = bear_on s [] turns t so_far.before (answer.state ∙ so_far.state);
     overdue = all_on (λ (a : Answer). a.is_overdue ≡ begin.is_overdue) turns t so_far.overdue answer.overdue;
     state = added.state ∙ ap (λ (st : Stepped). st.after) same ∙ ap (replayed s) (sym (history_more_by turns t));
-    records = added.put ∙ ap (λ (l : List (List ℕ)). l ++ body_of made.ops) so_far.records
-        ∙ ap (λ (st : Stepped). bodies_after s whole ++ body_of st.ops) same
+    records = added.put ∙ ap (λ (l : List (List ℕ)). l ++ body_of_step made) so_far.records
+        ∙ ap (λ (st : Stepped). bodies_after s whole ++ body_of_step st) same
         ∙ ap (bodies_after s) (sym (history_more_by turns t));
+    profile = ap (λ (c : State). c.machine.saved.profile) added.state ∙ step_profile ∙ so_far.profile;
     stands = λ content layout stands.
         ap (λ (l : List (List ℕ)). state_of (Some (with_records content l))) added.put
-        ∙ stands_on content bodies made.ops core.machine.saved made.after.machine.saved layout (so_far.stands content layout stands)
+        ∙ stands_on (profile_of_step made) content bodies made.ops core.machine.saved made.after.machine.saved (sym step_profile)
+        (layout ∙ ap written_layout (sym (step_profile ∙ so_far.profile))) (so_far.stands content layout stands)
         added.valid added.applies
         ∙ ap (λ (c : State). Some c.machine.saved) (sym added.state);
   }

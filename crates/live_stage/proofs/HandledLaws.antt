@@ -5,7 +5,7 @@ use Rattle.std.specs.Prelude.{sum_by, nat_le}
 use Rattle.std.specs.List.{AllByRecursion, list_any}
 use Rattle.std.proofs.lemmas.List.{append-nil, reverse-reverse}
 use Rattle.disk_model.specs.History.{Change}
-use Rattle.play_journal.specs.Content.{Content, IsEither, present_layout, with_records}
+use Rattle.play_journal.specs.Content.{Content, IsEither, with_records}
 use Rattle.play_journal.specs.File.{records_len}
 use Rattle.play_journal.specs.Pair.{AllPairsNow, AllPairsSince}
 use Rattle.daemon_core.specs.declared.event.Event.{Event}

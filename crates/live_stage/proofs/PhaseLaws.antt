@@ -10,6 +10,7 @@ use Rattle.disk_model.proofs.MomentLaws.{now_only}
 use Rattle.play_journal.specs.Content.{Content, IsEither, with_records}
 use Rattle.play_journal.specs.File.{records_len}
 use Rattle.play_journal.specs.Pair.{AllPairsNow, AllPairsSince}
+use Rattle.profile.specs.declared.profile.Profile.{Profile}
 use Rattle.state_codec.specs.declared.op.Op.{Op}
 use Rattle.state_codec.specs.SavedState.{SavedState}
 use Rattle.daemon_core.specs.declared.event.Event.{Event}
@@ -18,7 +19,7 @@ use Rattle.daemon_core.specs.Step.{Stepped, step}
 use Rattle.daemon_core.specs.Replay.{Entry, stepped}
 use Rattle.live_stage.specs.declared.refusal.LiveError.{LiveError}
 use Rattle.live_stage.specs.declared.refusal.LiveError.TheVariants.{Broken, NoMemory, NumbersSpent}
-use Rattle.live_stage.specs.Answer.{Answer, IsNumbered, IsTurn}
+use Rattle.live_stage.specs.Answer.{Answer, IsNumbered, IsTurn, profile_of_step}
 use Rattle.live_stage.specs.Found.{AllFindNow, AllFindSince, state_of}
 use Rattle.live_stage.specs.Group.{AreParted, BearTheirStates, EndsThere, IsGroup, IsGroupWritten, IsNoneOrAll, IsOfFront, RefusesFront}
 use Rattle.live_stage.specs.Group.{TookEach, asked_by, bodies_after, body_of, events_in, file_with, goes_without, group_file, group_takes, history_in}
@@ -29,7 +30,7 @@ use Rattle.live_stage.specs.Numbers.{greatest, ready_file, recorded}
 use Rattle.live_stage.specs.Staging.{KeepsToBounds}
 use Rattle.live_stage.specs.Transcript.{IsStepOf, IsTranscript, entry_of, history_of, numbers_after, replayed}
 use Rattle.live_stage.specs.Turns.{IsReady, IsStored, MakesNoCall, StaysInFile, WritesAlone, WritesOneFile, ready_content}
-use Rattle.live_stage.proofs.GroupLaws.{Reply, body_bytes}
+use Rattle.live_stage.proofs.GroupLaws.{Reply, body_takes}
 use Rattle.live_stage.proofs.TurnLaws.{IsOtherKept, join_pairs, one_file, one_file_written, other_join, overdue_makes_none, ready_same}
 
 -- ---- refusals
@@ -262,10 +263,10 @@ no_events old events turns none empty = subst (λ (l : List Answer). EndsThere o
 
 -- ---- a group of one answer
 
-one_recorded : (file : FileNumbers) (ops : List Op) → file_with file (body_of ops) ≡ recorded file ops
-one_recorded file [] = refl
-one_recorded file (op ∷ ops) = ap (λ (n : ℕ). let f : FileNumbers = record file { records = file.records + 1; bytes = min (file.bytes + n) greatest } in f)
-    (body_bytes (op ∷ ops))
+one_recorded : (p : Profile) (file : FileNumbers) (ops : List Op) → file_with file (body_of p ops) ≡ recorded p file ops
+one_recorded p file [] = refl
+one_recorded p file (op ∷ ops) = ap (λ (n : ℕ). let f : FileNumbers = record file { records = file.records + 1; bytes = min (file.bytes + n) greatest } in f)
+    (body_takes p (op ∷ ops))
 
 -- it is a turn
 pub one_is_a_turn : {D : Type 0} (old new : LiveState D) (t : Answer) → IsGroup old (t ∷ []) new → IsTurn old t.asked t new
@@ -280,5 +281,5 @@ one_is_a_turn old new t made =
       refused_at = one.refused_at;
       numbered = one.numbered;
       numbers = made.numbers;
-      file = made.file ∙ one_recorded (ready_file t.is_overdue old.state.machine.saved old.file) asked.ops;
+      file = made.file ∙ one_recorded (profile_of_step asked) (ready_file t.is_overdue old.state.machine.saved old.file) asked.ops;
     }

@@ -7,12 +7,13 @@ use Rattle.state_codec.specs.declared.op.Op.{Op}
 use Rattle.state_codec.specs.declared.refusal.BodyError.{BodyError}
 use Rattle.state_codec.specs.declared.refusal.BodyError.TheVariants.{NoMemory, BadOp, DoesNotApply}
 use Rattle.state_codec.specs.Applied.{applied, applied_from, all_applied}
-use Rattle.state_codec.specs.Body.{told, told_place, body_from, body_applied, GivesBody}
+use Rattle.state_codec.specs.Body.{told, told_offset, told_place, body_from, body_applied, front_applied, GivesBody}
 use Rattle.state_codec.specs.Fields.{Field}
-use Rattle.state_codec.specs.Layout.{layout_of}
-use Rattle.state_codec.specs.Reading.{ops_reading}
+use Rattle.state_codec.specs.Layout.{layout_of, profile_of}
+use Rattle.state_codec.specs.Reading.{front_ops, ops_reading}
 use Rattle.state_codec.specs.ReadingOps.{op_at, ops_at}
 use Rattle.state_codec.specs.SavedState.{SavedState}
+use Rattle.state_codec.specs.Sealed.{unsealed}
 use Rattle.state_codec.specs.Steps.{◌>>=◌}
 use Rattle.state_codec.proofs.ApplyLaws.{spelled}
 use Rattle.live_stage.specs.Decoding.{GivesAfter, record_error}
@@ -55,15 +56,26 @@ ops_give number total zero i (b ∷ rest) s t is = absurd cc
 ops_give number total (suc n) i (b ∷ rest) s t is =
     of_read number total n i s t (op_at (layout_of number) (b ∷ rest)) (λ back next. ops_give number total n (suc i) back next t) is
 
--- a body that gives a state
-given_body : (number : ℕ) (b : Bool) (body : List ℕ) (s t : SavedState) → (length body == 0) ≡ b
-    → body_applied number body s ≡ Ok t → after_record number body s ≡ Some t
-given_body number true body s t empty is = absurd (let no : Err (BadOp 0) ≡ Ok t = (rw empty at is) in cc)
-given_body number false body s t some is =
+-- what a reading of ops gives
+abbrev after_read : Result (List Op) ℕ → SavedState → Option SavedState
+after_read read s = option_and_then (λ ops. all_applied ops s) (result_ok read)
+
+-- bytes without their checksum that give a state
+given_front : (number : ℕ) (b : Bool) (body : List ℕ) (s t : SavedState) → (length body == 0) ≡ b
+    → front_applied (layout_of number) s body ≡ Ok t → after_read (front_ops (layout_of number) body) s ≡ Some t
+given_front number true body s t empty is = absurd (let no : Err (BadOp 0) ≡ Ok t = (rw empty at is) in cc)
+given_front number false body s t some is =
     let from : body_from (layout_of number) (length body) (length body) 0 body s ≡ Ok t = (rw some at is) in
     let whole = ops_give number (length body) (length body) 0 body s t from in
-    let read : ops_reading number body ≡ Ok whole.ops = rw (some, whole.spells) refl in
+    let read : front_ops (layout_of number) body ≡ Ok whole.ops = rw (some, whole.spells) refl in
     rw (read, whole.applies) refl
+
+-- a body that gives one
+given_body : (number : ℕ) (front : Result (List ℕ) ℕ) (s t : SavedState)
+    → (told_offset front >>= front_applied (layout_of number) s) ≡ Ok t
+    → after_read (front >>= front_ops (layout_of number)) s ≡ Some t
+given_body number (Ok front) s t is = given_front number (length front == 0) front s t refl is
+given_body number (Err offset) s t is = absurd cc
 
 -- ops that don't apply give no state
 no_state : (read : Result SavedState ℕ) (e : BodyError) → told_place read ≡ Err e → result_ok read ≡ None
@@ -78,7 +90,7 @@ refused_read number body s e (Ok ops) is fails =
     no_state (applied_from 0 ops s) e (sym (spelled (layout_of number) body s ops is) ∙ fails)
 
 pub body_gives : (number : ℕ) (body : List ℕ) (s t : SavedState) → body_applied number body s ≡ Ok t → after_record number body s ≡ Some t
-body_gives number body s t is = given_body number (length body == 0) body s t refl is
+body_gives number body s t is = given_body number (unsealed (profile_of number) body) s t is
 
 body_fails : (number : ℕ) (body : List ℕ) (s : SavedState) (e : BodyError) → body_applied number body s ≡ Err e
     → after_record number body s ≡ None

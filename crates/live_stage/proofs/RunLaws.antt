@@ -14,12 +14,12 @@ use Rattle.daemon_core.specs.Replay.{Entry, stepped, replay}
 use Rattle.daemon_core.proofs.HistoryLaws.{outputs_are_replies}
 use Rattle.live_stage.specs.declared.refusal.LiveError.{LiveError}
 use Rattle.live_stage.specs.declared.refusal.LiveError.TheVariants.{Broken, NoMemory, NumbersSpent}
-use Rattle.live_stage.specs.Answer.{Answer, IsTurn, IsNumbered}
+use Rattle.live_stage.specs.Answer.{Answer, IsTurn, IsNumbered, profile_of_step}
 use Rattle.live_stage.specs.Numbers.{Numbers, FileNumbers, next_numbers, is_due, most_bytes, record_bytes, recorded, AreSpent}
 use Rattle.live_stage.specs.Turns.{WritesOneFile, RefusesInOrder, IsReady, IsStill, writes_to_b}
 use Rattle.state_codec.specs.declared.op.Op.{Op}
 use Rattle.live_stage.specs.LiveState.{LiveState}
-use Rattle.live_stage.specs.Found.{found_state, AllFindNow, AllFindSince}
+use Rattle.live_stage.specs.Found.{given_state, AllFindNow, AllFindSince}
 use Rattle.live_stage.specs.Transcript.{entry_of, history_of, replayed, numbers_after, IsTranscript, broken_by, broken_after}
 use Rattle.live_stage.specs.Transcript.{FileGoesOn, AreNumbersSpent, SpendsNumbers, HasRoomFor, bytes_after}
 use Rattle.live_stage.specs.Transcript.{AreReplies, StaysBroken, first_broken, IsWhole, FindsWhole, FindsPrefix}
@@ -469,13 +469,13 @@ answered_few honest history first old new events answers event t usable r m fine
     let whole : List Entry = whole_of events answers in
     let now : Stepped = step old.state event t.refused_at in
     let asked : Stepped = stepped (replayed first.state whole) (entry_of event t) in
-    let after : new.file ≡ recorded old.file now.ops =
-    m.file ∙ ap (λ (f : FileNumbers). recorded f now.ops) (ready_same t.is_overdue old.state.machine.saved old.file is) in
-    let one = recorded_one old.file now.ops in
-    let same : record_bytes now.ops ≡ record_bytes asked.ops =
-    ap (λ (s : State). let made : Stepped = step s event t.refused_at in record_bytes made.ops) (r.state usable) in
+    let after : new.file ≡ recorded (profile_of_step now) old.file now.ops =
+    m.file ∙ ap (λ (f : FileNumbers). recorded (profile_of_step now) f now.ops) (ready_same t.is_overdue old.state.machine.saved old.file is) in
+    let one = recorded_one (profile_of_step now) old.file now.ops in
+    let same : record_bytes (profile_of_step now) now.ops ≡ record_bytes (profile_of_step asked) asked.ops =
+    ap (λ (s : State). let made : Stepped = step s event t.refused_at in record_bytes (profile_of_step made) made.ops) (r.state usable) in
     let longer : bytes_after first.state (whole_of (events ++ event ∷ []) (answers ++ Ok t ∷ []))
-    ≡ bytes_after first.state whole + record_bytes asked.ops =
+    ≡ bytes_after first.state whole + record_bytes (profile_of_step asked) asked.ops =
     ap (bytes_after first.state) (history_more [] events answers event (Ok t) r.counted) in
     record {
       few = omega (arith, one.few, ap (λ (f : FileNumbers). f.records) after);
@@ -523,7 +523,7 @@ refused_ready {D} honest history first old new events answers event usable ready
       given_out = λ ha hb first_usable b. (let not = ready.usable in absurd cc);
       any_moment = λ ha hb first_usable room x y at_x at_y.
           let was = r.any_moment ha hb first_usable (less_room first events answers event (Err NoMemory) r.counted room) x y in
-          prefix_refused first.state events answers event NoMemory (found_state x y) r.counted
+          prefix_refused first.state events answers event NoMemory (given_state x y) r.counted
           (was (subst (λ (v : LiveState D). LeftSince (history v.a) (length (history first.a)) x) (same room) at_x)
           (subst (λ (v : LiveState D). LeftSince (history v.b) (length (history first.b)) y) (same room) at_y));
       continues_a = λ ha. continues_join (history first.a) (history old.a) (history new.a) (r.continues_a ha)
@@ -575,7 +575,7 @@ broke {D} honest history first old new events answers event usable r m =
       kept = λ ha hb is. absurd cc;
       given_out = λ ha hb first_usable b x y at_x at_y.
           let turn = m.any_moment (r.honest_a.0 ha) (r.honest_b.0 hb) usable in
-          finds turn.0 (found_state x y) (turn.2 x y (counts_now (history new.a) (length (history old.a)) x at_x)
+          finds turn.0 (given_state x y) (turn.2 x y (counts_now (history new.a) (length (history old.a)) x at_x)
           (counts_now (history new.b) (length (history old.b)) y at_y));
       any_moment = λ ha hb first_usable room.
           let turn = m.any_moment (r.honest_a.0 ha) (r.honest_b.0 hb) usable in
@@ -584,10 +584,10 @@ broke {D} honest history first old new events answers event usable r m =
           join_pairs (FindsPrefix first.state (events ++ event ∷ []) (answers ++ Err Broken ∷ [])) (history first.a) (history old.a)
           (history new.a) (history first.b) (history old.b) (history new.b)
           (r.continues_a ha) (m.continues_a (r.honest_a.0 ha)) (r.continues_b hb) (m.continues_b (r.honest_b.0 hb)) one
-          (λ still x y at_x at_y. prefix_refused first.state events answers event Broken (found_state x y) r.counted
+          (λ still x y at_x at_y. prefix_refused first.state events answers event Broken (given_state x y) r.counted
           (r.any_moment ha hb first_usable (less_room first events answers event (Err Broken) r.counted room) x y at_x at_y))
-          (λ x y at_x at_y. finds_prefix_of_whole first.state (events ++ event ∷ []) (answers ++ Err Broken ∷ []) (found_state x y)
-          (finds turn.0 (found_state x y) (turn.2 x y at_x at_y)));
+          (λ x y at_x at_y. finds_prefix_of_whole first.state (events ++ event ∷ []) (answers ++ Err Broken ∷ []) (given_state x y)
+          (finds turn.0 (given_state x y) (turn.2 x y at_x at_y)));
       continues_a = λ ha. continues_join (history first.a) (history old.a) (history new.a) (r.continues_a ha)
           (m.continues_a (r.honest_a.0 ha));
       continues_b = λ hb. continues_join (history first.b) (history old.b) (history new.b) (r.continues_b hb)
@@ -673,9 +673,9 @@ answered {D} honest history first old new events answers event t usable r m =
           join_pairs (FindsPrefix first.state (events ++ event ∷ []) (answers ++ Ok t ∷ [])) (history first.a) (history old.a)
           (history new.a) (history first.b) (history old.b) (history new.b)
           (r.continues_a ha) (m.continues_a (r.honest_a.0 ha)) (r.continues_b hb) (m.continues_b (r.honest_b.0 hb)) one
-          (λ still x y at_x at_y. prefix_answered first.state events answers event t (found_state x y) r.counted (r.unbroken usable).0
+          (λ still x y at_x at_y. prefix_answered first.state events answers event t (given_state x y) r.counted (r.unbroken usable).0
           (r.any_moment ha hb first_usable (less_room first events answers event (Ok t) r.counted room) x y at_x at_y))
-          (λ x y at_x at_y. finds turn.0 (found_state x y) turn.1 (turn.2 x y at_x at_y));
+          (λ x y at_x at_y. finds turn.0 (given_state x y) turn.1 (turn.2 x y at_x at_y));
       continues_a = λ ha. continues_join (history first.a) (history old.a) (history new.a) (r.continues_a ha)
           (m.continues_a (r.honest_a.0 ha));
       continues_b = λ hb. continues_join (history first.b) (history old.b) (history new.b) (r.continues_b hb)

@@ -9,17 +9,18 @@ use Rattle.std.proofs.lemmas.List.Sums.{sum_by-append}
 use Rattle.std.proofs.lemmas.List.Folds.{list_any-append}
 use Rattle.play_journal.specs.File.{records_len}
 use Rattle.play_journal.proofs.GroupLaws.{records_len-append}
+use Rattle.profile.specs.declared.profile.Profile.{Profile}
 use Rattle.state_codec.specs.declared.op.Op.{Op}
 use Rattle.daemon_core.specs.declared.event.Event.{Event}
 use Rattle.daemon_core.specs.State.{State}
 use Rattle.daemon_core.specs.Step.{Stepped, step}
 use Rattle.live_stage.specs.declared.staging.Begin.{Begin}
-use Rattle.live_stage.specs.Answer.{Answer}
-use Rattle.live_stage.specs.Group.{AreParted, TookEach, answer_bytes, answer_looks, asked_by, bodies_after, body_of, file_with, history_in}
+use Rattle.live_stage.specs.Answer.{Answer, profile_of_step}
+use Rattle.live_stage.specs.Group.{AreParted, TookEach, answer_bytes, answer_looks, asked_by, bodies_after, body_of, body_of_step, file_with, history_in}
 use Rattle.live_stage.specs.Group.{may_follow, takes_more}
 use Rattle.live_stage.specs.Numbers.{FileNumbers, greatest, is_due, longest_record, most_bytes, most_records, record_bytes}
 use Rattle.live_stage.specs.Staging.{AddsStep, AreStaged, AreTaken, IsAnswerOf, KeepsToBounds, file_begun, numbers_begun, numbers_staged}
-use Rattle.live_stage.proofs.GroupLaws.{MayFollow, asked_on, body_bytes, body_few, due_stays, file_bytes, file_records, file_snapshot}
+use Rattle.live_stage.proofs.GroupLaws.{MayFollow, asked_on, body_takes, body_few, due_stays, file_bytes, file_records, file_snapshot}
 use Rattle.live_stage.proofs.GroupLaws.{may_follow_says, none_staged, staged_on, takes_as, took_on}
 use Rattle.live_stage.proofs.TurnLaws.{KeepsTo, keeps_to}
 
@@ -56,13 +57,13 @@ undue_bounded file undue =
     let kept = keeps_to file undue in
     record { few = omega (arith, kept.few); short = omega (arith, kept.short) }
 
-one_bounded : (file : FileNumbers) (bodies : List (List ℕ)) (ops : List Op) → file.bytes ≤ greatest → is_due (file_with file bodies) ≡ false
-    → record_bytes ops ≤ longest_record → KeepsToBounds (file_with file (bodies ++ body_of ops))
-one_bounded file bodies ops fits undue short =
+one_bounded : (p : Profile) (file : FileNumbers) (bodies : List (List ℕ)) (ops : List Op) → file.bytes ≤ greatest
+    → is_due (file_with file bodies) ≡ false → record_bytes p ops ≤ longest_record → KeepsToBounds (file_with file (bodies ++ body_of p ops))
+one_bounded p file bodies ops fits undue short =
     let kept = keeps_to (file_with file bodies) undue in
-    let all = bodies ++ body_of ops in
+    let all = bodies ++ body_of p ops in
     record {
-      few = omega (arith, kept.few, file_records file bodies, file_records file all, length-append bodies (body_of ops), body_few ops);
+      few = omega (arith, kept.few, file_records file bodies, file_records file all, length-append bodies (body_of p ops), body_few p ops);
       short = omega (
         arith,
         kept.short,
@@ -70,8 +71,8 @@ one_bounded file bodies ops fits undue short =
         fits,
         file_bytes file bodies fits,
         file_bytes file all fits,
-        records_len-append bodies (body_of ops),
-        body_bytes ops,
+        records_len-append bodies (body_of p ops),
+        body_takes p ops,
         ap most_bytes (file_snapshot file bodies),
         ap most_bytes (file_snapshot file all),
       );
@@ -253,14 +254,14 @@ stage_on D begin s events turns core bodies left bytes looks has_ended well so_f
           ∙ ap (λ (b : Bool). b || (t.ended || false)) (sym so_far.ended ∙ free.on) ∙ or_none t.ended);
       alone = λ overdue. omega (arith, length-append turns (t ∷ []), ap (λ (l : List Answer). length l) (free.first overdue));
       bounded = λ in_time. subst (λ (l : List (List ℕ)). KeepsToBounds (file_with file l)) (sym added.put)
-          (one_bounded file bodies made.ops well.bytes (free.undue in_time) added.short);
+          (one_bounded (profile_of_step made) file bodies made.ops well.bytes (free.undue in_time) added.short);
       counted = (let event = free.event in omega (arith, event, length-append turns (t ∷ [])));
       numbered = (let last = free.last in omega (
         arith,
         last,
         ap (λ (l : List (List ℕ)). length l) added.put,
-        length-append bodies (body_of made.ops),
-        body_few made.ops,
+        length-append bodies (body_of_step made),
+        body_few (profile_of_step made) made.ops,
       ));
     }
 

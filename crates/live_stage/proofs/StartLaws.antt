@@ -1,12 +1,12 @@
 -- Two files as a stage is made or opened over them.
-use Rattle.std.proofs.Common.{◌≡◌, inl, inr, ℕ, ◌+◌, ◌-◌, ◌^◌, ◌<◌, ◌≤◌, min, List, [], ◌∷◌, length, length-append, Some, None, Result}
-use Rattle.std.proofs.Common.{Ok, Err, false, refl, ap, ◌∙◌, arith}
-use Rattle.std.specs.Prelude.{IsSome, flat_map}
-use Rattle.std.specs.Option.{ok_or}
+use Rattle.std.proofs.Common.{◌≡◌, inl, inr, ℕ, ◌+◌, ◌-◌, ◌^◌, ◌<◌, ◌≤◌, min, List, [], ◌∷◌, length, length-append, Some, None, Bool, cond, Result}
+use Rattle.std.proofs.Common.{Ok, Err, true, false, refl, ap, ◌∙◌, arith}
+use Rattle.std.specs.Prelude.{IsSome, flat_map, Option, option_map}
+use Rattle.std.specs.Option.{ok_or, option_and_then}
 use Rattle.std.specs.Result.{result_ok}
 use Rattle.play_journal.specs.declared.refusal.JournalError.{JournalError}
 use Rattle.play_journal.specs.declared.refusal.JournalError.TheVariants as journal
-use Rattle.play_journal.specs.Content.{Content, fresh, present_layout}
+use Rattle.play_journal.specs.Content.{Content, fresh}
 use Rattle.play_journal.specs.Calls.{RefusesInOrder}
 use Rattle.play_journal.specs.Errors.{IsRefusalOfCreate, IsRefusalOfCheckpoint}
 use Rattle.play_journal.specs.JournalState.{JournalState}
@@ -18,6 +18,9 @@ use Rattle.play_journal.specs.Pair.{reading, found, IsPair, KeepsFound}
 use Rattle.play_journal.proofs.FileLaws.{length-spelling}
 use Rattle.play_journal.proofs.PairLaws.{pair-found}
 use Rattle.play_journal.proofs.RecordLaws.{IsBytes}
+use Rattle.profile.specs.declared.profile.Profile.{Profile}
+use Rattle.profile.specs.declared.profile.Profile.TheVariants.{Named, Wide}
+use Rattle.state_codec.specs.Layout.{written_layout}
 use Rattle.state_codec.specs.SavedState.{SavedState, IsSavedState}
 use Rattle.state_codec.specs.Longest.{longest_snapshot}
 use Rattle.state_codec.specs.Spelling.{saved_bytes}
@@ -32,7 +35,8 @@ use Rattle.live_stage.specs.Numbers.{Numbers, numbers_found}
 use Rattle.live_stage.specs.declared.refusal.LiveError.TheVariants as turns
 use Rattle.live_stage.specs.Errors.{IsCause, start_error, checkpoint_error}
 use Rattle.live_stage.specs.Found.{after_record, records_reading, stored_reading, content_reading, state_of, found_state, FindsAsBefore}
-use Rattle.live_stage.specs.Found.{AllFindNow, AllFindSince, KeepsFoundState}
+use Rattle.live_stage.specs.Found.{brought, is_read, taken_state, AllOpenNow, AllOpenSince, KeepsFoundState}
+use Rattle.live_stage.proofs.ProfileLaws.{taken_none}
 
 -- a pair that reads so is found so
 pub found_as_read : (x y : List ℕ) (content : Content) → reading x y ≡ Ok content → found x y ≡ Some content
@@ -47,16 +51,18 @@ stands content layout snapshot records s own_layout own_snapshot own_records rea
     let whole : content_reading content ≡ Ok s = rw (own_layout, ← own_snapshot, ← own_records) read in
     ap result_ok whole
 
-pub found_so : (x y : List ℕ) (content : Content) (s : SavedState) → reading x y ≡ Ok content → state_of (Some content) ≡ Some s
-    → found_state x y ≡ Some s
-found_so x y content s read stood = ap state_of (found_as_read x y content read) ∙ stood
+pub found_so : (p : Profile) (x y : List ℕ) (content : Content) (s : SavedState) → reading x y ≡ Ok content
+    → taken_state p content ≡ Some s → found_state p x y ≡ Some s
+found_so p x y content s read stood = ap (option_and_then (taken_state p)) (found_as_read x y content read) ∙ stood
 
 -- a new journal stands for the state that its snapshot spells
-pub fresh_stands : (content : Content) (snapshot : List ℕ) (s : SavedState) → content ≡ fresh snapshot → snapshot ≡ saved_bytes s
+pub fresh_stands : (content : Content) (layout : ℕ) (snapshot : List ℕ) (s : SavedState) → layout ≡ written_layout s.profile
+    → content ≡ fresh layout snapshot → snapshot ≡ saved_bytes s
     → IsSavedState s → state_of (Some content) ≡ Some s
 unfolding stored_reading
-fresh_stands content snapshot s is spelled good =
-    let read : saved_reading present_layout snapshot ≡ Ok s = ap (λ b. saved_reading present_layout b) spelled ∙ snapshot_again s good in
+fresh_stands content layout snapshot s own is spelled good =
+    let read : saved_reading layout snapshot ≡ Ok s =
+    ap (λ (n : ℕ). saved_reading n snapshot) own ∙ ap (λ b. saved_reading (written_layout s.profile) b) spelled ∙ snapshot_again s good in
     ap (λ c. state_of (Some c)) is ∙ rw read refl
 
 -- ---- how large a file is
@@ -126,40 +132,68 @@ pub record WasRead (a b : List ℕ) (content : Content) (layout : ℕ) (snapshot
   pub same_records : records ≡ content.records
   pub small : IsSmall content
 
-pub refused_content : (a b : List ℕ) (content : Content) (layout : ℕ) (snapshot : List ℕ) (records : List (List ℕ)) (e : StartError)
-    → WasRead a b content layout snapshot records → GivesState (Err e) (stored_reading layout snapshot records) → IsCause a b e
-refused_content a b content layout snapshot records NotEmpty was gives = gives
-refused_content a b content layout snapshot records NoJournal was gives = elim gives [ ]
-refused_content a b content layout snapshot records (Damaged offset) was gives =
+pub refused_content : (p : Profile) (a b : List ℕ) (content : Content) (layout : ℕ) (snapshot : List ℕ) (records : List (List ℕ)) (e : StartError)
+    → WasRead a b content layout snapshot records → is_read p layout ≡ true
+    → GivesState (Err e) (stored_reading layout snapshot records) → IsCause p a b e
+refused_content p a b content layout snapshot records NotEmpty was known gives = gives
+refused_content p a b content layout snapshot records NoJournal was known gives = elim gives [ ]
+refused_content p a b content layout snapshot records (Damaged offset) was known gives =
     let told = damaged_at offset (stored_reading layout snapshot records) gives in
     let bad : content_reading content ≡ Err told.0 = rw (was.same_layout, ← was.same_snapshot, ← was.same_records) told.1 in
     let within = stored_within content.layout content.snapshot content.records told.0 bad in
     let same : told.0 ≡ offset = omega (arith, within, was.small.size, told.2) in
-    inr (record { content = content; read = was.read; bad = bad ∙ ap Err same })
-refused_content a b content layout snapshot records NoMemory was gives = tt
-refused_content a b content layout snapshot records NumbersSpent was gives = elim gives [ ]
-refused_content a b content layout snapshot records Broken was gives = tt
+    let reads : is_read p content.layout ≡ true = ap (λ (n : ℕ). is_read p n) was.same_layout ∙ known in
+    inr (inl (record { content = content; read = was.read; known = reads; bad = bad ∙ ap Err same }))
+refused_content p a b content layout snapshot records NoMemory was known gives = tt
+refused_content p a b content layout snapshot records NumbersSpent was known gives = elim gives [ ]
+refused_content p a b content layout snapshot records Broken was known gives = tt
+
+nothing_of : (b : Bool) (o : Option SavedState) → o ≡ None → cond b o None ≡ None
+nothing_of true o is = is
+nothing_of false o is = refl
+
+-- content that stands for no state gives none under any profile
+nothing_taken : (p : Profile) (content : Content) (at : ℕ) → content_reading content ≡ Err at → taken_state p content ≡ None
+nothing_taken p content at bad =
+    nothing_of (is_read p content.layout) (option_map (brought p) (state_of (Some content)))
+    (ap (λ (r : Result SavedState ℕ). option_map (brought p) (result_ok r)) bad)
+
+-- a layout that isn't read
+pub unread_cause : (p : Profile) (a b : List ℕ) (content : Content) (layout : ℕ) → reading a b ≡ Ok content → content.layout ≡ layout
+    → is_read p layout ≡ false → IsCause p a b (Damaged 8)
+unread_cause p a b content layout read same unread =
+    inr (inr (record { content = content; read = read; unread = ap (λ (n : ℕ). is_read p n) same ∙ unread; at = refl }))
+
+pub unread_none : (p : Profile) (a b : List ℕ) (content : Content) (layout : ℕ) → reading a b ≡ Ok content → content.layout ≡ layout
+    → is_read p layout ≡ false → IsSome (found_state p a b) → ⊥
+unread_none p a b content layout read same unread some =
+    let none : found_state p a b ≡ None = ap (option_and_then (taken_state p)) (found_as_read a b content read)
+    ∙ taken_none p content (ap (λ (n : ℕ). is_read p n) same ∙ unread) in
+    let no : IsSome {T = SavedState} None = rw none at some in
+    cc
 
 -- a pair that gives a state is read, unless memory is wanting
-pub refused_good : (a b : List ℕ) (content : Content) (layout : ℕ) (snapshot : List ℕ) (records : List (List ℕ)) (e : StartError)
-    → WasRead a b content layout snapshot records → IsSome (found_state a b) → GivesState (Err e) (stored_reading layout snapshot records)
+pub refused_good : (p : Profile) (a b : List ℕ) (content : Content) (layout : ℕ) (snapshot : List ℕ) (records : List (List ℕ)) (e : StartError)
+    → WasRead a b content layout snapshot records → IsSome (found_state p a b) → GivesState (Err e) (stored_reading layout snapshot records)
     → e ≡ NoMemory
-refused_good a b content layout snapshot records NotEmpty was some gives = elim gives [ ]
-refused_good a b content layout snapshot records NoJournal was some gives = elim gives [ ]
-refused_good a b content layout snapshot records (Damaged offset) was some gives =
+refused_good p a b content layout snapshot records NotEmpty was some gives = elim gives [ ]
+refused_good p a b content layout snapshot records NoJournal was some gives = elim gives [ ]
+refused_good p a b content layout snapshot records (Damaged offset) was some gives =
     let told = damaged_at offset (stored_reading layout snapshot records) gives in
     let bad : content_reading content ≡ Err told.0 = rw (was.same_layout, ← was.same_snapshot, ← was.same_records) told.1 in
-    let none : found_state a b ≡ None = ap state_of (found_as_read a b content was.read) ∙ ap result_ok bad in
+    let none : found_state p a b ≡ None = ap (option_and_then (taken_state p)) (found_as_read a b content was.read)
+    ∙ nothing_taken p content told.0 bad in
     let no : IsSome {T = SavedState} None = rw none at some in
     absurd cc
-refused_good a b content layout snapshot records NoMemory was some gives = refl
-refused_good a b content layout snapshot records NumbersSpent was some gives = elim gives [ ]
-refused_good a b content layout snapshot records Broken was some gives = elim gives [ ]
+refused_good p a b content layout snapshot records NoMemory was some gives = refl
+refused_good p a b content layout snapshot records NumbersSpent was some gives = elim gives [ ]
+refused_good p a b content layout snapshot records Broken was some gives = elim gives [ ]
 
 -- ---- a snapshot is never too long
 
-within_length : longest_snapshot ≤ 4294967295
-within_length = omega arith
+within_length : (p : Profile) → longest_snapshot p ≤ 4294967295
+within_length Named = omega arith
+within_length Wide = omega arith
 
 fault_of_create : (e : JournalError) → IsRefusalOfCreate e → (e ≡ journal.TooLong → ⊥) → start_error e ≡ Broken → e ≡ journal.DiskFault
 fault_of_create journal.NotEmpty one short is = cc
@@ -175,19 +209,20 @@ fault_of_create journal.OldLayout one short is = elim one [ ]
 pub only_a_fault : (e : JournalError) (snapshot : List ℕ) (s : SavedState) → snapshot ≡ saved_bytes s → IsSavedState s
     → IsRefusalOfCreate e → (e ≡ journal.TooLong → 4294967295 < length snapshot) → start_error e ≡ Broken → e ≡ journal.DiskFault
 only_a_fault e snapshot s spelled good one too_long is =
-    let short : length (saved_bytes s) ≤ longest_snapshot = snapshot_len s good in
-    fault_of_create e one (λ t. let too = too_long t in omega (arith, too, ap length spelled, short, within_length)) is
+    let short : length (saved_bytes s) ≤ longest_snapshot s.profile = snapshot_len s good in
+    fault_of_create e one (λ t. let too = too_long t in omega (arith, too, ap length spelled, short, within_length s.profile)) is
 
 -- ---- the phases of an opening
 
 -- up to its middle a restart finds what it might have found before
-found_as_before : (old_a old_b new_a new_b : List Change) → KeepsFound old_a old_b new_a new_b → FindsAsBefore old_a old_b new_a new_b
-found_as_before old_a old_b new_a new_b kept x y lx ly =
-    let was = kept x y lx ly in (was.0, was.1, was.2, was.3, ap state_of was.4)
+found_as_before : (p : Profile) (old_a old_b new_a new_b : List Change) → KeepsFound old_a old_b new_a new_b
+    → FindsAsBefore p old_a old_b new_a new_b
+found_as_before p old_a old_b new_a new_b kept x y lx ly =
+    let was = kept x y lx ly in (was.0, was.1, was.2, was.3, ap (option_and_then (taken_state p)) was.4)
 
 -- nothing was done
-pub nothing_done : (a b : List Change) → KeepsFoundState a b a b
-nothing_done a b = record {
+pub nothing_done : (p : Profile) (a b : List Change) → KeepsFoundState p a b a b
+nothing_done p a b = record {
   middle_a = a;
   middle_b = b;
   in_a = record { before = continues_same a; behind = continues_same a };
@@ -197,28 +232,28 @@ nothing_done a b = record {
 }
 
 -- the journal was opened, and nothing was done behind that
-pub opening_done : (old_a old_b new_a new_b : List Change) → Continues old_a new_a → Continues old_b new_b
-    → KeepsFound old_a old_b new_a new_b → KeepsFoundState old_a old_b new_a new_b
-opening_done old_a old_b new_a new_b run_a run_b kept = record {
+pub opening_done : (p : Profile) (old_a old_b new_a new_b : List Change) → Continues old_a new_a → Continues old_b new_b
+    → KeepsFound old_a old_b new_a new_b → KeepsFoundState p old_a old_b new_a new_b
+opening_done p old_a old_b new_a new_b run_a run_b kept = record {
   middle_a = new_a;
   middle_b = new_b;
   in_a = record { before = run_a; behind = continues_same new_a };
   in_b = record { before = run_b; behind = continues_same new_b };
-  first = found_as_before old_a old_b new_a new_b kept;
+  first = found_as_before p old_a old_b new_a new_b kept;
   second = inl (refl, refl);
 }
 
 -- the journal was opened, and behind that a restart finds this state
-pub opening_goes_on : (old_a old_b middle_a middle_b new_a new_b : List Change) (s : SavedState)
+pub opening_goes_on : (p : Profile) (old_a old_b middle_a middle_b new_a new_b : List Change) (s : SavedState)
     → Continues old_a middle_a → Continues old_b middle_b → Continues middle_a new_a → Continues middle_b new_b
-    → KeepsFound old_a old_b middle_a middle_b → AllFindNow (λ f. f ≡ Some s) middle_a middle_b
-    → AllFindSince (λ f. f ≡ Some s) new_a (length middle_a) new_b (length middle_b) → KeepsFoundState old_a old_b new_a new_b
-opening_goes_on old_a old_b middle_a middle_b new_a new_b s run_a run_b more_a more_b kept first since = record {
+    → KeepsFound old_a old_b middle_a middle_b → AllOpenNow p (λ f. f ≡ Some s) middle_a middle_b
+    → AllOpenSince p (λ f. f ≡ Some s) new_a (length middle_a) new_b (length middle_b) → KeepsFoundState p old_a old_b new_a new_b
+opening_goes_on p old_a old_b middle_a middle_b new_a new_b s run_a run_b more_a more_b kept first since = record {
   middle_a = middle_a;
   middle_b = middle_b;
   in_a = record { before = run_a; behind = more_a };
   in_b = record { before = run_b; behind = more_b };
-  first = found_as_before old_a old_b middle_a middle_b kept;
+  first = found_as_before p old_a old_b middle_a middle_b kept;
   second = inr (record { state = s; first = first; since = since });
 }
 
@@ -249,8 +284,8 @@ pub checkpoint_fault : {D : Type 0} (old new : JournalState D) (e : JournalError
     → RefusesInOrder {T = Unit {0}} old new 4294967295 (length snapshot) old.generation (Err e)
     → checkpoint_error e ≡ turns.Broken → e ≡ journal.DiskFault
 checkpoint_fault old new e snapshot s spelled good usable next one refuses is =
-    let short : length (saved_bytes s) ≤ longest_snapshot = snapshot_len s good in
-    let fits : length snapshot ≤ 4294967295 = omega (arith, short, ap length spelled, within_length) in
+    let short : length (saved_bytes s) ≤ longest_snapshot s.profile = snapshot_len s good in
+    let fits : length snapshot ≤ 4294967295 = omega (arith, short, ap length spelled, within_length s.profile) in
     only_fault e one (λ t. let too = (refuses.too_long usable).0 (ap Err t) in omega (arith, too, fits))
     (λ t. next ((refuses.numbers_spent usable fits).0 (ap Err t))) is
 

@@ -8,23 +8,24 @@ use Rattle.std.proofs.lemmas.List.{nil_from_length}
 use Rattle.disk_model.specs.History.{Change}
 use Rattle.disk_model.specs.Moments.{LeftSince, Continues}
 use Rattle.disk_model.proofs.MomentLaws.{now_only, left_split}
-use Rattle.play_journal.specs.Calls.{IsNextGeneration, AreItsNumbers, StaysInFile as StaysInItsFile}
-use Rattle.play_journal.specs.Content.{Content, IsOldOrNew}
+use Rattle.play_journal.specs.Calls.{IsNew, IsNextGeneration, AreItsNumbers, StaysInFile as StaysInItsFile}
+use Rattle.play_journal.specs.Content.{Content, IsEither}
 use Rattle.play_journal.specs.File.{longest_body}
 use Rattle.play_journal.specs.JournalState.{JournalState}
 use Rattle.play_journal.specs.Pair.{AllPairsNow, AllPairsSince}
+use Rattle.profile.specs.declared.profile.Profile.{Profile}
 use Rattle.state_codec.specs.declared.op.Op.{Op}
 use Rattle.state_codec.specs.SavedState.{SavedState}
-use Rattle.state_codec.specs.Spelling.{ops_bytes}
+use Rattle.state_codec.specs.Spelling.{body_bytes}
 use Rattle.daemon_core.specs.declared.event.Event.{Event}
 use Rattle.daemon_core.specs.State.{State}
 use Rattle.daemon_core.specs.Step.{Stepped, step}
 use Rattle.live_stage.specs.declared.refusal.LiveError.{LiveError}
-use Rattle.live_stage.specs.Answer.{Answer, IsBeforeOrAfter, IsHandled, IsTurn, IsTurnOf, HasNoOps}
+use Rattle.live_stage.specs.Answer.{Answer, IsBeforeOrAfter, IsHandled, IsTurn, IsTurnOf, HasNoOps, profile_of_step}
 use Rattle.live_stage.specs.Found.{AllFindNow, AllFindSince}
 use Rattle.live_stage.specs.LiveState.{LiveState}
 use Rattle.live_stage.specs.Numbers.{Numbers, FileNumbers, is_due, makes_checkpoint, most_records, most_bytes, longest_record, next_file}
-use Rattle.live_stage.specs.Numbers.{greatest, ready_file, record_bytes, recorded, file_found, snapshot_size}
+use Rattle.live_stage.specs.Numbers.{first_file, first_numbers, greatest, ready_file, record_bytes, recorded, file_found, snapshot_size}
 use Rattle.live_stage.specs.Turns.{IsReady, IsStill, IsStored, IsWritten, StaysInFile, MakesNoCall, WritesAlone, WritesOneFile}
 use Rattle.live_stage.specs.Turns.{ready_content, recorded_content, writes_to_b}
 use Rattle.live_stage.specs.Writing.{file_of}
@@ -62,25 +63,25 @@ ready_same is_overdue s file is = rw is refl
 -- ---- records
 
 -- a file with the record of these ops, if there are any
-pub record IsOneMore (before after : FileNumbers) (ops : List Op) : Type 0 where
+pub record IsOneMore (p : Profile) (before after : FileNumbers) (ops : List Op) : Type 0 where
   pub few : after.records ≤ before.records + 1
-  pub short : after.bytes ≤ before.bytes + record_bytes ops
+  pub short : after.bytes ≤ before.bytes + record_bytes p ops
   pub behind : after.snapshot_len ≡ before.snapshot_len
 
-pub recorded_one : (file : FileNumbers) (ops : List Op) → IsOneMore file (recorded file ops) ops
-recorded_one file [] = record { few = omega arith; short = omega arith; behind = refl }
-recorded_one file (op ∷ ops) = record { few = omega arith; short = omega arith; behind = refl }
+pub recorded_one : (p : Profile) (file : FileNumbers) (ops : List Op) → IsOneMore p file (recorded p file ops) ops
+recorded_one p file [] = record { few = omega arith; short = omega arith; behind = refl }
+recorded_one p file (op ∷ ops) = record { few = omega arith; short = omega arith; behind = refl }
 
-pub record_short : (ops : List Op) → length (ops_bytes ops) ≤ longest_body → record_bytes ops ≤ longest_record
-record_short [] short = omega arith
-record_short (op ∷ ops) short = omega (arith, short)
+pub record_short : (p : Profile) (ops : List Op) → length (body_bytes p ops) ≤ longest_body → record_bytes p ops ≤ longest_record
+record_short p [] short = omega arith
+record_short p (op ∷ ops) short = omega (arith, short)
 
 -- the file of a journal behind a record
-pub file_recorded : {D : Type 0} (old new : JournalState D) (ops : List Op) → (ops ≡ [] → ⊥) → StaysInItsFile old new
-    → new.count ≡ old.count + 1 → new.bytes ≡ min (old.bytes + (5 + length (ops_bytes ops))) greatest
-    → file_of new ≡ recorded (file_of old) ops
-file_recorded old new [] some stays count bytes = absurd (some refl)
-file_recorded old new (op ∷ ops) some stays count bytes =
+pub file_recorded : {D : Type 0} (p : Profile) (old new : JournalState D) (ops : List Op) → (ops ≡ [] → ⊥) → StaysInItsFile old new
+    → new.count ≡ old.count + 1 → new.bytes ≡ min (old.bytes + (5 + length (body_bytes p ops))) greatest
+    → file_of new ≡ recorded p (file_of old) ops
+file_recorded p old new [] some stays count bytes = absurd (some refl)
+file_recorded p old new (op ∷ ops) some stays count bytes =
     let numbers : ℕ → ℕ → ℕ → ℕ → FileNumbers = λ generation snapshot_len records bytes. record {
       generation = generation;
       snapshot_len = snapshot_len;
@@ -92,13 +93,15 @@ file_recorded old new (op ∷ ops) some stays count bytes =
     ∙ ap (λ (n : ℕ). numbers old.generation old.snapshot_len n new.bytes) count
     ∙ ap (λ (n : ℕ). numbers old.generation old.snapshot_len (old.count + 1) n) bytes
 
-pub file_kept : {D : Type 0} (old new : JournalState D) (ops : List Op) → ops ≡ [] → new ≡ old → file_of new ≡ recorded (file_of old) ops
-file_kept {D} old new ops none same = ap (λ (j : JournalState D). file_of j) same ∙ ap (λ (o : List Op). recorded (file_of old) o) (sym none)
+pub file_kept : {D : Type 0} (p : Profile) (old new : JournalState D) (ops : List Op) → ops ≡ [] → new ≡ old
+    → file_of new ≡ recorded p (file_of old) ops
+file_kept {D} p old new ops none same = ap (λ (j : JournalState D). file_of j) same ∙ ap (λ (o : List Op). recorded p (file_of old) o) (sym none)
 
 -- the file that a checkpoint lays down
-pub file_laid : {D : Type 0} (old new : JournalState D) (s : SavedState) → IsNextGeneration old new (snapshot_size s)
+pub file_laid : {D : Type 0} (faults : D → ℕ) (old new : JournalState D) (layout : ℕ) (s : SavedState)
+    → IsNextGeneration faults old new layout (snapshot_size s)
     → file_of new ≡ next_file s (file_of old)
-file_laid old new s is =
+file_laid faults old new layout s is =
     let numbers : ℕ → ℕ → ℕ → ℕ → FileNumbers = λ generation snapshot_len records bytes. record {
       generation = generation;
       snapshot_len = snapshot_len;
@@ -109,6 +112,28 @@ file_laid old new s is =
     ∙ ap (λ (n : ℕ). numbers (old.generation + 1) n new.count new.bytes) is.snapshot_len
     ∙ ap (λ (n : ℕ). numbers (old.generation + 1) (snapshot_size s) n new.bytes) is.count
     ∙ ap (λ (n : ℕ). numbers (old.generation + 1) (snapshot_size s) 0 n) is.bytes
+
+-- the file and the numbers of a journal that was just made
+pub file_made : {D : Type 0} (faults : D → ℕ) (a b : D) (journal : JournalState D) (layout size : ℕ) (s : SavedState)
+    → IsNew faults a b journal layout size → size ≡ snapshot_size s → file_of journal ≡ first_file s
+file_made faults a b journal layout size s is long =
+    let numbers : ℕ → ℕ → ℕ → ℕ → FileNumbers = λ generation snapshot_len records bytes. record {
+      generation = generation;
+      snapshot_len = snapshot_len;
+      records = records;
+      bytes = bytes;
+    } in
+    ap (λ (n : ℕ). numbers n journal.snapshot_len journal.count journal.bytes) is.generation
+    ∙ ap (λ (n : ℕ). numbers 1 n journal.count journal.bytes) (is.snapshot_len ∙ long)
+    ∙ ap (λ (n : ℕ). numbers 1 (snapshot_size s) n journal.bytes) is.count
+    ∙ ap (λ (n : ℕ). numbers 1 (snapshot_size s) 0 n) is.bytes
+
+pub numbers_made : {D : Type 0} (faults : D → ℕ) (a b : D) (journal : JournalState D) (layout size : ℕ)
+    → IsNew faults a b journal layout size → record { event = 0; last_record = min (journal.base + journal.count) greatest } ≡ first_numbers
+numbers_made faults a b journal layout size is =
+    let numbers : ℕ → Numbers = λ last. record { event = 0; last_record = last } in
+    let none : min (journal.base + journal.count) greatest ≡ 0 = omega (arith, is.base, is.count) in
+    ap (λ (n : ℕ). numbers n) none
 
 -- the file that a journal's content says
 pub file_is : {D : Type 0} (journal : JournalState D) → AreItsNumbers journal → file_of journal ≡ file_found journal.content
@@ -130,19 +155,19 @@ pub record IsBounded (file : FileNumbers) : Type 0 where
   pub few : file.records ≤ most_records
   pub short : file.bytes ≤ most_bytes file.snapshot_len + longest_record
 
-pub bounded : (b : Bool) (s : SavedState) (file after : FileNumbers) (ops : List Op) → is_due file ≡ b
-    → after ≡ recorded (ready_file false s file) ops → record_bytes ops ≤ longest_record → IsBounded after
-bounded true s file after ops is made small =
+pub bounded : (b : Bool) (p : Profile) (s : SavedState) (file after : FileNumbers) (ops : List Op) → is_due file ≡ b
+    → after ≡ recorded p (ready_file false s file) ops → record_bytes p ops ≤ longest_record → IsBounded after
+bounded true p s file after ops is made small =
     let ready : ready_file false s file ≡ next_file s file = rw is refl in
-    let is_after : after ≡ recorded (next_file s file) ops = made ∙ ap (λ (f : FileNumbers). recorded f ops) ready in
-    let one = recorded_one (next_file s file) ops in
+    let is_after : after ≡ recorded p (next_file s file) ops = made ∙ ap (λ (f : FileNumbers). recorded p f ops) ready in
+    let one = recorded_one p (next_file s file) ops in
     subst IsBounded (sym is_after) (record {
       few = omega (arith, one.few);
       short = omega (arith, one.short, small);
     })
-bounded false s file after ops is made small =
-    let is_after : after ≡ recorded file ops = made ∙ ap (λ (f : FileNumbers). recorded f ops) (ready_same false s file is) in
-    let one = recorded_one file ops in
+bounded false p s file after ops is made small =
+    let is_after : after ≡ recorded p file ops = made ∙ ap (λ (f : FileNumbers). recorded p f ops) (ready_same false s file is) in
+    let one = recorded_one p file ops in
     let kept = keeps_to file is in
     subst IsBounded (sym is_after) (record {
       few = omega (arith, one.few, kept.few);
@@ -252,9 +277,9 @@ found_in_both history in_b old ready new event k same first second run_a more_a 
     (length (history ready.b))) same handling)
 
 -- what the files give stays as it is
-pub pairs_still : (a b : List Change) (content : Content) (snapshot : List ℕ) → AllPairsNow (λ f. f ≡ Some content) a b
-    → AllPairsSince (IsOldOrNew content snapshot) a (length a) b (length b)
-pairs_still a b content snapshot now x y at_x at_y = inl (now x y (now_only a x at_x) (now_only b y at_y))
+pub pairs_still : (a b : List Change) (content other : Content) → AllPairsNow (λ f. f ≡ Some content) a b
+    → AllPairsSince (IsEither content other) a (length a) b (length b)
+pairs_still a b content other now x y at_x at_y = inl (now x y (now_only a x at_x) (now_only b y at_y))
 
 -- ---- refusals
 
@@ -272,17 +297,19 @@ error_is e f is = cc
 -- ---- a turn, of its two phases
 
 -- what the files say behind an answer
-written_by : {D : Type 0} (history : D → List Change) (is_overdue said : Bool) (old ready new : LiveState D) (ops : List Op)
-    → said ≡ is_overdue → ready.content ≡ ready_content is_overdue old → new.content ≡ recorded_content ready.content ops
-    → new.file ≡ recorded (ready_file said old.state.machine.saved old.file) ops → record_bytes ops ≤ longest_record
+written_by : {D : Type 0} (history : D → List Change) (is_overdue said : Bool) (old ready new : LiveState D) (p : Profile) (ops : List Op)
+    → new.state.machine.saved.profile ≡ p
+    → said ≡ is_overdue → ready.content ≡ ready_content is_overdue old → new.content ≡ recorded_content p ready.content ops
+    → new.file ≡ recorded p (ready_file said old.state.machine.saved old.file) ops → record_bytes p ops ≤ longest_record
     → IsStored history new → IsWritten history said old new ops
-written_by history is_overdue said old ready new ops same first more file small stored =
+written_by history is_overdue said old ready new p ops own same first more file small stored =
     let bounds : said ≡ false → IsBounded new.file = λ made.
-    bounded (is_due old.file) old.state.machine.saved old.file new.file ops refl
-    (file ∙ ap (λ (b : Bool). recorded (ready_file b old.state.machine.saved old.file) ops) made) small in
+    bounded (is_due old.file) p old.state.machine.saved old.file new.file ops refl
+    (file ∙ ap (λ (b : Bool). recorded p (ready_file b old.state.machine.saved old.file) ops) made) small in
     record {
-      says = more ∙ ap (λ (k : Content). recorded_content k ops) first
-          ∙ ap (λ (b : Bool). recorded_content (ready_content b old) ops) (sym same);
+      says = more ∙ ap (λ (k : Content). recorded_content p k ops) first
+          ∙ ap (λ (b : Bool). recorded_content p (ready_content b old) ops) (sym same)
+          ∙ ap (λ (q : Profile). recorded_content q (ready_content said old) ops) (sym own);
       stored = stored;
       few = λ made. subst (λ (f : FileNumbers). f.records ≤ most_records) stored.file (bounds made).few;
       short = λ made.
@@ -301,15 +328,18 @@ module _ {D : Type 0} (old ready new : LiveState D) (is_overdue : Bool) (event :
 
   pub written : (history : D → List Change) (t : Answer) → t.is_overdue ≡ is_overdue → IsHandled ready event t new
       → ready.content ≡ ready_content is_overdue old
-      → (let now : Stepped = step ready.state event t.refused_at in new.content ≡ recorded_content ready.content now.ops)
-      → (let now : Stepped = step ready.state event t.refused_at in record_bytes now.ops ≤ longest_record)
+      → (let now : Stepped = step ready.state event t.refused_at in new.content ≡ recorded_content (profile_of_step now) ready.content now.ops)
+      → (let now : Stepped = step ready.state event t.refused_at in record_bytes (profile_of_step now) now.ops ≤ longest_record)
       → IsStored history new → (let now : Stepped = step old.state event t.refused_at in IsWritten history t.is_overdue old new now.ops)
   written history t said made first more small stored =
-      let asked : State → List Op = λ (s : State). (let now : Stepped = step s event t.refused_at in now.ops) in
+      let asked : State → Stepped = λ (s : State). step s event t.refused_at in
       let same : asked ready.state ≡ asked old.state = ap asked got.state in
-      written_by history is_overdue t.is_overdue old ready new (asked old.state) said first
-      (more ∙ ap (λ (ops : List Op). recorded_content ready.content ops) same) (turn_made t said made).file
-      (subst (λ (ops : List Op). record_bytes ops ≤ longest_record) same small) stored
+      let turn = turn_made t said made in
+      written_by history is_overdue t.is_overdue old ready new (profile_of_step (asked old.state))
+      (let now : Stepped = asked old.state in now.ops)
+      (ap (λ (s : State). s.machine.saved.profile) turn.state) said first
+      (more ∙ ap (λ (st : Stepped). recorded_content (profile_of_step st) ready.content st.ops) same) turn.file
+      (subst (λ (st : Stepped). record_bytes (profile_of_step st) st.ops ≤ longest_record) same small) stored
 
   pub none_called : (t : Answer) → t.is_overdue ≡ is_overdue → (HasNoOps ready event t → MakesNoCall ready new)
       → makes_checkpoint t.is_overdue old.file ≡ false → HasNoOps old event t → MakesNoCall old new

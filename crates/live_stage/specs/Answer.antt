@@ -1,5 +1,6 @@
 -- What a turn answers.
 use Rattle.std.specs.Prelude.{◌≡◌, ◌⊎◌, ℕ, ◌+◌, List, [], Option, Some, Bool}
+use Rattle.profile.specs.declared.profile.Profile.{Profile}
 use Rattle.state_codec.specs.declared.op.Op.{Op}
 use Rattle.state_codec.specs.SavedState.{SavedState}
 use Rattle.daemon_core.specs.declared.event.Event.{Event}
@@ -33,6 +34,10 @@ pub record IsNumbered (before : Numbers) (ops : List Op) (t : Answer) : Type 0 w
   pub receipt_event : t.receipt.event ≡ before.event + 1
   pub receipt_number : t.receipt.number ≡ record_number before.last_record ops
 
+-- the profile by which the record of a step is spelled; no event changes it
+abbrev pub profile_of_step : Stepped → Profile
+profile_of_step st = st.after.machine.saved.profile
+
 -- the state after a turn and its answer are those of a step, and its record, if it made one, stands in the file of these numbers
 pub record IsTurnOf {D : Type 0} (st : Stepped) (before : Numbers) (of_file : FileNumbers) (t : Answer) (after : LiveState D) : Type 0 where
   pub state : after.state ≡ st.after
@@ -42,7 +47,7 @@ pub record IsTurnOf {D : Type 0} (st : Stepped) (before : Numbers) (of_file : Fi
   pub refused_at : t.refused_at ≡ st.refused_at
   pub numbered : IsNumbered before st.ops t
   pub numbers : after.numbers ≡ next_numbers before st.ops
-  pub file : after.file ≡ recorded of_file st.ops
+  pub file : after.file ≡ recorded (profile_of_step st) of_file st.ops
 
 -- An event was handled by its step, where memory was refused at the place that its answer names. Its record went to the file that was
 -- in use.

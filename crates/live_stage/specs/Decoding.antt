@@ -1,11 +1,12 @@
 -- What decoding answers.
 use Rattle.std.specs.Prelude.{◌≡◌, ⊤, ℕ, ◌-◌, ◌^◌, min, Option, Some, None, Result, Ok, Err}
+use Rattle.profile.specs.declared.profile.Profile.{Profile}
 use Rattle.state_codec.specs.SavedState.{SavedState}
 use Rattle.state_codec.specs.declared.refusal.BodyError.{BodyError}
 use Rattle.state_codec.specs.declared.refusal.BodyError.TheVariants as body
 use Rattle.state_codec.specs.declared.refusal.CodecError.{CodecError}
 use Rattle.state_codec.specs.declared.refusal.CodecError.TheVariants as codec
-use Rattle.live_stage.specs.Found.{snapshot_at}
+use Rattle.live_stage.specs.Found.{brought, snapshot_at}
 use Rattle.live_stage.specs.declared.refusal.StartError.{StartError}
 use Rattle.live_stage.specs.declared.refusal.StartError.TheVariants.{NotEmpty, NoJournal, Damaged, NoMemory, NumbersSpent, Broken}
 
@@ -19,6 +20,11 @@ GivesState (Err (Damaged offset)) (Err at) = offset ≡ min at (2 ^ 64 - 1)
 GivesState (Err NoMemory) read = ⊤
 GivesState (Err NumbersSpent) read = ⊥
 GivesState (Err Broken) read = ⊥
+
+-- the state that was read, as a profile takes it
+abbrev pub brought_reading : Profile → Result SavedState ℕ → Result SavedState ℕ
+brought_reading profile (Ok s) = Ok (brought profile s)
+brought_reading profile (Err at) = Err at
 
 -- why a snapshot gives no state
 abbrev pub snapshot_error : CodecError → StartError

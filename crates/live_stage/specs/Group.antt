@@ -6,18 +6,19 @@ use Rattle.std.specs.List.{AllByRecursion, list_any}
 use Rattle.disk_model.specs.History.{Change}
 use Rattle.play_journal.specs.Content.{Content, with_records}
 use Rattle.play_journal.specs.File.{records_len}
+use Rattle.profile.specs.declared.profile.Profile.{Profile}
 use Rattle.state_codec.specs.declared.op.Op.{Op}
 use Rattle.state_codec.specs.SavedState.{SavedState}
-use Rattle.state_codec.specs.Spelling.{ops_bytes}
+use Rattle.state_codec.specs.Spelling.{body_bytes}
 use Rattle.machine_core.specs.Looks.{max_looks}
 use Rattle.daemon_core.specs.declared.event.Event.{Event}
 use Rattle.daemon_core.specs.State.{State}
 use Rattle.daemon_core.specs.Replay.{Entry, stepped}
-use Rattle.daemon_core.specs.Step.{step}
+use Rattle.daemon_core.specs.Step.{Stepped, step}
 use Rattle.live_stage.specs.declared.turns.RefusedTurns.{RefusedTurns}
 use Rattle.live_stage.specs.declared.refusal.LiveError.{LiveError}
 use Rattle.live_stage.specs.declared.refusal.LiveError.TheVariants.{Broken}
-use Rattle.live_stage.specs.Answer.{Answer}
+use Rattle.live_stage.specs.Answer.{Answer, profile_of_step}
 use Rattle.live_stage.specs.LiveState.{LiveState}
 use Rattle.live_stage.specs.Numbers.{Numbers, FileNumbers, greatest, is_due, longest_record, most_bytes, most_records, ready_file}
 use Rattle.live_stage.specs.Transcript.{entry_of, history_of, replayed, numbers_after, IsTranscript}
@@ -46,14 +47,18 @@ goes_without (t ∷ turns) = t.is_overdue
 -- ---- records
 
 -- the body of the record of these ops, if there are any
-abbrev pub body_of : List Op → List (List ℕ)
-body_of [] = []
-body_of (op ∷ ops) = ops_bytes (op ∷ ops) ∷ []
+abbrev pub body_of : Profile → List Op → List (List ℕ)
+body_of profile [] = []
+body_of profile (op ∷ ops) = body_bytes profile (op ∷ ops) ∷ []
+
+-- the body of the record of a step, if it makes one
+abbrev pub body_of_step : Stepped → List (List ℕ)
+body_of_step st = body_of (profile_of_step st) st.ops
 
 -- the bodies of the records of a history that began with this state, the oldest first
 abbrev pub bodies_after : State → List Entry → List (List ℕ)
 bodies_after s [] = []
-bodies_after s (entry ∷ earlier) = bodies_after s earlier ++ (let now = stepped (replayed s earlier) entry in body_of now.ops)
+bodies_after s (entry ∷ earlier) = bodies_after s earlier ++ body_of_step (stepped (replayed s earlier) entry)
 
 -- the numbers of a file with these records more; bytes are counted up to the greatest number, which no honest disk comes to
 abbrev pub file_with : FileNumbers → List (List ℕ) → FileNumbers

@@ -1,9 +1,10 @@
 -- The numbers by which a stage counts, and which can be spent.
 use Rattle.std.specs.Prelude.{◌≡◌, ◌⊎◌, ℕ, ◌+◌, ◌-◌, ◌^◌, min, max, Bool, true, not, ◌&&◌, ◌||◌, List, [], ◌∷◌, length}
 use Rattle.std.specs.Prelude.{Option, Some, None, nat_le, nat_lt, if◌then◌else◌}
+use Rattle.profile.specs.declared.profile.Profile.{Profile}
 use Rattle.state_codec.specs.declared.op.Op.{Op}
 use Rattle.state_codec.specs.SavedState.{SavedState}
-use Rattle.state_codec.specs.Spelling.{ops_bytes, saved_bytes}
+use Rattle.state_codec.specs.Spelling.{body_bytes, saved_bytes}
 use Rattle.play_journal.specs.Content.{Content, last_record}
 use Rattle.play_journal.specs.File.{longest_body, records_len}
 
@@ -87,15 +88,15 @@ abbrev pub ready_file : Bool → SavedState → FileNumbers → FileNumbers
 ready_file is_overdue s file = if makes_checkpoint is_overdue file then next_file s file else file
 
 -- how many bytes the record of these ops takes, if there are any: its gate, its length and its body
-abbrev pub record_bytes : List Op → ℕ
-record_bytes [] = 0
-record_bytes (op ∷ ops) = 5 + length (ops_bytes (op ∷ ops))
+abbrev pub record_bytes : Profile → List Op → ℕ
+record_bytes profile [] = 0
+record_bytes profile (op ∷ ops) = 5 + length (body_bytes profile (op ∷ ops))
 
 -- with the record of these ops, if there are any; bytes are counted up to the greatest number, which no honest disk comes to
-abbrev pub recorded : FileNumbers → List Op → FileNumbers
-recorded file [] = file
-recorded file (op ∷ ops) =
-    record file { records = file.records + 1; bytes = min (file.bytes + record_bytes (op ∷ ops)) greatest }
+abbrev pub recorded : Profile → FileNumbers → List Op → FileNumbers
+recorded profile file [] = file
+recorded profile file (op ∷ ops) =
+    record file { records = file.records + 1; bytes = min (file.bytes + record_bytes profile (op ∷ ops)) greatest }
 
 -- the last event or the last record has the greatest number
 abbrev pub AreCountsSpent : Numbers → Type 0

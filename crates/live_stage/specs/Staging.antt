@@ -3,10 +3,11 @@ use Rattle.std.specs.Prelude.{◌≡◌, ◌≢◌, ◌≤◌, ◌<◌, ◌-◌,
 use Rattle.std.specs.Prelude.{Option, Some, Result, Ok, IfOk, MatchResult}
 use Rattle.std.specs.List.{AllByRecursion}
 use Rattle.disk_model.specs.History.{Change}
-use Rattle.play_journal.specs.Content.{Content, present_layout, with_records}
+use Rattle.play_journal.specs.Content.{Content, IsWrittenLayout, with_records}
 use Rattle.play_journal.specs.File.{records_len}
 use Rattle.play_journal.specs.JournalState.{JournalState}
 use Rattle.state_codec.specs.Applied.{all_applied}
+use Rattle.state_codec.specs.Layout.{written_layout}
 use Rattle.state_codec.specs.Ops.{IsOp}
 use Rattle.daemon_core.specs.declared.event.Event.{Event}
 use Rattle.daemon_core.specs.State.{State}
@@ -15,10 +16,10 @@ use Rattle.daemon_core.specs.Step.{Stepped}
 use Rattle.live_stage.specs.declared.staging.Begin.{Begin}
 use Rattle.live_stage.specs.declared.turns.RefusedTurns.{RefusedTurns}
 use Rattle.live_stage.specs.declared.turns.Turns.{Turns}
-use Rattle.live_stage.specs.Answer.{Answer, IsNumbered}
+use Rattle.live_stage.specs.Answer.{Answer, IsNumbered, profile_of_step}
 use Rattle.live_stage.specs.Found.{state_of, AllFindNow, AllFindSince}
 use Rattle.live_stage.specs.Group.{AreParted, BearTheirStates, EndsThere, IsGroup, IsNoneOrAll, IsOfFront, TookEach}
-use Rattle.live_stage.specs.Group.{asked_by, bodies_after, body_of, file_with, history_in, takes_more}
+use Rattle.live_stage.specs.Group.{asked_by, bodies_after, body_of_step, file_with, history_in, takes_more}
 use Rattle.live_stage.specs.LiveState.{LiveState}
 use Rattle.live_stage.specs.Numbers.{Numbers, FileNumbers, greatest, longest_record, most_bytes, most_records, record_bytes}
 use Rattle.live_stage.specs.Transcript.{IsTranscript, replayed}
@@ -63,15 +64,15 @@ pub record IsAnswerOf (st : Stepped) (before : Numbers) (is_overdue : Bool) (s :
 -- a step was made in memory, and its record put behind these
 pub record AddsStep (st : Stepped) (before after : State) (bodies with_it : List (List ℕ)) : Type 0 where
   pub state : after ≡ st.after
-  pub put : with_it ≡ bodies ++ body_of st.ops
+  pub put : with_it ≡ bodies ++ body_of_step st
   pub applies : all_applied st.ops before.machine.saved ≡ Some st.after.machine.saved
   pub valid : AllByRecursion IsOp st.ops
-  pub short : record_bytes st.ops ≤ longest_record
+  pub short : record_bytes (profile_of_step st) st.ops ≤ longest_record
 
 -- ---- the events of a group
 
 -- Events were answered by their steps in memory, and these are their records: a content that stood for the state before stands with them
--- for the state behind.
+-- for the state behind, which has the same profile.
 pub record AreStaged (D : Type 0) (begin : Begin) (s : State) (turns : List Answer) (after : State) (bodies : List (List ℕ))
     : Type 0 where
   pub transcript : (old : LiveState D) → old.state ≡ s → old.numbers ≡ numbers_begun begin
@@ -80,7 +81,8 @@ pub record AreStaged (D : Type 0) (begin : Begin) (s : State) (turns : List Answ
   pub overdue : AllByRecursion (λ t. t.is_overdue ≡ begin.is_overdue) turns
   pub state : after ≡ replayed s (history_in turns)
   pub records : bodies ≡ bodies_after s (history_in turns)
-  pub stands : (content : Content) → content.layout ≡ present_layout → state_of (Some content) ≡ Some s.machine.saved
+  pub profile : after.machine.saved.profile ≡ s.machine.saved.profile
+  pub stands : (content : Content) → content.layout ≡ written_layout s.machine.saved.profile → state_of (Some content) ≡ Some s.machine.saved
       → state_of (Some (with_records content bodies)) ≡ Some after.machine.saved
 
 -- a file keeps to the bounds behind a turn that made the checkpoint that was due, if one was
@@ -105,7 +107,7 @@ pub record AreTaken (begin : Begin) (s : State) (events : List Event) (turns : L
 -- a journal to which so many records are added, unless a disk fails
 pub record TakesRecords {D : Type 0} (journal : JournalState D) (many : ℕ) : Type 0 where
   pub usable : journal.is_spent ≡ false
-  pub layout : journal.layout ≡ present_layout
+  pub layout : IsWrittenLayout journal.layout
   pub numbers : journal.base + journal.count + many < 2 ^ 64
 
 -- these records were written

@@ -8,7 +8,7 @@ use Rattle.daemon_core.specs.Step.{Stepped, step}
 use Rattle.daemon_core.specs.Replay.{Entry, stepped, reply, replay}
 use Rattle.live_stage.specs.declared.refusal.LiveError.{LiveError}
 use Rattle.live_stage.specs.declared.refusal.LiveError.TheVariants.{Broken, NoMemory, NumbersSpent}
-use Rattle.live_stage.specs.Answer.{Answer, IsNumbered}
+use Rattle.live_stage.specs.Answer.{Answer, IsNumbered, profile_of_step}
 use Rattle.live_stage.specs.LiveState.{LiveState}
 use Rattle.live_stage.specs.Numbers.{Numbers, FileNumbers, next_numbers, ready_file, recorded, record_bytes, most_bytes, most_records}
 use Rattle.live_stage.specs.Numbers.{AreSpent}
@@ -39,7 +39,7 @@ numbers_after s first (entry ∷ earlier) =
 -- how many bytes the records take of a history that began with this state
 abbrev pub bytes_after : State → List Entry → ℕ
 bytes_after s [] = 0
-bytes_after s (entry ∷ earlier) = bytes_after s earlier + (let now = stepped (replayed s earlier) entry in record_bytes now.ops)
+bytes_after s (entry ∷ earlier) = bytes_after s earlier + (let now = stepped (replayed s earlier) entry in record_bytes (profile_of_step now) now.ops)
 
 -- an answer is that of a step, where the run began so and this history of it went before
 pub record IsStepOf {D : Type 0} (first : LiveState D) (earlier : List Entry) (st : Stepped) (t : Answer) : Type 0 where
@@ -84,7 +84,7 @@ broken_after was (answer ∷ answers) = broken_after (broken_by was answer) answ
 -- that was due may stand or not; after a disk fault nothing is said.
 abbrev pub FileGoesOn : State → Event → FileNumbers → Result Answer LiveError → FileNumbers → Type 0
 FileGoesOn s event file (Ok t) next =
-    let now = step s event t.refused_at in next ≡ recorded (ready_file t.is_overdue s.machine.saved file) now.ops
+    let now = step s event t.refused_at in next ≡ recorded (profile_of_step now) (ready_file t.is_overdue s.machine.saved file) now.ops
 FileGoesOn s event file (Err Broken) next = Unit {0}
 FileGoesOn s event file (Err NoMemory) next = (next ≡ file) ⊎ (next ≡ ready_file false s.machine.saved file)
 FileGoesOn s event file (Err NumbersSpent) next = next ≡ file

@@ -4,13 +4,15 @@ use Rattle.std.specs.Prelude.{IfOk, OnOk, OnErr, IfErr, MatchBool, if◌then◌e
 use Rattle.disk_model.specs.History.{Change}
 use Rattle.disk_model.specs.Later.{HasFailed}
 use Rattle.play_journal.specs.Calls.{SameFaults}
-use Rattle.play_journal.specs.Content.{Content, last_record, present_layout, with_record, with_snapshot, IsOldOrNew}
+use Rattle.play_journal.specs.Content.{Content, last_record, with_record, with_snapshot, IsEither}
 use Rattle.play_journal.specs.File.{records_len}
 use Rattle.play_journal.specs.JournalState.{JournalState}
 use Rattle.play_journal.specs.Pair.{AllPairsNow, AllPairsSince}
+use Rattle.profile.specs.declared.profile.Profile.{Profile}
 use Rattle.state_codec.specs.declared.op.Op.{Op}
+use Rattle.state_codec.specs.Layout.{written_layout}
 use Rattle.state_codec.specs.SavedState.{SavedState}
-use Rattle.state_codec.specs.Spelling.{ops_bytes, saved_bytes}
+use Rattle.state_codec.specs.Spelling.{body_bytes, saved_bytes}
 use Rattle.daemon_core.specs.State.{start}
 use Rattle.live_stage.specs.declared.refusal.LiveError.{LiveError}
 use Rattle.live_stage.specs.declared.refusal.LiveError.TheVariants.{Broken, NoMemory, NumbersSpent}
@@ -26,33 +28,37 @@ pub record IsBegun {D : Type 0} (kept : SavedState) (live : LiveState D) : Type 
   pub event : live.numbers.event ≡ 0
   pub usable : live.is_broken ≡ false
 
--- whatever a crash now leaves of the files gives the content of the stage, in the layout that is written, which stands for its state,
--- and its numbers are those that the stage counts
+-- whatever a crash now leaves of the files gives the content of the stage, in the layout that its profile writes, which stands for its
+-- state, and its numbers are those that the stage counts
 pub record IsStored {D : Type 0} (history : D → List Change) (live : LiveState D) : Type 0 where
   pub kept : AllPairsNow (λ f. f ≡ Some live.content) (history live.a) (history live.b)
-  pub layout : live.content.layout ≡ present_layout
+  pub layout : live.content.layout ≡ written_layout live.state.machine.saved.profile
   pub state : state_of (Some live.content) ≡ Some live.state.machine.saved
   pub file : live.file ≡ file_found live.content
   pub numbered : live.numbers.last_record ≡ last_record live.content
 
 -- whether a journal of this layout is brought to the one that is written when it is opened
-abbrev pub is_old : ℕ → Bool
-is_old layout = not (layout == present_layout)
+abbrev pub is_old : Profile → ℕ → Bool
+is_old profile layout = not (layout == written_layout profile)
 
--- what the files say once they were opened, which stood for this state: the same, or the state as a snapshot in the layout that is written
+-- the content with this state as its snapshot, in the layout that the state's profile writes
+abbrev pub with_state : Content → SavedState → Content
+with_state content s = with_snapshot content (written_layout s.profile) (saved_bytes s)
+
+-- what the files say once they were opened, in which this state was found: the same, or the state as a snapshot
 abbrev pub migrated : Content → SavedState → Content
-migrated content s = if is_old content.layout then with_snapshot content (saved_bytes s) else content
+migrated content s = if is_old s.profile content.layout then with_state content s else content
 
 -- A stage that was opened over files that gave this: it goes on from their numbers, which are those of the files now too.
 pub record IsOver {D : Type 0} (history : D → List Change) (content : Content) (live : LiveState D) : Type 0 where
   pub numbers : live.numbers ≡ numbers_found content
   pub says : live.content ≡ migrated content live.state.machine.saved
   pub stored : IsStored history live
-  pub told : live.was_migrated ≡ is_old content.layout
+  pub told : live.was_migrated ≡ is_old live.state.machine.saved.profile content.layout
 
--- the saved state as a snapshot
-abbrev pub snapshot_of : {D : Type 0} → LiveState D → List ℕ
-snapshot_of live = saved_bytes live.state.machine.saved
+-- what the files of a stage say once its state is their snapshot
+abbrev pub as_snapshot : {D : Type 0} → LiveState D → Content
+as_snapshot live = with_state live.content live.state.machine.saved
 
 -- ---- checkpoints
 
@@ -67,7 +73,7 @@ pub record IsCheckpointed {D : Type 0} (old new : LiveState D) : Type 0 where
 -- While a checkpoint is made the files give what they gave before, or the state as a snapshot without records.
 pub record IsCheckpointing {D : Type 0} (history : D → List Change) (old new : LiveState D) : Type 0 where
   pub before : AllPairsNow (λ f. f ≡ Some old.content) (history old.a) (history old.b)
-  pub during : AllPairsSince (IsOldOrNew old.content (snapshot_of old))
+  pub during : AllPairsSince (IsEither old.content (as_snapshot old))
       (history new.a) (length (history old.a)) (history new.b) (length (history old.b))
 
 -- so many calls of the two disks were made at most
@@ -76,7 +82,7 @@ CallsAtMost most old_a old_b new_a new_b = length new_a + length new_b ≤ lengt
 
 -- From its `Ok` on they give the latter alone.
 pub record HoldsSnapshot {D : Type 0} (history : D → List Change) (old new : LiveState D) : Type 0 where
-  pub says : new.content ≡ with_snapshot old.content (snapshot_of old)
+  pub says : new.content ≡ as_snapshot old
   pub kept : AllPairsNow (λ f. f ≡ Some new.content) (history new.a) (history new.b)
 
 -- A journal that was asked for a checkpoint with a next generation refuses it for want of memory, and then nothing was done, or by a disk
@@ -104,12 +110,12 @@ writes_to_b is_overdue live = if makes_checkpoint is_overdue live.file then not 
 -- what the files say when a turn's record is written
 abbrev pub ready_content : {D : Type 0} → Bool → LiveState D → Content
 ready_content is_overdue live =
-    if makes_checkpoint is_overdue live.file then with_snapshot live.content (snapshot_of live) else live.content
+    if makes_checkpoint is_overdue live.file then as_snapshot live else live.content
 
 -- the same with the record of these ops, if there are any
-abbrev pub recorded_content : Content → List Op → Content
-recorded_content content [] = content
-recorded_content content (op ∷ ops) = with_record content (ops_bytes (op ∷ ops))
+abbrev pub recorded_content : Profile → Content → List Op → Content
+recorded_content profile content [] = content
+recorded_content profile content (op ∷ ops) = with_record content (body_bytes profile (op ∷ ops))
 
 -- What a turn does before it handles its event: it makes the checkpoint that is due, if one is; where that finds no memory, nothing is
 -- done, and it is overdue.
@@ -156,7 +162,7 @@ pub record MakesNoCall {D : Type 0} (old new : LiveState D) : Type 0 where
 -- From its `Ok` on whatever a crash leaves says the record of its ops, behind the snapshot that was due, if one was. Unless that is overdue,
 -- there are at most so many records, and they take no more bytes than the bound and one record.
 pub record IsWritten {D : Type 0} (history : D → List Change) (is_overdue : Bool) (old new : LiveState D) (ops : List Op) : Type 0 where
-  pub says : new.content ≡ recorded_content (ready_content is_overdue old) ops
+  pub says : new.content ≡ recorded_content new.state.machine.saved.profile (ready_content is_overdue old) ops
   pub stored : IsStored history new
   pub few : is_overdue ≡ false → length new.content.records ≤ most_records
   pub short : is_overdue ≡ false → records_len new.content.records ≤ most_bytes (length new.content.snapshot) + longest_record

@@ -4,16 +4,17 @@ use Rattle.std.specs.Prelude.{IfOk, IfErr, OnOk, OnErr}
 use Rattle.disk_model.specs.History.{Change}
 use Rattle.disk_model.specs.Later.{AreLater, HasFailed}
 use Rattle.play_journal.specs.Calls.{Holds, SameFaults}
-use Rattle.play_journal.specs.Content.{Content, IsEither, present_layout}
+use Rattle.play_journal.specs.Content.{Content, IsEither, IsWrittenLayout}
 use Rattle.play_journal.specs.File.{longest_body}
 use Rattle.play_journal.specs.JournalState.{JournalState}
 use Rattle.play_journal.specs.Pair.{AllPairsSince}
+use Rattle.profile.specs.declared.profile.Profile.{Profile}
 use Rattle.state_codec.specs.declared.op.Op.{Op}
 use Rattle.daemon_core.specs.declared.event.Event.{Event}
 use Rattle.daemon_core.specs.Step.{step}
 use Rattle.live_stage.specs.declared.refusal.LiveError.{LiveError}
 use Rattle.live_stage.specs.declared.refusal.LiveError.TheVariants.{Broken}
-use Rattle.live_stage.specs.Answer.{Answer, IsBeforeOrAfter}
+use Rattle.live_stage.specs.Answer.{Answer, IsBeforeOrAfter, profile_of_step}
 use Rattle.live_stage.specs.Found.{AllFindNow, AllFindSince}
 use Rattle.live_stage.specs.LiveState.{LiveState}
 use Rattle.live_stage.specs.Numbers.{FileNumbers, longest_record, record_bytes, record_number, recorded}
@@ -38,7 +39,7 @@ pub record CallsDisks {D T E : Type 0} (honest : D → Type 0) (history : D → 
 -- a journal to which a record with a body of this length is added, unless a disk fails
 pub record TakesRecord {D : Type 0} (journal : JournalState D) (size : ℕ) : Type 0 where
   pub usable : journal.is_spent ≡ false
-  pub layout : journal.layout ≡ present_layout
+  pub layout : IsWrittenLayout journal.layout
   pub numbers : journal.base + journal.count < 2 ^ 64 - 1
   pub fits : size ≤ longest_body
 
@@ -53,10 +54,10 @@ file_of journal =
     }
 
 -- the record of these ops was written, if there are any, and this is its number
-pub record HasRecorded {D : Type 0} (old new : JournalState D) (ops : List Op) (number : Option ℕ) : Type 0 where
+pub record HasRecorded {D : Type 0} (profile : Profile) (old new : JournalState D) (ops : List Op) (number : Option ℕ) : Type 0 where
   pub is_next : number ≡ record_number (old.base + old.count) ops
   pub count : ops ≢ [] → new.count ≡ old.count + 1
-  pub file : file_of new ≡ recorded (file_of old) ops
+  pub file : file_of new ≡ recorded profile (file_of old) ops
   pub usable : new.is_spent ≡ false
 
 -- a record is refused by a disk fault alone, which spends the journal
@@ -75,5 +76,5 @@ pub record KeepsEvent {D : Type 0} (history : D → List Change) (old new : Live
       (history new.a) (length (history old.a)) (history new.b) (length (history old.b))
   pub kept : new.is_broken ≡ false → AllFindNow (λ f. f ≡ Some new.state.machine.saved) (history new.a) (history new.b)
   pub content : IfOk result (λ t.
-      let now = step old.state event t.refused_at in new.content ≡ recorded_content old.content now.ops)
-  pub short : IfOk result (λ t. let now = step old.state event t.refused_at in record_bytes now.ops ≤ longest_record)
+      let now = step old.state event t.refused_at in new.content ≡ recorded_content (profile_of_step now) old.content now.ops)
+  pub short : IfOk result (λ t. let now = step old.state event t.refused_at in record_bytes (profile_of_step now) now.ops ≤ longest_record)

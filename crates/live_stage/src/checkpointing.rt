@@ -1,21 +1,20 @@
 // The state as a new snapshot.
 ghost use Rattle.std.specs.Prelude.{◌≡◌, ◌≢◌, ◌-◌, ◌^◌, false, OnOk, MatchBool};
 ghost use Rattle.play_journal.specs.Calls.{IsNextGeneration};
-ghost use Rattle.play_journal.specs.Content.{with_snapshot};
 ghost use Rattle.state_codec.specs.SavedState.{IsSavedState};
-ghost use Rattle.state_codec.specs.Spelling.{saved_bytes};
+ghost use Rattle.state_codec.specs.Layout.{written_layout};
 ghost use Rattle.live_stage.specs.Errors.{checkpoint_error};
 ghost use Rattle.live_stage.specs.Numbers.{snapshot_size};
-ghost use Rattle.live_stage.specs.Turns.{CallsAtMost, RefusesSnapshot};
+ghost use Rattle.live_stage.specs.Turns.{CallsAtMost, RefusesSnapshot, with_state};
 ghost use Rattle.live_stage.specs.Writing.{GoesOver, CallsDisks};
 
 use crate::LiveError;
 use disk_model::Disk;
 use play_journal::{Journal, JournalError};
-use state_codec::{Saved, put_saved};
+use state_codec::{Saved, layout_number, put_saved};
 use std::alloc::Global;
 
-/// Makes a checkpoint of this state. It refuses want of memory, and then made no call of a disk, or a disk fault.
+/// Makes a checkpoint of this state, in the layout that its profile writes. It refuses want of memory, and then made no call of a disk, or a disk fault.
 pub(crate) fn write_snapshot<D: Disk>(
     alloc: Global,
     journal: &mut Journal<D>,
@@ -24,9 +23,9 @@ pub(crate) fn write_snapshot<D: Disk>(
     requires usable { journal.old.is_spent ≡ false }
     requires generation { journal.old.generation ≢ 2 ^ 64 - 1 }
     ensures any_moment { D.honest journal.old.a → D.honest journal.old.b
-        → GoesOver D.history journal.old journal.new (with_snapshot journal.old.content (saved_bytes saved.now)) result }
+        → GoesOver D.history journal.old journal.new (with_state journal.old.content saved.now) result }
     ensures in_range { IsSavedState saved.now }
-    ensures next { OnOk result (IsNextGeneration journal.old journal.new (snapshot_size saved.now)) }
+    ensures next { OnOk result (IsNextGeneration D.faults journal.old journal.new (written_layout saved.now.profile) (snapshot_size saved.now)) }
     ensures refuses { RefusesSnapshot journal.old journal.new result }
     ensures disks { CallsDisks D.honest D.history D.faults journal.old journal.new LiveError.Broken result }
     ensures calls { D.honest journal.old.a → D.honest journal.old.b → OnOk result (CallsAtMost 9 (D.history journal.old.a)
@@ -40,7 +39,8 @@ pub(crate) fn write_snapshot<D: Disk>(
         Ok(snapshot) => snapshot,
         Err(_) => return Err(LiveError::NoMemory),
     };
-    match journal.checkpoint(alloc, &snapshot) {
+    let layout = layout_number(saved.profile());
+    match journal.checkpoint(alloc, layout, &snapshot) {
         Ok(()) => Ok(()),
         Err(error) => Err(refused_checkpoint(error)),
     }

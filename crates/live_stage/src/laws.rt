@@ -1,9 +1,11 @@
 //! Laws of the definitions, for the layers above: a call brings its clauses into their proofs.
-ghost use Rattle.std.specs.Prelude.{◌≡◌, ◌≤◌, ◌*◌, Bool, List, [], ◌∷◌, sum_by};
+ghost use Rattle.std.specs.Prelude.{◌≡◌, ◌≤◌, ◌*◌, Bool, List, [], ◌∷◌, Some, sum_by};
+ghost use Rattle.disk_model.specs.History.{Change};
 ghost use Rattle.daemon_core.specs.Replay.{Entry, replay};
-ghost use Rattle.daemon_core.specs.State.{start};
+ghost use Rattle.daemon_core.specs.State.{State, start};
 ghost use Rattle.daemon_core.specs.declared.event.Event.{Event};
 ghost use Rattle.live_stage.specs.Answer.{Answer, IsTurn};
+ghost use Rattle.live_stage.specs.Found.{AllFindNow, AllOpenNow};
 ghost use Rattle.live_stage.specs.Group.{EndsThere, IsGroup, answer_looks};
 ghost use Rattle.live_stage.specs.LiveState.{LiveState};
 ghost use Rattle.live_stage.specs.Transcript.{replayed};
@@ -11,6 +13,7 @@ ghost use Rattle.machine_core.specs.Looks.{max_looks};
 ghost use Rattle.state_codec.specs.SavedState.{SavedState};
 
 use disk_model::Disk;
+use machine_core::laws;
 
 /// The state that a run comes to from the start of a life, by its history, is the replay of that history: runs that follow one another
 /// in a life have one history.
@@ -28,3 +31,16 @@ pub fn group_looks_at_most_twice<D: Disk>()
     ensures { (old : LiveState D) (events : List Event) (turns : List Answer) (is_refused : Bool) (rest : List Event)
         → EndsThere old events turns is_refused rest → sum_by answer_looks turns ≤ 2 * max_looks }
 {}
+
+/// Files that give a state are opened with it: a restart with the profile of that state finds it.
+pub fn given_state_is_found()
+    ensures { (s : SavedState) (a b : List Change) → AllFindNow (λ f. f ≡ Some s) a b → AllOpenNow s.profile (λ f. f ≡ Some s) a b }
+{}
+
+/// The profile of a stage stays through its history.
+pub fn history_keeps_the_profile()
+    ensures { (s : State) (history : List Entry)
+        → (let now = replayed s history in now.machine.saved.profile) ≡ s.machine.saved.profile }
+{
+    laws::ops_rebuild_the_state();
+}

@@ -14,7 +14,6 @@ mod turn;
 mod turns;
 
 pub use live::Live;
-pub use play_journal::LAYOUT;
 pub use refusal::{LiveError, Refused, StartError};
 pub use turn::{Receipt, Turn, TurnResult};
 pub use turns::{RefusedTurns, Turns};

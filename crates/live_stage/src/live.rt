@@ -16,7 +16,7 @@ ghost use Rattle.live_stage.specs.Turns.{IsBegun, IsOver, IsStored, IsCheckpoint
 ghost use Rattle.live_stage.specs.Turns.{CallsAtMost, IsReady, IsWritten, StaysInFile, WritesOneFile, MakesNoCall, LeavesAsIs};
 ghost use Rattle.live_stage.specs.Turns.{TellsFaults, RefusesInOrder, WritesAlone, ready_content};
 ghost use Rattle.live_stage.specs.Writing.{KeepsEvent};
-ghost use Rattle.live_stage.specs.Found.{found_state, AllFindNow, AllFindSince, KeepsFoundState};
+ghost use Rattle.live_stage.specs.Found.{found_state, AllFindNow, AllFindSince, AllOpenNow, KeepsFoundState};
 
 use crate::checkpointing::write_snapshot;
 use crate::due::is_due_at;
@@ -27,7 +27,8 @@ use daemon_core::{Core, Event};
 use disk_model::Disk;
 use opening::{refused_over, state_in};
 use play_journal::{Group, Journal, JournalError};
-use state_codec::{Saved, put_saved};
+use profile::Profile;
+use state_codec::{Saved, layout_number, put_saved};
 use std::alloc::Global;
 use std::marker::Model;
 use std::snapshot::Snapshot;
@@ -35,6 +36,9 @@ use std::snapshot::Snapshot;
 mod grouping;
 mod looks;
 mod opening;
+
+/// The offset of the layout in a file, in bytes.
+const LAYOUT_AT: u64 = 8;
 
 /// The daemon's state, and the journal that keeps it: what an event changes is on the disk when its answer is given out.
 ///
@@ -51,7 +55,7 @@ pub struct Live<D: Disk> {
 
 impl<D: Disk> Model for Live<D> {
     ghost use Rattle.std.specs.Prelude.{◌≡◌, ◌≤◌, ◌+◌, ◌-◌, ◌^◌, min, false, Some, vec_capacity};
-    ghost use Rattle.play_journal.specs.Content.{present_layout};
+    ghost use Rattle.state_codec.specs.Layout.{written_layout};
     ghost use Rattle.live_stage.specs.LiveState.{LiveState};
     ghost use Rattle.live_stage.specs.Found.{state_of};
     ghost use Rattle.live_stage.specs.Writing.{file_of};
@@ -74,23 +78,29 @@ impl<D: Disk> Model for Live<D> {
     } };
 
     ghost invariant = { λ v. (2097152 ≤ vec_capacity v.room)
-        × (v.journal.is_spent ≡ false → v.journal.layout ≡ present_layout)
+        × (v.journal.is_spent ≡ false → v.journal.layout ≡ written_layout v.core.machine.saved.profile)
         × (v.journal.is_spent ≡ false → D.honest v.journal.a → D.honest v.journal.b
         → state_of (Some v.journal.content) ≡ Some v.core.machine.saved) };
 }
 
 impl<D: Disk> Live<D> {
-    /// Makes a stage over two empty files: a fresh state, whose random order is drawn from the key.
+    /// Makes a stage over two empty files: a fresh state of this profile, whose random order is drawn from the key.
     ///
     /// It refuses in the order `NotEmpty`, `NoMemory`, `Broken`. A crash inside the call may leave files that are neither
     /// empty nor a journal.
-    pub fn create(alloc: Global, a: D, b: D, key: [u8; 32]) -> Result<Live<D>, Refused<D>>
+    pub fn create(
+        alloc: Global,
+        profile: Profile,
+        a: D,
+        b: D,
+        key: [u8; 32],
+    ) -> Result<Live<D>, Refused<D>>
         // From `Ok` on a restart finds the fresh state.
         ensures kept { D.honest a → D.honest b
-            → IfOk result (λ live. AllFindNow (λ f. f ≡ Some (fresh key)) (D.history live.a) (D.history live.b)) }
-        ensures begun { IfOk result (λ live. IsBegun (fresh key) live) }
+            → IfOk result (λ live. AllFindNow (λ f. f ≡ Some (fresh profile key)) (D.history live.a) (D.history live.b)) }
+        ensures begun { IfOk result (λ live. IsBegun (fresh profile key) live) }
         ensures numbers { IfOk result (λ live.
-            (live.numbers ≡ first_numbers) × (live.file ≡ first_file (fresh key)) × (live.was_migrated ≡ false)) }
+            (live.numbers ≡ first_numbers) × (live.file ≡ first_file (fresh profile key)) × (live.was_migrated ≡ false)) }
 
         ensures not_empty { D.honest a → D.honest b
             → (IsErrAnd result (λ e. e.error ≡ StartError.NotEmpty) ↔ ((D.content a ≢ []) ⊎ (D.content b ≢ []))) }
@@ -110,12 +120,12 @@ impl<D: Disk> Live<D> {
                 b,
             });
         }
-        let saved = Saved::fresh(alloc, key);
+        let saved = Saved::fresh(alloc, profile, key);
         let (room, group, snapshot) = match rooms_for(alloc, &saved) {
             Ok(rooms) => rooms,
             Err(error) => return Err(Refused { error, a, b }),
         };
-        match Journal::create(alloc, a, b, &snapshot) {
+        match Journal::create(alloc, a, b, layout_number(profile), &snapshot) {
             Ok(journal) => Ok(Live {
                 core: Core::new(alloc, saved),
                 journal,
@@ -128,33 +138,34 @@ impl<D: Disk> Live<D> {
         }
     }
 
-    /// Opens the files of a stage, also such as a crash may have left: it goes on from the state that they give. Files of an old
-    /// layout are brought to the present one by a checkpoint, before anything is answered; a program of before can't read them then.
+    /// Opens the files of a stage, also such as a crash may have left: it goes on from the state that they give, with this profile. Files
+    /// of a layout before that which the profile writes are brought to it by a checkpoint, before anything is answered; a program of
+    /// before can't read them then. A layout behind it is refused: `Damaged(8)`.
     ///
     /// A refusal hands both disks back: another opening finds what this one might have found.
-    pub fn open(alloc: Global, a: D, b: D) -> Result<Live<D>, Refused<D>>
+    pub fn open(alloc: Global, profile: Profile, a: D, b: D) -> Result<Live<D>, Refused<D>>
         // It answers the state that the files give, and names what is wrong with them.
         ensures found { D.honest a → D.honest b
-            → IfOk result (λ live. found_state (D.content a) (D.content b) ≡ Some live.state.machine.saved) }
-        ensures begun { IfOk result (λ live. IsBegun live.state.machine.saved live) }
-        ensures cause { D.honest a → D.honest b → IfErr result (λ e. IsCause (D.content a) (D.content b) e.error) }
+            → IfOk result (λ live. found_state profile (D.content a) (D.content b) ≡ Some live.state.machine.saved) }
+        ensures begun { IfOk result (λ live. IsBegun live.state.machine.saved live × (live.state.machine.saved.profile ≡ profile)) }
+        ensures cause { D.honest a → D.honest b → IfErr result (λ e. IsCause profile (D.content a) (D.content b) e.error) }
 
-        // Stopped at any moment, a restart finds what it might have found before, and from `Ok` on what is answered. While files of an
-        // old layout are brought to the present one it finds one state.
+        // Stopped at any moment, a restart with this profile finds what it might have found before, and from `Ok` on the files give what
+        // is answered. While they are brought to the layout that is written it finds one state.
         ensures any_moment { D.honest a → D.honest b → MatchResult result
-            (λ live. KeepsFoundState (D.history a) (D.history b) (D.history live.a) (D.history live.b))
-            (λ e. KeepsFoundState (D.history a) (D.history b) (D.history e.a) (D.history e.b)) }
+            (λ live. KeepsFoundState profile (D.history a) (D.history b) (D.history live.a) (D.history live.b))
+            (λ e. KeepsFoundState profile (D.history a) (D.history b) (D.history e.a) (D.history e.b)) }
         ensures kept { D.honest a → D.honest b
             → IfOk result (λ live. AllFindNow (λ f. f ≡ Some live.state.machine.saved) (D.history live.a) (D.history live.b)) }
 
-        // Where each pair that a crash may have left gives a state, it opens, unless memory is wanting or a disk fails.
-        ensures opens { D.honest a → D.honest b → AllFindNow (λ f. IsSome f) (D.history a) (D.history b)
+        // Where a restart finds a state in each pair that a crash may have left, it opens, unless memory is wanting or a disk fails.
+        ensures opens { D.honest a → D.honest b → AllOpenNow profile (λ f. IsSome f) (D.history a) (D.history b)
             → IfErr result (λ e. (e.error ≡ StartError.NoMemory) ⊎ (e.error ≡ StartError.NumbersSpent) ⊎ (e.error ≡ StartError.Broken)) }
         ensures fault { MatchResult result (λ live. SameFaults D.faults a b live.a live.b)
             (λ e. D.honest a → D.honest b → e.error ≡ StartError.Broken → HasFailed D.faults a b e.a e.b) }
         ensures nothing_else { IfErr result (λ e. IsRefusalOfOpen e.error) }
 
-        // It goes on from the numbers of the file that was found; the files then say the state in the present layout.
+        // It goes on from the numbers of the file that was found; the files then say the state in the layout that is written.
         ensures numbers { D.honest a → D.honest b → IfOk result (λ live. (content : Content)
             → found (D.content a) (D.content b) ≡ Some content → IsOver D.history content live) }
         ensures later { MatchResult result (λ live. AreLater D.honest D.history D.faults a b live.a live.b)
@@ -170,7 +181,10 @@ impl<D: Disk> Live<D> {
             Ok(opened) => opened,
             Err(refused) => return Err(refused_start(refused)),
         };
-        match state_in(alloc, &journal, stored) {
+        if journal.layout() > layout_number(profile) {
+            return Err(refused_over(StartError::Damaged(LAYOUT_AT), journal));
+        }
+        match state_in(alloc, profile, &journal, stored) {
             Ok(saved) => Live::over(alloc, journal, saved, room, group),
             Err(error) => Err(refused_over(error, journal)),
         }
@@ -325,7 +339,8 @@ impl<D: Disk> Live<D> {
             Ok(outcome) => outcome,
             Err(_) => return Err(LiveError::NoMemory),
         };
-        let number = record_ops(&mut self.journal, &mut self.room, &outcome.ops)?;
+        let profile = self.core.as_saved().profile();
+        let number = record_ops(&mut self.journal, &mut self.room, profile, &outcome.ops)?;
         self.event += 1;
         Ok(Turn::new(outcome, self.event, number, is_overdue, asked, before))
     }
@@ -366,8 +381,8 @@ impl<D: Disk> Live<D> {
         self.journal.is_spent()
     }
 
-    /// Whether the files had an old layout when they were opened, and were brought to the present one then: a program of before can't
-    /// read them since.
+    /// Whether the files had a layout of before when they were opened, and were brought to the one that is written then: a program of
+    /// before can't read them since.
     pub fn was_migrated(&self) -> bool
         ensures { result ≡ self.now.was_migrated }
     {

@@ -4,31 +4,29 @@ ghost use Rattle.play_journal.specs.Calls.{StaysInFile};
 ghost use Rattle.play_journal.specs.Content.{with_record, with_records};
 ghost use Rattle.std.specs.List.{AllByRecursion};
 ghost use Rattle.state_codec.specs.Ops.{IsOp};
-ghost use Rattle.state_codec.specs.Spelling.{ops_bytes};
+ghost use Rattle.state_codec.specs.Spelling.{body_bytes};
 ghost use Rattle.live_stage.specs.Staging.{TakesRecords, HasRecordedAll};
 ghost use Rattle.live_stage.specs.Writing.{TakesRecord, GoesOver, HasRecorded, RefusesRecording, CallsDisks};
 
 use crate::LiveError;
 use disk_model::Disk;
 use play_journal::{Group, Journal};
-use state_codec::{Op, put_op};
+use profile::Profile;
+use state_codec::{Op, put_ops};
 
 /// The greatest length of a record's body in bytes.
 pub(crate) const LONGEST_BODY: usize = 2_097_152;
 
-/// Spells the ops into room that was taken before.
-#[tactic(auto, using(crate::proofs::ValidLaws::valid_more, crate::proofs::ValidLaws::valid_all))]
-pub(crate) fn spell(room: &mut Vec<u8>, ops: &[Op])
-    requires { length (ops_bytes ops.now) ≤ vec_capacity room.old }
-    ensures spelled { room.new.items ≡ ops_bytes ops.now }
+/// Spells the ops, as a record's body, into room that was taken before.
+pub(crate) fn spell(room: &mut Vec<u8>, profile: Profile, ops: &[Op])
+    requires { length (body_bytes profile ops.now) ≤ vec_capacity room.old }
+    ensures spelled { room.new.items ≡ body_bytes profile ops.now }
     ensures valid { AllByRecursion IsOp ops.now }
     ensures capacity { vec_capacity room.new ≡ vec_capacity room.old }
 {
     room.clear();
-    for op in ops {
-        if put_op(room, op).is_err() {
-            unreachable!();
-        }
+    if put_ops(room, profile, ops).is_err() {
+        unreachable!();
     }
 }
 
@@ -37,15 +35,16 @@ pub(crate) fn spell(room: &mut Vec<u8>, ops: &[Op])
 pub(crate) fn record_ops<D: Disk>(
     journal: &mut Journal<D>,
     room: &mut Vec<u8>,
+    profile: Profile,
     ops: &[Op],
 ) -> Result<Option<u64>, LiveError>
     requires room { LONGEST_BODY ≤ vec_capacity room.old }
-    requires takes { TakesRecord journal.old (length (ops_bytes ops.now)) }
+    requires takes { TakesRecord journal.old (length (body_bytes profile ops.now)) }
     ensures none { ops.now ≡ [] → (result ≡ Ok None) × (journal.new ≡ journal.old) }
-    ensures number { IfOk result (λ number. HasRecorded journal.old journal.new ops.now number) }
+    ensures number { IfOk result (λ number. HasRecorded profile journal.old journal.new ops.now number) }
     ensures file { StaysInFile journal.old journal.new }
     ensures any_moment { ops.now ≢ [] → D.honest journal.old.a → D.honest journal.old.b
-        → GoesOver D.history journal.old journal.new (with_record journal.old.content (ops_bytes ops.now)) result }
+        → GoesOver D.history journal.old journal.new (with_record journal.old.content (body_bytes profile ops.now)) result }
     ensures valid { AllByRecursion IsOp ops.now }
     ensures refuses { RefusesRecording journal.new result }
     ensures disks { CallsDisks D.honest D.history D.faults journal.old journal.new LiveError.Broken result }
@@ -54,7 +53,7 @@ pub(crate) fn record_ops<D: Disk>(
     if ops.is_empty() {
         return Ok(None);
     }
-    spell(room, ops);
+    spell(room, profile, ops);
     match journal.append(room) {
         Ok(number) => Ok(Some(number)),
         Err(_) => Err(LiveError::Broken),

@@ -43,14 +43,16 @@ pub enum StartError {
     /// None of the two files is open.
     #[error("no journal")]
     NoJournal,
-    /// The files can't be read: the offset in bytes of the field or the gate that is wrong. It is 32 for a snapshot that
-    /// spells no state, and the offset of its gate for a record that spells no ops or whose ops do not apply.
+    /// The files can't be read: the offset in bytes of the field or the gate that is wrong. It is 8 for a layout that isn't read under
+    /// the profile, 32 for a snapshot that spells no state, and the offset of its gate for a record that spells no ops or whose ops do
+    /// not apply.
     #[error("damaged at byte {0}")]
     Damaged(u64),
     /// There was no memory.
     #[error("out of memory")]
     NoMemory,
-    /// The files are of an old layout and have the last generation, 2^64 - 1, so that no checkpoint can bring them to the present one.
+    /// The files are of another layout than the profile writes and have the last generation, 2^64 - 1, so that no checkpoint can bring
+    /// them to that.
     #[error("numbers are spent")]
     NumbersSpent,
     /// A disk failed.

@@ -4,7 +4,7 @@ ghost use Rattle.std.specs.Prelude.{IfOk, OnErr, vec_capacity};
 ghost use Rattle.std.specs.List.{AllByRecursion};
 ghost use Rattle.play_journal.specs.File.{longest_body, records_len};
 ghost use Rattle.state_codec.specs.Ops.{IsOp};
-ghost use Rattle.state_codec.specs.Spelling.{ops_bytes};
+ghost use Rattle.state_codec.specs.Spelling.{body_bytes};
 ghost use Rattle.daemon_core.specs.Step.{step};
 ghost use Rattle.live_stage.specs.Group.{answer_looks, body_of, may_follow, file_with};
 ghost use Rattle.live_stage.specs.Numbers.{longest_record, record_number, greatest, is_due};
@@ -17,6 +17,7 @@ use daemon_core::{Core, Event, Output};
 use machine_core::MAX_LOOKS;
 use no_memory::NoMemory;
 use play_journal::Group;
+use profile::Profile;
 use state_codec::Op;
 use std::alloc::Global;
 use std::snapshot::Snapshot;
@@ -39,20 +40,26 @@ pub(crate) struct Begin {
 }
 
 // Puts the record of an event's ops behind the others of the group, and answers its number; where there are none, there is no record.
-fn stage_ops(group: &mut Group, room: &mut Vec<u8>, ops: &[Op], last_record: u64) -> Option<u64>
+fn stage_ops(
+    group: &mut Group,
+    room: &mut Vec<u8>,
+    profile: Profile,
+    ops: &[Op],
+    last_record: u64,
+) -> Option<u64>
     requires room { longest_body ≤ vec_capacity room.old }
-    requires short { length (ops_bytes ops.now) ≤ longest_body }
+    requires short { length (body_bytes profile ops.now) ≤ longest_body }
     requires fits { records_len group.old ≤ longest_record }
     requires numbers { last_record + length group.old < 2 ^ 64 - 1 }
     ensures number { result ≡ record_number (last_record + length group.old) ops.now }
-    ensures added { group.new ≡ group.old ++ body_of ops.now }
+    ensures added { group.new ≡ group.old ++ body_of profile ops.now }
     ensures valid { AllByRecursion IsOp ops.now }
     ensures capacity { vec_capacity room.new ≡ vec_capacity room.old }
 {
     if ops.is_empty() {
         return None;
     }
-    spell(room, ops);
+    spell(room, profile, ops);
     let number = last_record + group.records() + 1;
     if group.push(room).is_err() {
         unreachable!();
@@ -62,6 +69,7 @@ fn stage_ops(group: &mut Group, room: &mut Vec<u8>, ops: &[Op], last_record: u64
 
 // Steps one event in memory, before which so many of the group were, and puts its record behind theirs. It answers too how much the event
 // looked at.
+#[tactic(auto, using(crate::proofs::ProfileLaws::profile_stays))]
 fn stage_one<D>(
     alloc: Global,
     core: &mut Core,
@@ -85,7 +93,8 @@ fn stage_one<D>(
     let asked = Snapshot::of(&event);
     let before = Snapshot::of(core);
     let outcome = core.step(alloc, event)?;
-    let number = stage_ops(group, room, &outcome.ops, begin.last_record);
+    let profile = core.as_saved().profile();
+    let number = stage_ops(group, room, profile, &outcome.ops, begin.last_record);
     let event = begin.event + many + 1;
     let looks = outcome.looks;
     let turn = Turn::new(outcome, event, number, begin.is_overdue, asked, before);

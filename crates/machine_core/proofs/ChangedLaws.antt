@@ -53,7 +53,7 @@ since_is_changed m x lawful kept =
 
 -- so they are of a command, told by the ops that the work has gained
 pub since_command : (command : Command) (m n : MachineState) (work done : Work) (before : Before) (made : ℕ) (all : List Op) →
-    Went (meaning command m) n work done → IsSavedState m.saved → before ≡ before_of m → made ≡ vec_len work.ops →
+    Went m.saved.profile (meaning command m) n work done → IsSavedState m.saved → before ≡ before_of m → made ≡ vec_len work.ops →
     all ≡ done.ops.items → changed_since before (take (length all - made) (drop made all)) n ≡ changed m n
 since_command command m n work done before made all went kept is count same =
     let x : Meaning = went.meaning in

@@ -162,7 +162,10 @@ module _ (Q : MachineState → Meaning → Type 0) (of : OfForms Q) where
   unfolding database_meaning
   database_so (database.Update place) m =
       then_so m (must (not m.job.runs) AlreadyUpdating) _
-      (λ free. of.begins (begun (next_job m.job.number) place) _ m (next_is_other m.job.number))
+      (λ free. of.begins (begun (next_job m.job.number) place false) _ m (next_is_other m.job.number))
+  database_so (database.Rescan place) m =
+      then_so m (must (not m.job.runs) AlreadyUpdating) _
+      (λ free. of.begins (begun (next_job m.job.number) place true) _ m (next_is_other m.job.number))
   database_so other m = search forms
 
   queue_so : (command : QueueCommand) (m : MachineState) → Holds Q m (queue_meaning command m)

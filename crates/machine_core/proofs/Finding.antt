@@ -4,3 +4,4 @@ pub mod Steps
 pub mod Numbers
 pub mod Selected
 pub mod Sorted
+pub mod Values

@@ -27,3 +27,4 @@ pub mod Database
 pub mod Scans
 pub mod CurrentPlace
 pub mod Sound
+pub mod Sizes

@@ -4,6 +4,7 @@ use Rattle.std.specs.Prelude.{if◌then◌else◌}
 use Rattle.std.specs.Result.{IsErrAnd}
 use Rattle.command_text.specs.declared.refusal.CommandRefusal.{CommandRefusal}
 use Rattle.command_text.specs.declared.refusal.CommandRefusal.TheVariants.{NoSuchUri}
+use Rattle.profile.specs.declared.profile.Profile.{Profile}
 use Rattle.song_db.specs.Change.{has_uri}
 use Rattle.song_db.specs.Row.{Row}
 use Rattle.state_codec.specs.Steps.{◌>>=◌}
@@ -19,9 +20,10 @@ use Rattle.machine_core.proofs.Edits.{refused_failed}
 
 -- a look-up refuses the command that it refuses
 refuses : {A : Type 0} (looked : Result A CommandRefusal) (meant : Meant) (failure : Failure) → IsNotFound looked failure
-    → ((refusal : CommandRefusal) → looked ≡ Err refusal → meant ≡ Err refusal) → (size : ℕ) → IsRefusalOf meant size failure
-refuses looked meant (Refused refusal) is means size = ap (within size) (means refusal is)
-refuses looked meant NoMemory is means size = tt
+    → ((refusal : CommandRefusal) → looked ≡ Err refusal → meant ≡ Err refusal) → (profile : Profile) (size : ℕ) →
+    IsRefusalOf profile meant size failure
+refuses looked meant (Refused refusal) is means profile size = ap (within profile size) (means refusal is)
+refuses looked meant NoMemory is means profile size = tt
 
 pub fails : {A : Type 0} (looked : Result A CommandRefusal) (meant : Meant) (m : MachineState) (work : Work) (failure : Failure)
     (r : Result (Unit {0}) Failure) → IsNotFound looked failure

@@ -10,6 +10,7 @@ use Rattle.command_text.specs.declared.refusal.CommandRefusal.TheVariants.{Reque
 use Rattle.state_codec.specs.Applied.{after_all}
 use Rattle.state_codec.specs.Editing.{AnswersCheck}
 use Rattle.state_codec.specs.Replacing.{replace_ops, replace_refusal, replaces_nothing}
+use Rattle.profile.specs.declared.profile.Profile.{Profile}
 use Rattle.state_codec.specs.SavedState.{SavedState, IsSavedState, AreSavedLists}
 use Rattle.state_codec.specs.Spelling.{ops_bytes}
 use Rattle.state_codec.specs.declared.op.Op.TheVariants.{List as Lists}
@@ -67,13 +68,14 @@ refused_in_turn name s saved = by_name (is_good_name name) refl (is_some (songs_
 -- one that is refused refuses the command
 pub refused_replaces : (name : List ℕ) (m : MachineState) (e : OpRefusal) (r : Result Bool Failure) → IsSavedState m.saved →
     AnswersCheck {T = Unit {0}} (replace_refusal name m.saved) (Err e) → IsErrAnd r (λ failure. failure ≡ Refused (op_told e)) →
-    (size : ℕ) → IfErr r (IsRefusalOf (replaces name m) size)
-refused_replaces name m e (Ok x) saved answer told_so size = tt
-refused_replaces name m e (Err failure) saved answer told_so size =
+    (profile : Profile) (size : ℕ) → IfErr r (IsRefusalOf profile (replaces name m) size)
+refused_replaces name m e (Ok x) saved answer told_so profile size = tt
+refused_replaces name m e (Err failure) saved answer told_so profile size =
     let refused : refusal_of_all (replace_ops name) m.saved ≡ Some e =
     sym (refused_in_turn name m.saved saved) ∙ refused_by (Unit {0}) (replace_refusal name m.saved) e answer in
-    subst (IsRefusalOf (replaces name m) size) (sym told_so)
-    (ap (λ o. within size (unless_refused (told o) (if replaces_nothing name m.saved then stands [] m else replaced name m))) refused)
+    subst (IsRefusalOf profile (replaces name m) size) (sym told_so)
+    (ap (λ o. within profile size (unless_refused (told o) (if replaces_nothing name m.saved then stands [] m else replaced name m)))
+    refused)
 
 -- one that isn't is made, unless it changes nothing
 abbrev pub replaced_if : List ℕ → MachineState → Bool → Meant
@@ -94,33 +96,33 @@ replaces_if name m x nothing saved answer is =
     turned false = refl
 
 -- its ops are past the limit on a request, or no memory was found for them
-pub too_large : (name text first second : List ℕ) (m : MachineState) (changes : Bool) (work done : Work) (failure : Failure)
-    (r : Result (Unit {0}) Failure) → text ≡ name → changes ≡ true → replaces text m ≡ replaced_if text m changes → first ≡ name →
+pub too_large : (profile : Profile) (name text first second : List ℕ) (m : MachineState) (changes : Bool) (work done : Work)
+    (failure : Failure) (r : Result (Unit {0}) Failure) → profile ≡ m.saved.profile → text ≡ name → changes ≡ true → replaces text m ≡ replaced_if text m changes → first ≡ name →
     second ≡ name → AddsNothing work done →
-    IsTooMuch (work.size + length (ops_bytes (Lists (Drop first) ∷ Lists (Save second) ∷ []))) failure → IsErrAnd r (λ e. e ≡ failure) →
+    IsTooMuch (work.size + length (ops_bytes profile (Lists (Drop first) ∷ Lists (Save second) ∷ []))) failure → IsErrAnd r (λ e. e ≡ failure) →
     Performs (replaces name m) m m work done r
-too_large name text first second m changes work done failure (Ok x) named is means one two nothing large so = absurd so
-too_large name text first second m false work done failure (Err e) named is means one two nothing large so = absurd (cc)
-too_large name text first second m true work done failure (Err e) named is means one two nothing large so = record {
+too_large profile name text first second m changes work done failure (Ok x) under named is means one two nothing large so = absurd so
+too_large profile name text first second m false work done failure (Err e) under named is means one two nothing large so = absurd (cc)
+too_large profile name text first second m true work done failure (Err e) under named is means one two nothing large so = record {
   state = refl;
   nothing = nothing;
-  refusal = subst (IsRefusalOf (replaces name m) work.size) (sym so) (of failure large);
+  refusal = subst (IsRefusalOf m.saved.profile (replaces name m) work.size) (sym so) (of failure large);
 }
   where
     bytes : ℕ
-    bytes = length (ops_bytes (Lists (Drop first) ∷ Lists (Save second) ∷ []))
+    bytes = length (ops_bytes profile (Lists (Drop first) ∷ Lists (Save second) ∷ []))
 
-    same : bytes ≡ length (ops_bytes (replace_ops name))
-    same = λ i. length (ops_bytes (Lists (Drop (one i)) ∷ Lists (Save (two i)) ∷ []))
+    same : bytes ≡ length (ops_bytes m.saved.profile (replace_ops name))
+    same = λ i. length (ops_bytes (under i) (Lists (Drop (one i)) ∷ Lists (Save (two i)) ∷ []))
 
     meant : replaces name m ≡ replaced_if name m true
     meant = subst (λ n. replaces n m ≡ replaced_if n m true) named means
 
-    of : (failure : Failure) → IsTooMuch (work.size + bytes) failure → IsRefusalOf (replaces name m) work.size failure
+    of : (failure : Failure) → IsTooMuch (work.size + bytes) failure → IsRefusalOf m.saved.profile (replaces name m) work.size failure
     of (Refused refusal) large =
-        let above : nat_le (work.size + length (ops_bytes (replace_ops name))) max_request_bytes ≡ false =
+        let above : nat_le (work.size + length (ops_bytes m.saved.profile (replace_ops name))) max_request_bytes ≡ false =
         grind (arith, nat_tests, large.1, same) in
-        ap (within work.size) meant ∙ ap (λ b. if b then Ok (replaced name m) else Err RequestTooLarge) above ∙ ap refused (sym large.0)
+        ap (within m.saved.profile work.size) meant ∙ ap (λ b. if b then Ok (replaced name m) else Err RequestTooLarge) above ∙ ap refused (sym large.0)
     of NoMemory large = tt
 
 -- it tells what changed

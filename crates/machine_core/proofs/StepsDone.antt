@@ -1,11 +1,13 @@
 -- From the parts of a step that was made to what it means.
-use Rattle.std.proofs.Common.{◌≡◌, ◌+◌, ◌≤◌, ◌++◌, length, refl, sym, subst, ap, ◌∙◌}
-use Rattle.std.specs.Prelude.{Result, Ok, Err, IfOk}
+use Rattle.std.proofs.Common.{◌≡◌, ℕ, ◌+◌, ◌≤◌, ◌++◌, length, refl, sym, subst, ap, ◌∙◌, arith}
+use Rattle.std.specs.Prelude.{Result, Ok, Err, IfOk, IsOkAnd}
 use Rattle.std.proofs.lemmas.List.{append-nil}
-use Rattle.player_core.specs.Player.{Step}
+use Rattle.player_core.specs.Answered.{OnStep}
+use Rattle.player_core.specs.Player.{PlayerState, Step}
 use Rattle.player_core.specs.Refusal.{AnswersIfMemory, refusal_of}
 use Rattle.player_core.specs.declared.changes.Changes.{Changes}
 use Rattle.player_core.specs.declared.refusal.PlayerError.{PlayerError}
+use Rattle.profile.specs.declared.profile.Profile.{Profile}
 use Rattle.state_codec.specs.Spelling.{ops_bytes}
 use Rattle.std.specs.Vec.{vec_len, vec_capacity}
 use Rattle.machine_core.specs.Steps.{step_ops, steps, moves}
@@ -17,7 +19,8 @@ use Rattle.machine_core.specs.declared.work.Work.{Work}
 pub made_went : (s : Result Step PlayerError) (m n : MachineState) (w a d : Work) (changes : Changes) →
     AnswersIfMemory {T = Changes} (refusal_of s) (Ok changes) →
     IfOk s (λ (made : Step). (changes ≡ made.changes) × (n ≡ (steps made m).after)) →
-    AddsNothing w a → a.text ≡ w.text → AddsOps (step_ops changes) a d → d.text ≡ a.text → HasRoom command_room w → Went (moves s m) n w d
+    AddsNothing w a → a.text ≡ w.text → AddsOps (step_ops changes) (length (ops_bytes m.saved.profile (step_ops changes))) a d →
+    d.text ≡ a.text → HasRoom command_room w → Went m.saved.profile (moves s m) n w d
 made_went (Err e) m n w a d changes answer is nothing same ops text room = absurd (cc)
 made_went (Ok made) m n w a d changes answer is nothing same ops text room = record {
   meaning = steps made m;
@@ -26,8 +29,24 @@ made_went (Ok made) m n w a d changes answer is nothing same ops text room = rec
   text = ap (λ t. t.items) (text ∙ same) ∙ sym (append-nil w.text.items);
   ops = record {
     ops = ops.ops ∙ (λ i. nothing.ops i ++ step_ops (is.0 i));
-    size = ops.size ∙ (λ i. nothing.size i + length (ops_bytes (step_ops (is.0 i))));
+    size = ops.size ∙ (λ i. nothing.size i + length (ops_bytes m.saved.profile (step_ops (is.0 i))));
     fits = ops.fits;
   };
   room = subst (λ t. vec_len t + command_room ≤ vec_capacity t) (sym (text ∙ same)) room;
 }
+
+-- how many bytes are enough for the ops of a step, and how many they take
+pub bytes_enough : (s : Result Step PlayerError) (profile : Profile) (player : PlayerState) (changes : Changes) (bytes : ℕ) →
+    IfOk s (λ (made : Step). OnStep made player (Ok changes)) → ((p : Profile) → bytes ≡ length (ops_bytes p (step_ops changes))) →
+    IfOk s (λ (made : Step). length (ops_bytes profile (step_ops made.changes)) ≤ bytes)
+bytes_enough (Err e) profile player changes bytes on is = tt
+bytes_enough (Ok made) profile player changes bytes on is =
+    omega (arith, is profile, ap (λ (step : Step). length (ops_bytes profile (step_ops step.changes))) on)
+
+pub bytes_exact : (s : Result Step PlayerError) (profile : Profile) (player : PlayerState) (changes : Changes) (bytes : ℕ) →
+    AnswersIfMemory {T = Changes} (refusal_of s) (Ok changes) → IfOk s (λ (made : Step). OnStep made player (Ok changes)) →
+    ((p : Profile) → bytes ≡ length (ops_bytes p (step_ops changes))) →
+    IsOkAnd s (λ (made : Step). length (ops_bytes profile (step_ops made.changes)) ≡ bytes)
+bytes_exact (Err e) profile player changes bytes answer on is = absurd (cc)
+bytes_exact (Ok made) profile player changes bytes answer on is =
+    sym (is profile ∙ ap (λ (step : Step). length (ops_bytes profile (step_ops step.changes))) on)

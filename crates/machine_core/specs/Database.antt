@@ -1,5 +1,5 @@
 -- The commands of the database and its scans.
-use Rattle.std.specs.Prelude.{ℕ, suc, List, [], ◌++◌, true, false, not, nat_lt, length, Option, Some, None, Result, Ok, Err}
+use Rattle.std.specs.Prelude.{ℕ, suc, List, [], ◌++◌, Bool, true, false, not, nat_lt, length, Option, Some, None, Result, Ok, Err}
 use Rattle.std.specs.Prelude.{flat_map, unwrap_or, if◌then◌else◌}
 use Rattle.command_text.specs.AnswerNames.{listed_commands, tag_type_line, directory_line, database_lines}
 use Rattle.command_text.specs.AnswerSongs.{file_line, song_lines}
@@ -8,6 +8,7 @@ use Rattle.command_text.specs.declared.command.database.DatabaseCommand.{Databas
 use Rattle.command_text.specs.declared.command.database.DatabaseCommand.TheVariants as commands
 use Rattle.command_text.specs.declared.refusal.CommandRefusal.{CommandRefusal}
 use Rattle.command_text.specs.declared.refusal.CommandRefusal.TheVariants.{AlreadyUpdating, NoSuchUri}
+use Rattle.profile.specs.Profile.{tags_of}
 use Rattle.song_db.specs.Duration.{total_of}
 use Rattle.song_db.specs.Place.{place_of}
 use Rattle.song_db.specs.Query.{is_folder, folders_in, songs_in, values_of}
@@ -17,7 +18,6 @@ use Rattle.song_db.specs.declared.place.Place.{Place}
 use Rattle.state_codec.specs.Steps.{◌>>=◌}
 use Rattle.song_files.specs.TagSet.{tags_in}
 use Rattle.song_files.specs.declared.tag.Tag.TheVariants.{Artist, Album}
-use Rattle.song_files.specs.declared.tag_set.TheConstants.TagSet.{SIX}
 use Rattle.machine_core.specs.Lent.{lent}
 use Rattle.machine_core.specs.Meaning.{Meant, must, says, answers, begins}
 use Rattle.machine_core.specs.State.{MachineState}
@@ -70,9 +70,15 @@ last_job_number = 2147483647
 abbrev pub next_job : ℕ → ℕ
 next_job number = if nat_lt number last_job_number then suc number else 1
 
--- a job that begins
-abbrev pub begun : ℕ → Option (List ℕ) → Job
-begun number place = record { number = number; place = place; runs = true; has_changed_a_row = false }
+-- a job that begins; one that opens all reads every file, and any other those alone that have another stamp than their row
+abbrev pub begun : ℕ → Option (List ℕ) → Bool → Job
+begun number place all = record { number = number; place = place; opens_all = all; runs = true; has_changed_a_row = false }
+
+-- a job begins, unless one runs
+abbrev pub begins_job : Option (List ℕ) → Bool → MachineState → Meant
+begins_job place all m = do
+  free ← must (not m.job.runs) AlreadyUpdating
+  begins (begun (next_job m.job.number) place all) (job_line (next_job m.job.number)) m
 
 unfoldable pub database_meaning : DatabaseCommand → MachineState → Meant
 database_meaning commands.Commands m = says listed_commands m
@@ -82,7 +88,6 @@ database_meaning (commands.ListInfo path) m =
     let named = unwrap_or path [] in answers (info_at m.saved.songs named (row_at m.saved.songs named)) m
 database_meaning commands.NotCommands m = says [] m
 database_meaning commands.Stats m = says (statistics m.saved.songs) m
-database_meaning commands.TagTypes m = says (flat_map tag_type_line (tags_in SIX)) m
-database_meaning (commands.Update place) m = do
-  free ← must (not m.job.runs) AlreadyUpdating
-  begins (begun (next_job m.job.number) place) (job_line (next_job m.job.number)) m
+database_meaning (commands.Rescan place) m = begins_job place true m
+database_meaning commands.TagTypes m = says (flat_map tag_type_line (tags_in (tags_of m.saved.profile))) m
+database_meaning (commands.Update place) m = begins_job place false m

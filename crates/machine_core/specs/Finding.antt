@@ -9,6 +9,7 @@ use Rattle.command_text.specs.declared.command.finding.FindingCommand.{FindingCo
 use Rattle.command_text.specs.declared.command.finding.FindingCommand.TheVariants as commands
 use Rattle.command_text.specs.declared.command.finding.Search.{Search}
 use Rattle.command_text.specs.declared.range.Window.{Window}
+use Rattle.filter_expr.specs.Fallback.{told_tag}
 use Rattle.filter_expr.specs.Meaning.{is_match}
 use Rattle.filter_expr.specs.Order.{is_before, sorted, window_of}
 use Rattle.filter_expr.specs.Tree.{Tree}
@@ -17,11 +18,12 @@ use Rattle.filter_expr.specs.declared.case.Case.TheVariants.{Exact, Folded}
 use Rattle.filter_expr.specs.declared.order.SortOrder.{SortOrder}
 use Rattle.play_queue.specs.declared.entry.Entry.{Entry}
 use Rattle.song_db.specs.Duration.{total_of}
-use Rattle.song_db.specs.Query.{number_at, values_of}
+use Rattle.song_db.specs.Query.{distinct_of, number_at}
 use Rattle.song_db.specs.Row.{Row, row_at}
 use Rattle.state_codec.specs.Steps.{◌>>=◌}
 use Rattle.state_codec.specs.declared.op.Op.TheVariants.{List as OfLists}
 use Rattle.state_codec.specs.declared.op.list_op.ListOp.TheVariants as list_ops
+use Rattle.song_files.specs.Tags.{texts_of}
 use Rattle.song_files.specs.declared.tag.Tag.{Tag}
 use Rattle.machine_core.specs.Adding.{adds}
 use Rattle.machine_core.specs.Lists.{list_name}
@@ -55,6 +57,10 @@ abbrev pub chosen : Option Tree → List Row → List Row
 chosen None rows = rows
 chosen (Some tree) rows = matching Exact tree rows
 
+-- the values of a tag: of a song without it those of the tag that stands in for it, if one does
+abbrev pub told_values : List Row → Tag → List (List ℕ)
+told_values rows tag = distinct_of (flat_map (λ row. texts_of row.tags (told_tag row.tags tag)) rows)
+
 abbrev pub value_lines : Tag → List (List ℕ) → List ℕ
 value_lines tag values = flat_map (value_line tag) values
 
@@ -78,7 +84,7 @@ finding_meaning (commands.Count tree) m =
     let found = matching Exact tree m.saved.songs in says (count_lines (length found) (total_of found)) m
 finding_meaning (commands.Find search) m = says (flat_map song_lines (found search m.saved.songs)) m
 finding_meaning (commands.InQueue case tree) m = says (entries_found case tree m.saved.songs 0 m.saved.queue.entries) m
-finding_meaning (commands.ListTag tag tree) m = says (value_lines tag (values_of (chosen tree m.saved.songs) tag)) m
+finding_meaning (commands.ListTag tag tree) m = says (value_lines tag (told_values (chosen tree m.saved.songs) tag)) m
 
 -- a part of a list: so many are passed over, up to an end, which is counted from the first
 abbrev pub part_of : {X : Type 0} → Part → List X → List X

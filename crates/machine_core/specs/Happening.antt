@@ -3,7 +3,7 @@ use Rattle.std.specs.Prelude.{◌≡◌, ◌≤◌, List, [], length, Some}
 use Rattle.idle_masks.specs.Subsystems.{none}
 use Rattle.idle_masks.specs.declared.subsystem.Subsystems.{Subsystems}
 use Rattle.state_codec.specs.Applied.{all_applied}
-use Rattle.state_codec.specs.Spelling.{ops_bytes}
+use Rattle.state_codec.specs.Spelling.{body_bytes}
 use Rattle.state_codec.specs.declared.op.Op.{Op}
 use Rattle.machine_core.specs.Size.{max_request_bytes}
 use Rattle.machine_core.specs.State.{MachineState}
@@ -24,4 +24,4 @@ pub record HasHappened (h : Happening) (before after : MachineState) (happened :
   pub ops : happened.ops.items ≡ h.ops
   pub changed : happened.changed ≡ h.changed
   pub rebuilt : all_applied h.ops before.saved ≡ Some h.after.saved
-  pub fits : length (ops_bytes h.ops) ≤ max_request_bytes
+  pub fits : length (body_bytes before.saved.profile h.ops) ≤ max_request_bytes

@@ -33,6 +33,7 @@ settings_take_memory command m = grows (settings_meaning command m)
 abbrev pub database_takes_memory : DatabaseCommand → MachineState → Bool
 database_takes_memory database.NotCommands m = false
 database_takes_memory (database.Update place) m = not m.job.runs
+database_takes_memory (database.Rescan place) m = not m.job.runs
 database_takes_memory _ m = true
 
 -- those that take entries out of the queue or exchange their places take memory for their op alone

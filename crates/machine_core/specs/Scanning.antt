@@ -1,10 +1,12 @@
 -- What the events of a scan do: a batch of changes of rows, and the end.
-use Rattle.std.specs.Prelude.{ℕ, Bool, true, false, ◌&&◌, ◌==◌, List, [], ◌∷◌, ◌++◌, if◌then◌else◌}
+use Rattle.std.specs.Prelude.{ℕ, Bool, true, false, ◌&&◌, ◌==◌, List, [], ◌∷◌, ◌++◌, filter, if◌then◌else◌}
+use Rattle.profile.specs.declared.profile.Profile.{Profile}
 use Rattle.song_db.specs.Change.{after_change}
 use Rattle.song_db.specs.Effect.{effect_of, changes_a_row}
 use Rattle.song_db.specs.Row.{Row}
 use Rattle.song_db.specs.declared.change.RowChange.{RowChange}
 use Rattle.state_codec.specs.Applied.{after_all}
+use Rattle.state_codec.specs.Changes.{is_kept_change}
 use Rattle.state_codec.specs.declared.op.Op.TheVariants.{Batch}
 use Rattle.machine_core.specs.Changed.{changed}
 use Rattle.machine_core.specs.Followed.{followed}
@@ -29,6 +31,10 @@ ends_scan m =
 abbrev pub when_scanned : ℕ → MachineState → Happening
 when_scanned job m = if is_running job m then ends_scan m else nothing_happens m
 
+-- of changes those alone that put no row which the profile doesn't keep
+abbrev pub kept_changes : Profile → List RowChange → List RowChange
+kept_changes profile changes = filter (is_kept_change profile) changes
+
 -- the changes that change a row at their turn, in their order; each finds the rows as those before it left them
 abbrev pub telling : List Row → List RowChange → List RowChange
 telling rows [] = []
@@ -51,4 +57,5 @@ finds [] m = nothing_happens m
 finds (change ∷ changes) m = changes_rows (change ∷ changes) m
 
 abbrev pub when_found : ℕ → List RowChange → MachineState → Happening
-when_found job changes m = if is_running job m then finds (telling m.saved.songs changes) m else nothing_happens m
+when_found job changes m =
+    if is_running job m then finds (telling m.saved.songs (kept_changes m.saved.profile changes)) m else nothing_happens m

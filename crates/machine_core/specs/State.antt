@@ -19,7 +19,7 @@ idle_player = record { state = Stop; current = None; ticket = 0; frame = 0; play
 
 -- no job has begun yet
 abbrev pub no_job : Job
-no_job = record { number = 0; place = None; runs = false; has_changed_a_row = false }
+no_job = record { number = 0; place = None; opens_all = false; runs = false; has_changed_a_row = false }
 
 -- a machine that has just begun with what was kept
 abbrev pub started : SavedState → MachineState

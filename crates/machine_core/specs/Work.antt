@@ -1,6 +1,7 @@
 -- What the code of one command does to the work on its request.
 use Rattle.std.specs.Prelude.{◌≡◌, ℕ, ◌+◌, ◌≤◌, ◌<◌, List, ◌++◌, length, take, vec_len, vec_capacity}
 use Rattle.std.specs.Prelude.{Result, Ok, Err, OnOk, OnErr, IsOk, IsOkUnless}
+use Rattle.profile.specs.declared.profile.Profile.{Profile}
 use Rattle.state_codec.specs.Spelling.{ops_bytes}
 use Rattle.state_codec.specs.declared.op.Op.{Op}
 use Rattle.command_text.specs.declared.refusal.CommandRefusal.TheVariants.{RequestTooLarge}
@@ -28,10 +29,10 @@ pub record Admits (count bytes : ℕ) (work : Work) : Type 0 where
   pub room : vec_len work.ops + count ≤ vec_capacity work.ops
   pub fits : work.size + bytes ≤ max_request_bytes
 
--- the ops were added at the end
-pub record AddsOps (more : List Op) (before after : Work) : Type 0 where
+-- the ops, which take so many bytes, were added at the end
+pub record AddsOps (more : List Op) (bytes : ℕ) (before after : Work) : Type 0 where
   pub ops : after.ops.items ≡ before.ops.items ++ more
-  pub size : after.size ≡ before.size + length (ops_bytes more)
+  pub size : after.size ≡ before.size + bytes
   pub fits : after.size ≤ max_request_bytes
 
 -- nothing was added; memory that was taken may stay
@@ -48,28 +49,28 @@ pub record AddsText (more : List ℕ) (before after : Work) : Type 0 where
   pub size : after.size ≡ before.size
 
 -- the command did what it means: its lines and ops were added, and there is room for what ends a command
-pub record Went (meant : Meant) (after : MachineState) (work done : Work) : Type 0 where
+pub record Went (profile : Profile) (meant : Meant) (after : MachineState) (work done : Work) : Type 0 where
   pub meaning : Meaning
   pub means : meant ≡ Ok meaning
   pub stands : after ≡ meaning.after
   pub text : done.text.items ≡ work.text.items ++ meaning.text
-  pub ops : AddsOps meaning.ops work done
+  pub ops : AddsOps meaning.ops (length (ops_bytes profile meaning.ops)) work done
   pub room : HasRoom command_room done
 
 -- it was refused as it must be, by what it means or by the limit on a request; or it found no memory
-abbrev pub IsRefusalOf : Meant → ℕ → Failure → Type 0
-IsRefusalOf meant size (Refused refusal) = within size meant ≡ Err refusal
-IsRefusalOf meant size NoMemory = Unit {0}
+abbrev pub IsRefusalOf : Profile → Meant → ℕ → Failure → Type 0
+IsRefusalOf profile meant size (Refused refusal) = within profile size meant ≡ Err refusal
+IsRefusalOf profile meant size NoMemory = Unit {0}
 
 -- it failed, and nothing was changed
 pub record Failed (meant : Meant) (before after : MachineState) (work done : Work) (failure : Failure) : Type 0 where
   pub state : after ≡ before
   pub nothing : AddsNothing work done
-  pub refusal : IsRefusalOf meant work.size failure
+  pub refusal : IsRefusalOf before.saved.profile meant work.size failure
 
 -- A method performs what this means: it takes the machine and the work from before it to after it.
 abbrev pub Performs : {T : Type 0} → Meant → MachineState → MachineState → Work → Work → Result T Failure → Type 0
-Performs meant before after work done (Ok x) = Went meant after work done
+Performs meant before after work done (Ok x) = Went before.saved.profile meant after work done
 Performs meant before after work done (Err failure) = Failed meant before after work done failure
 
 -- so many bytes are past the limit on a request, or memory was refused

@@ -1,6 +1,7 @@
 // The edits of the saved half: what the shared form of edits means, done. An op is looked at first, then room is taken for it, then it
 // is made, and the player follows.
 ghost use Rattle.std.specs.Prelude.{◌≡◌, ◌≢◌, ℕ, true, false, [], IfOk, IfErr, OnOk, OnErr, IsOkUnless, if◌then◌else◌};
+ghost use Rattle.profile.specs.declared.profile.Profile.{Profile};
 ghost use Rattle.state_codec.specs.Applied.{refusal_of, changes_nothing, after, after_all};
 ghost use Rattle.state_codec.specs.declared.op.Op.TheVariants.{SetOption, Queue as OfQueue};
 ghost use Rattle.state_codec.specs.declared.op.queue_op.QueueOp.TheVariants.{Delete};
@@ -28,7 +29,7 @@ impl Machine {
         if !self.would_change(&op)? {
             return Ok(());
         }
-        let bytes = work.admit_edit(None, &op)?;
+        let bytes = work.admit_edit(self.saved.profile(), None, &op)?;
         self.apply(alloc, &op)?;
         work.push_edit(None, op, bytes);
         Ok(())
@@ -63,7 +64,7 @@ impl Machine {
             return Ok(());
         }
         let order = self.order_of_random(on);
-        let bytes = work.admit_edit(order, &op)?;
+        let bytes = work.admit_edit(self.saved.profile(), order, &op)?;
         if self.player.turn_random(on).is_err() {
             return Err(Failure::NoMemory);
         }
@@ -98,7 +99,7 @@ impl Machine {
         let order = self
             .player
             .order_after_removal(entries, &settings, block, &[]);
-        let bytes = work.admit_edit(order, &op)?;
+        let bytes = work.admit_edit(self.saved.profile(), order, &op)?;
         if self
             .player
             .follow_removal(entries, &settings, block, &[])
@@ -118,14 +119,14 @@ impl Machine {
         ensures fits { OnOk result (refusal_of op.now self.now.saved ≡ None) }
         ensures changes { IfOk result (λ changes. edits op.now [] self.now
             ≡ Ok (if changes then edited op.now [] (followed op.now self.now) self.now else stands [] self.now)) }
-        ensures refused { (size : ℕ) → IfErr result (IsRefusalOf (edits op.now [] self.now) size) }
+        ensures refused { (profile : Profile) → (size : ℕ) → IfErr result (IsRefusalOf profile (edits op.now [] self.now) size) }
         ensures memory { result ≢ Err Failure.NoMemory }
     {
         Ok(self.saved.check(op)?)
     }
 
     // Applies an op that isn't refused.
-    fn apply(&mut self, alloc: Global, op: &Op) -> Result<(), Failure>
+    pub(crate) fn apply(&mut self, alloc: Global, op: &Op) -> Result<(), Failure>
         requires { refusal_of op.now self.old.saved ≡ None }
         ensures ok { OnOk result (self.new ≡ record self.old { saved = after op.now self.old.saved }) }
         ensures err { OnErr result (self.new ≡ self.old) }

@@ -11,6 +11,8 @@ pub struct Job {
     pub number: u32,
     /// The song or folder that it reads; none, the whole database.
     pub place: Option<Uri>,
+    /// It opens every file that it meets; any other job passes by those that have the stamp of their row.
+    pub opens_all: bool,
     pub runs: bool,
     /// A change of one of its batches changed a row at its turn.
     pub has_changed_a_row: bool,
@@ -29,18 +31,20 @@ impl Job {
         Job {
             number: 0,
             place: None,
+            opens_all: false,
             runs: false,
             has_changed_a_row: false,
         }
     }
 
     /// A job of this number that has just begun.
-    pub(crate) fn begun(number: u32, place: Option<Uri>) -> Job
-        ensures { result ≡ begun number place }
+    pub(crate) fn begun(number: u32, place: Option<Uri>, opens_all: bool) -> Job
+        ensures { result ≡ begun number place opens_all }
     {
         Job {
             number,
             place,
+            opens_all,
             runs: true,
             has_changed_a_row: false,
         }

@@ -7,7 +7,7 @@ ghost use Rattle.state_codec.specs.SavedState.{IsSavedState};
 ghost use Rattle.machine_core.specs.Command.{meaning};
 ghost use Rattle.machine_core.specs.Meaning.{Meaning};
 ghost use Rattle.machine_core.specs.Reports.{when_broken, when_ended, when_fed};
-ghost use Rattle.machine_core.specs.Scanning.{is_running, telling, when_found, when_scanned};
+ghost use Rattle.machine_core.specs.Scanning.{is_running, kept_changes, telling, when_found, when_scanned};
 ghost use Rattle.machine_core.specs.Sound.{IsSound, IsSoundMachine};
 ghost use Rattle.machine_core.specs.State.{MachineState};
 ghost use Rattle.player_core.specs.declared.failure.BrokenCause.{BrokenCause};
@@ -27,13 +27,13 @@ pub fn no_op_without_a_change()
 {}
 
 /// The end of a song makes no op exactly where it leaves the saved half as it was; a batch of the job that runs makes none exactly where
-/// no change of it changes a row at its turn.
+/// no change of it that the profile keeps changes a row at its turn.
 pub fn no_op_of_an_event_without_a_change()
     ensures none { (ticket : ℕ) (m : MachineState) → IsSavedState m.saved
         → (when_ended ticket m).after.saved ≡ m.saved → (when_ended ticket m).ops ≡ [] }
     ensures same { (ticket : ℕ) (m : MachineState) → (when_ended ticket m).ops ≡ [] → (when_ended ticket m).after.saved ≡ m.saved }
     ensures found { (job : ℕ) (changes : List RowChange) (m : MachineState) → is_running job m ≡ true
-        → ((when_found job changes m).ops ≡ [] ↔ telling m.saved.songs changes ≡ []) }
+        → ((when_found job changes m).ops ≡ [] ↔ telling m.saved.songs (kept_changes m.saved.profile changes) ≡ []) }
 {}
 
 /// A command, a report of the output and an event of a scan keep the player sound: the current song stands in the queue, and so do the

@@ -55,7 +55,7 @@ impl Machine {
         ensures err { OnErr result (self.new ≡ self.old) }
     {
         let before = self.before();
-        let mut work = Work::new(alloc)?;
+        let mut work = Work::new(alloc, self.saved.profile())?;
         work.make_room()?;
         if self
             .make_step(alloc, PlayerStep::Ended(ticket), &mut work)

@@ -14,6 +14,7 @@ ghost use Rattle.machine_core.specs.Scanning.{is_running, when_scanned, when_fou
 mod rows;
 
 use crate::current::current_entry;
+use crate::edit::begin_order;
 use crate::happened::Happened;
 use crate::machine::Machine;
 use crate::scanning::rows::telling;
@@ -21,7 +22,7 @@ use idle_masks::Subsystems;
 use no_memory::NoMemory;
 use player_core::{Block, Player};
 use song_db::{RowChange, SongRow};
-use state_codec::{Changes, Op, Saved, dropped_by};
+use state_codec::{Changes, Op, Saved, dropped_by, laws};
 use std::alloc::Global;
 
 impl Machine {
@@ -42,8 +43,8 @@ impl Machine {
         }
     }
 
-    /// A scan has read a batch. One op makes the changes of it that change a row at their turn. Nothing happens where
-    /// there are none, or where the job of this number doesn't run. Without memory the machine stays as it was.
+    /// A scan has read a batch. One op makes the changes of it that change a row at their turn, but for rows that the profile doesn't
+    /// keep. Nothing happens where there are none, or where the job of this number doesn't run. Without memory the machine stays as it was.
     pub fn batch(&mut self, alloc: Global, job: u32, changes: Changes) -> Result<Happened, NoMemory>
         ensures ok { IfOk result (λ happened. HasHappened (when_found job changes self.old) self.old self.new happened) }
         ensures err { OnErr result (self.new ≡ self.old) }
@@ -51,7 +52,8 @@ impl Machine {
         if !self.runs_job(job) {
             return Ok(nothing(alloc));
         }
-        let told = telling(alloc, self.saved.songs(), changes)?;
+        let profile = self.saved.profile();
+        let told = telling(alloc, profile, self.saved.songs(), changes)?;
         match Changes::new(told) {
             Some(told) => self.change_rows(alloc, told),
             None => Ok(nothing(alloc)),
@@ -71,6 +73,7 @@ impl Machine {
         ensures ok { IfOk result (λ happened. HasHappened (changes_rows changes self.old) self.old self.new happened) }
         ensures err { OnErr result (self.new ≡ self.old) }
     {
+        laws::body_len();
         let before = self.before();
         let stickers = self.saved.stickers().len();
         let ops = self.make_batch(alloc, changes)?;
@@ -90,13 +93,11 @@ impl Machine {
         let mut ops = Vec::with_capacity(alloc, 2)?;
         let (mut player, order) = self.follow_batch(alloc, changes.as_slice())?;
         let op = Op::Batch(changes);
-        if self.saved.apply(alloc, &op).is_err() {
+        if self.apply(alloc, &op).is_err() {
             return Err(NoMemory);
         }
         cut_to_song(&self.saved, &mut player);
-        if let Some(order) = order {
-            self.saved.set_order(order);
-        }
+        begin_order(&mut self.saved, order);
         self.kept.forget();
         self.player = player;
         self.job.has_changed_a_row = true;

@@ -2,6 +2,7 @@
 ghost use Rattle.std.specs.Prelude.{◌≡◌, ◌≤◌, length, vec_capacity};
 ghost use Rattle.std.specs.Option.{ForSome};
 ghost use Rattle.play_queue.specs.Limits.{MAX_ENTRIES};
+ghost use Rattle.profile.specs.declared.profile.Profile.{Profile as AProfile};
 ghost use Rattle.state_codec.specs.Applied.{after_all};
 ghost use Rattle.state_codec.specs.Spelling.{ops_bytes};
 ghost use Rattle.machine_core.specs.Meaning.{order_ops};
@@ -11,6 +12,7 @@ ghost use Rattle.machine_core.specs.Work.{Admits, AddsOps};
 use crate::edit::begin_order;
 use crate::work::Work;
 use player_core::{Changes, Single};
+use profile::Profile;
 use state_codec::{Op, QueueOp, Saved, Setting};
 
 // Takes the entry at a position out of the queue, if one leaves.
@@ -52,9 +54,9 @@ pub(crate) fn make_changes(saved: &mut Saved, changes: Changes)
     turn_consume_off(saved, changes.consume_off);
 }
 
-// How many bytes the ops of a step take.
+// How many bytes the ops of a step take, the same under each profile.
 pub(crate) fn bytes_of(changes: Changes) -> usize
-    ensures { result ≡ length (ops_bytes (step_ops changes)) }
+    ensures { (profile : AProfile) → result ≡ length (ops_bytes profile (step_ops changes)) }
 {
     let order = if changes.order.is_some() { 9 } else { 0 };
     let removal = if changes.removed.is_some() { 9 } else { 0 };
@@ -64,64 +66,62 @@ pub(crate) fn bytes_of(changes: Changes) -> usize
 }
 
 impl Work {
-    fn push_removal(&mut self, removed: Option<usize>)
-        requires room { let ops = removal_ops removed in Admits (length ops) (length (ops_bytes ops)) self.old }
+    fn push_removal(&mut self, profile: Profile, removed: Option<usize>)
+        requires room { let ops = removal_ops removed in Admits (length ops) (length (ops_bytes profile ops)) self.old }
         requires within { ForSome removed (λ at. at ≤ MAX_ENTRIES) }
-        ensures ops { AddsOps (removal_ops removed) self.old self.new }
+        ensures ops { let ops = removal_ops removed in AddsOps ops (length (ops_bytes profile ops)) self.old self.new }
         ensures text { self.new.text ≡ self.old.text }
         ensures room { vec_capacity self.new.ops ≡ vec_capacity self.old.ops }
     {
         if let Some(at) = removed {
             let start = at as u32;
-            self.push(Op::Queue(QueueOp::Delete {
-                start,
-                end: start + 1,
-            }));
+            let end = start + 1;
+            self.push(profile, Op::Queue(QueueOp::Delete { start, end }));
         }
     }
 
-    fn push_order(&mut self, order: Option<u64>)
-        requires { let ops = order_ops order in Admits (length ops) (length (ops_bytes ops)) self.old }
-        ensures ops { AddsOps (order_ops order) self.old self.new }
+    fn push_order(&mut self, profile: Profile, order: Option<u64>)
+        requires { let ops = order_ops order in Admits (length ops) (length (ops_bytes profile ops)) self.old }
+        ensures ops { let ops = order_ops order in AddsOps ops (length (ops_bytes profile ops)) self.old self.new }
         ensures text { self.new.text ≡ self.old.text }
         ensures room { vec_capacity self.new.ops ≡ vec_capacity self.old.ops }
     {
         if let Some(order) = order {
-            self.push(Op::SetOrder(order));
+            self.push(profile, Op::SetOrder(order));
         }
     }
 
-    fn push_single(&mut self, off: bool)
-        requires { let ops = single_ops off in Admits (length ops) (length (ops_bytes ops)) self.old }
-        ensures ops { AddsOps (single_ops off) self.old self.new }
+    fn push_single(&mut self, profile: Profile, off: bool)
+        requires { let ops = single_ops off in Admits (length ops) (length (ops_bytes profile ops)) self.old }
+        ensures ops { let ops = single_ops off in AddsOps ops (length (ops_bytes profile ops)) self.old self.new }
         ensures text { self.new.text ≡ self.old.text }
         ensures room { vec_capacity self.new.ops ≡ vec_capacity self.old.ops }
     {
         if off {
-            self.push(Op::SetOption(Setting::Single(Single::Off)));
+            self.push(profile, Op::SetOption(Setting::Single(Single::Off)));
         }
     }
 
-    fn push_consume(&mut self, off: bool)
-        requires { let ops = consume_ops off in Admits (length ops) (length (ops_bytes ops)) self.old }
-        ensures ops { AddsOps (consume_ops off) self.old self.new }
+    fn push_consume(&mut self, profile: Profile, off: bool)
+        requires { let ops = consume_ops off in Admits (length ops) (length (ops_bytes profile ops)) self.old }
+        ensures ops { let ops = consume_ops off in AddsOps ops (length (ops_bytes profile ops)) self.old self.new }
         ensures text { self.new.text ≡ self.old.text }
     {
         if off {
-            self.push(Op::SetOption(Setting::Consume(Single::Off)));
+            self.push(profile, Op::SetOption(Setting::Consume(Single::Off)));
         }
     }
 
     // Adds the ops of a step of the player, for which there is room.
-    pub(crate) fn push_changes(&mut self, changes: Changes)
-        requires room { Admits 4 (length (ops_bytes (step_ops changes))) self.old }
+    pub(crate) fn push_changes(&mut self, profile: Profile, changes: Changes)
+        requires room { Admits 4 (length (ops_bytes profile (step_ops changes))) self.old }
         requires within { ForSome changes.removed (λ at. at ≤ MAX_ENTRIES) }
-        ensures ops { AddsOps (step_ops changes) self.old self.new }
+        ensures ops { AddsOps (step_ops changes) (length (ops_bytes profile (step_ops changes))) self.old self.new }
         ensures text { self.new.text ≡ self.old.text }
     {
-        self.push_order(changes.order);
-        self.push_removal(changes.removed);
-        self.push_single(changes.single_off);
-        self.push_consume(changes.consume_off);
+        self.push_order(profile, changes.order);
+        self.push_removal(profile, changes.removed);
+        self.push_single(profile, changes.single_off);
+        self.push_consume(profile, changes.consume_off);
     }
 }

@@ -67,11 +67,12 @@ impl Machine {
         ensures { Performs (moves (step_in step self.old) self.old) self.old self.new work.old work.new result }
     {
         self.admit_step(alloc, step, work)?;
+        let profile = self.saved.profile();
         let changes = match self.step(step) {
             Ok(changes) => changes,
             Err(error) => return Err(failure_of(error)),
         };
-        work.push_changes(changes);
+        work.push_changes(profile, changes);
         Ok(())
     }
 
@@ -94,10 +95,10 @@ impl Machine {
     // Takes the room for the ops of a step, where the request may make them.
     fn admit_step(&self, alloc: Global, step: PlayerStep, work: &mut Work) -> Result<(), Failure>
         ensures ok { OnOk result (IfOk (step_in step self.now) (λ made.
-            Admits 4 (length (ops_bytes (step_ops made.changes))) work.new)) }
+            Admits 4 (length (ops_bytes self.now.saved.profile (step_ops made.changes))) work.new)) }
         ensures nothing { AddsNothing work.old work.new }
         ensures same { work.new.text ≡ work.old.text }
-        ensures refused { IfErr result (IsRefusalOf (moves (step_in step self.now) self.now) work.old.size) }
+        ensures refused { IfErr result (IsRefusalOf self.now.saved.profile (moves (step_in step self.now) self.now) work.old.size) }
     {
         let bytes = self.bytes_for(alloc, step, work.size)?;
         work.admit(4, bytes)
@@ -107,10 +108,10 @@ impl Machine {
     // step is made on a copy of the player.
     fn bytes_for(&self, alloc: Global, step: PlayerStep, size: usize) -> Result<usize, Failure>
         ensures enough { IfOk result (λ bytes. IfOk (step_in step self.now) (λ made.
-            length (ops_bytes (step_ops made.changes)) ≤ bytes)) }
+            length (ops_bytes self.now.saved.profile (step_ops made.changes)) ≤ bytes)) }
         ensures exact { IfOk result (λ bytes. max_request_bytes < size + bytes → IsOkAnd (step_in step self.now) (λ made.
-            length (ops_bytes (step_ops made.changes)) ≡ bytes)) }
-        ensures refused { IfErr result (IsRefusalOf (moves (step_in step self.now) self.now) size) }
+            length (ops_bytes self.now.saved.profile (step_ops made.changes)) ≡ bytes)) }
+        ensures refused { IfErr result (IsRefusalOf self.now.saved.profile (moves (step_in step self.now) self.now) size) }
     {
         if size <= MAX_REQUEST_BYTES - LONGEST_STEP {
             return Ok(LONGEST_STEP);

@@ -3,10 +3,11 @@ ghost use Rattle.std.specs.Prelude.{◌≤◌};
 
 use command_text::{CommandRefusal, Refusal, want_of_memory, write_ack, write_list_ok, write_ok};
 use no_memory::NoMemory;
-use state_codec::Op;
+use profile::Profile;
+use state_codec::{Op, checksum_len};
 use std::alloc::{AllocError, AllocFailed, Global};
 
-/// The ops of one request take at most so many bytes, as many as a record of the journal holds.
+/// A record of the journal holds so many bytes: the ops of one request, and the sum behind them where the profile has one.
 pub const MAX_REQUEST_BYTES: usize = 2_097_152;
 
 /// No client gets an answer of more bytes: whatever makes it longer is the last that is done of its request.
@@ -15,7 +16,7 @@ const LONGEST_ANSWER: usize = 8_388_608;
 /// Room for `list_OK` and the longest `ACK` line of want of memory behind it.
 const COMMAND_ROOM: usize = 72;
 
-/// What a request's commands have made so far: the answer's bytes, and the ops with their size in bytes.
+/// What a request's commands have made so far: the answer's bytes, and the ops with the size in bytes of a record of them.
 #[derive(Drop)]
 pub struct Work {
     pub text: Vec<u8>,
@@ -79,22 +80,23 @@ impl Work {
     ghost use Rattle.std.specs.Prelude.{◌≡◌, ◌+◌, ◌∷◌, ◌++◌, [], length, vec_len, vec_capacity, IfOk, OnOk, IfErr, MatchBool};
     ghost use Rattle.command_text.specs.Answer.{ack, list_ok, ok};
     ghost use Rattle.command_text.specs.Reading.{name_of_line, want_of_memory};
+    ghost use Rattle.state_codec.specs.Sealed.{checksum_len};
     ghost use Rattle.state_codec.specs.Spelling.{ops_bytes};
     ghost use Rattle.state_codec.specs.SpellingOps.{op_bytes};
     ghost use Rattle.machine_core.specs.Meaning.{order_ops};
     ghost use Rattle.machine_core.specs.Work.{HasRoom, Admits, AddsOps, AddsNothing, AddsText, IsTooMuch, Keeps, ack_room, command_room};
 
     /// Nothing is made yet. There is room for what ends the first command.
-    pub fn new(alloc: Global) -> Result<Self, AllocError>
+    pub fn new(alloc: Global, profile: Profile) -> Result<Self, AllocError>
         ensures text { IfOk result (λ work. work.text.items ≡ []) }
         ensures ops { IfOk result (λ work. work.ops.items ≡ []) }
-        ensures size { IfOk result (λ work. work.size ≡ 0) }
+        ensures size { IfOk result (λ work. work.size ≡ checksum_len profile) }
         ensures room { IfOk result (HasRoom ack_room) }
     {
         Ok(Work {
             text: Vec::with_capacity(alloc, COMMAND_ROOM)?,
             ops: Vec::new(alloc),
-            size: 0,
+            size: checksum_len(profile),
         })
     }
 
@@ -125,17 +127,23 @@ impl Work {
     }
 
     // Takes the room for an op, and for the new random order before it, if one begins. It answers how many bytes they take.
-    pub(crate) fn admit_edit(&mut self, order: Option<u64>, op: &Op) -> Result<usize, Failure>
-        ensures bytes { IfOk result (λ bytes. bytes ≡ length (ops_bytes (order_ops order ++ op.now ∷ []))) }
-        ensures ok { OnOk result (let ops = order_ops order ++ op.now ∷ [] in Admits (length ops) (length (ops_bytes ops)) self.new) }
+    pub(crate) fn admit_edit(
+        &mut self,
+        profile: Profile,
+        order: Option<u64>,
+        op: &Op,
+    ) -> Result<usize, Failure>
+        ensures bytes { IfOk result (λ bytes. bytes ≡ length (ops_bytes profile (order_ops order ++ op.now ∷ []))) }
+        ensures ok { OnOk result (let ops = order_ops order ++ op.now ∷ [] in
+            Admits (length ops) (length (ops_bytes profile ops)) self.new) }
         ensures nothing { AddsNothing self.old self.new }
         ensures same { self.new.text ≡ self.old.text }
-        ensures refused { IfErr result (IsTooMuch (self.old.size + length (ops_bytes (order_ops order ++ op.now ∷ [])))) }
+        ensures refused { IfErr result (IsTooMuch (self.old.size + length (ops_bytes profile (order_ops order ++ op.now ∷ [])))) }
     {
-        let bytes = op.spelled_len();
+        let bytes = op.spelled_len(profile);
         match order {
             Some(order) => {
-                let both = bytes.saturating_add(Op::SetOrder(order).spelled_len());
+                let both = bytes.saturating_add(Op::SetOrder(order).spelled_len(profile));
                 self.admit(2, both)?;
                 Ok(both)
             }
@@ -147,21 +155,20 @@ impl Work {
     }
 
     // Adds an op for which there is room.
-    pub(crate) fn push(&mut self, op: Op)
-        requires { Admits 1 (length (op_bytes op)) self.old }
-        ensures ops { AddsOps (op ∷ []) self.old self.new }
+    pub(crate) fn push(&mut self, profile: Profile, op: Op)
+        requires { Admits 1 (length (op_bytes profile op)) self.old }
+        ensures ops { AddsOps (op ∷ []) (length (op_bytes profile op)) self.old self.new }
         ensures text { self.new.text ≡ self.old.text }
         ensures room { vec_capacity self.new.ops ≡ vec_capacity self.old.ops }
     {
-        self.size += op.spelled_len();
+        self.size += op.spelled_len(profile);
         self.ops.push_reserved(op);
     }
 
     // Adds an op for which there is room, behind the new random order that begins before it; they take so many bytes.
     pub(crate) fn push_edit(&mut self, order: Option<u64>, op: Op, bytes: usize)
-        requires room { let ops = order_ops order ++ op ∷ [] in Admits (length ops) (length (ops_bytes ops)) self.old }
-        requires bytes { bytes ≡ length (ops_bytes (order_ops order ++ op ∷ [])) }
-        ensures ops { AddsOps (order_ops order ++ op ∷ []) self.old self.new }
+        requires room { let ops = order_ops order ++ op ∷ [] in Admits (length ops) bytes self.old }
+        ensures ops { AddsOps (order_ops order ++ op ∷ []) bytes self.old self.new }
         ensures text { self.new.text ≡ self.old.text }
     {
         self.size += bytes;
@@ -172,24 +179,32 @@ impl Work {
     }
 
     // Takes the room for two ops, one after the other.
-    pub(crate) fn admit_both(&mut self, first: &Op, second: &Op) -> Result<(), Failure>
-        ensures ok { OnOk result (let ops = first.now ∷ second.now ∷ [] in Admits (length ops) (length (ops_bytes ops)) self.new) }
+    pub(crate) fn admit_both(
+        &mut self,
+        profile: Profile,
+        first: &Op,
+        second: &Op,
+    ) -> Result<(), Failure>
+        ensures ok { OnOk result (let ops = first.now ∷ second.now ∷ [] in
+            Admits (length ops) (length (ops_bytes profile ops)) self.new) }
         ensures nothing { AddsNothing self.old self.new }
         ensures same { self.new.text ≡ self.old.text }
-        ensures refused { IfErr result (IsTooMuch (self.old.size + length (ops_bytes (first.now ∷ second.now ∷ [])))) }
+        ensures refused { IfErr result (IsTooMuch (self.old.size + length (ops_bytes profile (first.now ∷ second.now ∷ [])))) }
     {
-        let bytes = first.spelled_len().saturating_add(second.spelled_len());
+        let bytes = first
+            .spelled_len(profile)
+            .saturating_add(second.spelled_len(profile));
         self.admit(2, bytes)
     }
 
     // Adds two ops for which there is room.
-    pub(crate) fn push_both(&mut self, first: Op, second: Op)
-        requires { let ops = first ∷ second ∷ [] in Admits (length ops) (length (ops_bytes ops)) self.old }
-        ensures ops { AddsOps (first ∷ second ∷ []) self.old self.new }
+    pub(crate) fn push_both(&mut self, profile: Profile, first: Op, second: Op)
+        requires { let ops = first ∷ second ∷ [] in Admits (length ops) (length (ops_bytes profile ops)) self.old }
+        ensures ops { let ops = first ∷ second ∷ [] in AddsOps ops (length (ops_bytes profile ops)) self.old self.new }
         ensures text { self.new.text ≡ self.old.text }
     {
-        self.push(first);
-        self.push(second);
+        self.push(profile, first);
+        self.push(profile, second);
     }
 
     // Keeps the text that was written from this place on, with room for what ends a command, or cuts it off.

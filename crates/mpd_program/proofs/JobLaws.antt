@@ -5,7 +5,7 @@ use Rattle.idle_masks.specs.Watched.{watched}
 use Rattle.idle_masks.specs.declared.watch.Watched.{Watched}
 use Rattle.song_db.specs.declared.change.RowChange.{RowChange}
 use Rattle.machine_core.specs.Happening.{Happening, nothing_happens}
-use Rattle.machine_core.specs.Scanning.{is_running, telling, finds, when_found, when_scanned}
+use Rattle.machine_core.specs.Scanning.{is_running, kept_changes, telling, finds, when_found, when_scanned}
 use Rattle.machine_core.specs.State.{MachineState}
 use Rattle.daemon_core.specs.declared.event.Event.TheVariants as events
 use Rattle.daemon_core.specs.Session.{Acted}
@@ -38,8 +38,8 @@ batch_leaves n changes m is =
     by_running (is_running n m)
   where
     by_running : (runs : Bool)
-        → (let h : Happening = if runs then finds (telling m.saved.songs changes) m else nothing_happens m in IsRunning n h.after.job)
-    by_running true = finds_leaves n (telling m.saved.songs changes) m is
+        → (let h : Happening = if runs then finds (telling m.saved.songs (kept_changes m.saved.profile changes)) m else nothing_happens m in IsRunning n h.after.job)
+    by_running true = finds_leaves n (telling m.saved.songs (kept_changes m.saved.profile changes)) m is
     by_running false = is
 
 pub batch_runs : (n : ℕ) (changes : List RowChange) (s t : State) → StepsTo (events.Batch n changes) s t → IsRunning n s.machine.job

@@ -10,10 +10,11 @@ use Rattle.daemon_core.specs.State.{State, start}
 use Rattle.daemon_core.specs.Step.{Stepped}
 use Rattle.daemon_core.specs.Replay.{Entry, stepped, replay}
 use Rattle.daemon_core.proofs.HistoryLaws.{outputs_are_replies}
+use Rattle.profile.specs.declared.profile.Profile.{Profile}
 use Rattle.live_stage.specs.declared.refusal.StartError.{StartError}
 use Rattle.live_stage.specs.declared.refusal.StartError.TheVariants.{NotEmpty, NoJournal, Damaged, NoMemory, NumbersSpent, Broken}
 use Rattle.live_stage.specs.Errors.{IsRefusalOfOpen, IsCause, start_number_of}
-use Rattle.live_stage.specs.Found.{found_state, AllFindNow, KeepsFoundState}
+use Rattle.live_stage.specs.Found.{found_state, AllFindNow, AllOpenNow, KeepsFoundState}
 use Rattle.live_stage.specs.Transcript.{replayed}
 use Rattle.live_stage.proofs.RunLaws.{replayed_from_start}
 use Rattle.client_session.specs.Requests.{requests_of}
@@ -74,13 +75,13 @@ HoldsEither x event a b =
 
 -- ---- a life whose journal was opened
 
-whole_by_end : (Honest : Type 0) (c : ℕ) (first last : Moment) (kept : SavedState) (t : State) (read : List ℕ) (done : Unit {0})
-    → (Honest → found_state first.content_a first.content_b ≡ Some kept) → Consumes first.input last.input read
+whole_by_end : (profile : Profile) (Honest : Type 0) (c : ℕ) (first last : Moment) (kept : SavedState) (t : State) (read : List ℕ) (done : Unit {0})
+    → (Honest → found_state profile first.content_a first.content_b ≡ Some kept) → kept.profile ≡ profile → Consumes first.input last.input read
     → ServesEvents Honest c (events_of c (requests_of read)) (start kept) t last.history_a last.history_b first.output last.output (Ok done)
     → IsAllRead read last.input → RunsNone t.machine.job
-    → (Honest → AllFindNow (λ f. f ≡ Some t.machine.saved) last.history_a last.history_b) → IsWhole Honest c first last
+    → (Honest → AllFindNow (λ f. f ≡ Some t.machine.saved) last.history_a last.history_b) → IsWhole profile Honest c first last
 unfolding Holds
-whole_by_end Honest c first last kept t read done found consumed p at_end idle holds =
+whole_by_end profile Honest c first last kept t read done found own consumed p at_end idle holds =
     let same : t ≡ replay kept p.history = p.state (λ is. cc) ∙ replayed_from_start kept p.history in
     record {
       kept = kept;
@@ -96,16 +97,17 @@ whole_by_end Honest c first last kept t read done found consumed p at_end idle h
       });
       written = subst (Appends first.output last.output) (given_at_start c kept p.history) p.written;
       found = found;
+      own = own;
       holds = λ honest. subst (λ (v : State). Holds v last.history_a last.history_b) same (holds honest);
     }
 
-whole_by_close : (Honest : Type 0) (c : ℕ) (first last : Moment) (kept : SavedState) (t : State) (read : List ℕ)
-    → (Honest → found_state first.content_a first.content_b ≡ Some kept) → Consumes first.input last.input read
+whole_by_close : (profile : Profile) (Honest : Type 0) (c : ℕ) (first last : Moment) (kept : SavedState) (t : State) (read : List ℕ)
+    → (Honest → found_state profile first.content_a first.content_b ≡ Some kept) → kept.profile ≡ profile → Consumes first.input last.input read
     → ServesEvents Honest c (events_of c (requests_of read)) (start kept) t last.history_a last.history_b first.output last.output
     (Err Whole)
-    → (Honest → AllFindNow (λ f. f ≡ Some t.machine.saved) last.history_a last.history_b) → IsWhole Honest c first last
+    → (Honest → AllFindNow (λ f. f ≡ Some t.machine.saved) last.history_a last.history_b) → IsWhole profile Honest c first last
 unfolding Holds
-whole_by_close Honest c first last kept t read found consumed p holds = record {
+whole_by_close profile Honest c first last kept t read found own consumed p holds = record {
   kept = kept;
   read = read;
   history = p.history;
@@ -114,16 +116,17 @@ whole_by_close Honest c first last kept t read found consumed p holds = record {
   served = inr (record { behind = p.behind; front = p.front; closed = closed_at_start kept p.history p.stays_open });
   written = subst (Appends first.output last.output) (given_at_start c kept p.history) p.written;
   found = found;
+  own = own;
   holds = λ honest. subst (λ (v : State). Holds v last.history_a last.history_b)
       (p.state (λ is. cc) ∙ replayed_from_start kept p.history) (holds honest);
 }
 
-cut_life : (Honest : Type 0) (c : ℕ) (first last : Moment) (kept : SavedState) (t : State) (read : List ℕ)
-    → (Honest → found_state first.content_a first.content_b ≡ Some kept) → Consumes first.input last.input read
+cut_life : (profile : Profile) (Honest : Type 0) (c : ℕ) (first last : Moment) (kept : SavedState) (t : State) (read : List ℕ)
+    → (Honest → found_state profile first.content_a first.content_b ≡ Some kept) → kept.profile ≡ profile → Consumes first.input last.input read
     → ServesEvents Honest c (events_of c (requests_of read)) (start kept) t last.history_a last.history_b first.output last.output (Err Cut)
-    → (Honest → AllFindNow (λ f. f ≡ Some t.machine.saved) last.history_a last.history_b) → IsCut Honest c first last
+    → (Honest → AllFindNow (λ f. f ≡ Some t.machine.saved) last.history_a last.history_b) → IsCut profile Honest c first last
 unfolding Holds
-cut_life Honest c first last kept t read found consumed p holds = record {
+cut_life profile Honest c first last kept t read found own consumed p holds = record {
   kept = kept;
   read = read;
   history = p.history;
@@ -137,16 +140,17 @@ cut_life Honest c first last kept t read found consumed p holds = record {
   parts = p.written.parts ∙ given_at_start c kept p.history;
   appended = p.written.appended;
   found = found;
+  own = own;
   holds = λ honest. subst (λ (v : State). Holds v last.history_a last.history_b)
       (p.state (λ is. cc) ∙ replayed_from_start kept p.history) (holds honest);
 }
 
-fault_in_event : (Honest : Type 0) (c : ℕ) (first last : Moment) (kept : SavedState) (t : State) (read : List ℕ)
-    → (Honest → found_state first.content_a first.content_b ≡ Some kept) → Consumes first.input last.input read
+fault_in_event : (profile : Profile) (Honest : Type 0) (c : ℕ) (first last : Moment) (kept : SavedState) (t : State) (read : List ℕ)
+    → (Honest → found_state profile first.content_a first.content_b ≡ Some kept) → kept.profile ≡ profile → Consumes first.input last.input read
     → ServesEvents Honest c (events_of c (requests_of read)) (start kept) t last.history_a last.history_b first.output last.output
-    (Err Faulted) → FailsInEvent Honest c first last
+    (Err Faulted) → FailsInEvent profile Honest c first last
 unfolding HoldsEither replay
-fault_in_event Honest c first last kept t read found consumed p = record {
+fault_in_event profile Honest c first last kept t read found own consumed p = record {
   kept = kept;
   read = read;
   history = p.history;
@@ -158,52 +162,53 @@ fault_in_event Honest c first last kept t read found consumed p = record {
   in_turn = turns_at_start kept (record { event = p.left.event; refused = None } ∷ p.history) (p.left.in_turn, p.in_turn);
   written = subst (Appends first.output last.output) (given_at_start c kept p.history) p.written;
   found = found;
+  own = own;
   holds = λ honest. subst (λ (v : State). HoldsEither v p.left.event last.history_a last.history_b) (replayed_from_start kept p.history)
       (p.left.holds honest);
 }
 
-served_life : (Honest : Type 0) (c : ℕ) (first last : Moment) (kept : SavedState) (t : State) (read : List ℕ)
+served_life : (profile : Profile) (Honest : Type 0) (c : ℕ) (first last : Moment) (kept : SavedState) (t : State) (read : List ℕ)
     (result : Result (Unit {0}) Ending)
-    → (Honest → found_state first.content_a first.content_b ≡ Some kept) → Consumes first.input last.input read
+    → (Honest → found_state profile first.content_a first.content_b ≡ Some kept) → kept.profile ≡ profile → Consumes first.input last.input read
     → ServesEvents Honest c (events_of c (requests_of read)) (start kept) t last.history_a last.history_b first.output last.output result
     → OnOk result (IsAllRead read last.input × RunsNone t.machine.job)
     → (result ≢ Err Faulted → Honest → AllFindNow (λ f. f ≡ Some t.machine.saved) last.history_a last.history_b)
     → (result ≡ Err Faulted → Honest → HasFailed first last)
-    → IsLife Honest c (Ok (ending_with result)) first last
-served_life Honest c first last kept t read (Ok done) found consumed p at_end holds failed =
-    whole_by_end Honest c first last kept t read done found consumed p at_end.0 at_end.1 (holds (λ is. cc))
-served_life Honest c first last kept t read (Err Whole) found consumed p at_end holds failed =
-    whole_by_close Honest c first last kept t read found consumed p (holds (λ is. cc))
-served_life Honest c first last kept t read (Err Cut) found consumed p at_end holds failed =
-    cut_life Honest c first last kept t read found consumed p (holds (λ is. cc))
-served_life Honest c first last kept t read (Err Faulted) found consumed p at_end holds failed = record {
-  place = inr (fault_in_event Honest c first last kept t read found consumed p);
+    → IsLife profile Honest c (Ok (ending_with result)) first last
+served_life profile Honest c first last kept t read (Ok done) found own consumed p at_end holds failed =
+    whole_by_end profile Honest c first last kept t read done found own consumed p at_end.0 at_end.1 (holds (λ is. cc))
+served_life profile Honest c first last kept t read (Err Whole) found own consumed p at_end holds failed =
+    whole_by_close profile Honest c first last kept t read found own consumed p (holds (λ is. cc))
+served_life profile Honest c first last kept t read (Err Cut) found own consumed p at_end holds failed =
+    cut_life profile Honest c first last kept t read found own consumed p (holds (λ is. cc))
+served_life profile Honest c first last kept t read (Err Faulted) found own consumed p at_end holds failed = record {
+  place = inr (fault_in_event profile Honest c first last kept t read found own consumed p);
   failed = failed refl;
 }
 
-pub opened_life : (Honest : Type 0) (c : ℕ) (first last : Moment) (s t : State) (read : List ℕ) (result : Result (Unit {0}) Ending)
-    → s ≡ start s.machine.saved → (Honest → found_state first.content_a first.content_b ≡ Some s.machine.saved)
+pub opened_life : (profile : Profile) (Honest : Type 0) (c : ℕ) (first last : Moment) (s t : State) (read : List ℕ) (result : Result (Unit {0}) Ending)
+    → s ≡ start s.machine.saved → (Honest → found_state profile first.content_a first.content_b ≡ Some s.machine.saved) → s.machine.saved.profile ≡ profile
     → Consumes first.input last.input read
     → ServesEvents Honest c (events_of c (requests_of read)) s t last.history_a last.history_b first.output last.output result
     → OnOk result (IsAllRead read last.input × RunsNone t.machine.job)
     → (result ≢ Err Faulted → Honest → AllFindNow (λ f. f ≡ Some t.machine.saved) last.history_a last.history_b)
     → (result ≡ Err Faulted → Honest → HasFailed first last)
-    → IsLife Honest c (Ok (ending_with result)) first last
-opened_life Honest c first last s t read result begun found consumed p at_end holds failed =
-    served_life Honest c first last s.machine.saved t read result found consumed
+    → IsLife profile Honest c (Ok (ending_with result)) first last
+opened_life profile Honest c first last s t read result begun found own consumed p at_end holds failed =
+    served_life profile Honest c first last s.machine.saved t read result found own consumed
     (subst (λ (v : State). ServesEvents Honest c (events_of c (requests_of read)) v t last.history_a last.history_b first.output last.output
     result) begun p) at_end holds failed
 
 -- ---- a life whose journal was not opened
 
-not_a_fault : (Honest : Type 0) (c n : ℕ) (first last : Moment) (error : StartError) → IsRefusalOfOpen error → error ≢ Broken
-    → (Honest → IsCause first.content_a first.content_b error)
-    → (Honest → AllFindNow (λ f. IsSome f) first.history_a first.history_b
+not_a_fault : (profile : Profile) (Honest : Type 0) (c n : ℕ) (first last : Moment) (error : StartError) → IsRefusalOfOpen error → error ≢ Broken
+    → (Honest → IsCause profile first.content_a first.content_b error)
+    → (Honest → AllOpenNow profile (λ f. IsSome f) first.history_a first.history_b
     → (error ≡ NoMemory) ⊎ (error ≡ NumbersSpent) ⊎ (error ≡ Broken))
     → Keeps first.input last.input → Keeps first.output last.output
-    → (Honest → KeepsFoundState first.history_a first.history_b last.history_a last.history_b)
-    → n ≡ (let number : ℕ = start_number_of error in number) → IsRefused Honest n first last
-not_a_fault Honest c n first last error refusal other cause opens input output holds same = record {
+    → (Honest → KeepsFoundState profile first.history_a first.history_b last.history_a last.history_b)
+    → n ≡ (let number : ℕ = start_number_of error in number) → IsRefused profile Honest n first last
+not_a_fault profile Honest c n first last error refusal other cause opens input output holds same = record {
   error = error;
   refusal = refusal;
   not_a_fault = other;
@@ -218,33 +223,33 @@ not_a_fault Honest c n first last error refusal other cause opens input output h
   holds = holds;
 }
 
-pub refused_life : (Honest : Type 0) (c : ℕ) (first last : Moment) (error : StartError) → IsRefusalOfOpen error
-    → (Honest → IsCause first.content_a first.content_b error)
-    → (Honest → AllFindNow (λ f. IsSome f) first.history_a first.history_b
+pub refused_life : (profile : Profile) (Honest : Type 0) (c : ℕ) (first last : Moment) (error : StartError) → IsRefusalOfOpen error
+    → (Honest → IsCause profile first.content_a first.content_b error)
+    → (Honest → AllOpenNow profile (λ f. IsSome f) first.history_a first.history_b
     → (error ≡ NoMemory) ⊎ (error ≡ NumbersSpent) ⊎ (error ≡ Broken))
     → Keeps first.input last.input → Keeps first.output last.output
-    → (Honest → KeepsFoundState first.history_a first.history_b last.history_a last.history_b)
+    → (Honest → KeepsFoundState profile first.history_a first.history_b last.history_a last.history_b)
     → (Honest → error ≡ Broken → HasFailed first last)
-    → IsLife Honest c (refusal_of error) first last
-refused_life Honest c first last NotEmpty refusal cause opens input output holds failed = elim refusal [ ]
-refused_life Honest c first last NoJournal refusal cause opens input output holds failed =
-    not_a_fault Honest c 4 first last NoJournal refusal (λ is. cc) cause opens input output holds refl
-refused_life Honest c first last (Damaged offset) refusal cause opens input output holds failed =
-    not_a_fault Honest c 5 first last (Damaged offset) refusal (λ is. cc) cause opens input output holds refl
-refused_life Honest c first last NoMemory refusal cause opens input output holds failed =
-    not_a_fault Honest c 7 first last NoMemory refusal (λ is. cc) cause opens input output holds refl
-refused_life Honest c first last NumbersSpent refusal cause opens input output holds failed =
-    not_a_fault Honest c 49 first last NumbersSpent refusal (λ is. cc) cause opens input output holds refl
-refused_life Honest c first last Broken refusal cause opens input output holds failed = record {
+    → IsLife profile Honest c (refusal_of error) first last
+refused_life profile Honest c first last NotEmpty refusal cause opens input output holds failed = elim refusal [ ]
+refused_life profile Honest c first last NoJournal refusal cause opens input output holds failed =
+    not_a_fault profile Honest c 4 first last NoJournal refusal (λ is. cc) cause opens input output holds refl
+refused_life profile Honest c first last (Damaged offset) refusal cause opens input output holds failed =
+    not_a_fault profile Honest c 5 first last (Damaged offset) refusal (λ is. cc) cause opens input output holds refl
+refused_life profile Honest c first last NoMemory refusal cause opens input output holds failed =
+    not_a_fault profile Honest c 7 first last NoMemory refusal (λ is. cc) cause opens input output holds refl
+refused_life profile Honest c first last NumbersSpent refusal cause opens input output holds failed =
+    not_a_fault profile Honest c 49 first last NumbersSpent refusal (λ is. cc) cause opens input output holds refl
+refused_life profile Honest c first last Broken refusal cause opens input output holds failed = record {
   place = inl (record { input = input; output = output; holds = holds });
   failed = λ honest. failed honest refl;
 }
 
 -- ---- a weaker premise does
 
-faulted_under : (Strong Weak : Type 0) (c : ℕ) (first last : Moment) → (Strong → Weak) → IsFaulted Weak c first last
-    → IsFaulted Strong c first last
-faulted_under Strong Weak c first last given h = record {
+faulted_under : (profile : Profile) (Strong Weak : Type 0) (c : ℕ) (first last : Moment) → (Strong → Weak) → IsFaulted profile Weak c first last
+    → IsFaulted profile Strong c first last
+faulted_under profile Strong Weak c first last given h = record {
   place = elim h.place [
     | inl opening ↦ inl (record { input = opening.input; output = opening.output; holds = λ strong. opening.holds (given strong) })
     | inr event ↦ inr (record {
@@ -259,15 +264,16 @@ faulted_under Strong Weak c first last given h = record {
       in_turn = event.in_turn;
       written = event.written;
       found = λ strong. event.found (given strong);
+      own = event.own;
       holds = λ strong. event.holds (given strong);
     })
   ];
   failed = λ strong. h.failed (given strong);
 }
 
-pub life_under : (Strong Weak : Type 0) (c : ℕ) (came_to : Result Ending ℕ) (first last : Moment) → (Strong → Weak)
-    → IsLife Weak c came_to first last → IsLife Strong c came_to first last
-life_under Strong Weak c (Ok Whole) first last given h = record {
+pub life_under : (profile : Profile) (Strong Weak : Type 0) (c : ℕ) (came_to : Result Ending ℕ) (first last : Moment) → (Strong → Weak)
+    → IsLife profile Weak c came_to first last → IsLife profile Strong c came_to first last
+life_under profile Strong Weak c (Ok Whole) first last given h = record {
   kept = h.kept;
   read = h.read;
   history = h.history;
@@ -276,9 +282,10 @@ life_under Strong Weak c (Ok Whole) first last given h = record {
   in_turn = h.in_turn;
   written = h.written;
   found = λ strong. h.found (given strong);
+  own = h.own;
   holds = λ strong. h.holds (given strong);
 }
-life_under Strong Weak c (Ok Cut) first last given h = record {
+life_under profile Strong Weak c (Ok Cut) first last given h = record {
   kept = h.kept;
   read = h.read;
   history = h.history;
@@ -292,10 +299,11 @@ life_under Strong Weak c (Ok Cut) first last given h = record {
   parts = h.parts;
   appended = h.appended;
   found = λ strong. h.found (given strong);
+  own = h.own;
   holds = λ strong. h.holds (given strong);
 }
-life_under Strong Weak c (Ok Faulted) first last given h = faulted_under Strong Weak c first last given h
-life_under Strong Weak c (Err number) first last given h = record {
+life_under profile Strong Weak c (Ok Faulted) first last given h = faulted_under profile Strong Weak c first last given h
+life_under profile Strong Weak c (Err number) first last given h = record {
   error = h.error;
   refusal = h.refusal;
   not_a_fault = h.not_a_fault;

@@ -7,6 +7,8 @@ use Rattle.toml.specs.Data.{Data, string, Items, no_items, item, Members, no_mem
 use Rattle.toml.specs.Parse.{parse_document}
 use Rattle.hex.specs.Hex.{decode_sized}
 use Rattle.as_wave.specs.declared.forms.Forms.{Forms}
+use Rattle.profile.specs.declared.profile.Profile.{Profile}
+use Rattle.profile.specs.declared.profile.Profile.TheVariants.{Named, Wide}
 use Rattle.song_output.specs.declared.output.Form.{Form}
 use Rattle.song_output.specs.declared.output.Form.TheVariants.{Bare, Wave}
 
@@ -30,6 +32,10 @@ pub record Settings : Type 0 where
   pub formats : Forms
   pub stock_clients : Bool
   pub debug : Bool
+
+-- what the daemon knows of MPD, by the switch `stock_clients`
+abbrev pub profile_by : Bool → Profile
+profile_by stock_clients = if stock_clients then Wide else Named
 
 -- a key that a configuration may have
 abbrev pub is_known : List ℕ → Bool

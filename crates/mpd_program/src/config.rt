@@ -5,12 +5,13 @@ ghost use Rattle.std.specs.Option.{option_and_then};
 ghost use Rattle.toml.specs.Data.{get_member};
 ghost use Rattle.toml.specs.View.{items_view, table_view, view};
 ghost use Rattle.mpd_program.specs.Configuration.{is_known, all_known, settings_of, text_at, optional_text_at, optional_path_at, key_at};
-ghost use Rattle.mpd_program.specs.Configuration.{configuration};
+ghost use Rattle.mpd_program.specs.Configuration.{configuration, profile_by};
 ghost use Rattle.mpd_program.specs.Configuration.{form_at, form_of, formats_at, formats_in, is_text, switch_at};
 ghost use Rattle.mpd_program.specs.declared.config.ConfigError.TheVariants as errors;
 
 use as_wave::Forms;
 use hex::FromHex;
+use profile::Profile;
 use song_output::Form;
 use std::alloc::{AllocError, Global};
 use std::marker::Model;
@@ -57,7 +58,7 @@ pub struct Config {
     pub form: Form,
     /// Which files are songs beside WAVE files of 16-bit PCM: none where the text doesn't say.
     pub formats: Forms,
-    /// Whether stock clients of MPD are served, by a translator: not where the text doesn't say.
+    /// Whether stock clients of MPD are served, by a translator and with all of MPD: not where the text doesn't say.
     pub stock_clients: bool,
     /// Whether the log has a line for each file that a job left out: not where the text doesn't say.
     pub debug: bool,
@@ -85,6 +86,15 @@ impl Model for Config {
 }
 
 impl Config {
+    ghost use Rattle.mpd_program.specs.Configuration.{profile_by};
+
+    /// What the daemon knows of MPD: all of it where stock clients are served.
+    pub fn profile(&self) -> Profile
+        ensures { result ≡ profile_by self.now.stock_clients }
+    {
+        profile_by(self.stock_clients)
+    }
+
     /// Reads a configuration. The key stands in it for 32 bytes, in hexadecimal digits of either case.
     pub fn read(alloc: Global, text: &str) -> Result<Config, ConfigError>
         ensures ok { IfOk result (λ c. configuration text.now ≡ Some c) }
@@ -132,6 +142,17 @@ impl Config {
             stock_clients,
             debug,
         })
+    }
+}
+
+// What the daemon knows of MPD, by the switch for stock clients.
+pub(crate) fn profile_by(stock_clients: bool) -> Profile
+    ensures { result ≡ profile_by stock_clients }
+{
+    if stock_clients {
+        Profile::Wide
+    } else {
+        Profile::Named
     }
 }
 

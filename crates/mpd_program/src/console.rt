@@ -2,7 +2,7 @@
 ghost use Rattle.std.specs.Prelude.{◌≡◌, ◌≢◌, ◌⊎◌, ◌↔◌, ◌≤◌, ℕ, Ok, IsTrue, IsSome};
 ghost use Rattle.disk_model.specs.Later.{AreLater, HasFailed};
 ghost use Rattle.play_journal.specs.Calls.{SameFaults};
-ghost use Rattle.live_stage.specs.Found.{AllFindNow};
+ghost use Rattle.live_stage.specs.Found.{AllOpenNow};
 ghost use Rattle.mpd_program.specs.Lives.{moment_of, IsLife, IsConsole, refusal_of, status_of, ending_of};
 ghost use Rattle.mpd_program.specs.Status.{code_of};
 
@@ -12,8 +12,9 @@ mod serving;
 
 use client_session::Session;
 use disk_model::Disk;
-use live_stage::{Live, Refused};
+use live_stage::{Live, Refused, laws};
 use mpd_server::refusal_number;
+use profile::Profile;
 use serving::{Service, ending_with};
 use song_db::LibraryRules;
 use song_files::Folder;
@@ -78,7 +79,7 @@ pub enum Ending {
 pub struct ConsoleEnd<D> {
     pub status: Status,
     pub ending: Ending,
-    /// Whether the journal had an old layout, and was brought to the present one: a program of before can't read it then.
+    /// Whether the journal had an old layout, and was brought to the one that is written: a program of before can't read it then.
     pub migrated: bool,
     /// The disk of file a.
     pub a: D,
@@ -87,7 +88,7 @@ pub struct ConsoleEnd<D> {
 }
 
 // What came of a client, whose life begins with an opening of the journal: how its serving ended, or the number with which the journal was
-// refused; whether the journal was brought to the present layout; and both disks.
+// refused; whether the journal was brought to the layout that is written; and both disks.
 struct ClientEnd<D> {
     came_to: Result<Ending, u8>,
     migrated: bool,
@@ -111,9 +112,10 @@ impl<D> ClientEnd<D> {
     }
 }
 
-// Opens the journal, and serves one client.
+// Opens the journal under a profile, and serves one client.
 fn serve_life<D: Disk, F: Folder, R: Read, W: Write>(
     alloc: Global,
+    profile: Profile,
     a: D,
     b: D,
     client: u64,
@@ -122,14 +124,14 @@ fn serve_life<D: Disk, F: Folder, R: Read, W: Write>(
     reader: &mut R,
     writer: &mut W,
 ) -> ClientEnd<D>
-    ensures life { IsLife (D.honest a × D.honest b) client result.came_to
+    ensures life { IsLife profile (D.honest a × D.honest b) client result.came_to
         (moment_of D.content D.history D.faults a b (R.remaining reader.old) (W.contents writer.old))
         (moment_of D.content D.history D.faults result.a result.b (R.remaining reader.new) (W.contents writer.new)) }
     ensures unfailed { (ending : Ending) → result.came_to ≡ Ok ending → ending ≢ Ending.Faulted
         → SameFaults D.faults a b result.a result.b }
     ensures later { AreLater D.honest D.history D.faults a b result.a result.b }
 {
-    let live = match Live::open(alloc, a, b) {
+    let live = match Live::open(alloc, profile, a, b) {
         Ok(live) => live,
         Err(refused) => return refused_life(refused),
     };
@@ -207,7 +209,7 @@ fn ended<D>(ending: Ending, migrated: bool, last: ClientEnd<D>) -> ConsoleEnd<D>
     }
 }
 
-/// Opens the journal on the disks of files a and b, and serves one client from its connect to the end of its input, or
+/// Opens the journal on the disks of files a and b under a profile, and serves one client from its connect to the end of its input, or
 /// until a request closes it.
 ///
 /// Where a request began a job of the database, the job's scan over the folder follows at once: before the next request all of the
@@ -217,6 +219,7 @@ fn ended<D>(ending: Ending, migrated: bool, last: ClientEnd<D>) -> ConsoleEnd<D>
 /// input. After a second one it gives up.
 pub fn run_console<D: Disk, F: Folder, R: Read, W: Write>(
     alloc: Global,
+    profile: Profile,
     a: D,
     b: D,
     folder: &mut F,
@@ -225,7 +228,7 @@ pub fn run_console<D: Disk, F: Folder, R: Read, W: Write>(
     writer: &mut W,
 ) -> ConsoleEnd<D>
     // What was read, written and kept: in one life, or in one that a disk fault ended and one after it.
-    ensures transcript { IsConsole (D.honest a × D.honest b) result.status result.ending
+    ensures transcript { IsConsole profile (D.honest a × D.honest b) result.status result.ending
         (moment_of D.content D.history D.faults a b (R.remaining reader.old) (W.contents writer.old))
         (moment_of D.content D.history D.faults result.a result.b (R.remaining reader.new) (W.contents writer.new)) }
 
@@ -238,14 +241,25 @@ pub fn run_console<D: Disk, F: Folder, R: Read, W: Write>(
     ensures refused { (number : ℕ) → result.status ≡ Status.JournalRefused number
         → (number ≡ 4) ⊎ (number ≡ 5) ⊎ (number ≡ 7) ⊎ (number ≡ 49) }
 
-    // Where each pair of images that a crash may have left gives a state, the journal is refused for want of memory alone, or since it
-    // has an old layout and the last generation.
-    ensures opens { D.honest a → D.honest b → AllFindNow (λ f. IsSome f) (D.history a) (D.history b)
+    // Where a restart finds a state in each pair of images that a crash may have left, the journal is refused for want of memory alone, or
+    // since it has an old layout and the last generation.
+    ensures opens { D.honest a → D.honest b → AllOpenNow profile (λ f. IsSome f) (D.history a) (D.history b)
         → (number : ℕ) → result.status ≡ Status.JournalRefused number → (number ≡ 7) ⊎ (number ≡ 49) }
 
     ensures later { AreLater D.honest D.history D.faults a b result.a result.b }
 {
-    let first = serve_life(alloc, a, b, FIRST_CLIENT, folder, rules, reader, writer);
+    laws::history_keeps_the_profile();
+    let first = serve_life(
+        alloc,
+        profile,
+        a,
+        b,
+        FIRST_CLIENT,
+        folder,
+        rules,
+        reader,
+        writer,
+    );
     if !first.is_faulted() {
         let ending = first.ending();
         let migrated = first.migrated;
@@ -257,7 +271,17 @@ pub fn run_console<D: Disk, F: Folder, R: Read, W: Write>(
         a,
         b,
     } = first;
-    let second = serve_life(alloc, a, b, SECOND_CLIENT, folder, rules, reader, writer);
+    let second = serve_life(
+        alloc,
+        profile,
+        a,
+        b,
+        SECOND_CLIENT,
+        folder,
+        rules,
+        reader,
+        writer,
+    );
     let migrated = migrated || second.migrated;
     ended(Ending::Faulted, migrated, second)
 }

@@ -1,6 +1,6 @@
 // What `create` has made.
 use crate::config::Config;
-use live_stage::LAYOUT;
+use state_codec::layout_number;
 use std::fs;
 
 /// Says on standard output which files were made. They are, whether or not somebody reads this.
@@ -14,5 +14,6 @@ pub(crate) fn tell_created(rt: &HostRuntime, config: &Config) {
         Ok(found) => found.len(),
         Err(_) => 0,
     };
-    let _printed = println!(rt; "created {a} ({bytes} bytes, layout {LAYOUT}) and {b} (empty)");
+    let layout = layout_number(config.profile());
+    let _printed = println!(rt; "created {a} ({bytes} bytes, layout {layout}) and {b} (empty)");
 }

@@ -181,7 +181,7 @@ fn ended(
     tell_fault(rt, config.journal_b.as_str(), &end.b);
     if let ServeStatus::JournalRefused(number) = end.status {
         let (a, b) = (config.journal_a.as_str(), config.journal_b.as_str());
-        tell_refusal(rt, a, b, number);
+        tell_refusal(rt, config.profile(), a, b, number);
     }
     exit_of(end.status)
 }
@@ -235,7 +235,7 @@ fn begin<'a>(
     let workers = Workers {
         sources: songs(rt, root, forms, &stop)?,
         folder: ClockedFolder::new(songs(rt, root, forms, &stop)?, clock),
-        rules: rules_of(forms),
+        rules: rules_of(config.profile(), forms),
         output: SoundOutput {
             writer: output,
             form: config.form,
@@ -261,13 +261,13 @@ fn serve_over<R: Threads + Wait + Clock + Log + Sync>(
         locks: _locks,
     } = open_made_files(rt, config.journal_a.as_str(), config.journal_b.as_str())?;
     let opening = Opening::begin(rt, threads, config);
-    let opened = match open_journal(rt.alloc(), a, b) {
+    let opened = match open_journal(rt.alloc(), config.profile(), a, b) {
         Ok(opened) => opened,
         Err(end) => return ended(rt, config, end),
     };
     opening.end(threads);
     if opened.was_migrated() {
-        tell_migration(rt);
+        tell_migration(rt, config.profile());
     }
     let clock = DaemonClock::new(rt);
     let (mut clients, workers) = begin(rt, config, address, output, stop, &clock)?;

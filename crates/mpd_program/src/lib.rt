@@ -11,6 +11,7 @@ mod daemon_clock;
 mod error_lines;
 pub mod exit;
 mod file_lock;
+mod journal_head;
 pub mod library;
 mod listening;
 mod look;

@@ -1,30 +1,54 @@
 //! The library of a configuration: which files are songs, and by which rules they are found and read.
 ghost use Rattle.std.specs.Prelude.{◌≡◌, false};
-ghost use Rattle.mpd_program.specs.Library.{rules_of};
+ghost use Rattle.mpd_program.specs.Library.{endings_of, rules_of};
 
 use as_wave::Forms;
+use profile::Profile;
 use song_db::{Endings, LibraryRules};
 use song_files::TagSet;
 use song_head::ReadingRules;
 
-/// By which rules songs are found and read where these forms are: the names of their files, and the tags of ID3v2 with any of them.
-pub fn rules_of(forms: Forms) -> LibraryRules
-    ensures { result ≡ rules_of forms }
+// The endings of songs' names where these forms are.
+fn endings_of(forms: Forms) -> Endings
+    ensures { result ≡ endings_of forms }
 {
-    LibraryRules {
-        reading: ReadingRules {
-            tags: TagSet::SIX,
-            id3: forms.wave_pcm || forms.flac,
-            several: false,
+    Endings {
+        wave: forms.wave_pcm,
+        flac: forms.flac,
+        decoded: false,
+    }
+}
+
+/// By which rules songs are found and read under a profile where these forms are: the names of their files, and what is read of them. Of
+/// the named subset the tags of ID3v2 are read with any of these forms, of the wide profile always.
+pub fn rules_of(profile: Profile, forms: Forms) -> LibraryRules
+    ensures { result ≡ rules_of profile forms }
+{
+    let endings = endings_of(forms);
+    match profile {
+        Profile::Named => LibraryRules {
+            endings,
+            reading: ReadingRules {
+                tags: TagSet::SIX,
+                id3: forms.wave_pcm || forms.flac,
+                several: false,
+            },
+            keeps_stamps: false,
         },
-        endings: Endings {
-            wave: forms.wave_pcm,
-            flac: forms.flac,
+        Profile::Wide => LibraryRules {
+            endings,
+            reading: ReadingRules {
+                tags: TagSet::ALL,
+                id3: true,
+                several: true,
+            },
+            keeps_stamps: true,
         },
     }
 }
 
-/// Law: where no other form is taken, these are the plain rules.
+/// Law: where no other form is taken, the rules are the plain ones of the profile.
 pub fn plain_rules()
-    ensures { rules_of (record { wave_pcm = false; flac = false }) ≡ LibraryRules.NAMED }
+    ensures named { rules_of Profile.Named (record { wave_pcm = false; flac = false }) ≡ LibraryRules.NAMED }
+    ensures wide { rules_of Profile.Wide (record { wave_pcm = false; flac = false }) ≡ LibraryRules.WIDE }
 {}

@@ -1,24 +1,20 @@
 // A look at the files of a journal, which changes nothing of them.
 use crate::error_lines::say;
 use crate::exit::Exit;
-use crate::tasks::told;
+use crate::journal_head::{JournalHead, LAYOUT_AT};
+use crate::tasks::{tell_wide_layout, told};
 use crate::{Config, Status};
 use disk_model::MemDisk;
 use live_stage::StartError;
 use play_journal::{Journal, JournalError, Stored};
-use state_codec::{BodyError, CodecError, Saved, take_saved};
+use profile::Profile;
+use state_codec::{BodyError, CodecError, Saved, layout_number, take_saved};
 use std::alloc::Global;
 use std::fs::{self, File};
 use std::io::{self, ErrorKind, Read};
 
 /// How often the files are read where they give no state, since a daemon may write them meanwhile.
 const READINGS: u32 = 3;
-
-/// The gate of a file that counts.
-const OPEN: u8 = 0xA5;
-
-/// How many bytes the head of a file has.
-const HEAD: usize = 32;
 
 /// The offset of a snapshot in its file.
 const SNAPSHOT_AT: u64 = 32;
@@ -66,16 +62,6 @@ fn state_of(alloc: Global, layout: u32, stored: &Stored) -> Result<(Saved, u64),
     Ok((saved, gate.saturating_sub(first)))
 }
 
-// The generation of a file that counts.
-fn generation_of(file: &[u8]) -> Option<u64> {
-    if file.len() < HEAD || file[0] != OPEN {
-        return None;
-    }
-    let mut generation = [0; 8];
-    generation.copy_from_slice(&file[12..20]);
-    Some(u64::from_le_bytes(generation))
-}
-
 // Why two files are no journal.
 fn start_error(error: JournalError) -> StartError {
     match error {
@@ -86,9 +72,14 @@ fn start_error(error: JournalError) -> StartError {
     }
 }
 
-// What stands in these files.
-fn contents_of(alloc: Global, a: Vec<u8>, b: Vec<u8>) -> Result<Contents, StartError> {
-    let last_of_b = generation_of(&b);
+// What stands in these files, for who opens them under a profile.
+fn contents_of(
+    alloc: Global,
+    profile: Profile,
+    a: Vec<u8>,
+    b: Vec<u8>,
+) -> Result<Contents, StartError> {
+    let head_of_b = JournalHead::of(&b);
     let Ok(a) = MemDisk::from_bytes(alloc, a) else {
         return Err(StartError::NoMemory);
     };
@@ -99,11 +90,14 @@ fn contents_of(alloc: Global, a: Vec<u8>, b: Vec<u8>) -> Result<Contents, StartE
         Ok(opened) => opened,
         Err(refused) => return Err(start_error(refused.error)),
     };
+    if journal.layout() > layout_number(profile) {
+        return Err(StartError::Damaged(LAYOUT_AT));
+    }
     let (saved, bytes) = state_of(alloc, journal.layout(), &stored)?;
     Ok(Contents {
         layout: journal.layout(),
         generation: journal.generation(),
-        is_in_b: last_of_b == Some(journal.generation()),
+        is_in_b: head_of_b.is_some_and(|head| head.generation == journal.generation()),
         records: stored.record_count(),
         bytes,
         songs: saved.songs().len(),
@@ -143,7 +137,7 @@ fn read_into(rt: &HostRuntime, path: &str, bytes: &mut Vec<u8>) -> io::Result<()
 fn read_contents(rt: &HostRuntime, config: &Config) -> Result<Result<Contents, StartError>, Exit> {
     let a = read_file(rt, config.journal_a.as_str())?;
     let b = read_file(rt, config.journal_b.as_str())?;
-    Ok(contents_of(rt.alloc(), a, b))
+    Ok(contents_of(rt.alloc(), config.profile(), a, b))
 }
 
 // Prints what stands there; nobody needs to read it.
@@ -174,6 +168,8 @@ fn tell(rt: &HostRuntime, config: &Config, error: StartError) -> Exit {
     } = config;
     match error {
         StartError::NoMemory => return Exit::NO_MEMORY,
+        StartError::Damaged(LAYOUT_AT)
+            if tell_wide_layout(rt, config.profile(), a.as_str(), b.as_str()) => {}
         StartError::Damaged(offset) => {
             say(
                 rt,

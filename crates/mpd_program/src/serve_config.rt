@@ -2,8 +2,9 @@
 ghost use Rattle.std.specs.Prelude.{◌≡◌};
 ghost use Rattle.mpd_program.specs.Configuration.{serve_settings};
 
-use crate::config::Config;
+use crate::config::{Config, profile_by};
 use as_wave::Forms;
+use profile::Profile;
 use song_output::Form;
 use std::marker::Model;
 
@@ -27,7 +28,7 @@ pub struct ServeConfig {
     pub form: Form,
     /// Which files are songs beside WAVE files of 16-bit PCM.
     pub formats: Forms,
-    /// Whether stock clients of MPD are served, by a translator.
+    /// Whether stock clients of MPD are served, by a translator and with all of MPD.
     pub stock_clients: bool,
     /// Whether the log has a line for each file that a job left out.
     pub debug: bool,
@@ -54,6 +55,15 @@ impl Model for ServeConfig {
 }
 
 impl ServeConfig {
+    ghost use Rattle.mpd_program.specs.Configuration.{profile_by};
+
+    /// What the daemon knows of MPD: all of it where stock clients are served.
+    pub fn profile(&self) -> Profile
+        ensures { result ≡ profile_by self.now.stock_clients }
+    {
+        profile_by(self.stock_clients)
+    }
+
     /// What `serve` takes of this configuration; none where it has no `output`, or neither `tcp` nor `unix`, or where the output is a
     /// file of the journal by its text.
     pub fn of(config: Config) -> Option<ServeConfig>

@@ -11,16 +11,19 @@ use crate::daemon_clock::DaemonClock;
 use crate::error_lines::{say, takes_line};
 use crate::exit::Exit;
 use crate::file_lock::FileLock;
+use crate::journal_head::{HEAD, JournalHead};
 use crate::library::rules_of;
 use crate::look::look;
 use crate::music::Music;
 use as_wave::AsWave;
 use disk_model::{Disk, FileDisk, MemDisk};
-use live_stage::{LAYOUT, Live, Refused};
+use live_stage::{Live, Refused};
 use log::Log;
 use mpd_server::refusal_number;
+use profile::Profile;
 use song_db::LibraryRules;
 use song_files::{Folder, MemFolder};
+use state_codec::layout_number;
 use std::fs::{self, File};
 use std::io::{self, ErrorKind, Read};
 use std::sync::Wait;
@@ -61,7 +64,7 @@ fn run<R: Threads + Wait + Clock + Log + Sync>(
     match task {
         Task::ConsoleInMemory => console_in_memory(rt),
         Task::Console(path) => console(rt, read_config(rt, path.as_str())?, false),
-        Task::StockConsole(path) => console(rt, read_config(rt, path.as_str())?, true),
+        Task::StockConsole(path) => stock_console(rt, read_config(rt, path.as_str())?),
         Task::Create(path) => create(rt, &read_config(rt, path.as_str())?),
         Task::Look(path) => look(rt, &read_config(rt, path.as_str())?),
         Task::Serve(path) => daemon::serve(rt, threads, read_config(rt, path.as_str())?),
@@ -227,8 +230,41 @@ fn open_file(rt: &HostRuntime, path: &str) -> Result<(FileDisk<File>, FileLock),
     }
 }
 
+/// The head of the file at this path, if it is one that counts.
+fn head_at(rt: &HostRuntime, path: &str) -> Option<JournalHead> {
+    let mut head = [0; HEAD];
+    File::open(rt, path).ok()?.read_exact(&mut head).ok()?;
+    JournalHead::of(&head)
+}
+
+/// The layout of the file in use, of these two the one that counts, or of both the later one; none where neither counts.
+fn layout_in_use(rt: &HostRuntime, a: &str, b: &str) -> Option<u32> {
+    match (head_at(rt, a), head_at(rt, b)) {
+        (Some(a), Some(b)) if a.generation < b.generation => Some(b.layout),
+        (Some(head), _) | (None, Some(head)) => Some(head.layout),
+        (None, None) => None,
+    }
+}
+
+/// Says on standard error that the configuration lacks what the journal needs, where its file in use has the layout that the wide profile
+/// writes, and the configuration has the named subset. It answers whether it is so.
+pub(crate) fn tell_wide_layout(rt: &HostRuntime, profile: Profile, a: &str, b: &str) -> bool {
+    let layout = layout_number(Profile::Wide);
+    let is_wide = matches!(profile, Profile::Named) && layout_in_use(rt, a, b) == Some(layout);
+    if is_wide {
+        say(
+            rt,
+            format_args!("{a}, {b}: the journal has layout {layout}: set stock_clients = true"),
+        );
+    }
+    is_wide
+}
+
 /// Says on standard error what can be done where a journal was refused with this number.
-pub(crate) fn tell_refusal(rt: &HostRuntime, a: &str, b: &str, number: u8) {
+pub(crate) fn tell_refusal(rt: &HostRuntime, profile: Profile, a: &str, b: &str, number: u8) {
+    if number == 5 && tell_wide_layout(rt, profile, a, b) {
+        return;
+    }
     let advice = match number {
         3 => "not both are empty; a journal is made of empty or missing files alone",
         4 => "no journal; `mpd_daemon create CONFIG` makes one",
@@ -255,18 +291,29 @@ fn refused<D: Disk + Drop>(refused: Refused<D>) -> Exit
 /// Serves one client on standard input and output over these disks and this folder.
 fn serve<D: Disk + Drop, F: Folder>(
     rt: &HostRuntime,
+    profile: Profile,
     a: D,
     b: D,
     folder: &mut F,
     rules: LibraryRules,
 ) -> ConsoleEnd<D> {
     let (mut reader, mut writer) = (rt.reader(), io::writer(rt));
-    run_console(rt.alloc(), a, b, folder, rules, &mut reader, &mut writer)
+    run_console(
+        rt.alloc(),
+        profile,
+        a,
+        b,
+        folder,
+        rules,
+        &mut reader,
+        &mut writer,
+    )
 }
 
 /// The same for a client that speaks all of MPD.
 fn serve_stock<D: Disk + Drop, F: Folder>(
     rt: &HostRuntime,
+    profile: Profile,
     a: D,
     b: D,
     folder: &mut F,
@@ -277,7 +324,16 @@ fn serve_stock<D: Disk + Drop, F: Folder>(
     let talk = StockTalk::new(alloc, &clock);
     let mut reader = talk.reader(rt.reader());
     let mut writer = talk.writer(io::writer(rt));
-    run_console(alloc, a, b, folder, rules, &mut reader, &mut writer)
+    run_console(
+        alloc,
+        profile,
+        a,
+        b,
+        folder,
+        rules,
+        &mut reader,
+        &mut writer,
+    )
 }
 
 /// How the program ends after a console.
@@ -300,12 +356,13 @@ pub(crate) fn tell_fault(rt: &HostRuntime, path: &str, disk: &FileDisk<File>) {
     }
 }
 
-/// Says on standard error that the journal has the layout that is written, from now on.
-pub(crate) fn tell_migration(rt: &HostRuntime) {
+/// Says on standard error that the journal has the layout that the profile writes, from now on.
+pub(crate) fn tell_migration(rt: &HostRuntime, profile: Profile) {
+    let layout = layout_number(profile);
     say(
         rt,
         format_args!(
-            "the journal was brought to layout {LAYOUT}: an older program can't read it any more"
+            "the journal was brought to layout {layout}: an older program can't read it any more"
         ),
     );
 }
@@ -313,18 +370,29 @@ pub(crate) fn tell_migration(rt: &HostRuntime) {
 /// Serves one client over a fresh journal in memory, with a key of zeros, and over a folder without songs. Nothing keeps it.
 fn console_in_memory(rt: &HostRuntime) -> Result<(), Exit> {
     let alloc = rt.alloc();
-    match Live::create(alloc, MemDisk::new(alloc), MemDisk::new(alloc), [0; 32]) {
+    let (a, b) = (MemDisk::new(alloc), MemDisk::new(alloc));
+    match Live::create(alloc, Profile::Named, a, b, [0; 32]) {
         Ok(live) => {
             let (a, b) = live.into_disks();
             let mut none = MemFolder::new(alloc);
-            exit_of(serve(rt, a, b, &mut none, LibraryRules::NAMED).status)
+            exit_of(serve(rt, Profile::Named, a, b, &mut none, LibraryRules::NAMED).status)
         }
         Err(error) => Err(refused(error)),
     }
 }
 
+/// Serves one client that speaks all of MPD over the journal and the songs of the configuration, which is to serve stock clients.
+fn stock_console(rt: &HostRuntime, config: Config) -> Result<(), Exit> {
+    if !config.stock_clients {
+        say(rt, "--stock-clients: set stock_clients = true in CONFIG");
+        return Err(Exit::BadConfiguration);
+    }
+    console(rt, config, true)
+}
+
 /// Serves one client over the journal and the songs of the configuration, one that speaks all of MPD where its requests are translated.
 fn console(rt: &HostRuntime, config: Config, translates: bool) -> Result<(), Exit> {
+    let profile = config.profile();
     let Config {
         music,
         journal_a,
@@ -339,18 +407,20 @@ fn console(rt: &HostRuntime, config: Config, translates: bool) -> Result<(), Exi
     } = open_made_files(rt, journal_a.as_str(), journal_b.as_str())?;
     let folder = Music::new(rt, music.as_str(), None)?;
     let mut songs = AsWave { folder, forms };
+    let rules = rules_of(profile, forms);
     let end = if translates {
-        serve_stock(rt, a, b, &mut songs, rules_of(forms))
+        serve_stock(rt, profile, a, b, &mut songs, rules)
     } else {
-        serve(rt, a, b, &mut songs, rules_of(forms))
+        serve(rt, profile, a, b, &mut songs, rules)
     };
     if end.migrated {
-        tell_migration(rt);
+        tell_migration(rt, profile);
     }
     tell_fault(rt, journal_a.as_str(), &end.a);
     tell_fault(rt, journal_b.as_str(), &end.b);
     if let Status::JournalRefused(number) = end.status {
-        tell_refusal(rt, journal_a.as_str(), journal_b.as_str(), number);
+        let (a, b) = (journal_a.as_str(), journal_b.as_str());
+        tell_refusal(rt, profile, a, b, number);
     }
     exit_of(end.status)
 }
@@ -362,7 +432,8 @@ fn create(rt: &HostRuntime, config: &Config) -> Result<(), Exit> {
         b,
         locks: _locks,
     } = open_files(rt, config.journal_a.as_str(), config.journal_b.as_str())?;
-    match Live::create(rt.alloc(), a, b, config.key) {
+    let profile = config.profile();
+    match Live::create(rt.alloc(), profile, a, b, config.key) {
         Ok(_) => {
             tell_created(rt, config);
             Ok(())
@@ -371,7 +442,7 @@ fn create(rt: &HostRuntime, config: &Config) -> Result<(), Exit> {
             tell_fault(rt, config.journal_a.as_str(), &error.a);
             tell_fault(rt, config.journal_b.as_str(), &error.b);
             let (a, b) = (config.journal_a.as_str(), config.journal_b.as_str());
-            tell_refusal(rt, a, b, error.error.number());
+            tell_refusal(rt, profile, a, b, error.error.number());
             Err(refused(error))
         }
     }

@@ -4,10 +4,11 @@ use Rattle.std.specs.Prelude.{IsSome}
 use Rattle.disk_model.specs.History.{Change}
 use Rattle.disk_model.specs.Moments.{LeftSince}
 use Rattle.disk_model.proofs.MomentLaws.{counts_now}
+use Rattle.profile.specs.declared.profile.Profile.{Profile}
 use Rattle.state_codec.specs.SavedState.{SavedState}
 use Rattle.live_stage.specs.declared.refusal.StartError.{StartError}
 use Rattle.live_stage.specs.declared.refusal.StartError.TheVariants.{NotEmpty, NoJournal, Damaged, NoMemory, NumbersSpent, Broken}
-use Rattle.live_stage.specs.Found.{AllFindNow, KeepsFoundState}
+use Rattle.live_stage.specs.Found.{AllOpenNow, KeepsFoundState}
 use Rattle.mpd_server.specs.declared.ending.LifeEnding.TheVariants.{Faulted}
 use Rattle.mpd_server.specs.declared.ending.ServeStatus.{ServeStatus}
 use Rattle.mpd_server.specs.declared.ending.ServeStatus.TheVariants.{JournalRefused, DiskFault}
@@ -27,9 +28,9 @@ some_is None s is = absurd (cc)
 some_is (Some t) s is = refl
 
 -- an opening leaves pairs that give a state
-pub still_gives : (old_a old_b new_a new_b : List Change) → KeepsFoundState old_a old_b new_a new_b → AllFindNow (λ f. IsSome f) old_a old_b
-    → AllFindNow (λ f. IsSome f) new_a new_b
-still_gives old_a old_b new_a new_b holds all = λ x y at_x at_y. elim holds.second [
+pub still_gives : (p : Profile) (old_a old_b new_a new_b : List Change) → KeepsFoundState p old_a old_b new_a new_b
+    → AllOpenNow p (λ f. IsSome f) old_a old_b → AllOpenNow p (λ f. IsSome f) new_a new_b
+still_gives p old_a old_b new_a new_b holds all = λ x y at_x at_y. elim holds.second [
   | inl same ↦ (
       let left_a = subst (λ h. LeftSince h (length old_a) x) same.0 (counts_now new_a _ x at_x) in
       let left_b = subst (λ h. LeftSince h (length old_b) y) same.1 (counts_now new_b _ y at_y) in

@@ -1,7 +1,7 @@
 // The journal at the beginning of a life.
 ghost use Rattle.std.specs.Prelude.{◌≡◌, ◌⊎◌, true, false, Ok, Err, IsSome, IfOk, IfErr, MatchResult};
 ghost use Rattle.disk_model.specs.Later.{AreLater, HasFailed};
-ghost use Rattle.live_stage.specs.Found.{AllFindNow};
+ghost use Rattle.live_stage.specs.Found.{AllOpenNow};
 ghost use Rattle.live_stage.specs.Turns.{IsBegun};
 ghost use Rattle.mpd_server.specs.declared.ending.ServeStatus.{ServeStatus};
 ghost use Rattle.mpd_server.specs.Ends.{IsRefusalOfStart};
@@ -10,6 +10,7 @@ ghost use Rattle.mpd_server.specs.Openings.{IsOpening, IsOpenedAgain, IsNotOpene
 use crate::ending::{Life, ServeEnd};
 use disk_model::Disk;
 use live_stage::Live;
+use profile::Profile;
 use std::alloc::Global;
 use std::marker::Model;
 
@@ -29,7 +30,7 @@ impl<D: Disk> Model for Opened<D> {
 }
 
 impl<D: Disk> Opened<D> {
-    /// Whether the journal had an older layout, and was brought to the present one.
+    /// Whether the journal had an older layout, and was brought to the one that is written.
     pub fn was_migrated(&self) -> bool
         ensures { result ≡ self.now.live.was_migrated }
     {
@@ -45,41 +46,53 @@ impl<D: Disk> Opened<D> {
     }
 }
 
-/// Opens the journal on the disks of files a and b. Where it isn't opened, the life that was to begin has ended so.
-pub(crate) fn open_life<D: Disk>(alloc: Global, a: D, b: D) -> Result<Live<D>, Life<D>>
-    ensures begun { IfOk result (λ live. IsBegun live.state.machine.saved live) }
+/// Opens the journal on the disks of files a and b under a profile. Where it isn't opened, the life that was to begin has ended so.
+pub(crate) fn open_life<D: Disk>(
+    alloc: Global,
+    profile: Profile,
+    a: D,
+    b: D,
+) -> Result<Live<D>, Life<D>>
+    ensures begun { IfOk result (λ live. IsBegun live.state.machine.saved live × (live.state.machine.saved.profile ≡ profile)) }
     ensures opened { D.honest a → D.honest b
-        → IfOk result (λ live. IsOpening D.content D.history D.faults a b (Ok live) live.a live.b) }
+        → IfOk result (λ live. IsOpening profile D.content D.history D.faults a b (Ok live) live.a live.b) }
     ensures refused { IfErr result (λ life. IsNotOpened (λ error. D.honest a → D.honest b
-        → IsOpening D.content D.history D.faults a b (Err error) life.a life.b) life.ending) }
+        → IsOpening profile D.content D.history D.faults a b (Err error) life.a life.b) life.ending) }
     ensures later { MatchResult result (λ live. AreLater D.honest D.history D.faults a b live.a live.b)
         (λ life. AreLater D.honest D.history D.faults a b life.a life.b) }
 {
-    match Live::open(alloc, a, b) {
+    match Live::open(alloc, profile, a, b) {
         Ok(live) => Ok(live),
         Err(refused) => Err(Life::refused(refused)),
     }
 }
 
-/// Opens the journal on the disks of files a and b, and after a disk fault once more.
+/// Opens the journal on the disks of files a and b under a profile, and after a disk fault once more.
 ///
 /// The journal's refusal hands both disks back: 4, 5, 7 or 49, or a disk fault where both openings met one.
-pub fn open_journal<D: Disk>(alloc: Global, a: D, b: D) -> Result<Opened<D>, ServeEnd<D>>
-    ensures begun { IfOk result (λ opened. IsBegun opened.live.state.machine.saved opened.live) }
+pub fn open_journal<D: Disk>(
+    alloc: Global,
+    profile: Profile,
+    a: D,
+    b: D,
+) -> Result<Opened<D>, ServeEnd<D>>
+    ensures begun { IfOk result (λ opened. IsBegun opened.live.state.machine.saved opened.live
+        × (opened.live.state.machine.saved.profile ≡ profile)) }
 
     // It goes on from what the files give, and a start that is stopped at any moment loses nothing of it.
     ensures once { D.honest a → D.honest b → IfOk result (λ opened. opened.is_second ≡ false
-        → IsOpening D.content D.history D.faults a b (Ok opened.live) opened.live.a opened.live.b) }
+        → IsOpening profile D.content D.history D.faults a b (Ok opened.live) opened.live.a opened.live.b) }
     ensures again { D.honest a → D.honest b → IfOk result (λ opened. opened.is_second ≡ true
-        → IsOpenedAgain D.content D.history D.faults a b (Ok opened.live) opened.live.a opened.live.b) }
+        → IsOpenedAgain profile D.content D.history D.faults a b (Ok opened.live) opened.live.a opened.live.b) }
 
     // So does one that is refused, which names what is wrong with the files.
     ensures refused { IfErr result (λ e. IsNotBegun (λ error. D.honest a → D.honest b
-        → RefusesOnceOrAgain D.content D.history D.faults a b error e.a e.b) e.status) }
+        → RefusesOnceOrAgain profile D.content D.history D.faults a b error e.a e.b) e.status) }
     ensures ended { IfErr result (λ e. IsRefusalOfStart e.status) }
 
-    // Where each pair that a crash may have left gives a state, it opens, unless memory is wanting, numbers are spent or a disk fails twice.
-    ensures opens { D.honest a → D.honest b → AllFindNow (λ f. IsSome f) (D.history a) (D.history b)
+    // Where a restart finds a state in each pair that a crash may have left, it opens, unless memory is wanting, numbers are spent or a disk
+    // fails twice.
+    ensures opens { D.honest a → D.honest b → AllOpenNow profile (λ f. IsSome f) (D.history a) (D.history b)
         → IfErr result (λ e. (e.status ≡ ServeStatus.JournalRefused 7) ⊎ (e.status ≡ ServeStatus.JournalRefused 49)
         ⊎ (e.status ≡ ServeStatus.DiskFault)) }
     ensures fault { D.honest a → D.honest b → IfErr result (λ e. e.status ≡ ServeStatus.DiskFault
@@ -87,7 +100,7 @@ pub fn open_journal<D: Disk>(alloc: Global, a: D, b: D) -> Result<Opened<D>, Ser
     ensures later { MatchResult result (λ opened. AreLater D.honest D.history D.faults a b opened.live.a opened.live.b)
         (λ e. AreLater D.honest D.history D.faults a b e.a e.b) }
 {
-    let first = match open_life(alloc, a, b) {
+    let first = match open_life(alloc, profile, a, b) {
         Ok(live) => {
             return Ok(Opened {
                 live,
@@ -100,7 +113,7 @@ pub fn open_journal<D: Disk>(alloc: Global, a: D, b: D) -> Result<Opened<D>, Ser
         return Err(first.last());
     }
     let Life { ending: _, a, b } = first;
-    match open_life(alloc, a, b) {
+    match open_life(alloc, profile, a, b) {
         Ok(live) => Ok(Opened {
             live,
             is_second: true,

@@ -1,13 +1,15 @@
 // The daemon: a life, and after its first disk fault another.
-ghost use Rattle.std.specs.Prelude.{◌≡◌};
+ghost use Rattle.std.specs.Prelude.{◌≡◌, IfOk};
 
 use crate::ending::{Life, ServeEnd};
 use crate::life::live_once;
 use crate::opening::{Opened, open_life};
 use crate::workers::{Stop, Workers};
 use disk_model::Disk;
+use live_stage::Live;
 use log::{Log, warn};
 use mio_clients::{Clients, Listener, Ready, Stream};
+use profile::Profile;
 use song_files::Folder;
 use stage_workers::Wake;
 use std::alloc::Global;
@@ -44,6 +46,7 @@ where
     requires { opened.live.numbers.event ≡ 0 }
 {
     let (live, is_second) = opened.into_parts();
+    let profile = live.profile();
     let (tools, signals) = workers.divided();
     let (first, tools) = live_once(rt, alloc, live, clients, tools, &signals);
     if is_second || !first.is_faulted() {
@@ -54,12 +57,20 @@ where
     };
     warn!(rt; "disk fault: all clients are closed, and the journal is opened again");
     clients.close_all();
-    let Life { ending: _, a, b } = first;
-    match open_life(alloc, a, b) {
+    match second_life(alloc, profile, first) {
         Ok(live) => {
             let (second, _) = live_once(rt, alloc, live, clients, tools, &signals);
             second.last()
         }
         Err(second) => second.last(),
     }
+}
+
+// Opens the journal again behind a life that a disk fault ended, under the profile of that life.
+fn second_life<D: Disk>(alloc: Global, profile: Profile, first: Life<D>) -> Result<Live<D>, Life<D>>
+    ensures profile { IfOk result (λ live. live.state.machine.saved.profile ≡ profile) }
+    ensures fresh { IfOk result (λ live. live.numbers.event ≡ 0) }
+{
+    let Life { ending: _, a, b } = first;
+    open_life(alloc, profile, a, b)
 }

@@ -3,7 +3,7 @@ use crate::job_folder::{MAX_LISTINGS, MAX_OPENINGS, Visits};
 use crate::line_limit::TimedLimit;
 use as_wave::{FRONT_LEN, FileKind, describe};
 use log::{Level, Log, debug, info, log_enabled, warn};
-use song_db::{LibraryRules, MAX_ROWS, ScanOrder, Uri};
+use song_db::{KnownSong, LibraryRules, MAX_ROWS, ScanOrder};
 use song_files::{FileStamp, Folder, FolderEntry, FolderFault, Source, read_exact};
 use song_head::read_song;
 use stage_workers::{ScanFolder, Scanned};
@@ -54,8 +54,8 @@ impl Tally {
 struct Before {
     // The folder or the song of the job; empty for the root.
     place: String,
-    // The URIs of the rows there, rising.
-    known: Vec<Uri>,
+    // The songs that have rows there, by URI, rising.
+    known: Vec<KnownSong>,
 }
 
 impl Before {
@@ -65,8 +65,8 @@ impl Before {
             None => String::new(alloc),
         };
         let mut known = Vec::with_capacity(alloc, order.known().len())?;
-        for uri in order.known() {
-            known.push(uri.try_clone(alloc)?)?;
+        for song in order.known() {
+            known.push(song.try_clone(alloc)?)?;
         }
         Ok(Before { place, known })
     }
@@ -80,10 +80,21 @@ impl Before {
         place_before(&self.known, path, b'/' + 1).saturating_sub(start)
     }
 
-    fn has(&self, path: &str) -> bool {
-        self.known
-            .binary_search_by(|uri| uri.as_str().cmp(path))
-            .is_ok()
+    // The song that is known at a path.
+    fn at(&self, path: &str) -> Option<&KnownSong> {
+        let place = self
+            .known
+            .binary_search_by(|song| song.uri.as_str().cmp(path))
+            .ok()?;
+        self.known.get(place)
+    }
+
+    // Whether a scan passes by the file at a path, which has this stamp, as one that hasn't changed.
+    fn passes_by(&self, path: &str, stamp: FileStamp) -> bool {
+        match self.at(path) {
+            Some(song) => song.stamp == Some(stamp),
+            None => false,
+        }
     }
 }
 
@@ -154,7 +165,7 @@ impl<F: Folder, R: Log> TalliedFolder<'_, F, R> {
 
     fn is_known(&self, path: &str) -> bool {
         match &self.before {
-            Some(before) => before.has(path),
+            Some(before) => before.at(path).is_some(),
             None => false,
         }
     }
@@ -208,6 +219,27 @@ impl<F: Folder, R: Log> TalliedFolder<'_, F, R> {
         self.tally.songs = self.tally.songs.saturating_add(1);
         if self.is_known(path) {
             self.tally.known = self.tally.known.saturating_add(1);
+        }
+    }
+
+    // A file was looked at. One that hasn't changed isn't opened: its song is there. One that couldn't be looked at isn't opened either.
+    fn note_look(&mut self, path: &str, looked: &Result<Option<FileStamp>, FolderFault>) {
+        match looked {
+            Ok(Some(stamp)) => {
+                let is_passed_by = match &self.before {
+                    Some(before) => before.passes_by(path, *stamp),
+                    None => false,
+                };
+                if is_passed_by {
+                    self.note_song(path);
+                    self.unlisted = None;
+                }
+            }
+            Err(FolderFault::Source) => {
+                self.note_file(path);
+                self.unlisted = None;
+            }
+            _ => {}
         }
     }
 
@@ -329,7 +361,9 @@ impl<F: Folder, R: Log> Folder for TalliedFolder<'_, F, R> {
     }
 
     fn look(&mut self, alloc: Global, path: &str) -> Result<Option<FileStamp>, FolderFault> {
-        self.files.look(alloc, path)
+        let looked = self.files.look(alloc, path);
+        self.note_look(path, &looked);
+        looked
     }
 
     fn open(&mut self, alloc: Global, path: &str) -> Result<Option<F::File>, FolderFault> {
@@ -393,9 +427,9 @@ fn beside(refusal: WaveError) -> &'static str {
     }
 }
 
-// The place of the first URI that isn't before the folder followed by a byte.
-fn place_before(known: &[Uri], folder: &str, next: u8) -> usize {
-    known.partition_point(|uri| is_before(uri.as_str().as_bytes(), folder.as_bytes(), next))
+// The place of the first song whose URI isn't before the folder followed by a byte.
+fn place_before(known: &[KnownSong], folder: &str, next: u8) -> usize {
+    known.partition_point(|song| is_before(song.uri.as_str().as_bytes(), folder.as_bytes(), next))
 }
 
 // Whether a text stands before the folder followed by a byte.

@@ -8,7 +8,7 @@ use Rattle.std.proofs.lemmas.Bool.{eqb-true, eq-eqb, ne_eqb, cases_eq}
 use Rattle.std.proofs.lemmas.List.{take-append-drop, length-take-le, get_or-take, take-take, drop-take, drop-drop, drop_more}
 use Rattle.std.proofs.lemmas.Nat.{le_bytes_4, le_bytes_8, from_le_bytes-to_le_bytes_4, from_le_bytes-to_le_bytes_8}
 use Rattle.std.proofs.lemmas.Slice.Eq.{bytes_eq-Decides}
-use Rattle.play_journal.specs.Content.{present_layout, old_layout, IsKnownLayout}
+use Rattle.play_journal.specs.Content.{old_layout, second_layout, third_layout, IsKnownLayout}
 use Rattle.play_journal.specs.File.{open_gate, name, head, IsShut, IsOpenAt}
 use Rattle.play_journal.specs.Reading.{Front, Closed, Bad, Open, number_at, is_open, is_known_layout, front}
 use Rattle.play_journal.proofs.RecordLaws.{IsBytes, IsBytes-drop, IsBytes-take, number_below_4}
@@ -60,11 +60,17 @@ spelled_old : (generation base size : ℕ) (rest : List ℕ) → ltb (length (op
 unfolding front head
 spelled_old generation base size rest long = rw long refl
 
-spelled_present : (generation base size : ℕ) (rest : List ℕ) → ltb (length (open_gate ∷ head present_layout generation base size
+spelled_second : (generation base size : ℕ) (rest : List ℕ) → ltb (length (open_gate ∷ head second_layout generation base size
     ++ rest)) 32 ≡ false
-    → front (open_gate ∷ head present_layout generation base size ++ rest) ≡ Open (from_le_bytes w64 (to_le_bytes w64 generation))
+    → front (open_gate ∷ head second_layout generation base size ++ rest) ≡ Open (from_le_bytes w64 (to_le_bytes w64 generation))
 unfolding front head
-spelled_present generation base size rest long = rw long refl
+spelled_second generation base size rest long = rw long refl
+
+spelled_third : (generation base size : ℕ) (rest : List ℕ) → ltb (length (open_gate ∷ head third_layout generation base size
+    ++ rest)) 32 ≡ false
+    → front (open_gate ∷ head third_layout generation base size ++ rest) ≡ Open (from_le_bytes w64 (to_le_bytes w64 generation))
+unfolding front head
+spelled_third generation base size rest long = rw long refl
 
 head_long : (layout generation base size : ℕ) (rest : List ℕ) → ltb (length (open_gate ∷ head layout generation base size
     ++ rest)) 32 ≡ false
@@ -79,8 +85,10 @@ spelled_front : (layout generation base size : ℕ) (rest : List ℕ) → IsKnow
     → front (open_gate ∷ head layout generation base size ++ rest) ≡ Open (from_le_bytes w64 (to_le_bytes w64 generation))
 spelled_front layout generation base size rest (inl is) = ap (λ (n : ℕ). front (open_gate ∷ head n generation base size ++ rest)) is
     ∙ spelled_old generation base size rest (head_long old_layout generation base size rest)
-spelled_front layout generation base size rest (inr is) = ap (λ (n : ℕ). front (open_gate ∷ head n generation base size ++ rest)) is
-    ∙ spelled_present generation base size rest (head_long present_layout generation base size rest)
+spelled_front layout generation base size rest (inr (inl is)) = ap (λ (n : ℕ). front (open_gate ∷ head n generation base size ++ rest)) is
+    ∙ spelled_second generation base size rest (head_long second_layout generation base size rest)
+spelled_front layout generation base size rest (inr (inr is)) = ap (λ (n : ℕ). front (open_gate ∷ head n generation base size ++ rest)) is
+    ∙ spelled_third generation base size rest (head_long third_layout generation base size rest)
 
 pub front-open : (layout generation base size : ℕ) (rest : List ℕ) → IsKnownLayout layout → generation < 2 ^ 64
     → front (open_gate ∷ head layout generation base size ++ rest) ≡ Open generation
@@ -106,12 +114,17 @@ front-shut bytes shut = rw (is_open-shut bytes shut) refl
 known_layout : (layout : ℕ) → is_known_layout layout ≡ true → IsKnownLayout layout
 known_layout layout is = elim (cases_eq layout old_layout) [
   | inl old ↦ inl old
-  | inr other ↦ inr (eqb-true layout present_layout (rw (ne_eqb layout old_layout other) at is))
+  | inr other ↦ elim (cases_eq layout second_layout) [
+    | inl second ↦ inr (inl second)
+    | inr neither ↦ inr (inr (eqb-true layout third_layout (rw (ne_eqb layout old_layout other, ne_eqb layout second_layout neither)
+        at is)))
+  ]
 ]
 
 pub known_fits : (layout : ℕ) → IsKnownLayout layout → layout < 2 ^ 32
 known_fits layout (inl old) = omega (arith, old)
-known_fits layout (inr present) = omega (arith, present)
+known_fits layout (inr (inl second)) = omega (arith, second)
+known_fits layout (inr (inr third)) = omega (arith, third)
 
 -- which tests a file passes before it counts as open
 pub record Passed (bytes : List ℕ) (generation : ℕ) : Type 0 where

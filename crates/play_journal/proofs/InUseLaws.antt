@@ -12,7 +12,7 @@ use Rattle.disk_model.specs.Images.{window, settled, IsImage}
 use Rattle.disk_model.specs.Moments.{AllSince}
 use Rattle.disk_model.proofs.MomentLaws.{now_only}
 use Rattle.disk_model.proofs.WindowLaws.{settled_only}
-use Rattle.play_journal.specs.Content.{Content, present_layout, with_records, IsEither}
+use Rattle.play_journal.specs.Content.{Content, IsWrittenLayout, with_records, IsEither}
 use Rattle.play_journal.specs.File.{open_gate, longest_body, head, gated, records_len, spelling, Fits, IsFile}
 use Rattle.play_journal.specs.JournalState.{no_content, content_in, IsInUse, IsKept}
 use Rattle.play_journal.specs.Opening.{IsAppending}
@@ -184,12 +184,12 @@ module _ (here there : List ℕ) (end layout generation base count : ℕ) (used 
       ap (λ (l : List ℕ). found l y) x_is ∙ ap (λ (l : List ℕ). found there l) y_is ∙ now_second
 
 -- a new file without records
-pub laid_file : (here snapshot : List ℕ) (generation base : ℕ) → here ≡ open_gate ∷ head present_layout generation base
+pub laid_file : (here snapshot : List ℕ) (layout generation base : ℕ) → IsWrittenLayout layout → here ≡ open_gate ∷ head layout generation base
     (length snapshot) ++ snapshot ++ 0 ∷ [] → generation < 2 ^ 64 → base < 2 ^ 64 → length snapshot < 2 ^ 32
-    → IsFile here (record { layout = present_layout; generation = generation; base = base; snapshot = snapshot; records = [] })
-laid_file here snapshot generation base is generation_fits base_fits short = record {
+    → IsFile here (record { layout = layout; generation = generation; base = base; snapshot = snapshot; records = [] })
+laid_file here snapshot layout generation base known is generation_fits base_fits short = record {
   fits = record {
-    layout = inr refl;
+    layout = inr known;
     generation = generation_fits;
     numbers = omega arith;
     snapshot = short;
@@ -198,21 +198,21 @@ laid_file here snapshot generation base is generation_fits base_fits short = rec
   gate = 0;
   free = [];
   closed = λ same. omega arith;
-  spelled = is ∙ ap (λ (l : List ℕ). l ++ 0 ∷ []) (sym (append-nil (open_gate ∷ head present_layout generation base (length snapshot)
+  spelled = is ∙ ap (λ (l : List ℕ). l ++ 0 ∷ []) (sym (append-nil (open_gate ∷ head layout generation base (length snapshot)
       ++ snapshot)));
 }
 
 -- it is in use beside a file that doesn't count
-pub laid_in_use : (here there snapshot : List ℕ) (end generation base : ℕ)
-    → here ≡ open_gate ∷ head present_layout generation base (length snapshot) ++ snapshot ++ 0 ∷ [] → end ≡ 32 + length snapshot
+pub laid_in_use : (here there snapshot : List ℕ) (end layout generation base : ℕ) → IsWrittenLayout layout
+    → here ≡ open_gate ∷ head layout generation base (length snapshot) ++ snapshot ++ 0 ∷ [] → end ≡ 32 + length snapshot
     → generation < 2 ^ 64 → base < 2 ^ 64 → length snapshot < 2 ^ 32 → IsBelow generation there
-    → IsInUse here there end present_layout generation base 0
-laid_in_use here there snapshot end generation base is is_end generation_fits base_fits short below =
-    let file : Content = record { layout = present_layout; generation = generation; base = base; snapshot = snapshot; records = [] } in
-    let is_file = laid_file here snapshot generation base is generation_fits base_fits short in
+    → IsInUse here there end layout generation base 0
+laid_in_use here there snapshot end layout generation base known is is_end generation_fits base_fits short below =
+    let file : Content = record { layout = layout; generation = generation; base = base; snapshot = snapshot; records = [] } in
+    let is_file = laid_file here snapshot layout generation base known is generation_fits base_fits short in
     let long : length (spelling file) ≡ end = length-spelling file ∙ omega arith in
     let spelled : here ≡ spelling file ++ 0 ∷ [] = is ∙ ap (λ (l : List ℕ). l
-    ++ 0 ∷ []) (sym (append-nil (open_gate ∷ head present_layout generation base (length snapshot) ++ snapshot))) in
+    ++ 0 ∷ []) (sym (append-nil (open_gate ∷ head layout generation base (length snapshot) ++ snapshot))) in
     record {
       file = file;
       is_file = is_file;
@@ -225,26 +225,26 @@ laid_in_use here there snapshot end generation base is is_end generation_fits ba
       other = below;
     }
 
-pub laid_content : (here snapshot : List ℕ) (generation base : ℕ) → here ≡ open_gate ∷ head present_layout generation base
+pub laid_content : (here snapshot : List ℕ) (layout generation base : ℕ) → IsWrittenLayout layout → here ≡ open_gate ∷ head layout generation base
     (length snapshot) ++ snapshot ++ 0 ∷ [] → generation < 2 ^ 64 → base < 2 ^ 64 → length snapshot < 2 ^ 32
-    → content_in here ≡ record { layout = present_layout; generation = generation; base = base; snapshot = snapshot; records = [] }
-laid_content here snapshot generation base is generation_fits base_fits short =
+    → content_in here ≡ record { layout = layout; generation = generation; base = base; snapshot = snapshot; records = [] }
+laid_content here snapshot layout generation base known is generation_fits base_fits short =
     content-file here (record {
-      layout = present_layout;
+      layout = layout;
       generation = generation;
       base = base;
       snapshot = snapshot;
       records = [];
-    }) (laid_file here snapshot generation base is generation_fits base_fits short)
+    }) (laid_file here snapshot layout generation base known is generation_fits base_fits short)
 
 -- a journal that was just made
-pub fresh_kept : (here there snapshot : List ℕ) (h o : List Change) (end : ℕ)
-    → here ≡ open_gate ∷ head present_layout 1 0 (length snapshot) ++ snapshot ++ 0 ∷ [] → there ≡ [] → end ≡ 32 + length snapshot
+pub fresh_kept : (here there snapshot : List ℕ) (h o : List Change) (end layout : ℕ) → IsWrittenLayout layout
+    → here ≡ open_gate ∷ head layout 1 0 (length snapshot) ++ snapshot ++ 0 ∷ [] → there ≡ [] → end ≡ 32 + length snapshot
     → length snapshot < 2 ^ 32
-    → window h ≡ settled here → window o ≡ settled there → IsKept here there h o end present_layout 1 0 0
-fresh_kept here there snapshot h o end is empty is_end short here_settled there_settled = record {
+    → window h ≡ settled here → window o ≡ settled there → IsKept here there h o end layout 1 0 0
+fresh_kept here there snapshot h o end layout known is empty is_end short here_settled there_settled = record {
   here_settled = here_settled;
   there_settled = there_settled;
-  in_use = laid_in_use here there snapshot end 1 0 is is_end (lit< tt) (lit< tt) short (inl (inl (subst (λ (l : List ℕ). length l < 32)
+  in_use = laid_in_use here there snapshot end layout 1 0 known is is_end (lit< tt) (lit< tt) short (inl (inl (subst (λ (l : List ℕ). length l < 32)
       (sym empty) (lit< tt))));
 }

@@ -27,15 +27,15 @@ measured_more before after bodies snapshot_len bytes more is was grown = record 
 }
 
 -- a new snapshot without records
-pub new_measured : (before after : Content) (snapshot : List ℕ) → after ≡ with_snapshot before snapshot
+pub new_measured : (before after : Content) (layout : ℕ) (snapshot : List ℕ) → after ≡ with_snapshot before layout snapshot
     → IsMeasured after (length snapshot) 0
-new_measured before after snapshot is = record {
+new_measured before after layout snapshot is = record {
   snapshot = ap (λ (c : Content). length c.snapshot) is;
   records = ap (λ (c : Content). records_len c.records) is;
 }
 
-pub fresh_measured : (content : Content) (snapshot : List ℕ) → content ≡ fresh snapshot → IsMeasured content (length snapshot) 0
-fresh_measured content snapshot is = record {
+pub fresh_measured : (content : Content) (layout : ℕ) (snapshot : List ℕ) → content ≡ fresh layout snapshot → IsMeasured content (length snapshot) 0
+fresh_measured content layout snapshot is = record {
   snapshot = ap (λ (c : Content). length c.snapshot) is;
   records = ap (λ (c : Content). records_len c.records) is;
 }

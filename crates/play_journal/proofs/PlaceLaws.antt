@@ -100,5 +100,6 @@ module _ {D : Type 0} (honest : D → Type 0) (history : D → List Change) (fau
   later_here true here there new later = record { a = later_begin honest history faults there; b = later }
   later_here false here there new later = record { a = later; b = later_begin honest history faults there }
 
-pub old_or_new : (content : Content) (snapshot : List ℕ) (f : Option Content) → f ≡ Some content → IsOldOrNew content snapshot f
-old_or_new content snapshot f is = inl is
+pub old_or_new : (content : Content) (layout : ℕ) (snapshot : List ℕ) (f : Option Content) → f ≡ Some content
+    → IsOldOrNew content layout snapshot f
+old_or_new content layout snapshot f is = inl is

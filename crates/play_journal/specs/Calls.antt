@@ -4,7 +4,7 @@ use Rattle.std.specs.Prelude.{MatchBool, OnErr}
 use Rattle.disk_model.specs.History.{Change}
 use Rattle.play_journal.specs.declared.refusal.JournalError.{JournalError}
 use Rattle.play_journal.specs.declared.refusal.JournalError.TheVariants.{DiskFault, TooLong, NumbersSpent, OldLayout}
-use Rattle.play_journal.specs.Content.{Content, present_layout, IsKnownLayout}
+use Rattle.play_journal.specs.Content.{Content, IsKnownLayout, IsWrittenLayout}
 use Rattle.play_journal.specs.File.{longest_body, records_len}
 use Rattle.play_journal.specs.JournalState.{JournalState, IsMeasured}
 use Rattle.play_journal.specs.Pair.{AllPairsNow}
@@ -30,9 +30,10 @@ pub record SameFaults {D : Type 0} (faults : D → ℕ) (old_a old_b new_a new_b
   pub a : faults new_a ≡ faults old_a
   pub b : faults new_b ≡ faults old_b
 
--- a journal that was just made, with a snapshot of this length: its first file is in use
-pub record IsNew {D : Type 0} (journal : JournalState D) (size : ℕ) : Type 0 where
-  pub layout : journal.layout ≡ present_layout
+-- A journal that was just made of two disks in this layout, with a snapshot of this length: its first file is in use, and neither disk
+-- has failed.
+pub record IsNew {D : Type 0} (faults : D → ℕ) (a b : D) (journal : JournalState D) (written size : ℕ) : Type 0 where
+  pub layout : journal.layout ≡ written
   pub generation : journal.generation ≡ 1
   pub base : journal.base ≡ 0
   pub snapshot_len : journal.snapshot_len ≡ size
@@ -40,6 +41,7 @@ pub record IsNew {D : Type 0} (journal : JournalState D) (size : ℕ) : Type 0 w
   pub bytes : journal.bytes ≡ 0
   pub in_a : journal.is_in_b ≡ false
   pub usable : journal.is_spent ≡ false
+  pub met_none : SameFaults faults a b journal.a journal.b
 
 -- A journal that was opened over two disks, with the snapshot and the records that were found. The file that isn't in use keeps its
 -- bytes, and neither disk has failed.
@@ -83,10 +85,10 @@ pub record StaysInFile {D : Type 0} (old new : JournalState D) : Type 0 where
   pub same_file : new.is_in_b ≡ old.is_in_b
   pub other_file : MatchBool old.is_in_b (new.a ≡ old.a) (new.b ≡ old.b)
 
--- the next generation, with a snapshot of this length in the layout that is written: its base counts all records from before, and records
--- go to the other file
-pub record IsNextGeneration {D : Type 0} (old new : JournalState D) (size : ℕ) : Type 0 where
-  pub layout : new.layout ≡ present_layout
+-- The next generation, with a snapshot of this length in this layout: its base counts all records from before, and records go to the
+-- other file. Neither disk has failed.
+pub record IsNextGeneration {D : Type 0} (faults : D → ℕ) (old new : JournalState D) (written size : ℕ) : Type 0 where
+  pub layout : new.layout ≡ written
   pub generation : new.generation ≡ old.generation + 1
   pub base : new.base ≡ old.base + old.count
   pub snapshot_len : new.snapshot_len ≡ size
@@ -94,6 +96,7 @@ pub record IsNextGeneration {D : Type 0} (old new : JournalState D) (size : ℕ)
   pub bytes : new.bytes ≡ 0
   pub other_file : new.is_in_b ≡ not old.is_in_b
   pub usable : new.is_spent ≡ false
+  pub met_none : SameFaults faults old.a old.b new.a new.b
 
 -- Bytes of this size are refused in this order: the journal is spent, they are longer than the longest, or the last number is
 -- spent.
@@ -105,20 +108,20 @@ pub record RefusesInOrder {D T : Type 0} (old new : JournalState D) (longest siz
   pub spends : result ≡ Err DiskFault → new.is_spent ≡ true
   pub stays : OnErr result (result ≢ Err DiskFault → new ≡ old)
 
--- A record is refused in this order: the journal is spent, it has an old layout, to which nothing is added, the record is longer
+-- A record is refused in this order: the journal is spent, its layout isn't one that is written, the record is longer
 -- than the longest, or the last number is spent.
 pub record RefusesRecord {D : Type 0} (old new : JournalState D) (size : ℕ) (result : Result ℕ JournalError) : Type 0 where
   pub spent : old.is_spent ≡ true → (result ≡ Err DiskFault) × (new ≡ old)
-  pub old_layout : old.is_spent ≡ false → ((result ≡ Err OldLayout) ↔ (old.layout ≢ present_layout))
-  pub in_order : old.layout ≡ present_layout → RefusesInOrder old new longest_body size (old.base + old.count) result
+  pub old_layout : old.is_spent ≡ false → ((result ≡ Err OldLayout) ↔ (IsWrittenLayout old.layout → ⊥))
+  pub in_order : IsWrittenLayout old.layout → RefusesInOrder old new longest_body size (old.base + old.count) result
   pub stays : OnErr result (result ≢ Err DiskFault → new ≡ old)
 
--- So many records are refused in this order: the journal is spent, it has an old layout, to which nothing is added, or the last of them
+-- So many records are refused in this order: the journal is spent, its layout isn't one that is written, or the last of them
 -- would have a number past 2^64 - 1. A disk fault spends the journal, and a refusal that is none changes nothing.
 pub record RefusesRecords {D : Type 0} (old new : JournalState D) (many : ℕ) (result : Result ℕ JournalError) : Type 0 where
   pub spent : old.is_spent ≡ true → (result ≡ Err DiskFault) × (new ≡ old)
-  pub old_layout : old.is_spent ≡ false → ((result ≡ Err OldLayout) ↔ (old.layout ≢ present_layout))
-  pub numbers_spent : old.is_spent ≡ false → old.layout ≡ present_layout
+  pub old_layout : old.is_spent ≡ false → ((result ≡ Err OldLayout) ↔ (IsWrittenLayout old.layout → ⊥))
+  pub numbers_spent : old.is_spent ≡ false → IsWrittenLayout old.layout
       → ((result ≡ Err NumbersSpent) ↔ (2 ^ 64 ≤ old.base + old.count + many))
   pub spends : result ≡ Err DiskFault → new.is_spent ≡ true
   pub stays : OnErr result (result ≢ Err DiskFault → new ≡ old)

@@ -10,21 +10,28 @@ pub record Content : Type 0 where
   pub snapshot : List ℕ
   pub records : List (List ℕ)
 
--- the layout that is written
-abbrev pub present_layout : ℕ
-present_layout = 2
-
 -- the layout of before: it is read, and no record is added to it
 abbrev pub old_layout : ℕ
 old_layout = 1
 
+-- the layouts that are written; a checkpoint says in which of them
+abbrev pub second_layout : ℕ
+second_layout = 2
+
+abbrev pub third_layout : ℕ
+third_layout = 3
+
+-- a layout that is written
+abbrev pub IsWrittenLayout : ℕ → Type 0
+IsWrittenLayout layout = (layout ≡ second_layout) ⊎ (layout ≡ third_layout)
+
 -- a layout that is read
 abbrev pub IsKnownLayout : ℕ → Type 0
-IsKnownLayout layout = (layout ≡ old_layout) ⊎ (layout ≡ present_layout)
+IsKnownLayout layout = (layout ≡ old_layout) ⊎ IsWrittenLayout layout
 
--- a new journal
-abbrev pub fresh : List ℕ → Content
-fresh snapshot = record { layout = present_layout; generation = 1; base = 0; snapshot = snapshot; records = [] }
+-- a new journal in this layout
+abbrev pub fresh : ℕ → List ℕ → Content
+fresh layout snapshot = record { layout = layout; generation = 1; base = 0; snapshot = snapshot; records = [] }
 
 -- the number of the last record
 abbrev pub last_record : Content → ℕ
@@ -38,10 +45,10 @@ with_record content body = record content { records = content.records ++ body �
 abbrev pub with_records : Content → List (List ℕ) → Content
 with_records content bodies = record content { records = content.records ++ bodies }
 
--- the next generation: this snapshot in place of the snapshot before and its records, in the layout that is written
-abbrev pub with_snapshot : Content → List ℕ → Content
-with_snapshot content snapshot =
-    record { layout = present_layout; generation = content.generation + 1; base = last_record content; snapshot = snapshot; records = [] }
+-- the next generation: this snapshot in place of the snapshot before and its records, in this layout
+abbrev pub with_snapshot : Content → ℕ → List ℕ → Content
+with_snapshot content layout snapshot =
+    record { layout = layout; generation = content.generation + 1; base = last_record content; snapshot = snapshot; records = [] }
 
 -- one content or the other is found, and nothing else
 abbrev pub IsEither : Content → Content → Option Content → Type 0
@@ -51,6 +58,6 @@ IsEither before after found = (found ≡ Some before) ⊎ (found ≡ Some after)
 abbrev pub IsBeforeOrAfter : Content → List ℕ → Option Content → Type 0
 IsBeforeOrAfter before body found = IsEither before (with_record before body) found
 
--- the content from before, or the new snapshot without records
-abbrev pub IsOldOrNew : Content → List ℕ → Option Content → Type 0
-IsOldOrNew before snapshot found = IsEither before (with_snapshot before snapshot) found
+-- the content from before, or the new snapshot in this layout without records
+abbrev pub IsOldOrNew : Content → ℕ → List ℕ → Option Content → Type 0
+IsOldOrNew before layout snapshot found = IsEither before (with_snapshot before layout snapshot) found

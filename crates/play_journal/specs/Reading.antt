@@ -2,7 +2,7 @@
 use Rattle.std.specs.Prelude.{ℕ, zero, suc, ◌+◌, ◌-◌, ◌^◌, Bool, not, ◌&&◌, ◌||◌, List, [], ◌∷◌, length, drop, slice_index, slice_range}
 use Rattle.std.specs.Prelude.{Result, Ok, Err, nat_lt, nat_le, ◌==◌, if◌then◌else◌, bytes_eq}
 use Rattle.std.specs.Int.{Width, w32, w64, byte_len, from_le_bytes}
-use Rattle.play_journal.specs.Content.{Content, old_layout, present_layout}
+use Rattle.play_journal.specs.Content.{Content, old_layout, second_layout, third_layout}
 use Rattle.play_journal.specs.File.{open_gate, name, longest_body}
 
 -- the number in the bytes at an offset
@@ -20,7 +20,7 @@ abbrev pub is_open : List ℕ → Bool
 is_open bytes = not (nat_lt (length bytes) 32) && (slice_index bytes 0 == open_gate)
 
 abbrev pub is_known_layout : ℕ → Bool
-is_known_layout layout = layout == old_layout || layout == present_layout
+is_known_layout layout = layout == old_layout || layout == second_layout || layout == third_layout
 
 unfoldable pub front : List ℕ → Front
 front bytes =

@@ -3,7 +3,6 @@ ghost use Rattle.std.specs.Prelude.{◌≡◌, ◌↔◌, ◌+◌, ◌-◌, ◌^
 ghost use Rattle.std.specs.Prelude.{OnErr, OnOk};
 ghost use Rattle.disk_model.specs.Later.{AreLater, HasFailed};
 ghost use Rattle.play_journal.specs.Calls.{SameFaults};
-ghost use Rattle.play_journal.specs.Content.{present_layout};
 ghost use Rattle.play_journal.specs.File.{open_gate, head};
 ghost use Rattle.play_journal.specs.Room.{room};
 ghost use Rattle.play_journal.specs.Steps.{IsLaidFirst, IsRefusalOverEmpty, AreUntouched};
@@ -23,10 +22,11 @@ pub(crate) fn fresh_journal<D: Disk>(
     alloc: Global,
     a: &mut D,
     b: &mut D,
+    layout: u32,
     snapshot: &[u8],
 ) -> Result<(Vec<u8>, u64), JournalError>
     ensures laid { OnOk result (IsLaidFirst D.honest D.history D.content a.old b.old a.new b.new
-        (open_gate ∷ head present_layout 1 0 (length snapshot.now) ++ snapshot.now ++ 0 ∷ [])) }
+        (open_gate ∷ head layout 1 0 (length snapshot.now) ++ snapshot.now ++ 0 ∷ [])) }
     ensures room { IfOk result (λ r. room ≤ vec_capacity r.0) }
     ensures end { IfOk result (λ r. r.1 ≡ 32 + length snapshot.now) }
     ensures too_long { (result ≡ Err JournalError.TooLong) ↔ (4294967295 < length snapshot.now) }
@@ -40,7 +40,7 @@ pub(crate) fn fresh_journal<D: Disk>(
         return Err(JournalError::TooLong);
     }
     let buffer = record_room(alloc)?;
-    let head = head_bytes(alloc, 1, 0, snapshot.len())?;
+    let head = head_bytes(alloc, layout, 1, 0, snapshot.len())?;
     b.sync()?;
     lay_down(a, &head, snapshot)?;
     Ok((buffer, (HEAD_LEN + snapshot.len()) as u64))

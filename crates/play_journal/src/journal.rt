@@ -4,7 +4,7 @@ ghost use Rattle.std.specs.Prelude.{Err, Some, None, IsTrue, IsSome, IfOk, IfErr
 ghost use Rattle.disk_model.specs.Later.{AreLater, HasFailed};
 ghost use Rattle.play_journal.specs.Calls.{Holds, IsNew, IsOpened, IsNextRecord, StaysInFile, IsNextGeneration, RefusesInOrder, SameFaults};
 ghost use Rattle.play_journal.specs.Calls.{AreItsNumbers, RefusesRecord};
-ghost use Rattle.play_journal.specs.Content.{fresh, with_record, with_snapshot, IsBeforeOrAfter, IsOldOrNew};
+ghost use Rattle.play_journal.specs.Content.{fresh, with_record, with_snapshot, IsBeforeOrAfter, IsOldOrNew, IsWrittenLayout};
 ghost use Rattle.play_journal.specs.Errors.{IsRefusalOfCreate, IsRefusalOfOpen, IsRefusalOfAppend, IsRefusalOfCheckpoint};
 ghost use Rattle.play_journal.specs.File.{records_len};
 ghost use Rattle.play_journal.specs.FileRead.{content_read};
@@ -18,7 +18,7 @@ use crate::appending::{RECORD_HEAD, append_at, put_record};
 use crate::creating::{LONGEST_SNAPSHOT, fresh_journal};
 use crate::laying::{head_bytes, lay_down};
 use crate::opening::{Opened, open_files};
-use crate::reading::{FileRead, HEAD_LEN, LAYOUT, LONGEST_BODY};
+use crate::reading::{FileRead, HEAD_LEN, LONGEST_BODY, is_written};
 use crate::{JournalError, Refused, Stored};
 use disk_model::Disk;
 use std::alloc::Global;
@@ -74,15 +74,22 @@ impl<D: Disk> Model for Journal<D> {
 }
 
 impl<D: Disk> Journal<D> {
-    /// Makes a journal of two empty files, with a snapshot of at most 4,294,967,295 bytes and no records.
+    /// Makes a journal of two empty files in layout 2 or 3, with a snapshot of at most 4,294,967,295 bytes and no records.
     ///
     /// It refuses in the order `NotEmpty`, `TooLong`, `NoMemory`, `DiskFault`. A crash inside the call may leave files that
     /// are neither empty nor a journal.
-    pub fn create(alloc: Global, a: D, b: D, snapshot: &[u8]) -> Result<Journal<D>, Refused<D>>
+    pub fn create(
+        alloc: Global,
+        a: D,
+        b: D,
+        layout: u32,
+        snapshot: &[u8],
+    ) -> Result<Journal<D>, Refused<D>>
+        requires written { IsWrittenLayout layout }
+
         // From `Ok` on the files give the snapshot without records: file a is in use, and file b is empty.
-        ensures kept { D.honest a → D.honest b → IfOk result (λ j. Holds D.history j (fresh snapshot.now)) }
-        ensures new { IfOk result (λ j. IsNew j (length snapshot.now)) }
-        ensures met_none { IfOk result (λ j. SameFaults D.faults a b j.a j.b) }
+        ensures kept { D.honest a → D.honest b → IfOk result (λ j. Holds D.history j (fresh layout snapshot.now)) }
+        ensures new { IfOk result (λ j. IsNew D.faults a b j layout (length snapshot.now)) }
         ensures empty { D.honest a → D.honest b → IfOk result (λ j. D.content j.b ≡ []) }
 
         ensures not_empty { D.honest a → D.honest b
@@ -106,13 +113,13 @@ impl<D: Disk> Journal<D> {
                 b,
             });
         }
-        match fresh_journal(alloc, &mut a, &mut b, snapshot) {
+        match fresh_journal(alloc, &mut a, &mut b, layout, snapshot) {
             Ok((buffer, end)) => Ok(Journal {
                 here: a,
                 there: b,
                 swapped: false,
                 end,
-                layout: LAYOUT,
+                layout,
                 generation: 1,
                 base: 0,
                 snapshot_len: snapshot.len() as u64,
@@ -192,7 +199,7 @@ impl<D: Disk> Journal<D> {
         if self.spent {
             return Err(JournalError::DiskFault);
         }
-        if self.layout != LAYOUT {
+        if !is_written(self.layout) {
             return Err(JournalError::OldLayout);
         }
         let len = body.len();
@@ -219,24 +226,30 @@ impl<D: Disk> Journal<D> {
         }
     }
 
-    /// Makes a new snapshot: it is laid down in the other file in the layout `LAYOUT`, to which records go from then on. The file from
-    /// before isn't touched. A snapshot is at most 4,294,967,295 bytes long.
+    /// Makes a new snapshot: it is laid down in the other file in layout 2 or 3, to which records go from then on. The file from before
+    /// isn't touched. A snapshot is at most 4,294,967,295 bytes long.
     ///
     /// It refuses in the order `DiskFault` (spent), `TooLong`, `NumbersSpent` (the last generation is 2^64 - 1), `NoMemory`,
     /// `DiskFault` (now). After the last the journal is spent, and the snapshot may be there or not: open the files again.
-    pub fn checkpoint(&mut self, alloc: Global, snapshot: &[u8]) -> Result<(), JournalError>
+    pub fn checkpoint(
+        &mut self,
+        alloc: Global,
+        layout: u32,
+        snapshot: &[u8],
+    ) -> Result<(), JournalError>
+        requires written { IsWrittenLayout layout }
+
         // Stopped at any moment, the files give what they gave before, or the new snapshot without records, which they give from
         // `Ok` on.
         ensures any_moment { D.honest self.old.a → D.honest self.old.b → self.old.is_spent ≡ false
-            → AllPairsSince (IsOldOrNew self.old.content snapshot.now)
+            → AllPairsSince (IsOldOrNew self.old.content layout snapshot.now)
             (D.history self.new.a) (length (D.history self.old.a)) (D.history self.new.b) (length (D.history self.old.b)) }
         ensures kept { D.honest self.old.a → D.honest self.old.b
-            → OnOk result (Holds D.history self.new (with_snapshot self.old.content snapshot.now)) }
-        ensures next { OnOk result (IsNextGeneration self.old self.new (length snapshot.now)) }
+            → OnOk result (Holds D.history self.new (with_snapshot self.old.content layout snapshot.now)) }
+        ensures next { OnOk result (IsNextGeneration D.faults self.old self.new layout (length snapshot.now)) }
 
         ensures refuses { RefusesInOrder self.old self.new 4294967295 (length snapshot.now) self.old.generation result }
         ensures nothing_else { IfErr result IsRefusalOfCheckpoint }
-        ensures met_none { OnOk result (SameFaults D.faults self.old.a self.old.b self.new.a self.new.b) }
         ensures fault { D.honest self.old.a → D.honest self.old.b → self.old.is_spent ≡ false → result ≡ Err JournalError.DiskFault
             → HasFailed D.faults self.old.a self.old.b self.new.a self.new.b }
 
@@ -258,6 +271,7 @@ impl<D: Disk> Journal<D> {
         }
         let head = head_bytes(
             alloc,
+            layout,
             self.generation + 1,
             self.base + self.count,
             snapshot.len(),
@@ -269,7 +283,7 @@ impl<D: Disk> Journal<D> {
         mem::swap(&mut self.here, &mut self.there);
         self.swapped = !self.swapped;
         self.end = (HEAD_LEN + snapshot.len()) as u64;
-        self.layout = LAYOUT;
+        self.layout = layout;
         self.generation += 1;
         self.base += self.count;
         self.snapshot_len = snapshot.len() as u64;
@@ -286,7 +300,7 @@ impl<D: Disk> Journal<D> {
         self.base
     }
 
-    /// The layout of the file in use: `LAYOUT`, or 1 in a journal of before, to which a checkpoint must be made before a record is added.
+    /// The layout of the file in use: 2 or 3, or 1 in a journal of before, to which a checkpoint must be made before a record is added.
     pub fn layout(&self) -> u32
         ensures value { result ≡ self.now.layout }
         ensures content { D.honest self.now.a → D.honest self.now.b → self.now.is_spent ≡ false → self.now.content.layout ≡ result }

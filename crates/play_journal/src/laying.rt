@@ -7,12 +7,11 @@ ghost use Rattle.disk_model.specs.Images.{window, settled};
 ghost use Rattle.disk_model.specs.Later.{IsLater};
 ghost use Rattle.disk_model.specs.Moments.{AllSince};
 ghost use Rattle.disk_model.specs.Torn.{Torn};
-ghost use Rattle.play_journal.specs.Content.{present_layout};
 ghost use Rattle.play_journal.specs.File.{open_gate, head, IsClosed, IsShut};
 ghost use Rattle.play_journal.specs.Laying.{IsSameOrShut, IsLaidDown};
 
 use crate::JournalError;
-use crate::reading::{CLOSED, HEAD_LEN, LAYOUT, NAME, OPEN};
+use crate::reading::{CLOSED, HEAD_LEN, NAME, OPEN};
 use disk_model::Disk;
 use std::alloc::{AllocError, Global};
 
@@ -20,16 +19,17 @@ use std::alloc::{AllocError, Global};
 #[tactic(auto, unfolding(crate::specs::File::head))]
 pub(crate) fn head_bytes(
     alloc: Global,
+    layout: u32,
     generation: u64,
     base: u64,
     size: usize,
 ) -> Result<Vec<u8>, AllocError>
     requires { size < 2 ^ 32 }
-    ensures { IfOk result (λ v. v.items ≡ head present_layout generation base size) }
+    ensures { IfOk result (λ v. v.items ≡ head layout generation base size) }
 {
     let mut bytes = Vec::with_capacity(alloc, HEAD_LEN)?;
     bytes.extend_from_slice(&NAME)?;
-    bytes.extend_from_slice(&LAYOUT.to_le_bytes())?;
+    bytes.extend_from_slice(&layout.to_le_bytes())?;
     bytes.extend_from_slice(&generation.to_le_bytes())?;
     bytes.extend_from_slice(&base.to_le_bytes())?;
     bytes.extend_from_slice(&(size as u32).to_le_bytes())?;

@@ -14,6 +14,5 @@ mod stored;
 
 pub use group::{GROUP_LEN, Group};
 pub use journal::Journal;
-pub use reading::LAYOUT;
 pub use refusal::{JournalError, Refused};
 pub use stored::Stored;

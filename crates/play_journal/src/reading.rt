@@ -1,7 +1,8 @@
 // Reading the bytes of a journal file.
 ghost use Rattle.std.specs.Prelude.{◌≡◌, ◌≢◌, ◌⊎◌, ◌+◌, ◌-◌, ◌^◌, ◌<◌, ◌≤◌, [], List, length, drop, flat_map, All, IfOk, IfErr, Ok, Err};
-ghost use Rattle.std.specs.Prelude.{MatchOption};
+ghost use Rattle.std.specs.Prelude.{◌↔◌, IsTrue, MatchOption};
 ghost use Rattle.std.specs.Int.{w32, w64};
+ghost use Rattle.play_journal.specs.Content.{IsWrittenLayout};
 ghost use Rattle.play_journal.specs.File.{gated};
 ghost use Rattle.play_journal.specs.Opening.{told_front, is_second, IsCause};
 ghost use Rattle.play_journal.specs.Pair.{told};
@@ -19,17 +20,26 @@ pub(crate) const CLOSED: u8 = 0;
 
 pub(crate) const NAME: [u8; 7] = *b"MPDJRNL";
 
-/// The layout that is written.
-pub const LAYOUT: u32 = 2;
-
 /// The layout of before: it is read, and no record is added to it.
-pub(crate) const OLD_LAYOUT: u32 = 1;
+const OLD_LAYOUT: u32 = 1;
+
+/// The layouts that are written.
+const SECOND_LAYOUT: u32 = 2;
+
+const THIRD_LAYOUT: u32 = 3;
 
 /// The length of a file's head with its gate, in bytes.
 pub(crate) const HEAD_LEN: usize = 32;
 
 /// The greatest length of a record's body, in bytes.
 pub(crate) const LONGEST_BODY: usize = 2_097_152;
+
+// Whether files are written in this layout.
+pub(crate) fn is_written(layout: u32) -> bool
+    ensures { IsTrue result ↔ IsWrittenLayout layout }
+{
+    matches!(layout, SECOND_LAYOUT | THIRD_LAYOUT)
+}
 
 fn u32_at(bytes: &[u8], at: usize) -> u32
     requires { at + 4 ≤ length bytes.now }
@@ -60,7 +70,7 @@ pub(crate) fn generation_of(bytes: &[u8]) -> Result<Option<u64>, JournalError>
     if bytes[1..8] != NAME[..] {
         return Err(JournalError::Damaged(1));
     }
-    if !matches!(u32_at(bytes, 8), OLD_LAYOUT | LAYOUT) {
+    if !matches!(u32_at(bytes, 8), OLD_LAYOUT | SECOND_LAYOUT | THIRD_LAYOUT) {
         return Err(JournalError::Damaged(8));
     }
     Ok(Some(u64_at(bytes, 12)))

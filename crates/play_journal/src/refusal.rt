@@ -31,8 +31,8 @@ pub enum JournalError {
     /// written.
     #[error("record numbers are spent")]
     NumbersSpent,
-    /// The file in use has an old layout, to which no record is added: a checkpoint brings the journal to the present one. Nothing
-    /// was written.
+    /// The file in use has an old layout, to which no record is added: a checkpoint brings the journal to another one. Nothing was
+    /// written.
     #[error("old layout")]
     OldLayout,
 }

@@ -19,6 +19,7 @@ pub mod Prioritized
 pub mod Ruling
 pub mod Sound
 pub mod Stamped
+pub mod Tops
 pub mod Versions
 pub mod Where
 pub mod WordOrder

@@ -1,5 +1,5 @@
 -- The songs of a queue by the ids of its entries, and the entries in the order of their ids.
-use Rattle.std.specs.Prelude.{◌≡◌, ℕ, ◌==◌, nat_eq, List, [], ◌∷◌, if◌then◌else◌, map, Option, Some, None, is_some}
+use Rattle.std.specs.Prelude.{◌≡◌, ℕ, ◌≤◌, ◌==◌, nat_eq, List, [], ◌∷◌, if◌then◌else◌, map, Option, Some, None, is_some, IfSome}
 use Rattle.std.specs.List.{list_any}
 use Rattle.std.specs.Map.{lookup}
 use Rattle.play_queue.specs.declared.entry.Entry.{Entry}
@@ -33,6 +33,10 @@ unstamped entries = map (with_stamp 0) entries
 pub record AreInOrder (songs : Songs) (order : List ℕ) : Type 0 where
   pub own_ids : AllDiffer order
   pub same : (id : ℕ) → is_some (song_of songs id) ≡ list_any (λ other. other == id) order
+
+-- no song has a priority above this one
+abbrev pub HaveNoMore : ℕ → Songs → Type 0
+HaveNoMore top songs = (id : ℕ) → IfSome (song_of songs id) (λ song. song.priority ≤ top)
 
 -- stamps at positions with these ids, where those ids stood before: a new one where an id is another
 abbrev pub stamps_anew : List ℕ → List ℕ → ℕ → List ℕ → List ℕ

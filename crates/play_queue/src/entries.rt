@@ -1,6 +1,6 @@
 // The entries in order.
 ghost use Rattle.std.specs.Prelude.{◌≡◌, ℕ, ◌<◌, ◌≤◌, ◌==◌, [], length, find, position, slice_get, slice_index_or, IfSome, Some};
-ghost use Rattle.std.specs.List.{list_any};
+ghost use Rattle.std.specs.List.{All, list_any};
 ghost use Rattle.std.specs.Option.{option_map};
 ghost use Rattle.play_queue.specs.Queue.{AllDiffer, HaveOwnIds, ids_of};
 ghost use Rattle.play_queue.specs.Shown.{shown};
@@ -118,6 +118,13 @@ impl Entries {
         ensures own { HaveOwnIds self.now }
     {
         self.songs.ids()
+    }
+
+    /// A priority that no entry's passes, which may be greater than all of them. It takes constant time.
+    pub fn top_priority(&self) -> u8
+        ensures { All (λ entry. entry.priority ≤ result) self.now }
+    {
+        self.songs.top_priority()
     }
 
     /// Whether an entry has an id, in constant time on average.

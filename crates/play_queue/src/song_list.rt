@@ -7,7 +7,7 @@ ghost use Rattle.play_queue.specs.Entries.{deleted, kept, new_entries, with_prio
 ghost use Rattle.play_queue.specs.Queue.{HaveOwnIds, ids_of};
 ghost use Rattle.play_queue.specs.Restamp.{exchanged};
 ghost use Rattle.play_queue.specs.Shuffle.{shuffled};
-ghost use Rattle.play_queue.specs.Songs.{AreInOrder, in_order, song_of, unstamped, unstamped_entry};
+ghost use Rattle.play_queue.specs.Songs.{AreInOrder, HaveNoMore, in_order, song_of, unstamped, unstamped_entry};
 ghost use Rattle.play_queue.specs.declared.song.Song.{Song};
 ghost use Rattle.play_queue.specs.declared.entry.Entry.{Entry};
 
@@ -30,13 +30,15 @@ const PART: usize = 16;
 /// the entries in order, each with the stamp 0.
 ///
 /// Beside each id stands the place among the songs where its song was last known to be. It is read only where the id
-/// stands there still, and else the song is looked for by its id. `stale` counts those that may stand elsewhere.
+/// stands there still, and else the song is looked for by its id. `stale` counts those that may stand elsewhere. No song has
+/// a priority above `top`.
 #[derive(Drop)]
 pub(crate) struct SongList {
     songs: IndexMap<u32, Song>,
     order: Vec<u32>,
     near: Vec<u32>,
     stale: usize,
+    top: u8,
 }
 
 impl Model for SongList {
@@ -46,12 +48,12 @@ impl Model for SongList {
 
     ghost Value = { List Entry };
 
-    ghost use Rattle.play_queue.specs.Songs.{in_order, AreInOrder};
+    ghost use Rattle.play_queue.specs.Songs.{in_order, AreInOrder, HaveNoMore};
 
     ghost view = { λ s. in_order s.songs.entries s.order.items };
 
     ghost invariant = { λ s. AreInOrder s.songs.entries s.order.items × (length s.near.items ≡ length s.order.items)
-        × (length s.order.items ≤ MAX_ENTRIES) };
+        × (length s.order.items ≤ MAX_ENTRIES) × HaveNoMore s.top s.songs.entries };
 }
 
 impl SongList {
@@ -64,6 +66,7 @@ impl SongList {
             order: Vec::new(alloc),
             near: Vec::new(alloc),
             stale: 0,
+            top: 0,
         }
     }
 
@@ -81,6 +84,13 @@ impl SongList {
         ensures few { length self.now ≤ MAX_ENTRIES }
     {
         self.order.as_slice()
+    }
+
+    // A priority that none passes.
+    pub(crate) fn top_priority(&self) -> u8
+        ensures { All (λ entry. entry.priority ≤ result) self.now }
+    {
+        self.top
     }
 
     // Whether an entry has the id.
@@ -216,6 +226,7 @@ impl SongList {
         ensures ok { OnOk result (self.new ≡ self.old ++ record { id = id; uri = uri; priority = priority; stamp = 0 } ∷ []) }
         ensures err { OnErr result (self.new ≡ self.old) }
     {
+        let top = greater(self.top, priority);
         self.songs.reserve(1)?;
         self.order.reserve(1)?;
         self.near.reserve(1)?;
@@ -227,6 +238,7 @@ impl SongList {
             id,
             Song::new(alloc, uri, priority),
         );
+        self.top = top;
         Ok(())
     }
 
@@ -264,6 +276,7 @@ impl SongList {
             order: Vec::from_slice(alloc, &self.order)?,
             near: Vec::from_slice(alloc, &self.near)?,
             stale: self.stale,
+            top: self.top,
         })
     }
 
@@ -273,6 +286,7 @@ impl SongList {
         self.songs.clear();
         self.order.clear();
         self.near.clear();
+        self.top = 0;
     }
 
     // Sets the priority of an entry.
@@ -280,7 +294,9 @@ impl SongList {
         requires { at < length self.old }
         ensures { (d : Entry) → self.new ≡ slice_set self.old at (with_priority priority (slice_index_or self.old at d)) }
     {
+        let top = greater(self.top, priority);
         prioritize(&mut self.songs, self.order[at], priority);
+        self.top = top;
     }
 
     // Looks anew for the songs that don't stand where they were last known to be, once there may be many.
@@ -292,6 +308,13 @@ impl SongList {
             self.stale = 0;
         }
     }
+}
+
+fn greater(one: u8, other: u8) -> u8
+    ensures first { one ≤ result }
+    ensures second { other ≤ result }
+{
+    if one < other { other } else { one }
 }
 
 // Lets two blocks of numbers that follow each other change places.
@@ -398,6 +421,7 @@ fn push_songs(
         ≡ in_order songs.old.entries order.old.items ++ unstamped (new_entries first uris.items) }
     ensures len { length order.new.items ≡ length order.old.items + length uris.items }
     ensures near { length near.new.items ≡ length near.old.items + length uris.items }
+    ensures top { (top : ℕ) → HaveNoMore top songs.old.entries → HaveNoMore top songs.new.entries }
 {
     let mut id = first;
     for uri in uris {

@@ -1,6 +1,8 @@
 // The choice of the next song.
-ghost use Rattle.std.specs.Prelude.{◌≡◌, ◌<◌, length};
+ghost use Rattle.std.specs.Prelude.{◌≡◌, ◌<◌, ◌≤◌, length, slice_index_or};
+ghost use Rattle.std.specs.List.{All};
 ghost use Rattle.play_queue.specs.Shown.{shown};
+ghost use Rattle.play_queue.specs.declared.entry.Entry.{Entry};
 ghost use Rattle.player_core.specs.RandomOrder.{goes_before};
 ghost use Rattle.player_core.specs.Staying.{all_staying, staying_behind};
 ghost use Rattle.player_core.specs.Choice.{least, is_left, round_again, in_row, at_random, chosen, first_chosen};
@@ -44,6 +46,16 @@ fn is_first(drawn: Drawn, best: Option<Drawn>) -> bool
     }
 }
 
+// Whether the entry at a position goes before the best so far. It is looked at only where one of the top priority would go first.
+fn goes_first(entries: &Entries, at: usize, top: u8, word: u32, best: Option<Drawn>) -> bool
+    requires in_range { at < length entries.now }
+    requires top { All (λ entry. entry.priority ≤ top) entries.now }
+    ensures { (d : Entry) → let entry = slice_index_or entries.now at d in result ≡ is_first (entry.id, entry.priority, word) best }
+{
+    let id = entries.ids()[at];
+    is_first((id, top, word), best) && is_first((id, entries.at(at).priority, word), best)
+}
+
 // Whether the entry is neither the current one nor played.
 fn is_left(current: u32, played: &IndexSet<u32>, entry: &EntryRef<'_>) -> bool
     ensures { result ≡ is_left current played.now.keys (shown entry.now) }
@@ -61,7 +73,7 @@ fn is_counted(is_new: bool, current: u32, played: &IndexSet<u32>, entry: &EntryR
 // The id of the least, in random order, of the entries that stay: of all in a new round, else of those that
 // are neither the current one nor played.
 //
-// A look into the played list is made only for an entry that goes before the best so far.
+// An entry is looked at, and the played list, only where it may go before the best so far: mostly its id and its word alone.
 fn least(
     entries: &Entries,
     block: Block,
@@ -75,15 +87,16 @@ fn least(
     ensures { result ≡ least draw.key draw.order (counted is_new current played.now.keys (all_staying block dropped.now entries.now)) }
 {
     words.turn_to(draw.key, draw.order, entries.len());
+    let top = entries.top_priority();
+    let ids = entries.ids();
     let mut best = None;
-    for at in (0..entries.len()).rev() {
-        let entry = entries.at(at);
-        let drawn = (entry.id, entry.priority, words.word(entry.id));
-        if is_first(drawn, best)
-            && !takes(block, dropped, at, &entry)
-            && is_counted(is_new, current, played, &entry)
-        {
-            best = Some(drawn);
+    for at in (0..ids.len()).rev() {
+        let word = words.word(ids[at]);
+        if goes_first(entries, at, top, word, best) {
+            let entry = entries.at(at);
+            if !takes(block, dropped, at, &entry) && is_counted(is_new, current, played, &entry) {
+                best = Some((entry.id, entry.priority, word));
+            }
         }
     }
     best.map(|drawn| drawn.0)

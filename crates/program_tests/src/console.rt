@@ -3,6 +3,7 @@ use crate::assertions::{equal, same_bytes};
 use disk_model::{Disk, Fuse, FuseDisk, MemDisk};
 use live_stage::{Live, Refused};
 use mpd_program::{ConsoleEnd, Ending, Status, run_console};
+use profile::Profile;
 use song_db::LibraryRules;
 use song_files::{Folder, MemFolder};
 use std::alloc::Global;
@@ -12,7 +13,13 @@ use std::test::Fail;
 
 /// The disks of a fresh journal.
 pub fn fresh_disks(alloc: Global) -> Result<(MemDisk, MemDisk), Refused<MemDisk>> {
-    let live = Live::create(alloc, MemDisk::new(alloc), MemDisk::new(alloc), [0; 32])?;
+    let live = Live::create(
+        alloc,
+        Profile::Named,
+        MemDisk::new(alloc),
+        MemDisk::new(alloc),
+        [0; 32],
+    )?;
     Ok(live.into_disks())
 }
 
@@ -24,7 +31,16 @@ pub fn run<D: Disk, F: Folder>(
     reader: &mut impl Read,
     writer: &mut impl Write,
 ) -> ConsoleEnd<D> {
-    run_console(alloc, a, b, folder, LibraryRules::NAMED, reader, writer)
+    run_console(
+        alloc,
+        Profile::Named,
+        a,
+        b,
+        folder,
+        LibraryRules::NAMED,
+        reader,
+        writer,
+    )
 }
 
 // An input that gives a line with each read, and fails at the read of this number.

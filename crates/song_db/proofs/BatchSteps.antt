@@ -1,24 +1,19 @@
 -- What one step does to a batch of a scan.
-use Rattle.std.proofs.Common.{◌≡◌, ℕ, Bool, true, false, not, ◌&&◌, ◌||◌, List, [], ◌∷◌, ◌++◌, Option, Some, None, Ok}
+use Rattle.std.proofs.Common.{◌≡◌, ℕ, Bool, true, false, not, ◌&&◌, ◌||◌, List, [], ◌∷◌, ◌++◌, Option, Some, Ok}
 use Rattle.std.proofs.Common.{Err, filter, cond, refl, sym, ap, ◌∙◌, append-nil}
-use Rattle.std.specs.Prelude.{Result, IfOk, MatchOption}
+use Rattle.std.specs.Prelude.{Result}
 use Rattle.std.specs.List.{list_any}
 use Rattle.std.specs.Str.{bytes_eq}
-use Rattle.std.specs.Option.{option_and_then}
 use Rattle.std.proofs.lemmas.List.Elements.{All-push, All-weaker, All-same, All-nil}
-use Rattle.song_files.specs.Folder.{bytes_at}
 use Rattle.song_files.specs.declared.folder.FolderFault.{FolderFault}
-use Rattle.song_files.specs.declared.folder.FolderFault.TheVariants.{Source, NoMemory}
 use Rattle.song_db.specs.declared.rules.LibraryRules.{LibraryRules}
 use Rattle.song_db.specs.declared.change.RowChange.{RowChange}
 use Rattle.song_db.specs.declared.change.RowChange.TheVariants.{Put, Drop}
-use Rattle.song_db.specs.declared.refusal.SongDbError.{SongDbError}
-use Rattle.song_db.specs.declared.refusal.SongDbError.TheVariants.{NoMemory as MemoryRefused}
 use Rattle.song_db.specs.declared.scan.found.Found.{Found}
 use Rattle.song_db.specs.declared.scan.found.Found.TheVariants.{Song, Kept, NoSong}
 use Rattle.song_db.specs.Batch.{IsBatch, IsRead, after_listing, after_own}
-use Rattle.song_db.specs.Found.{IsOf, IsSongIn, changes_of, still_droppable, without}
-use Rattle.song_db.specs.Music.{Music, song_at, song_in}
+use Rattle.song_db.specs.Found.{IsFoundAt, IsOf, changes_of, still_droppable, without}
+use Rattle.song_db.specs.Music.{Music, song_at}
 use Rattle.song_db.specs.Place.{is_below}
 use Rattle.song_db.specs.Row.{Row}
 use Rattle.song_db.proofs.Folders.{filter_all}
@@ -104,27 +99,13 @@ batch_settled rules place start droppable changes uri (Kept kept) batch within o
     rw (append-nil changes) (batch_kept (λ known. not (bytes_eq kept known)) rules place start droppable changes batch)
 batch_settled rules place start droppable changes uri NoSong batch within of = rw (append-nil changes) batch
 
-pub songs_settled : {S : Type 0} (bytes : S → List ℕ) (honest : S
-    → Type 0) (music : Music) (uri : List ℕ) (changes : List RowChange) (opened : Result (Option S) FolderFault) (found :
-    Found) (answer : Result Found SongDbError) → answer ≡ Ok found
-    → IfOk opened (λ file. MatchOption file (bytes_at music.files uri ≡ None) (λ source. (bytes_at music.files uri ≡ Some (bytes source)) ×
-    honest source))
-    → (opened ≡ Err Source → answer ≡ Ok (Kept uri)) → (opened ≡ Ok None → answer ≡ Ok NoSong) → (opened ≡ Err NoMemory
-    → answer ≡ Err MemoryRefused)
-    → IsOf uri found → ((source : S) → opened ≡ Ok (Some source) → honest source → IsSongIn music.rules uri (bytes source) found)
-    → AreSongs music changes → AreSongs music (changes ++ changes_of found)
-songs_settled bytes honest music uri changes opened NoSong answer is told fault none memory of song before = rw (append-nil changes) before
-songs_settled bytes honest music uri changes opened (Kept kept) answer is told fault none memory of song before = rw (append-nil
-    changes) before
-songs_settled bytes honest music uri changes (Err Source) (Song row) answer is told fault none memory of song before = absurd (cc
-    (fault refl))
-songs_settled bytes honest music uri changes (Err NoMemory) (Song row) answer is told fault none memory of song before = absurd (cc
-    (memory refl))
-songs_settled bytes honest music uri changes (Ok None) (Song row) answer is told fault none memory of song before = absurd (cc (none refl))
-songs_settled bytes honest music uri changes (Ok (Some source)) (Song row) answer is told fault none memory of song before =
+pub songs_settled : (music : Music) (uri : List ℕ) (changes : List RowChange) (found : Found) → IsOf uri found
+    → IsFoundAt music uri found → AreSongs music changes → AreSongs music (changes ++ changes_of found)
+songs_settled music uri changes NoSong of told before = rw (append-nil changes) before
+songs_settled music uri changes (Kept kept) of told before = rw (append-nil changes) before
+songs_settled music uri changes (Song row) of told before =
     All-same (λ (r : Row). song_at music r.uri ≡ Some r) _ _ (puts-append changes (Put row ∷ [])) (All-push (λ (r : Row). song_at
-    music r.uri ≡ Some r) (puts_of changes) row before
-    (ap (song_at music) of ∙ ap (option_and_then (song_in music.rules uri)) told.0 ∙ (song source refl told.1).0))
+    music r.uri ≡ Some r) (puts_of changes) row before (ap (song_at music) of ∙ told.0.0))
 
 pub batch_listed : {A : Type 0} (rules : LibraryRules) (place : Option (List ℕ)) (start droppable : List (List ℕ)) (changes : List RowChange) (folder :
     List ℕ) (listing : Result A FolderFault) → IsBatch rules place start droppable changes

@@ -1,18 +1,22 @@
 -- How often a path is still to be read, and how often it is put.
-use Rattle.std.proofs.Common.{◌≡◌, ℕ, ◌+◌, Bool, true, false, ◌&&◌, ◌||◌, List, [], ◌∷◌, ◌++◌, filter, cond, refl, sym, ap, ◌∙◌, arith}
-use Rattle.std.proofs.Common.{Option}
+use Rattle.std.proofs.Common.{◌≡◌, ℕ, ◌+◌, Bool, true, false, not, ◌&&◌, ◌||◌, List, [], ◌∷◌, ◌++◌, filter, cond, refl, sym, ap, ◌∙◌, arith}
+use Rattle.std.proofs.Common.{Option, Some, None}
+use Rattle.std.specs.Prelude.{is_some, option_map}
 use Rattle.std.specs.Prelude.{count_by}
-use Rattle.std.specs.List.{list_any}
+use Rattle.std.specs.List.{find, list_any}
 use Rattle.std.specs.Str.{bytes_eq}
 use Rattle.std.proofs.lemmas.List.Sums.{sum_by-cons, sum_by-append}
 use Rattle.std.proofs.lemmas.Slice.Eq.{bytes_eq-Decides}
+use Rattle.song_files.specs.Folder.{File, bytes_at, stamp_at}
+use Rattle.song_files.specs.declared.folder.FileStamp.{FileStamp}
+use Rattle.song_db.specs.declared.rules.LibraryRules.{LibraryRules}
 use Rattle.song_db.specs.declared.change.RowChange.{RowChange}
 use Rattle.song_db.specs.declared.change.RowChange.TheVariants.{Put}
-use Rattle.song_db.specs.Music.{Music, song_at}
+use Rattle.song_db.specs.Music.{Music, is_stamp, is_unchanged, known_stamp, song_at}
 use Rattle.song_db.specs.Name.{is_song}
 use Rattle.song_db.specs.Pending.{Pending, covers, times_pending}
 use Rattle.song_db.specs.Row.{Row}
-use Rattle.song_db.specs.Scan.{is_in, is_sought, is_among, puts_of, times_put, has_song, has_row}
+use Rattle.song_db.specs.Scan.{is_in, is_sought, is_among, puts_of, times_put, has_row, is_put, is_there}
 use Rattle.song_db.specs.Uri.{is_uri}
 use Rattle.song_db.proofs.BatchSteps.{puts-append}
 
@@ -81,17 +85,78 @@ among_filter test uri (x ∷ xs) = by_cases (bytes_eq uri x) refl (test x) refl 
     by_cases false told true passes rest = rw told rest
     by_cases false told false fails rest = rest
 
--- what it is to be a song that a job seeks
-pub record AreParts (music : Music) (place : Option (List ℕ)) (uri : List ℕ) : Type 0 where
+-- what it is to stand at a path that a job seeks
+pub record AreParts (rules : LibraryRules) (place : Option (List ℕ)) (uri : List ℕ) (fact : Bool) : Type 0 where
   pub form : is_uri uri ≡ true
-  pub sought : is_sought music.rules place uri ≡ true
+  pub sought : is_sought rules place uri ≡ true
   pub within : is_in place uri ≡ true
-  pub name : is_song music.rules uri ≡ true
-  pub row : has_row (song_at music uri) ≡ true
+  pub name : is_song rules uri ≡ true
+  pub told : fact ≡ true
 
-pub song_parts : (music : Music) (place : Option (List ℕ)) (uri : List ℕ) → has_song music place uri ≡ true → AreParts music place uri
-song_parts music place uri song =
-    let first = both (is_uri uri) (is_sought music.rules place uri && has_row (song_at music uri)) song in
-    let next = both (is_sought music.rules place uri) (has_row (song_at music uri)) first.1 in
-    let sought = both (is_in place uri) (is_song music.rules uri) next.0 in
-    record { form = first.0; sought = next.0; within = sought.0; name = sought.1; row = next.1 }
+at_parts : (rules : LibraryRules) (place : Option (List ℕ)) (uri : List ℕ) (told : Bool)
+    → (is_uri uri && (is_sought rules place uri && told)) ≡ true → AreParts rules place uri told
+at_parts rules place uri told song =
+    let first = both (is_uri uri) (is_sought rules place uri && told) song in
+    let next = both (is_sought rules place uri) told first.1 in
+    let sought = both (is_in place uri) (is_song rules uri) next.0 in
+    record { form = first.0; sought = next.0; within = sought.0; name = sought.1; told = next.1 }
+
+pub put_parts : (music : Music) (place : Option (List ℕ)) (uri : List ℕ) → is_put music place uri ≡ true
+    → AreParts music.rules place uri (has_row (song_at music uri) && not (is_unchanged music uri))
+put_parts music place uri song = at_parts music.rules place uri (has_row (song_at music uri) && not (is_unchanged music uri)) song
+
+pub there_parts : (music : Music) (place : Option (List ℕ)) (uri : List ℕ) → is_there music place uri ≡ true
+    → AreParts music.rules place uri (has_row (song_at music uri) || is_unchanged music uri)
+there_parts music place uri there = at_parts music.rules place uri (has_row (song_at music uri) || is_unchanged music uri) there
+
+-- a file that has a song's name
+pub record IsSongFile (rules : LibraryRules) (files : List File) (uri : List ℕ) : Type 0 where
+  pub form : is_uri uri ≡ true
+  pub name : is_song rules uri ≡ true
+  pub there : is_some (bytes_at files uri) ≡ true
+
+row_there : (music : Music) (uri : List ℕ) → has_row (song_at music uri) ≡ true → is_some (bytes_at music.files uri) ≡ true
+row_there music uri row = by_cases (bytes_at music.files uri) refl row
+  where
+    by_cases : (found : Option (List ℕ)) → bytes_at music.files uri ≡ found → has_row (song_at music uri) ≡ true → is_some found ≡ true
+    by_cases None none row = absurd (let k : has_row (song_at music uri) ≡ false = rw none refl in let l : true ≡ false = sym row ∙ k in cc)
+    by_cases (Some bytes) is row = refl
+
+stamp_there : (files : List File) (uri : List ℕ) (known : Option FileStamp) → is_stamp known (stamp_at files uri) ≡ true
+    → is_some (bytes_at files uri) ≡ true
+stamp_there files uri known is = by_cases (find (λ (file : File). bytes_eq file.path uri) files) known is
+  where
+    by_cases : (found : Option File) (known : Option FileStamp)
+        → is_stamp known (option_map (λ (file : File). file.stamp) found) ≡ true → is_some (option_map (λ (file : File). file.bytes) found) ≡ true
+    by_cases None None is = absurd (cc)
+    by_cases None (Some stamp) is = absurd (cc)
+    by_cases (Some file) known is = refl
+
+unchanged_there : (music : Music) (uri : List ℕ) → is_unchanged music uri ≡ true → is_some (bytes_at music.files uri) ≡ true
+unchanged_there music uri is = stamp_there music.files uri (known_stamp music.known uri)
+    (both music.rules.keeps_stamps (is_stamp (known_stamp music.known uri) (stamp_at music.files uri)) is).1
+
+pub put_file : (music : Music) (place : Option (List ℕ)) (uri : List ℕ) → is_put music place uri ≡ true
+    → IsSongFile music.rules music.files uri
+put_file music place uri put =
+    let parts = put_parts music place uri put in
+    record {
+      form = parts.form;
+      name = parts.name;
+      there = row_there music uri (both (has_row (song_at music uri)) (not (is_unchanged music uri)) parts.told).0;
+    }
+
+pub there_file : (music : Music) (place : Option (List ℕ)) (uri : List ℕ) → is_there music place uri ≡ true
+    → IsSongFile music.rules music.files uri
+there_file music place uri there =
+    let parts = there_parts music place uri there in
+    record {
+      form = parts.form;
+      name = parts.name;
+      there = by_cases (has_row (song_at music uri)) refl parts.told;
+    }
+  where
+    by_cases : (b : Bool) → has_row (song_at music uri) ≡ b → (b || is_unchanged music uri) ≡ true
+        → is_some (bytes_at music.files uri) ≡ true
+    by_cases true row told = row_there music uri row
+    by_cases false none told = unchanged_there music uri told

@@ -12,7 +12,10 @@ use Rattle.std.proofs.lemmas.List.{map-append}
 use Rattle.std.proofs.lemmas.List.Kept.{IsStrictlySortedBy-filter}
 use Rattle.std.proofs.lemmas.Map.Keys.{sorted_head, sorted_tail}
 use Rattle.std.proofs.lemmas.Slice.Eq.{bytes_eq-Decides}
-use Rattle.song_db.specs.Known.{uris_in}
+use Rattle.song_db.specs.declared.known_song.KnownSong.{KnownSong}
+use Rattle.song_db.specs.declared.rules.LibraryRules.{LibraryRules}
+use Rattle.song_db.specs.Known.{known_in, known_song}
+use Rattle.song_db.specs.Music.{uris_of}
 use Rattle.song_db.specs.Order.{AreKnown}
 use Rattle.song_db.specs.Place.{is_below}
 use Rattle.song_db.specs.Replaced.{by_text, IsRising}
@@ -85,16 +88,23 @@ unfolding IsStrictlySortedBy
 rising_map [] rising = tt
 rising_map (x ∷ xs) rising = (behind_map x.uri xs rising.0, rising_map xs rising.1)
 
-pub known_rise : (rows : List Row) (place : Option (List ℕ)) → IsRising row_uri rows → AreKnown (uris_in rows place)
-known_rise rows place rising = rising_map (filter (λ row. is_in place row.uri) rows) (IsStrictlySortedBy-filter (by_text row_uri)
-    (λ row. is_in place row.uri) rows rising)
+same_uris : (rules : LibraryRules) (rows : List Row) → uris_of (map (known_song rules) rows) ≡ map row_uri rows
+same_uris rules [] = refl
+same_uris rules (x ∷ xs) = ap (λ l. x.uri ∷ l) (same_uris rules xs)
 
-pub all_known : (rows : List Row) (old new : List (List ℕ)) → old ≡ [] → new ≡ old ++ map row_uri rows → new ≡ uris_in rows None
-all_known rows old new none more = more ∙ rw none (ap (map row_uri) (sym (filter_all rows)))
+pub known_rise : (rules : LibraryRules) (rows : List Row) (place : Option (List ℕ)) → IsRising row_uri rows
+    → AreKnown (uris_of (known_in rules rows place))
+known_rise rules rows place rising = rw (same_uris rules (filter (λ row. is_in place row.uri) rows))
+    (rising_map (filter (λ row. is_in place row.uri) rows) (IsStrictlySortedBy-filter (by_text row_uri)
+    (λ row. is_in place row.uri) rows rising))
 
-pub own_known : (rows : List Row) (uri : List ℕ) (old own new : List (List ℕ)) → IsRising row_uri rows → old ≡ []
-    → own ≡ old ++ map row_uri (option_to_list (row_at rows uri))
-    → new ≡ own ++ map row_uri (filter (λ row. is_below uri row.uri) rows) → new ≡ uris_in rows (Some uri)
-own_known rows uri old own new rising none first more =
-    more ∙ rw (first, none) (sym (ap (map row_uri) (own_first uri rows rising)
-    ∙ map-append row_uri (option_to_list (row_at rows uri)) (filter (λ row. is_below uri row.uri) rows)))
+pub all_known : (rules : LibraryRules) (rows : List Row) (old new : List KnownSong) → old ≡ []
+    → new ≡ old ++ map (known_song rules) rows → new ≡ known_in rules rows None
+all_known rules rows old new none more = more ∙ rw none (ap (map (known_song rules)) (sym (filter_all rows)))
+
+pub own_known : (rules : LibraryRules) (rows : List Row) (uri : List ℕ) (old own new : List KnownSong) → IsRising row_uri rows → old ≡ []
+    → own ≡ old ++ map (known_song rules) (option_to_list (row_at rows uri))
+    → new ≡ own ++ map (known_song rules) (filter (λ row. is_below uri row.uri) rows) → new ≡ known_in rules rows (Some uri)
+own_known rules rows uri old own new rising none first more =
+    more ∙ rw (first, none) (sym (ap (map (known_song rules)) (own_first uri rows rising)
+    ∙ map-append (known_song rules) (option_to_list (row_at rows uri)) (filter (λ row. is_below uri row.uri) rows)))

@@ -16,6 +16,7 @@ mod HonestSteps
 mod Indexed
 mod Known
 mod KnownRows
+mod KnownSongs
 mod LastRow
 mod ListedSteps
 mod Opened
@@ -31,6 +32,7 @@ pub mod Rising
 pub mod RowPlaces
 mod RowSplits
 pub mod SameRows
+mod ShortTags
 pub mod SixTexts
 mod Slashes
 mod Taken

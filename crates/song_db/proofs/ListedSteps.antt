@@ -14,16 +14,17 @@ use Rattle.song_files.specs.Listing.{IsListing, entries_of}
 use Rattle.song_files.specs.Text.{has_control}
 use Rattle.song_files.specs.declared.folder.FolderEntry.{FolderEntry}
 use Rattle.song_files.specs.declared.folder.FolderFault.{FolderFault}
+use Rattle.song_db.specs.declared.rules.LibraryRules.{LibraryRules}
 use Rattle.song_db.specs.declared.change.RowChange.{RowChange}
 use Rattle.song_db.specs.Batch.{IsHonestBatch, IsWholeBatch, after_listing}
 use Rattle.song_db.specs.Found.{without_below}
-use Rattle.song_db.specs.Music.{Music, song_at}
 use Rattle.song_db.specs.Pending.{Pending, below, covers, times_pending, entry_pending, path_pending, entries_pending, listed_pending}
 use Rattle.song_db.specs.Place.{is_below}
-use Rattle.song_db.specs.Scan.{is_among, has_row, has_song}
+use Rattle.song_db.specs.Music.{Music}
+use Rattle.song_db.specs.Scan.{is_among}
 use Rattle.song_db.specs.Uri.{is_uri, is_good_part, parts}
 use Rattle.song_db.proofs.Below.{begins_below, below-bytes, HasFirst, has_first as first_of}
-use Rattle.song_db.proofs.Counts.{song_parts, count-cons, times-cons, same_bytes, bytes_self, both, among_filter}
+use Rattle.song_db.proofs.Counts.{count-cons, times-cons, same_bytes, bytes_self, both, among_filter, IsSongFile, put_file, there_file}
 use Rattle.song_db.proofs.HonestSteps.{honest_step, whole_step}
 
 one_more : (n : ℕ) → 1 + n ≡ suc n
@@ -239,13 +240,6 @@ has_first_of (file ∷ files) folder rest uri is there =
     by_cases false other there rest_of =
         rw (rest_of there) (or_true (begins_with (first_part rest) (has_slash rest) (behind folder file.path)))
 
-song_there : (music : Music) (uri : List ℕ) → has_row (song_at music uri) ≡ true → is_some (bytes_at music.files uri) ≡ true
-song_there music uri row = by_cases (bytes_at music.files uri) refl row
-  where
-    by_cases : (found : Option (List ℕ)) → bytes_at music.files uri ≡ found → has_row (song_at music uri) ≡ true → is_some found ≡ true
-    by_cases None none row = absurd (let k : has_row (song_at music uri) ≡ false = rw none refl in let l : true ≡ false = sym row ∙ k in cc)
-    by_cases (Some bytes) is row = refl
-
 -- the parts of a path on both sides of a slash
 pub parts_slash : (front rest : List ℕ) → parts (front ++ 47 ∷ rest) ≡ parts front ++ parts rest
 parts_slash [] rest = refl
@@ -324,10 +318,10 @@ at_most files folder uri entries listing = by_cases (is_below folder uri) refl
         rw is (listed_under files folder (folder ++ 47 ∷ []) split.0 entries listing)
     by_cases false h = omega (arith, none_outside folder uri entries h)
 
-pub at_least : (music : Music) (place : Option (List ℕ)) (folder uri : List ℕ) (entries : List FolderEntry)
-    → IsListing music.files folder entries → folder ≢ []
-    → has_song music place uri ≡ true → cond (is_below folder uri) 1 0 ≤ times_pending (entries_pending (folder ++ 47 ∷ []) entries) uri
-at_least music place folder uri entries listing some song = by_cases (is_below folder uri) refl
+pub at_least : (rules : LibraryRules) (files : List File) (folder uri : List ℕ) (entries : List FolderEntry)
+    → IsListing files folder entries → folder ≢ []
+    → IsSongFile rules files uri → cond (is_below folder uri) 1 0 ≤ times_pending (entries_pending (folder ++ 47 ∷ []) entries) uri
+at_least rules files folder uri entries listing some song = by_cases (is_below folder uri) refl
   where
     ap_times : {rest : List ℕ} → uri ≡ rest → 1 ≤ times_pending (entries_pending (folder ++ 47 ∷ []) entries) rest
         → 1 ≤ times_pending (entries_pending (folder ++ 47 ∷ []) entries) uri
@@ -336,24 +330,22 @@ at_least music place folder uri entries listing some song = by_cases (is_below f
     by_cases : (b : Bool) → is_below folder uri ≡ b → cond b 1 0 ≤ times_pending (entries_pending (folder ++ 47 ∷ []) entries) uri
     by_cases true h =
         let split = below_splits folder uri (sym (below-bytes folder uri) ∙ h) in
-        let told = song_parts music place uri song in
         let good = all_both is_good_part (parts folder) (parts split.0)
-        (sym (ap (list_all is_good_part) (ap parts split.1 ∙ parts_slash folder split.0)) ∙ good_parts uri told.form) in
+        (sym (ap (list_all is_good_part) (ap parts split.1 ∙ parts_slash folder split.0)) ∙ good_parts uri song.form) in
         let is : uri ≡ (folder ++ 47 ∷ []) ++ split.0 = split.1 ∙ sym (prefixed folder split.0) in
-        ap_times is (listed_over music.files folder (folder ++ 47 ∷ []) split.0 uri entries listing good.1
-        (ap (behind folder) split.1 ∙ behind_own folder split.0 some) (song_there music uri told.row))
+        ap_times is (listed_over files folder (folder ++ 47 ∷ []) split.0 uri entries listing good.1
+        (ap (behind folder) split.1 ∙ behind_own folder split.0 some) song.there)
     by_cases false h = omega arith
 
 pub root_most : (files : List File) (uri : List ℕ) (entries : List FolderEntry) → IsListing files [] entries
     → times_pending (entries_pending [] entries) uri ≤ 1
 root_most files uri entries listing = listed_under files [] [] uri entries listing
 
-pub root_least : (music : Music) (place : Option (List ℕ)) (uri : List ℕ) (entries : List FolderEntry) → IsListing music.files [] entries
-    → has_song music place uri ≡ true
+pub root_least : (rules : LibraryRules) (files : List File) (uri : List ℕ) (entries : List FolderEntry) → IsListing files [] entries
+    → IsSongFile rules files uri
     → 1 ≤ times_pending (entries_pending [] entries) uri
-root_least music place uri entries listing song =
-    let told = song_parts music place uri song in
-    listed_over music.files [] [] uri uri entries listing (good_parts uri told.form) refl (song_there music uri told.row)
+root_least rules files uri entries listing song =
+    listed_over files [] [] uri uri entries listing (good_parts uri song.form) refl song.there
 
 -- a folder whose entries are listed
 entered_honest : (music : Music) (place : Option (List ℕ)) (start : List Pending) (known : List (List ℕ)) (pending after : List Pending)
@@ -371,7 +363,7 @@ entered_honest music place start known pending after d changes folder entries li
         arith,
         told uri,
         times-cons (below folder) pending uri,
-        at_least music place folder uri entries listing some song,
+        at_least music.rules music.files folder uri entries listing some (there_file music place uri song),
       ),
     ))
 
@@ -383,7 +375,7 @@ entered_whole : (music : Music) (place : Option (List ℕ)) (start : List Pendin
     → IsWholeBatch music place start known (below folder ∷ pending) d changes → IsWholeBatch music place start known after d changes
 entered_whole music place start known pending after d changes folder entries listing some told =
     whole_step music place start known (below folder ∷ pending) after d d changes
-    (λ uri song. omega (arith, told uri, times-cons (below folder) pending uri, at_least music place folder uri entries listing some song))
+    (λ uri song. omega (arith, told uri, times-cons (below folder) pending uri, at_least music.rules music.files folder uri entries listing some (put_file music place uri song)))
     (λ uri none among. among)
 
 pub honest_listed : {A : Type 0} (music : Music) (place : Option (List ℕ)) (start : List Pending) (known : List (List ℕ))

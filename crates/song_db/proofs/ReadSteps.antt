@@ -9,7 +9,7 @@ use Rattle.song_db.specs.Batch.{IsHonestBatch, IsWholeBatch}
 use Rattle.song_db.specs.Music.{Music, song_at}
 use Rattle.song_db.specs.Pending.{Pending, times_pending}
 use Rattle.song_db.specs.Row.{Row}
-use Rattle.song_db.specs.Scan.{puts_of, drops_of, is_among, has_song, AreSongs, IsHonestRead, IsWholeRead}
+use Rattle.song_db.specs.Scan.{puts_of, drops_of, is_among, is_put, is_there, AreSongs, IsHonestRead, IsWholeRead}
 use Rattle.song_db.proofs.Counts.{bytes_self}
 
 pub honest_none : (music : Music) (place : Option (List ℕ)) (start : List Pending) (known : List (List ℕ)) (changes : List RowChange)
@@ -18,7 +18,7 @@ pub honest_none : (music : Music) (place : Option (List ℕ)) (start : List Pend
 honest_none music place start known changes none =
     rw none (record {
       read = λ uri. omega arith;
-      puts = All-nil (λ (row : Row). has_song music place row.uri ≡ true);
+      puts = All-nil (λ (row : Row). is_put music place row.uri ≡ true);
       careful =
           λ careful. careful;
     })
@@ -68,15 +68,15 @@ honest_end music place start pending known droppable left changes whole batch no
     let parts : drops_of whole ++ left ≡ droppable = parted changes whole droppable left none drops in
     record {
       read = λ uri. rw puts (batch.read uri);
-      puts = All-same (λ (row : Row). has_song music place row.uri ≡ true) _ _ puts batch.puts;
+      puts = All-same (λ (row : Row). is_put music place row.uri ≡ true) _ _ puts batch.puts;
       songs = All-same (λ (row : Row). song_at music row.uri ≡ Some row) _ _ puts songs;
-      drops = λ careful. all_of (has_song music place) (drops_of whole) (λ uri among. no_song uri (has_song music place uri) refl
+      drops = λ careful. all_of (is_there music place) (drops_of whole) (λ uri among. no_song uri (is_there music place uri) refl
           (λ song. batch.careful careful uri song (ap (λ l. is_among l uri) (sym parts) ∙ among_left (drops_of whole) left uri among)));
       careful = λ careful uri song among. batch.careful careful uri song (ap (λ l. is_among l uri) (sym parts)
           ∙ among_right (drops_of whole) left uri among);
     }
   where
-    no_song : (uri : List ℕ) (b : Bool) → has_song music place uri ≡ b → (has_song music place uri ≡ true → 0 < times_pending pending uri)
+    no_song : (uri : List ℕ) (b : Bool) → is_there music place uri ≡ b → (is_there music place uri ≡ true → 0 < times_pending pending uri)
         → b ≡ false
     no_song uri true song some = absurd (let n = ap (λ ps. times_pending ps uri) end in omega (arith, some song, n))
     no_song uri false song some = refl
@@ -90,8 +90,8 @@ honest_full music place start pending known droppable changes batch none songs =
       read = batch.read;
       puts = batch.puts;
       songs = songs;
-      drops = λ careful. All-same (λ uri. has_song music place uri ≡ false) _ _ none
-          (All-nil (λ uri. has_song music place uri ≡ false));
+      drops = λ careful. All-same (λ uri. is_there music place uri ≡ false) _ _ none
+          (All-nil (λ uri. is_there music place uri ≡ false));
       careful = batch.careful;
     }
 

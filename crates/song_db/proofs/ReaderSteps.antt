@@ -11,13 +11,14 @@ use Rattle.song_db.specs.declared.scan.found.Found.{Found}
 use Rattle.song_db.specs.declared.scan.reader.Reader.{Reader}
 use Rattle.song_db.specs.declared.scan.visit.Visit.{Visit}
 use Rattle.song_db.specs.Batch.{after_listing, after_own, visit_after}
-use Rattle.song_db.specs.Found.{IsKnown, IsTaken, changes_of, still_droppable, visited}
-use Rattle.song_db.specs.Music.{Music}
+use Rattle.song_db.specs.Found.{IsTaken, changes_of, still_droppable, visited}
 use Rattle.song_db.specs.Pending.{Pending, file_at, below, times_pending, listed_pending, own_pending, own_prefix}
-use Rattle.song_db.specs.Reader.{IsReadOn, IsSameFolder, IsSameScan}
+use Rattle.song_db.specs.Music.{Music}
+use Rattle.song_db.specs.Reader.{IsReadOn, IsSameScan}
+use Rattle.song_db.specs.SameFolder.{IsSameFolder}
 use Rattle.song_db.specs.Scan.{AreSongs}
 use Rattle.song_db.specs.Uri.{is_uri}
-use Rattle.song_db.proofs.HonestSteps.{IsTold, honest_taken, whole_taken, honest_told, whole_told}
+use Rattle.song_db.proofs.HonestSteps.{IsSure, IsTold, honest_taken, whole_taken, honest_told, whole_told}
 use Rattle.song_db.proofs.ListedSteps.{honest_listed, whole_listed}
 use Rattle.song_db.proofs.OwnSteps.{HasForm, honest_own, whole_own}
 
@@ -27,7 +28,12 @@ then_ok (Ok x) p f = f p
 then_ok (Err e) p f = tt
 
 pub scan_then : (a b c : Reader) → IsSameScan a b → IsSameScan b c → IsSameScan a c
-scan_then a b c first next = record { rules = next.rules ∙ first.rules; place = next.place ∙ first.place; begun = next.begun ∙ first.begun }
+scan_then a b c first next = record {
+  place = next.place ∙ first.place;
+  rules = next.rules ∙ first.rules;
+  known = next.known ∙ first.known;
+  begun = next.begun ∙ first.begun;
+}
 
 pub folder_then : {F : Type 0} (honest steady : F → Type 0) (files : F → List File) (a b c : F)
     → IsSameFolder honest steady files a b → IsSameFolder honest steady files b c → IsSameFolder honest steady files a c
@@ -68,7 +74,7 @@ read_taken music steady place before after visit d changes taken =
 -- a name is looked at
 pub read_told : (music : Music) (steady : Type 0) (place : Option (List ℕ)) (pending : List Pending) (d : List (List ℕ))
     (changes : List RowChange) (uri : List ℕ) (found : Found)
-    → (AreSongs music changes → AreSongs music (changes ++ changes_of found)) → IsTold music place uri found → (steady → IsKnown found)
+    → (AreSongs music changes → AreSongs music (changes ++ changes_of found)) → IsTold music place uri found → (steady → IsSure music place uri found)
     → IsReadOn music steady place (file_at uri ∷ pending) d changes pending (still_droppable found d) (changes ++ changes_of found)
 read_told music steady place pending d changes uri found songs told known =
     record {

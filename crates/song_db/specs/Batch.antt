@@ -9,7 +9,7 @@ use Rattle.song_db.specs.declared.scan.visit.Visit.TheVariants.{Nothing}
 use Rattle.song_db.specs.Found.{visit_of, without_below}
 use Rattle.song_db.specs.Music.{Music}
 use Rattle.song_db.specs.Pending.{Pending, times_pending}
-use Rattle.song_db.specs.Scan.{has_song, times_put, IsCareful, is_sought, puts_of, drops_of, is_among, ArePartOf}
+use Rattle.song_db.specs.Scan.{is_put, is_there, times_put, IsCareful, is_sought, puts_of, drops_of, is_among, ArePartOf}
 
 -- the changes so far, and what may still be dropped of what might be at the start
 pub record IsBatch (rules : LibraryRules) (place : Option (List ℕ)) (start droppable : List (List ℕ)) (changes : List RowChange) : Type 0 where
@@ -28,15 +28,15 @@ pub record IsRead (rules : LibraryRules) (place : Option (List ℕ)) (before aft
 pub record IsHonestBatch (music : Music) (place : Option (List ℕ)) (start : List Pending) (known : List (List ℕ))
     (pending : List Pending) (droppable : List (List ℕ)) (changes : List RowChange) : Type 0 where
   pub read : (uri : List ℕ) → times_put changes uri + times_pending pending uri ≤ times_pending start uri
-  pub puts : All (λ row. has_song music place row.uri ≡ true) (puts_of changes)
+  pub puts : All (λ row. is_put music place row.uri ≡ true) (puts_of changes)
   pub careful : IsCareful music place start known → IsCareful music place pending droppable
 
 -- and over one that never fails
 pub record IsWholeBatch (music : Music) (place : Option (List ℕ)) (start : List Pending) (known : List (List ℕ))
     (pending : List Pending) (droppable : List (List ℕ)) (changes : List RowChange) : Type 0 where
-  pub read : (uri : List ℕ) → has_song music place uri ≡ true
+  pub read : (uri : List ℕ) → is_put music place uri ≡ true
       → times_pending start uri ≤ times_put changes uri + times_pending pending uri
-  pub gone : (uri : List ℕ) → has_song music place uri ≡ false → is_among known uri ≡ true → is_among droppable uri ≡ true
+  pub gone : (uri : List ℕ) → is_there music place uri ≡ false → is_among known uri ≡ true → is_among droppable uri ≡ true
 
 -- a folder that couldn't be listed keeps what is below it
 abbrev pub after_listing : {A : Type 0} → List ℕ → Result A FolderFault → List (List ℕ) → List (List ℕ)

@@ -5,10 +5,18 @@ use Rattle.std.specs.List.{list_any}
 use Rattle.std.specs.Str.{bytes_eq}
 use Rattle.song_db.specs.declared.rules.Endings.{Endings}
 
+-- those of the files that a decoder beside the daemon reads, in small letters
+abbrev pub decoded_endings : List (List ℕ)
+decoded_endings =
+    codes ".aac" ∷ codes ".aif" ∷ codes ".aiff" ∷ codes ".ape" ∷ codes ".dff" ∷ codes ".dsf" ∷ codes ".m4a" ∷ codes ".m4b"
+    ∷ codes ".mka" ∷ codes ".mp2" ∷ codes ".mp3" ∷ codes ".mpc" ∷ codes ".oga" ∷ codes ".ogg" ∷ codes ".opus" ∷ codes ".spx"
+    ∷ codes ".tta" ∷ codes ".wma" ∷ codes ".wv" ∷ []
+
 -- the endings in small letters
 abbrev pub endings_of : Endings → List (List ℕ)
 endings_of endings =
-    codes ".wav" ∷ ((if endings.wave then codes ".wave" ∷ [] else []) ++ (if endings.flac then codes ".flac" ∷ [] else []))
+    codes ".wav" ∷ ((if endings.wave then codes ".wave" ∷ [] else []) ++ ((if endings.flac then codes ".flac" ∷ [] else [])
+    ++ (if endings.decoded then decoded_endings else [])))
 
 -- the last bytes of a path are the ending, in any case
 abbrev pub has_ending : List ℕ → List ℕ → Bool

@@ -1,25 +1,26 @@
 -- What a scan looks at, and what it finds there.
 use Rattle.std.specs.Prelude.{◌≡◌, ℕ, ◌+◌, ◌≤◌, Bool, true, false, not, nat_lt, List, [], ◌∷◌, ◌++◌, filter, Option, Some}
-use Rattle.std.specs.Prelude.{None, Result, Ok, Err, if◌then◌else◌}
+use Rattle.std.specs.Prelude.{Result, Ok, Err, if◌then◌else◌}
 use Rattle.std.specs.Str.{bytes_eq}
 use Rattle.wave_pcm.specs.declared.info.WaveInfo.{WaveInfo}
 use Rattle.wave_pcm.specs.declared.refusal.WaveError.{WaveError}
 use Rattle.wave_pcm.specs.declared.refusal.WaveError.TheVariants.{NoMemory, NotWave, NoFormat, Unsupported, NoData, ReadFault, TooManyTurns}
-use Rattle.song_db.specs.declared.rules.LibraryRules.{LibraryRules}
 use Rattle.song_db.specs.declared.change.RowChange.{RowChange}
 use Rattle.song_db.specs.declared.change.RowChange.TheVariants.{Put}
 use Rattle.song_db.specs.Limits.{MAX_FOLDERS}
+use Rattle.song_files.specs.declared.folder.FileStamp.{FileStamp}
 use Rattle.song_db.specs.declared.refusal.SongDbError.{SongDbError}
+use Rattle.song_db.specs.declared.rules.LibraryRules.{LibraryRules}
 use Rattle.song_db.specs.declared.refusal.SongDbError.TheVariants.{NoMemory as MemoryRefused}
 use Rattle.song_db.specs.declared.scan.found.Found.{Found}
 use Rattle.song_db.specs.declared.scan.found.Found.TheVariants.{Song, Kept, NoSong}
 use Rattle.song_db.specs.declared.scan.visit.Visit.{Visit}
 use Rattle.song_db.specs.declared.scan.visit.Visit.TheVariants.{File, Folder, Nothing}
-use Rattle.song_db.specs.Music.{song_in}
+use Rattle.song_db.specs.Music.{Music, song_at, is_unchanged}
 use Rattle.song_db.specs.Name.{folders_over, is_song}
 use Rattle.song_db.specs.Pending.{Pending, file_at, below, times_pending}
 use Rattle.song_db.specs.Place.{is_below}
-use Rattle.song_db.specs.Row.{row_of, is_within_limits}
+use Rattle.song_db.specs.Row.{Row, row_of, is_within_limits}
 use Rattle.song_db.specs.Scan.{is_in, is_sought, has_row}
 use Rattle.song_db.specs.Uri.{is_uri}
 
@@ -54,15 +55,15 @@ abbrev pub IsPrefixIn : Option (List ℕ) → List ℕ → Type 0
 IsPrefixIn place prefix = (name : List ℕ) → is_in place (prefix ++ name) ≡ true
 
 -- what the reading of a file's head tells of its row
-abbrev pub found_of : List ℕ → Result WaveInfo WaveError → Result Found SongDbError
-found_of uri (Ok info) = Ok (if is_within_limits (row_of uri info None) then Song (row_of uri info None) else NoSong)
-found_of uri (Err NoMemory) = Err MemoryRefused
-found_of uri (Err ReadFault) = Ok (Kept uri)
-found_of uri (Err NotWave) = Ok NoSong
-found_of uri (Err NoFormat) = Ok NoSong
-found_of uri (Err (Unsupported tag bits channels)) = Ok NoSong
-found_of uri (Err NoData) = Ok NoSong
-found_of uri (Err TooManyTurns) = Ok NoSong
+abbrev pub found_of : List ℕ → Option FileStamp → Result WaveInfo WaveError → Result Found SongDbError
+found_of uri stamp (Ok info) = Ok (if is_within_limits (row_of uri info stamp) then Song (row_of uri info stamp) else NoSong)
+found_of uri stamp (Err NoMemory) = Err MemoryRefused
+found_of uri stamp (Err ReadFault) = Ok (Kept uri)
+found_of uri stamp (Err NotWave) = Ok NoSong
+found_of uri stamp (Err NoFormat) = Ok NoSong
+found_of uri stamp (Err (Unsupported tag bits channels)) = Ok NoSong
+found_of uri stamp (Err NoData) = Ok NoSong
+found_of uri stamp (Err TooManyTurns) = Ok NoSong
 
 -- it isn't known only of a source that may fail
 abbrev pub IsKnown : Found → Type 0
@@ -76,11 +77,23 @@ IsOf uri (Song row) = row.uri ≡ uri
 IsOf uri (Kept kept) = kept ≡ uri
 IsOf uri NoSong = Unit {0}
 
--- a row is that of the bytes, within the limits, and there is no song only where they have none
-abbrev pub IsSongIn : LibraryRules → List ℕ → List ℕ → Found → Type 0
-IsSongIn rules uri bytes (Song row) = (song_in rules uri bytes ≡ Some row) × (is_within_limits row ≡ true)
-IsSongIn rules uri bytes (Kept kept) = Unit {0}
-IsSongIn rules uri bytes NoSong = has_row (song_in rules uri bytes) ≡ false
+-- what the row of the bytes under a URI is, if they have one
+abbrev pub IsSongIn : Option Row → Found → Type 0
+IsSongIn song (Song row) = (song ≡ Some row) × (is_within_limits row ≡ true)
+IsSongIn song (Kept kept) = Unit {0}
+IsSongIn song NoSong = has_row song ≡ false
+
+-- a file is found where it isn't known with its stamp
+abbrev pub IsFoundAt : Music → List ℕ → Found → Type 0
+IsFoundAt music uri (Song row) = IsSongIn (song_at music uri) (Song row) × (is_unchanged music uri ≡ false)
+IsFoundAt music uri (Kept kept) = Unit {0}
+IsFoundAt music uri NoSong = IsSongIn (song_at music uri) NoSong × (is_unchanged music uri ≡ false)
+
+-- and where nothing fails it is passed by only where it is
+abbrev pub IsSureAt : Music → List ℕ → Found → Type 0
+IsSureAt music uri (Song row) = Unit {0}
+IsSureAt music uri (Kept kept) = is_unchanged music uri ≡ true
+IsSureAt music uri NoSong = Unit {0}
 
 abbrev pub changes_of : Found → List RowChange
 changes_of (Song row) = Put row ∷ []

@@ -21,7 +21,9 @@ pub mod Reader
 pub mod Refusal
 pub mod Replaced
 pub mod Row
+pub mod Rules
 pub mod Same
+pub mod SameFolder
 pub mod Scan
 pub mod Uri
 pub mod ValueIndex

@@ -1,6 +1,5 @@
 -- What a step of the reading of a scan does.
 use Rattle.std.specs.Prelude.{◌≡◌, ℕ, Bool, true, false, List, [], Option}
-use Rattle.song_files.specs.Folder.{File}
 use Rattle.song_db.specs.declared.change.RowChange.{RowChange}
 use Rattle.song_db.specs.declared.scan.reader.Reader.{Reader}
 use Rattle.song_db.specs.Batch.{IsHonestBatch, IsWholeBatch}
@@ -9,17 +8,18 @@ use Rattle.song_db.specs.Music.{Music}
 use Rattle.song_db.specs.Pending.{Pending}
 use Rattle.song_db.specs.Scan.{AreSongs}
 
--- the rules and the job's place stay, and whether it was looked at
-pub record IsSameScan (before after : Reader) : Type 0 where
-  pub rules : after.walk.rules ≡ before.walk.rules
+-- the job's place, the rules and the known songs stay
+pub record IsSameOrderRead (before after : Reader) : Type 0 where
   pub place : after.walk.place ≡ before.walk.place
-  pub begun : after.is_begun ≡ before.is_begun
+  pub rules : after.walk.rules ≡ before.walk.rules
+  pub known : after.droppable.known ≡ before.droppable.known
 
--- a folder behind its calls: an honest one is honest still, with the same files, and a steady one is steady still
-pub record IsSameFolder {F : Type 0} (honest steady : F → Type 0) (files : F → List File) (before after : F) : Type 0 where
-  pub honesty : honest before → honest after
-  pub same_files : honest before → files after ≡ files before
-  pub steadiness : steady before → steady after
+-- and whether the place was looked at
+pub record IsSameScan (before after : Reader) : Type 0 where
+  pub place : after.walk.place ≡ before.walk.place
+  pub rules : after.walk.rules ≡ before.walk.rules
+  pub known : after.droppable.known ≡ before.droppable.known
+  pub begun : after.is_begun ≡ before.is_begun
 
 -- over an honest folder, what is true of the changes so far, of what is still to be read and of what may still be dropped,
 -- is true of them afterwards, whatever there was at the start of the batch

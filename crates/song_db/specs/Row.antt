@@ -1,8 +1,11 @@
 -- The row of a song: its URI, how to find its frames, its tags, and the stamp of its file.
-use Rattle.std.specs.Prelude.{ℕ, ◌+◌, Bool, true, ◌&&◌, nat_le, nat_lt, List, [], ◌∷◌, ◌++◌, Option, Some, None, is_none}
+use Rattle.std.specs.Prelude.{ℕ, ◌+◌, Bool, true, ◌&&◌, nat_le, nat_lt, List, [], ◌∷◌, ◌++◌, Option, Some, None, is_none, if◌then◌else◌}
+use Rattle.std.specs.Prelude.{length, sum_by}
 use Rattle.std.specs.List.{list_all, find}
 use Rattle.std.specs.Option.{option_map_or}
 use Rattle.std.specs.Str.{bytes_eq}
+use Rattle.profile.specs.declared.profile.Profile.{Profile}
+use Rattle.profile.specs.declared.profile.Profile.TheVariants.{Named, Wide}
 use Rattle.song_files.specs.Tag.{number_of, tag_at}
 use Rattle.song_files.specs.Tags.{TagText, first_text}
 use Rattle.song_files.specs.Text.{is_tag_text}
@@ -10,6 +13,8 @@ use Rattle.song_files.specs.declared.folder.FileStamp.{FileStamp}
 use Rattle.song_files.specs.declared.tag.Tag.TheVariants.{Title, Artist, Album, Date, Genre, Comment}
 use Rattle.wave_pcm.specs.Limits.{MAX_RATE}
 use Rattle.wave_pcm.specs.declared.info.WaveInfo.{WaveInfo}
+use Rattle.song_db.specs.Limits.{MAX_ROW_TAG_BYTES}
+use Rattle.song_db.specs.declared.rules.LibraryRules.{LibraryRules}
 use Rattle.song_db.specs.Uri.{is_uri}
 
 -- the tags are a list, and a tag may have several texts
@@ -34,6 +39,10 @@ row_of uri info stamp = record {
   stamp = stamp;
 }
 
+-- a stamp where the rules of the library keep them
+abbrev pub kept_stamp : LibraryRules → Option FileStamp → Option FileStamp
+kept_stamp rules stamp = if rules.keeps_stamps then stamp else None
+
 -- a text has 1 to 512 bytes of UTF-8 without a control character
 abbrev pub is_good_tag : TagText → Bool
 is_good_tag tag = is_tag_text tag.text
@@ -44,7 +53,7 @@ is_plain_from number [] = true
 is_plain_from number (t ∷ tags) =
     nat_le number (number_of t.tag) && (nat_lt (number_of t.tag) 6 && is_plain_from (number_of t.tag + 1) tags)
 
--- of each of the six tags of the first profile there is one text at most, and no text of another tag
+-- of each of the six tags of the named subset there is one text at most, and no text of another tag
 abbrev pub is_plain : List TagText → Bool
 is_plain tags = is_plain_from 0 tags
 
@@ -68,10 +77,19 @@ tags_from number (text ∷ texts) = numbered number text ++ tags_from (number + 
 abbrev pub from_six : List (Option (List ℕ)) → List TagText
 from_six texts = tags_from 0 texts
 
--- the limits on all but the URI; for now no row has a stamp
+-- the limits on all but the URI
 abbrev pub is_within_limits : Row → Bool
 is_within_limits row = nat_le 1 row.rate && (nat_le row.rate MAX_RATE && (nat_le 1 row.channels && (nat_le row.channels 2 &&
-    (list_all is_good_tag row.tags && (is_plain row.tags && is_none row.stamp)))))
+    list_all is_good_tag row.tags)))
+
+-- how many bytes the texts take, with three more for each
+abbrev pub tags_size : List TagText → ℕ
+tags_size tags = sum_by (λ (t : TagText). 3 + length t.text) tags
+
+-- what is saved under the profile has a place for all that the row says
+abbrev pub is_kept_by : Profile → Row → Bool
+is_kept_by Named row = is_plain row.tags && is_none row.stamp
+is_kept_by Wide row = nat_le (tags_size row.tags) MAX_ROW_TAG_BYTES
 
 abbrev pub is_row : Row → Bool
 is_row row = is_uri row.uri && is_within_limits row

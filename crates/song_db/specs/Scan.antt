@@ -1,27 +1,29 @@
 -- What a scan answers.
 use Rattle.std.specs.Prelude.{◌≡◌, ℕ, ◌+◌, ◌<◌, ◌≤◌, Bool, true, false, ◌||◌, ◌&&◌, List, [], ◌∷◌, ◌++◌, length, filter, count_by}
-use Rattle.std.specs.Prelude.{Option, Some, None}
+use Rattle.std.specs.Prelude.{Option, Some, None, not}
 use Rattle.std.specs.List.{list_any, All}
 use Rattle.std.specs.Str.{bytes_eq}
 use Rattle.std.specs.declared.vec.Vec.{Vec}
 use Rattle.song_files.specs.Folder.{File}
-use Rattle.song_db.specs.declared.rules.LibraryRules.{LibraryRules}
 use Rattle.song_db.specs.declared.change.RowChange.{RowChange}
 use Rattle.song_db.specs.declared.change.RowChange.TheVariants.{Put, Drop}
+use Rattle.song_db.specs.declared.known_song.KnownSong.{KnownSong}
+use Rattle.song_db.specs.declared.rules.LibraryRules.{LibraryRules}
 use Rattle.song_db.specs.Limits.{MAX_CHANGES}
-use Rattle.song_db.specs.Music.{Music, music_of, song_at}
+use Rattle.song_db.specs.Music.{Music, music_of, song_at, is_unchanged}
 use Rattle.song_db.specs.Name.{is_song}
 use Rattle.song_db.specs.Pending.{Pending, times_pending}
 use Rattle.song_db.specs.Place.{is_below}
 use Rattle.song_db.specs.Row.{Row, is_within_limits}
 use Rattle.song_db.specs.Uri.{is_uri}
 
--- the job, the rules, and its folder or song, or none for the root; what is still to be read; the known URIs that may still be
--- dropped; and whether it is over
+-- the job and its folder or song, or none for the root; the rules and the known songs; what is still to be read; the known
+-- URIs that may still be dropped; and whether it is over
 pub record Progress : Type 0 where
   pub job : ℕ
-  pub rules : LibraryRules
   pub place : Option (List ℕ)
+  pub rules : LibraryRules
+  pub known : List KnownSong
   pub pending : List Pending
   pub droppable : List (List ℕ)
   pub is_over : Bool
@@ -72,8 +74,9 @@ pub record IsEnd (after : Progress) : Type 0 where
 -- the order of a scan stays
 pub record IsSameOrder (before after : Progress) : Type 0 where
   pub job : after.job ≡ before.job
-  pub rules : after.rules ≡ before.rules
   pub place : after.place ≡ before.place
+  pub rules : after.rules ≡ before.rules
+  pub known : after.known ≡ before.known
 
 -- each song that was read is one of the files
 abbrev pub AreSongs : Music → List RowChange → Type 0
@@ -88,41 +91,53 @@ has_row (Some row) = is_within_limits row
 abbrev pub has_song : Music → Option (List ℕ) → List ℕ → Bool
 has_song music place uri = is_uri uri && (is_sought music.rules place uri && has_row (song_at music uri))
 
+-- a song that is to be put: it isn't known with the stamp that its file has
+abbrev pub is_put : Music → Option (List ℕ) → List ℕ → Bool
+is_put music place uri =
+    is_uri uri && (is_sought music.rules place uri && (has_row (song_at music uri) && not (is_unchanged music uri)))
+
+-- a URI whose row isn't dropped: a song, or what is known with the stamp that its file has
+abbrev pub is_there : Music → Option (List ℕ) → List ℕ → Bool
+is_there music place uri =
+    is_uri uri && (is_sought music.rules place uri && (has_row (song_at music uri) || is_unchanged music uri))
+
 -- how often a song is put
 abbrev pub times_put : List RowChange → List ℕ → ℕ
 times_put changes uri = count_by (λ row. bytes_eq uri row.uri) (puts_of changes)
 
--- a song that may still be dropped is still to be read
+-- what is there and may still be dropped is still to be read
 abbrev pub IsCareful : Music → Option (List ℕ) → List Pending → List (List ℕ) → Type 0
 IsCareful music place pending droppable =
-    (uri : List ℕ) → has_song music place uri ≡ true → is_among droppable uri ≡ true → 0 < times_pending pending uri
+    (uri : List ℕ) → is_there music place uri ≡ true → is_among droppable uri ≡ true → 0 < times_pending pending uri
 
 -- what is read of an honest folder, whether it fails or not: what is put was still to be read, and is no more; nothing
--- new is to be read; what is put is a song, with its row, and what is dropped is none
+-- new is to be read; what is put is a song that isn't known with its stamp, with its row, and what is dropped isn't there
 pub record IsHonestRead (music : Music) (place : Option (List ℕ)) (before after : List Pending) (known left : List (List ℕ))
     (changes : List RowChange) : Type 0 where
   pub read : (uri : List ℕ) → times_put changes uri + times_pending after uri ≤ times_pending before uri
-  pub puts : All (λ row. has_song music place row.uri ≡ true) (puts_of changes)
+  pub puts : All (λ row. is_put music place row.uri ≡ true) (puts_of changes)
   pub songs : AreSongs music changes
-  pub drops : IsCareful music place before known → All (λ uri. has_song music place uri ≡ false) (drops_of changes)
+  pub drops : IsCareful music place before known → All (λ uri. is_there music place uri ≡ false) (drops_of changes)
   pub careful : IsCareful music place before known → IsCareful music place after left
 
--- and of one that never fails: a song that is no more to be read was put, and a known URI that is no song is dropped, now
--- or later
+-- and of one that never fails: a song that is no more to be read was put, or its known stamp is that of the file; and a
+-- known URI that isn't there is dropped, now or later
 pub record IsWholeRead (music : Music) (place : Option (List ℕ)) (before after : List Pending) (known left : List (List ℕ))
     (changes : List RowChange) : Type 0 where
-  pub read : (uri : List ℕ) → has_song music place uri ≡ true
+  pub read : (uri : List ℕ) → is_put music place uri ≡ true
       → times_pending before uri ≤ times_put changes uri + times_pending after uri
-  pub gone : (uri : List ℕ) → has_song music place uri ≡ false → is_among known uri ≡ true
+  pub gone : (uri : List ℕ) → is_there music place uri ≡ false → is_among known uri ≡ true
       → is_among (drops_of changes ++ left) uri ≡ true
 
 abbrev pub IsHonestAnswer : List File → Progress → Progress → List RowChange → Type 0
 IsHonestAnswer files before after changes =
-    IsHonestRead (music_of before.rules files) before.place before.pending after.pending before.droppable after.droppable changes
+    IsHonestRead (music_of before.rules before.known files) before.place before.pending after.pending before.droppable after.droppable
+    changes
 
 abbrev pub IsWholeAnswer : List File → Progress → Progress → List RowChange → Type 0
 IsWholeAnswer files before after changes =
-    IsWholeRead (music_of before.rules files) before.place before.pending after.pending before.droppable after.droppable changes
+    IsWholeRead (music_of before.rules before.known files) before.place before.pending after.pending before.droppable after.droppable
+    changes
 
 -- the changes of an answer; none at the end
 abbrev pub changes_in : {A : Type 0} → Option (Vec RowChange A) → List RowChange

@@ -1,6 +1,6 @@
 //! Laws of scans and of what is asked of the rows, for the layers above: a call brings its clauses into their proofs.
 ghost use Rattle.std.specs.Prelude.{◌≡◌, ℕ, List};
-ghost use Rattle.song_db.specs.Difference.{ScansTellTheDifference};
+ghost use Rattle.song_db.specs.Difference.{ScansTellTheDifference, WithoutStampsAllIsRead};
 ghost use Rattle.song_db.specs.Distinct.{AreTextsWith, IsValue, IsFolderIn};
 ghost use Rattle.song_db.specs.Query.{values_of, folders_in};
 ghost use Rattle.song_db.specs.Row.{Row};
@@ -8,9 +8,11 @@ ghost use Rattle.song_db.specs.declared.place.Place.{Place};
 ghost use Rattle.song_files.specs.declared.tag.Tag.{Tag};
 
 /// A scan from its beginning to its end, over an honest folder that never fails, tells the difference: each song is put
-/// once, with its row, and nothing else is; each known URI that is no song is dropped, and nothing else is.
+/// once, with its row, but those known with the stamp that their file has, and nothing else is; each known URI that is
+/// neither is dropped, and nothing else is. Where the rules keep no stamps, all songs are put.
 pub fn scans_tell_the_difference()
     ensures difference { ScansTellTheDifference }
+    ensures without_stamps { WithoutStampsAllIsRead }
 {}
 
 /// The values of a tag are the texts of it that rows have, and no others, rising by bytes, each once. The folders in a place

@@ -3,9 +3,11 @@
 
 mod batch;
 pub mod change;
+pub mod decoded;
 pub mod effect;
 mod folder_rows;
 mod known_rows;
+pub mod known_song;
 pub mod laws;
 pub mod limits;
 mod near;
@@ -27,8 +29,10 @@ mod values;
 pub mod walk;
 
 pub use change::RowChange;
+pub use decoded::is_decoded;
 pub use effect::{Effect, Effects};
-pub use limits::{MAX_CHANGES, MAX_FOLDERS, MAX_ROWS, MAX_URI_BYTES};
+pub use known_song::KnownSong;
+pub use limits::{MAX_CHANGES, MAX_FOLDERS, MAX_ROW_TAG_BYTES, MAX_ROWS, MAX_URI_BYTES};
 pub use order::ScanOrder;
 pub use place::Place;
 pub use refusal::{PushError, SongDbError};

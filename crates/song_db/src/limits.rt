@@ -9,5 +9,8 @@ pub const MAX_ROWS: usize = 65_536;
 /// How many changes an answer of a scan may have.
 pub const MAX_CHANGES: usize = 64;
 
+/// How many bytes the texts of a row's tags may take where all of MPD's tags are known, with three more for each text.
+pub const MAX_ROW_TAG_BYTES: usize = 30_000;
+
 /// How many folders a scanned song may stand in, counted from the root of the music.
 pub const MAX_FOLDERS: usize = 32;

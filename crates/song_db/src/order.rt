@@ -1,31 +1,34 @@
 // The order of a job: what a scan is to read, and the URIs that it knows.
-ghost use Rattle.std.specs.Prelude.{◌≡◌, ◌↔◌, IsTrue, MatchOption, option_map};
+ghost use Rattle.std.specs.Prelude.{◌≡◌, ◌↔◌, IsTrue, MatchOption, map, option_map};
 ghost use Rattle.std.specs.Ordering.{nat_cmp, is_lt};
 ghost use Rattle.std.specs.Cmp.Lexicographic.{slice_cmp};
-ghost use Rattle.song_db.specs.Order.{AreKnown};
+ghost use Rattle.song_db.specs.Music.{uris_of};
+ghost use Rattle.song_db.specs.Order.{AreKnown, without_stamp};
 
+use crate::known_song::KnownSong;
 use crate::rules::LibraryRules;
 use crate::uri::Uri;
 use std::marker::Model;
 
-/// What a scan is to read: a folder or a song, by which rules, and the URIs of the rows that were there when the job was taken, the
-/// song itself included. They rise by their bytes.
+/// What a scan is to read: a folder or a song, by which rules, and the songs that had rows there when the job was taken, the
+/// song itself included. Their URIs rise by their bytes.
 #[derive(Debug, Drop)]
 pub struct ScanOrder {
     job: u32,
     uri: Option<Uri>,
     rules: LibraryRules,
-    known: Vec<Uri>,
+    known: Vec<KnownSong>,
 }
 
 impl Model for ScanOrder {
+    ghost use Rattle.song_db.specs.Music.{uris_of};
     ghost use Rattle.song_db.specs.Order.{Order, AreKnown};
 
     ghost Value = { Order };
 
     ghost view = { λ o. record { job = o.job; uri = o.uri; rules = o.rules; known = o.known.items } };
 
-    ghost invariant = { λ o. AreKnown o.known.items };
+    ghost invariant = { λ o. AreKnown (uris_of o.known.items) };
 }
 
 impl ScanOrder {
@@ -34,10 +37,10 @@ impl ScanOrder {
         job: u32,
         uri: Option<Uri>,
         rules: LibraryRules,
-        known: Vec<Uri>,
+        known: Vec<KnownSong>,
     ) -> Option<ScanOrder>
-        ensures { MatchOption result (AreKnown known.items →
-            ⊥) (λ order. (order ≡ record { job = job; uri = uri; rules = rules; known = known.items }) × AreKnown known.items) }
+        ensures { MatchOption result (AreKnown (uris_of known.items) → ⊥) (λ order. (order
+            ≡ record { job = job; uri = uri; rules = rules; known = known.items }) × AreKnown (uris_of known.items)) }
     {
         if !are_rising(&known) {
             return None;
@@ -55,9 +58,9 @@ impl ScanOrder {
         job: u32,
         uri: Option<Uri>,
         rules: LibraryRules,
-        known: Vec<Uri>,
+        known: Vec<KnownSong>,
     ) -> ScanOrder
-        requires { AreKnown known.items }
+        requires { AreKnown (uris_of known.items) }
         ensures { result ≡ record { job = job; uri = uri; rules = rules; known = known.items } }
     {
         ScanOrder {
@@ -66,6 +69,21 @@ impl ScanOrder {
             rules,
             known,
         }
+    }
+
+    /// The same order by other rules.
+    pub fn with_rules(self, rules: LibraryRules) -> ScanOrder
+        ensures { result ≡ record { job = self.job; uri = self.uri; rules = rules; known = self.known } }
+    {
+        ScanOrder { rules, ..self }
+    }
+
+    /// The same order, by which each file is opened, whatever its stamp is.
+    pub fn without_stamps(mut self) -> ScanOrder
+        ensures { result ≡ record self { known = map without_stamp self.known } }
+    {
+        forget_stamps(&mut self.known);
+        self
     }
 
     /// The number of the job.
@@ -89,38 +107,39 @@ impl ScanOrder {
         self.rules
     }
 
-    /// The URIs of the rows that were there, rising.
-    pub fn known(&self) -> &[Uri]
-        ensures uris { result.now ≡ self.now.known }
-        ensures rising { AreKnown result.now }
+    /// The songs that had rows there, their URIs rising.
+    pub fn known(&self) -> &[KnownSong]
+        ensures songs { result.now ≡ self.now.known }
+        ensures rising { AreKnown (uris_of result.now) }
     {
         self.known.as_slice()
     }
 
-    /// The same order by other rules.
-    pub fn with_rules(self, rules: LibraryRules) -> ScanOrder
-        ensures { result ≡ record { job = self.job; uri = self.uri; rules = rules; known = self.known } }
-    {
-        ScanOrder { rules, ..self }
-    }
-
-    pub(crate) fn into_parts(self) -> (u32, Option<Uri>, LibraryRules, Vec<Uri>)
+    pub(crate) fn into_parts(self) -> (u32, Option<Uri>, LibraryRules, Vec<KnownSong>)
         ensures job { result.0 ≡ self.job }
         ensures uri { result.1 ≡ self.uri }
         ensures rules { result.2 ≡ self.rules }
         ensures known { result.3.items ≡ self.known }
-        ensures rising { AreKnown result.3.items }
+        ensures rising { AreKnown (uris_of result.3.items) }
     {
         (self.job, self.uri, self.rules, self.known)
     }
 }
 
-// Whether each URI stands before the next.
-fn are_rising(uris: &[Uri]) -> bool
-    ensures { IsTrue result ↔ AreKnown uris.now }
+fn forget_stamps(known: &mut [KnownSong])
+    ensures { known.new ≡ map without_stamp known.old }
 {
-    for at in 1..uris.len() {
-        if !is_before(&uris[at - 1], &uris[at]) {
+    for song in known.iter_mut() {
+        song.stamp = None;
+    }
+}
+
+// Whether each URI stands before the next.
+fn are_rising(known: &[KnownSong]) -> bool
+    ensures { IsTrue result ↔ AreKnown (uris_of known.now) }
+{
+    for at in 1..known.len() {
+        if !is_before(&known[at - 1].uri, &known[at].uri) {
             return false;
         }
     }

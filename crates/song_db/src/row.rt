@@ -5,11 +5,13 @@ ghost use Rattle.std.specs.Str.{bytes_eq};
 ghost use Rattle.song_files.specs.Tag.{is_tag};
 ghost use Rattle.song_files.specs.Tags.{first_text};
 ghost use Rattle.song_db.specs.Duration.{milliseconds};
-ghost use Rattle.song_db.specs.Row.{row_of, is_good_tag, is_plain, is_plain_from, is_within_limits, is_row};
+ghost use Rattle.song_db.specs.Row.{row_of, is_good_tag, is_plain, is_plain_from, is_within_limits, is_kept_by, is_row, tags_size};
 ghost use Rattle.song_db.specs.Same.{same_tags, same_stamp, same_row};
 ghost use Rattle.song_db.specs.Valued.{has_text, has_value};
 
+use crate::limits::MAX_ROW_TAG_BYTES;
 use crate::uri::Uri;
+use profile::Profile;
 use song_files::{FileStamp, MAX_TAGS, Tag, Tags};
 use std::alloc::{AllocError, Global};
 use std::marker::Model;
@@ -27,8 +29,7 @@ struct RowParts {
 /// A song of the database: its URI, how to find its frames, its tags, and the stamp of its file.
 ///
 /// Its rate is 1 to 192,000 frames a second, its channels are 1 or 2, and each text of its tags has 1 to 512 bytes of
-/// UTF-8 without a control character. For now it has one text at most of each tag with a number below 6, and no stamp. It is one
-/// block of memory beside its texts, which its copies share.
+/// UTF-8 without a control character. It is one block of memory beside its texts, which its copies share.
 #[derive(Debug, Drop)]
 pub struct SongRow {
     parts: Arc<RowParts>,
@@ -46,7 +47,7 @@ impl Model for SongRow {
 }
 
 impl SongRow {
-    /// The row of a song whose file has the head and, where stamps are kept, this stamp; `None` where one of them passes a limit.
+    /// The row of a song whose file has the head and, where stamps are kept, this stamp; `None` where the head passes a limit.
     pub fn new(
         alloc: Global,
         uri: Uri,
@@ -55,11 +56,7 @@ impl SongRow {
     ) -> Result<Option<SongRow>, AllocError>
         ensures { IfOk result (λ row. row ≡ (if is_within_limits (row_of uri info stamp) then Some (row_of uri info stamp) else None)) }
     {
-        if !has_good_format(&info)
-            || !has_good_tags(&info.tags)
-            || !has_plain_tags(&info.tags)
-            || stamp.is_some()
-        {
+        if !has_good_format(&info) || !has_good_tags(&info.tags) {
             return Ok(None);
         }
         let parts = Arc::new(alloc, RowParts { uri, info, stamp })?;
@@ -105,6 +102,17 @@ impl SongRow {
         ensures { result ≡ self.now.stamp }
     {
         self.parts.stamp
+    }
+
+    /// Whether what is saved under a profile has a place for all that the row says: under the named subset one text at most of each
+    /// of the six tags with the lowest numbers, and no stamp; else texts of 30,000 bytes, with three more for each.
+    pub fn is_kept_by(&self, profile: Profile) -> bool
+        ensures { result ≡ is_kept_by profile self.now }
+    {
+        match profile {
+            Profile::Named => has_plain_tags(&self.parts.info.tags) && self.parts.stamp.is_none(),
+            Profile::Wide => has_short_tags(&self.parts.info.tags),
+        }
     }
 
     /// Whether one of the texts of a tag is this one.
@@ -168,7 +176,7 @@ fn has_good_tags(tags: &Tags) -> bool
     tags.len() <= MAX_TAGS
 }
 
-// How many tags a row may have texts of: those with the lowest numbers.
+// How many tags a row of the named subset may have texts of: those with the lowest numbers.
 const PLAIN_TAGS: u8 = 6;
 
 // Whether there is one text at most of each of the six tags with the lowest numbers, and none of another.
@@ -182,6 +190,21 @@ fn has_plain_tags(tags: &Tags) -> bool
             return false;
         }
         next = number + 1;
+    }
+    true
+}
+
+// Whether the texts take no more bytes than a row may have, with three more for each.
+fn has_short_tags(tags: &Tags) -> bool
+    ensures { result ≡ nat_le (tags_size tags.now) MAX_ROW_TAG_BYTES }
+{
+    let mut left = MAX_ROW_TAG_BYTES;
+    for at in 0..tags.len() {
+        let size = 3 + tags.at(at).1.len();
+        if size > left {
+            return false;
+        }
+        left -= size;
     }
     true
 }

@@ -1,6 +1,6 @@
 // The scan of a job, answer after answer.
 ghost use Rattle.std.specs.Prelude.{◌≡◌, [], true, false, Ok, None, IfOk, IfSome, OnErr, IsOkUnless};
-ghost use Rattle.song_db.specs.Pending.{own_pending};
+ghost use Rattle.song_db.specs.Difference.{begun};
 ghost use Rattle.song_db.specs.Scan.{IsAnswer, IsEnd, IsHonestAnswer, IsSameOrder, IsWholeAnswer, changes_in};
 ghost use Rattle.song_db.specs.declared.refusal.SongDbError.TheVariants.{NoMemory};
 
@@ -22,11 +22,12 @@ use std::marker::Model;
 
 /// The scan of a job: it reads the songs of a folder, or one song, and tells the changes of their rows in batches.
 ///
-/// A song is a file whose name ends as the rules of the order say (in any ASCII case) at most 32 folders deep, counted from the root of the
-/// music, whose path has the form of a URI and whose head `song_head::read_song` reads. It is a `Put`, changed or not.
-/// Where its file can't be opened or read, nobody knows, and its row is kept; where a folder can't be listed, the rows
-/// below it are. The folders are walked by the bytes of names, files and folders mixed. After the walk each known URI
-/// that was neither read nor kept is a `Drop`, rising.
+/// A song is a file whose name ends as the rules of the order say (in any ASCII case) at most 32 folders deep, counted from
+/// the root of the music, whose path has the form of a URI and whose head `song_head::read_song` reads. It is a `Put`,
+/// changed or not; where the rules keep stamps and it is known with the stamp that its file has, the file isn't opened and
+/// its row is kept. Where its file can't be looked at, opened or read, nobody knows, and its row is kept; where a folder
+/// can't be listed, the rows below it are. The folders are walked by the bytes of names, files and folders mixed. After
+/// the walk each known URI that was neither read nor kept is a `Drop`, rising.
 ///
 /// A scan holds what is left of the listings on the present path, and a mark for each known URI.
 #[derive(Debug, Drop)]
@@ -45,29 +46,22 @@ impl Model for Scan {
 
     ghost view = { λ s. record {
       job = s.job;
-      rules = s.reader.walk.rules;
       place = s.reader.walk.place;
+      rules = s.reader.walk.rules;
+      known = s.reader.droppable.known;
       pending = still_pending s.reader.is_begun s.reader.walk;
-      droppable = s.reader.droppable;
+      droppable = s.reader.droppable.left;
       is_over = s.is_over;
     } };
 
     ghost invariant = { λ s. (s.reader.is_begun ≡ false → s.reader.walk.pending ≡ []) × (s.is_over ≡ true →
-        (s.reader.droppable ≡ []) × (still_pending s.reader.is_begun s.reader.walk ≡ [])) };
+        (s.reader.droppable.left ≡ []) × (still_pending s.reader.is_begun s.reader.walk ≡ [])) };
 }
 
 impl Scan {
     /// The scan of an order, which has read nothing yet. It takes memory for the marks; refused by `NoMemory`.
     pub fn begin(alloc: Global, order: ScanOrder) -> Result<Scan, SongDbError>
-        ensures scan { IfOk result (λ scan. scan
-            ≡ record {
-              job = order.job;
-              rules = order.rules;
-              place = order.uri;
-              pending = own_pending order.uri;
-              droppable = order.known;
-              is_over = false;
-            }) }
+        ensures scan { IfOk result (λ scan. scan ≡ begun order) }
         ensures only { IsOkUnless result NoMemory }
     {
         let (job, place, rules, known) = order.into_parts();

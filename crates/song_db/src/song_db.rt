@@ -4,7 +4,7 @@ ghost use Rattle.std.specs.Prelude.{IfOk, OnOk, OnErr, IsOkUnless, List, count_b
 ghost use Rattle.song_db.specs.Change.{IsDatabase, after_batch};
 ghost use Rattle.song_db.specs.Duration.{total_of};
 ghost use Rattle.song_db.specs.Effect.{effects_of};
-ghost use Rattle.song_db.specs.Known.{uris_in};
+ghost use Rattle.song_db.specs.Known.{known_in};
 ghost use Rattle.song_db.specs.Last.{ends_before, push_refusal, AnswersPush};
 ghost use Rattle.song_db.specs.Query.{number_at, rows_under, is_folder, folders_in, songs_in, values_of};
 ghost use Rattle.song_db.specs.Refusal.{AnswersExactlyIfThere, AnswersIfThere};
@@ -235,8 +235,8 @@ impl SongDb {
         }
     }
 
-    /// The order of a job for a place, by these rules: a folder or a song, or the root. It knows the URIs of the songs there, the
-    /// song of that very URI included. Refused by `NoMemory`.
+    /// The order of a job for a place, by these rules: a folder or a song, or the root. It knows the songs there, the song of that
+    /// very URI included, by their URIs and, where the rules keep them, their stamps. Refused by `NoMemory`.
     pub fn scan_order(
         &self,
         alloc: Global,
@@ -245,10 +245,10 @@ impl SongDb {
         rules: LibraryRules,
     ) -> Result<ScanOrder, SongDbError>
         ensures order { IfOk result (λ order. order
-            ≡ record { job = job; uri = place; rules = rules; known = uris_in self.now place }) }
+            ≡ record { job = job; uri = place; rules = rules; known = known_in rules self.now place }) }
         ensures only { IsOkUnless result NoMemory }
     {
-        let known = known_in(alloc, &self.rows, place.as_ref())?;
+        let known = known_in(alloc, &self.rows, place.as_ref(), rules)?;
         Ok(ScanOrder::of_known(job, place, rules, known))
     }
 

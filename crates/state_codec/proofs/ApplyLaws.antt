@@ -1,6 +1,6 @@
 -- The body of a record, applied as it is read.
 use Rattle.std.proofs.Common.{◌≡◌, ℕ, zero, suc, ◌+◌, ◌-◌, ◌<◌, ◌≤◌, Bool, true, false, cond, eqb, List, [], ◌∷◌, length, Result, Ok, Err}
-use Rattle.std.proofs.Common.{Some, None, refl, sym, ap, ◌∙◌, arith}
+use Rattle.std.proofs.Common.{Some, None, refl, sym, ap, subst, ◌∙◌, arith}
 use Rattle.std.specs.Prelude.{Option}
 use Rattle.std.specs.Option.{ok_or}
 use Rattle.std.proofs.lemmas.List.{length-append}
@@ -14,13 +14,14 @@ use Rattle.state_codec.specs.declared.refusal.BodyError.{BodyError}
 use Rattle.state_codec.specs.declared.refusal.BodyError.TheVariants.{BadOp, DoesNotApply}
 use Rattle.state_codec.specs.declared.refusal.OpRefusal.{OpRefusal}
 use Rattle.state_codec.specs.Applied.{refusal_of, after, applied, applied_from, unless_refused}
-use Rattle.state_codec.specs.Body.{told, told_place, body_from, body_applied_in, GivesBody, bad_op, not_applied}
+use Rattle.state_codec.specs.Body.{told, told_place, body_from, front_applied, told_offset, body_applied_in, GivesBody, bad_op, not_applied}
 use Rattle.state_codec.specs.Editing.{AnswersApply}
 use Rattle.state_codec.specs.Fields.{Field}
 use Rattle.state_codec.specs.Given.{Fails}
-use Rattle.state_codec.specs.Reading.{in_bytes, ops_reading_in}
+use Rattle.state_codec.specs.Reading.{in_bytes, front_ops, ops_reading_in}
 use Rattle.state_codec.specs.ReadingOps.{op_at, ops_at}
 use Rattle.state_codec.specs.SavedState.{SavedState, IsBytes}
+use Rattle.state_codec.specs.Sealed.{unsealed}
 use Rattle.state_codec.specs.SpellingOps.{op_bytes}
 use Rattle.state_codec.specs.Steps.{◌>>=◌}
 use Rattle.state_codec.proofs.FieldLaws.{bind_ok, ok_is}
@@ -53,7 +54,7 @@ pub record BodySoFar (layout : Layout) (total i : ℕ) (rest : List ℕ) (s : Sa
   pub rest_fits : IsBytes rest
 
 pub begins : (layout : Layout) (bytes : List ℕ) (s : SavedState) → IsBytes bytes → eqb (length bytes) 0 ≡ false
-    → BodySoFar layout (length bytes) 0 bytes s (body_applied_in layout bytes s)
+    → BodySoFar layout (length bytes) 0 bytes s (front_applied layout s bytes)
 begins layout bytes s fits some =
     let all : length bytes - 0 ≡ length bytes = omega arith in
     record {
@@ -69,8 +70,8 @@ op_shorter : (layout : Layout) (rest : List ℕ) (op : Op) (back : List ℕ) →
 op_shorter layout rest op back fits e = let t = (op_takes layout rest (op, back) fits e).0 in omega (
   arith,
   ap length t.parts,
-  length-append (op_bytes op) back,
-  op_spelled op,
+  length-append (op_bytes layout.profile op) back,
+  op_spelled layout.profile op,
 )
 
 pub falls : (layout : Layout) (total i : ℕ) (rest : List ℕ) (s : SavedState) (op : Op) (back : List ℕ) (all : Result SavedState BodyError)
@@ -154,21 +155,30 @@ whole : (bytes : List ℕ) (r : Result (List Op) ℕ) (ops : List Op) → in_byt
 whole bytes (Ok x) ops f = f
 whole bytes (Err left) ops f = absurd cc
 
-of_body : (layout : Layout) (b : Bool) (bytes : List ℕ) (s : SavedState) (ops : List Op) → eqb (length bytes) 0 ≡ b
-    → ops_reading_in layout bytes ≡ Ok ops
-    → body_applied_in layout bytes s ≡ told_place (applied_from 0 ops s)
-of_body layout true bytes s ops none e =
-    let h : ops_reading_in layout bytes ≡ Err 0 =
+of_front : (layout : Layout) (b : Bool) (bytes : List ℕ) (s : SavedState) (ops : List Op) → eqb (length bytes) 0 ≡ b
+    → front_ops layout bytes ≡ Ok ops
+    → front_applied layout s bytes ≡ told_place (applied_from 0 ops s)
+of_front layout true bytes s ops none e =
+    let h : front_ops layout bytes ≡ Err 0 =
     ap (λ (b : Bool). cond b (Err 0) (in_bytes bytes (ops_at layout (length bytes) bytes))) none in
     absurd (let clash : Err 0 ≡ Ok ops = sym h ∙ e in cc)
-of_body layout false bytes s ops some e =
-    let h : ops_reading_in layout bytes ≡ in_bytes bytes (ops_at layout (length bytes) bytes) =
+of_front layout false bytes s ops some e =
+    let h : front_ops layout bytes ≡ in_bytes bytes (ops_at layout (length bytes) bytes) =
     ap (λ (b : Bool). cond b (Err 0) (in_bytes bytes (ops_at layout (length bytes) bytes))) some in
-    let k : body_applied_in layout bytes s ≡ body_from layout (length bytes) (length bytes) 0 bytes s =
+    let k : front_applied layout s bytes ≡ body_from layout (length bytes) (length bytes) 0 bytes s =
     ap (λ (b : Bool). cond b (Err (BadOp 0)) (body_from layout (length bytes) (length bytes) 0 bytes s)) some in
     k ∙ reads layout (length bytes) (length bytes) 0 bytes s ops (whole bytes (ops_at layout (length bytes) bytes) ops (sym h ∙ e))
 
 -- a body that spells ops does what they do in turn
 pub spelled : (layout : Layout) (bytes : List ℕ) (s : SavedState) (ops : List Op) → ops_reading_in layout bytes ≡ Ok ops
     → body_applied_in layout bytes s ≡ told_place (applied_from 0 ops s)
-spelled layout bytes s ops e = of_body layout (eqb (length bytes) 0) bytes s ops refl e
+spelled layout bytes s ops e =
+    let front = bind_ok (unsealed layout.profile bytes) (front_ops layout) ops e in
+    ap (λ (r : Result (List ℕ) ℕ). told_offset r >>= front_applied layout s) front.1
+    ∙ of_front layout (eqb (length front.0) 0) front.0 s ops refl front.2
+
+-- the ops of the front do what the body does
+pub of_front_is : (layout : Layout) (bytes front : List ℕ) (s t : SavedState) (r : Result (Unit {0}) BodyError)
+    → unsealed layout.profile bytes ≡ Ok front → GivesBody r t (front_applied layout s front) → GivesBody r t (body_applied_in layout bytes s)
+of_front_is layout bytes front s t r e given =
+    subst (GivesBody r t) (ap (λ (x : Result (List ℕ) ℕ). told_offset x >>= front_applied layout s) (sym e)) given

@@ -10,8 +10,10 @@ use Rattle.std.proofs.lemmas.Nat.{le_bytes_2, le_bytes_4, le_bytes_8, from_le_by
 use Rattle.std.proofs.lemmas.Nat.{from_le_bytes-to_le_bytes_8}
 use Rattle.player_core.specs.declared.options.Single.{Single}
 use Rattle.player_core.specs.declared.options.Single.TheVariants.{Off, On, Oneshot}
+use Rattle.profile.specs.declared.profile.Profile.{Profile}
+use Rattle.profile.specs.declared.profile.Profile.TheVariants.{Named, Wide}
 use Rattle.state_codec.specs.declared.layout.Layout.{Layout}
-use Rattle.state_codec.specs.Layout.{layout_2, is_consume}
+use Rattle.state_codec.specs.Layout.{layout_of, written_layout, is_consume}
 use Rattle.state_codec.specs.SavedState.{IsBytes, key_len}
 use Rattle.state_codec.specs.Text.{is_text}
 use Rattle.state_codec.specs.Steps.{◌>>=◌}
@@ -270,11 +272,14 @@ IsConsume layout value = Any value × (is_consume layout value ≡ true)
 pub consume_is : (layout : Layout) → IsField (λ bytes. consume_at layout bytes) single_bytes (IsConsume layout)
 consume_is layout = such_is (is_consume layout) (λ bytes. single_at bytes) single_bytes (λ value. Any value) single_is
 
--- layout 2 has all three values
-pub consume_2 : (value : Single) → is_consume layout_2 value ≡ true
-consume_2 Off = refl
-consume_2 On = refl
-consume_2 Oneshot = refl
+-- a layout that is written has all three values
+pub consume_written : (profile : Profile) (value : Single) → is_consume (layout_of (written_layout profile)) value ≡ true
+consume_written Named Off = refl
+consume_written Named On = refl
+consume_written Named Oneshot = refl
+consume_written Wide Off = refl
+consume_written Wide On = refl
+consume_written Wide Oneshot = refl
 
 pub volume_is : IsField (λ bytes. volume_at bytes) (λ n. byte_bytes n) (λ n. n ≤ 100)
 volume_is =

@@ -41,6 +41,8 @@ use Rattle.state_codec.specs.Applied.{refusal_of, after}
 use Rattle.state_codec.specs.Ops.{IsOp, IsQueueOp, IsListOp, IsStickerOp}
 use Rattle.state_codec.specs.OpsLists.{list_refusal, lists_after, uris_of}
 use Rattle.state_codec.specs.OpsQueue.{queue_refusal, after_queue, words_for}
+use Rattle.state_codec.specs.Changes.{are_kept}
+use Rattle.state_codec.specs.OpsRows.{if_kept}
 use Rattle.state_codec.specs.OpsSongs.{have_rows, uris_at, if_named}
 use Rattle.state_codec.specs.OpsStickers.{sticker_refusal, stickers_after}
 use Rattle.state_codec.specs.SavedState.{SavedState, IsSavedState, IsSavedQueue, AreSavedLists, AreSavedStickers}
@@ -48,7 +50,7 @@ use Rattle.state_codec.specs.Text.{is_text}
 use Rattle.state_codec.proofs.Edits.{length-uris_at}
 use Rattle.state_codec.proofs.KeptLists.{kept_with_list, kept_with_songs, kept_without_list, kept_renamed}
 use Rattle.state_codec.proofs.KeptQueue.{kept_added, kept_deleted, kept_moved, kept_swapped, kept_shuffled, kept_prioritized}
-use Rattle.state_codec.proofs.KeptRows.{kept_songs, kept_batch, stickers_left}
+use Rattle.state_codec.proofs.KeptRows.{kept_songs, kept_by_profile, kept_batch, stickers_left}
 use Rattle.state_codec.proofs.KeptStickers.{kept_filter, kept_set}
 use Rattle.state_codec.proofs.Named.{uris_have_rows, are_uris, entries_are_uris}
 
@@ -63,6 +65,11 @@ named_none false o none = absurd (cc)
 pub cond_none : {X : Type 0} (b : Bool) (x : X) (rest : Option X) → cond b (Some x) rest ≡ None → (b ≡ false) × (rest ≡ None)
 cond_none true x rest none = absurd (cc)
 cond_none false x rest none = (refl, none)
+
+-- a batch that isn't refused has rows that the profile keeps
+pub kept_none : (b : Bool) (o : Option OpRefusal) → if_kept b o ≡ None → (b ≡ true) × (o ≡ None)
+kept_none true o none = (refl, none)
+kept_none false o none = absurd (cc)
 
 pub or_false : (a b : Bool) → (a || b) ≡ false → (a ≡ false) × (b ≡ false)
 or_false true b none = absurd (cc)
@@ -118,6 +125,7 @@ with_queue s q order saved kept low = record {
   order = low;
   volume = saved.volume;
   songs = saved.songs;
+  kept = saved.kept;
   queue = kept;
   lists = saved.lists;
   stickers = saved.stickers;
@@ -185,6 +193,7 @@ with_lists s all saved kept = record {
   order = saved.order;
   volume = saved.volume;
   songs = saved.songs;
+  kept = saved.kept;
   queue = saved.queue;
   lists = kept;
   stickers = saved.stickers;
@@ -305,6 +314,7 @@ kept_after (ops.SetOption setting) s form saved none =
       order = saved.order;
       volume = saved.volume;
       songs = saved.songs;
+      kept = saved.kept;
       queue =
           saved.queue;
       lists = saved.lists;
@@ -317,6 +327,7 @@ kept_after (ops.SetVolume volume) s form saved none =
       order = saved.order;
       volume = form;
       songs = saved.songs;
+      kept = saved.kept;
       queue =
           saved.queue;
       lists = saved.lists;
@@ -329,6 +340,7 @@ kept_after (ops.SetOrder order) s form saved none =
       order = form;
       volume = saved.volume;
       songs = saved.songs;
+      kept = saved.kept;
       queue =
           saved.queue;
       lists = saved.lists;
@@ -342,6 +354,7 @@ kept_after (ops.Sticker op) s form saved none = record {
   order = saved.order;
   volume = saved.volume;
   songs = saved.songs;
+  kept = saved.kept;
   queue = saved.queue;
   lists = saved.lists;
   stickers = kept_sticker op s form saved none;
@@ -352,6 +365,7 @@ kept_after (ops.Batch changes) s form saved none = record {
   order = saved.order;
   volume = saved.volume;
   songs = kept_songs s.songs changes form.each saved.songs;
+  kept = kept_by_profile s.profile s.songs changes (kept_none (are_kept s.profile changes) _ none).0 saved.kept;
   queue = kept_batch s.songs changes s.queue _ saved.songs.database saved.queue;
   lists = saved.lists;
   stickers = record {

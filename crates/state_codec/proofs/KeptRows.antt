@@ -1,6 +1,6 @@
 -- The songs of a saved state stay so through a batch, and so do the queue and the stickers beside them.
 use Rattle.std.proofs.Common.{◌≡◌, ℕ, ◌+◌, ◌==◌, ◌&&◌, map, Bool, true, false, cond, not, ◌||◌, List, [], ◌∷◌, ◌++◌, filter, Some, None}
-use Rattle.std.proofs.Common.{is_some, refl, arith}
+use Rattle.std.proofs.Common.{is_some, IsTrue, refl, arith}
 use Rattle.std.specs.declared.cmp.Ordering.{Ordering}
 use Rattle.std.specs.declared.cmp.Ordering.TheVariants.{Less, Equal, Greater}
 use Rattle.std.specs.Ordering.{match_ordering}
@@ -15,55 +15,89 @@ use Rattle.play_queue.specs.Queue.{QueueState, is_same, is_unchanged, with_stamp
 use Rattle.play_queue.proofs.Kept.{sound-ruled, fit-kept}
 use Rattle.std.proofs.lemmas.Bool.{eqb-true}
 use Rattle.state_codec.proofs.KeptQueue.{entry_stamped}
+use Rattle.profile.specs.declared.profile.Profile.{Profile}
 use Rattle.song_db.specs.Change.{IsDatabase, changed, has_uri, fits, after_change, after_batch, uri_of, rows_of}
-use Rattle.song_db.specs.Row.{Row, row_at}
+use Rattle.song_db.specs.Row.{Row, row_at, is_kept_by}
 use Rattle.song_db.specs.Scan.{drops_of}
 use Rattle.song_db.specs.declared.change.RowChange.{RowChange}
 use Rattle.song_db.specs.declared.change.RowChange.TheVariants.{Put, Drop}
 use Rattle.song_db.proofs.Rising.{texts}
 use Rattle.song_db.proofs.Turns.{database_after}
-use Rattle.state_codec.specs.Changes.{IsSavedRow, IsChange}
-use Rattle.state_codec.specs.SavedState.{AreSavedSongs, IsSavedEntry, IsSavedSticker, IsSavedQueue}
+use Rattle.state_codec.specs.Changes.{IsSavedRow, IsChange, is_kept_change, are_kept}
+use Rattle.state_codec.specs.SavedState.{AreSavedSongs, AreKeptSongs, IsSavedEntry, IsSavedSticker, IsSavedQueue}
+use Rattle.state_codec.proofs.FieldLaws.{both_true}
+use Rattle.state_codec.proofs.ListLaws.{all_by}
 use Rattle.state_codec.proofs.BatchRows.{replaced_row, same_or_not, database_batch}
 use Rattle.state_codec.specs.RowSteps.{row_left}
 use Rattle.stickers.specs.Sticker.{Sticker}
 
-rows_changed : (change : RowChange) (rows : List Row) → IsChange change → All IsSavedRow rows → All IsSavedRow (changed change rows)
-rows_changed change [] good all = first change good
+-- so it is of the row that a change puts, if it does
+abbrev OfPut : (Row → Type 0) → RowChange → Type 0
+OfPut P (Put row) = P row
+OfPut P (Drop uri) = Unit {0}
+
+rows_changed : (P : Row → Type 0) (change : RowChange) (rows : List Row) → OfPut P change → All P rows → All P (changed change rows)
+rows_changed P change [] good all = first change good
   where
-    first : (c : RowChange) → IsChange c → All IsSavedRow (rows_of c)
-    first (Put row) good = All-cons IsSavedRow row [] good (λ k d within. absurd (omega arith))
+    first : (c : RowChange) → OfPut P c → All P (rows_of c)
+    first (Put row) good = All-cons P row [] good (λ k d within. absurd (omega arith))
     first (Drop uri) good = λ k d within. absurd (omega arith)
-rows_changed change (x ∷ xs) good all = by_order (texts (uri_of change) x.uri) (rows_changed change xs good (All-tail IsSavedRow x xs all))
+rows_changed P change (x ∷ xs) good all = by_order (texts (uri_of change) x.uri) (rows_changed P change xs good (All-tail P x xs all))
   where
-    first : (c : RowChange) → IsChange c → All IsSavedRow (rows_of c)
-    first (Put row) good = All-cons IsSavedRow row [] good (λ k d within. absurd (omega arith))
+    first : (c : RowChange) → OfPut P c → All P (rows_of c)
+    first (Put row) good = All-cons P row [] good (λ k d within. absurd (omega arith))
     first (Drop uri) good = λ k d within. absurd (omega arith)
 
-    by_order : (o : Ordering) → All IsSavedRow (changed change xs)
-        → All IsSavedRow (match_ordering o (rows_of change ++ x ∷ xs) (rows_of change ++ xs) (x ∷ changed change xs))
-    by_order Less rest = All-append IsSavedRow (rows_of change) (x ∷ xs) (first change good) all
-    by_order Equal rest = All-append IsSavedRow (rows_of change) xs (first change good) (All-tail IsSavedRow x xs all)
-    by_order Greater rest = All-cons IsSavedRow x (changed change xs) (All-head IsSavedRow x xs all) rest
+    by_order : (o : Ordering) → All P (changed change xs)
+        → All P (match_ordering o (rows_of change ++ x ∷ xs) (rows_of change ++ xs) (x ∷ changed change xs))
+    by_order Less rest = All-append P (rows_of change) (x ∷ xs) (first change good) all
+    by_order Equal rest = All-append P (rows_of change) xs (first change good) (All-tail P x xs all)
+    by_order Greater rest = All-cons P x (changed change xs) (All-head P x xs all) rest
 
-rows_after : (rows : List Row) (change : RowChange) → IsChange change → All IsSavedRow rows → All IsSavedRow (after_change rows change)
-rows_after rows change good all = of (fits rows change)
+rows_after : (P : Row → Type 0) (rows : List Row) (change : RowChange) → OfPut P change → All P rows → All P (after_change rows change)
+rows_after P rows change good all = of (fits rows change)
   where
-    of : (b : Bool) → All IsSavedRow (cond b (changed change rows) rows)
-    of true = rows_changed change rows good all
+    of : (b : Bool) → All P (cond b (changed change rows) rows)
+    of true = rows_changed P change rows good all
     of false = all
 
-rows_batch : (rows : List Row) (changes : List RowChange) → All IsChange changes → All IsSavedRow rows
-    → All IsSavedRow (after_batch rows changes)
-rows_batch rows [] good all = all
-rows_batch rows (change ∷ changes) good all =
-    rows_batch (after_change rows change) changes (All-tail IsChange change changes good)
-    (rows_after rows change (All-head IsChange change changes good) all)
+rows_batch : (P : Row → Type 0) (rows : List Row) (changes : List RowChange) → AllByRecursion (OfPut P) changes → All P rows
+    → All P (after_batch rows changes)
+rows_batch P rows [] good all = all
+rows_batch P rows (change ∷ changes) good all =
+    rows_batch P (after_change rows change) changes good.1 (rows_after P rows change good.0 all)
+
+sound_put : (c : RowChange) → IsChange c → OfPut IsSavedRow c
+sound_put (Put row) good = good
+sound_put (Drop uri) good = tt
+
+kept_put : (profile : Profile) (c : RowChange) → is_kept_change profile c ≡ true → OfPut (λ row. IsTrue (is_kept_by profile row)) c
+kept_put profile (Put row) kept = kept
+kept_put profile (Drop uri) kept = tt
+
+all_sound : (changes : List RowChange) → AllByRecursion IsChange changes → AllByRecursion (OfPut IsSavedRow) changes
+all_sound [] good = tt
+all_sound (change ∷ changes) good = (sound_put change good.0, all_sound changes good.1)
+
+all_kept : (profile : Profile) (changes : List RowChange) → are_kept profile changes ≡ true
+    → AllByRecursion (OfPut (λ row. IsTrue (is_kept_by profile row))) changes
+all_kept profile [] kept = tt
+all_kept profile (change ∷ changes) kept =
+    let b = both_true (is_kept_change profile change) (are_kept profile changes) kept in
+    (kept_put profile change b.0, all_kept profile changes b.1)
 
 pub kept_songs : (rows : List Row) (changes : List RowChange) → All IsChange changes → AreSavedSongs rows
     → AreSavedSongs (after_batch rows changes)
-kept_songs rows changes good saved =
-    record { database = database_batch rows changes saved.database; rows = rows_batch rows changes good saved.rows }
+kept_songs rows changes good saved = record {
+  database = database_batch rows changes saved.database;
+  rows = rows_batch IsSavedRow rows changes (all_sound changes (all_by IsChange changes good)) saved.rows;
+}
+
+-- and the profile keeps each of their rows
+pub kept_by_profile : (profile : Profile) (rows : List Row) (changes : List RowChange) → are_kept profile changes ≡ true
+    → AreKeptSongs profile rows → AreKeptSongs profile (after_batch rows changes)
+kept_by_profile profile rows changes kept all =
+    rows_batch (λ row. IsTrue (is_kept_by profile row)) rows changes (all_kept profile changes kept) all
 
 -- a song that no change drops keeps a row
 stays : (rows : List Row) (change : RowChange) (uri : List ℕ) → IsDatabase rows → is_among (drops_of (change ∷ [])) uri ≡ false

@@ -1,9 +1,12 @@
+pub mod ChecksumLaws
 pub mod FieldLaws
+pub mod SealedLaws
 pub mod ListLaws
 pub mod ItemLaws
 pub mod LoopLaws
 pub mod TextLaws
 pub mod TagLaws
+pub mod ToldLaws
 pub mod RowLaws
 pub mod OpLaws
 pub mod BodyLaws

@@ -6,6 +6,7 @@ use Rattle.std.specs.List.{AllByRecursion}
 use Rattle.std.specs.Int.{is_in_range}
 use Rattle.std.specs.Str.{is_utf8}
 use Rattle.std.proofs.lemmas.Bool.{eqb-true, eqb-false, leb-true, le-leb}
+use Rattle.profile.specs.declared.profile.Profile.{Profile}
 use Rattle.song_db.specs.Uri.{is_uri}
 use Rattle.song_db.specs.declared.change.RowChange.{RowChange}
 use Rattle.song_db.specs.declared.change.RowChange.TheVariants.{Put, Drop}
@@ -21,12 +22,12 @@ use Rattle.state_codec.specs.declared.op.list_op.ListOp.{ListOp}
 use Rattle.state_codec.specs.declared.op.list_op.ListOp.TheVariants as lists
 use Rattle.state_codec.specs.declared.op.sticker_op.StickerOp.{StickerOp}
 use Rattle.state_codec.specs.declared.op.sticker_op.StickerOp.TheVariants as stickers
-use Rattle.state_codec.specs.Changes.{is_count, IsChange, AreChanges}
+use Rattle.state_codec.specs.Changes.{is_count, IsChange, AreChanges, is_kept_change, are_kept}
 use Rattle.state_codec.specs.Fields.{Field, made, such, both, byte_at, u32_at, u64_at, pair_at, volume_at, flag_at, consume_at, single_at}
 use Rattle.state_codec.specs.Fields.{text_at}
 use Rattle.state_codec.specs.Layout.{IsSettingIn, IsOpIn}
 use Rattle.state_codec.specs.Numbers.{MAX_COUNT, AreRowNumbers, AreOpRanges}
-use Rattle.state_codec.specs.Ops.{IsOp, AreNumbers, IsQueueOp, IsListOp, IsStickerOp, IsText}
+use Rattle.state_codec.specs.Ops.{IsOp, IsKeptOp, AreNumbers, IsQueueOp, IsListOp, IsStickerOp, IsText}
 use Rattle.state_codec.specs.ReadingOps.{setting_at, row_numbers_at, ranges_at, queue_op_at, list_op_at, value_at, sticker_op_at, op_at}
 use Rattle.state_codec.specs.ReadingRows.{uri_at, row_at, change_at, changes_at}
 use Rattle.state_codec.specs.SavedState.{IsBytes}
@@ -99,37 +100,54 @@ ranges_is =
 
 -- ---- changes
 
-change_takes : (bytes : List ℕ) (y : RowChange × List ℕ) → IsBytes bytes → change_at bytes ≡ Ok y
-    → Takes bytes (change_bytes y.0) y.1 × IsChange y.0
+-- a change whose row, if it puts one, the profile keeps
+abbrev IsKeptOne : Profile → RowChange → Type 0
+IsKeptOne profile change = IsChange change × (is_kept_change profile change ≡ true)
+
+change_takes : (profile : Profile) (bytes : List ℕ) (y : RowChange × List ℕ) → IsBytes bytes → change_at profile bytes ≡ Ok y
+    → Takes bytes (change_bytes profile y.0) y.1 × IsKeptOne profile y.0
 unfolding change_at
-change_takes bytes y fits e =
+change_takes profile bytes y fits e =
     let b = bind_ok (byte_at bytes) _ y e in
     let front = (byte_is.takes bytes b.0 fits b.1).0 in
     elim (chosen (eqb b.0.0 1) _ _ (Ok y) b.2) [
       | inl h ↦
-          let a = bind_ok (row_at uri_at b.0.1) _ y h.1 in
-          let t = row_is.takes b.0.1 a.0 front.rest_fits a.1 in
+          let a = bind_ok (row_at profile uri_at b.0.1) _ y h.1 in
+          let t = (row_is profile).takes b.0.1 a.0 front.rest_fits a.1 in
           let named : Takes bytes (1 ∷ []) b.0.1 = subst (λ (k : ℕ). Takes bytes (k ∷ []) b.0.1) (eqb-true _ _ h.0) front in
-          subst (λ z. Takes bytes (change_bytes z.0) z.1 × IsChange z.0) (ok_is (Put a.0.0, a.0.1) y a.2)
-          (Takes-then bytes (1 ∷ []) b.0.1 (row_bytes a.0.0) a.0.1 named t.0, t.1)
+          subst (λ z. Takes bytes (change_bytes profile z.0) z.1 × IsKeptOne profile z.0) (ok_is (Put a.0.0, a.0.1) y a.2)
+          (Takes-then bytes (1 ∷ []) b.0.1 (row_bytes profile a.0.0) a.0.1 named t.0, t.1)
       | inr n ↦ elim (chosen (eqb b.0.0 0) _ _ (Ok y) n.1) [
         | inl h ↦
             let a = bind_ok (uri_at b.0.1) _ y h.1 in
             let t = uri_is.takes b.0.1 a.0 front.rest_fits a.1 in
             let named : Takes bytes (0 ∷ []) b.0.1 = subst (λ (k : ℕ). Takes bytes (k ∷ []) b.0.1) (eqb-true _ _ h.0) front in
-            subst (λ z. Takes bytes (change_bytes z.0) z.1 × IsChange z.0) (ok_is (Drop a.0.0, a.0.1) y a.2)
-            (Takes-then bytes (0 ∷ []) b.0.1 (text_bytes a.0.0) a.0.1 named t.0, t.1)
+            subst (λ z. Takes bytes (change_bytes profile z.0) z.1 × IsKeptOne profile z.0) (ok_is (Drop a.0.0, a.0.1) y a.2)
+            (Takes-then bytes (0 ∷ []) b.0.1 (text_bytes a.0.0) a.0.1 named t.0, (t.1, refl))
         | inr n2 ↦ let h = n2.1 in absurd cc
       ]
     ]
 
-change_again : (change : RowChange) (rest : List ℕ) → IsChange change → change_at (change_bytes change ++ rest) ≡ Ok (change, rest)
+change_again : (profile : Profile) (change : RowChange) (rest : List ℕ) → IsKeptOne profile change
+    → change_at profile (change_bytes profile change ++ rest) ≡ Ok (change, rest)
 unfolding change_at
-change_again (Put row) rest good = ap (made Put) (row_is.again row rest good)
-change_again (Drop uri) rest good = ap (made Drop) (uri_is.again uri rest good)
+change_again profile (Put row) rest good = ap (made Put) ((row_is profile).again row rest good)
+change_again profile (Drop uri) rest good = ap (made Drop) (uri_is.again uri rest good.0)
 
-change_is : IsField (λ bytes. change_at bytes) change_bytes IsChange
-change_is = record { takes = change_takes; again = change_again }
+change_is : (profile : Profile) → IsField (λ bytes. change_at profile bytes) (change_bytes profile) (IsKeptOne profile)
+change_is profile = record { takes = change_takes profile; again = change_again profile }
+
+-- each alone, and all of them
+all_kept : (profile : Profile) (xs : List RowChange) → AllByRecursion (IsKeptOne profile) xs
+    → AllByRecursion IsChange xs × (are_kept profile xs ≡ true)
+all_kept profile [] all = (tt, refl)
+all_kept profile (x ∷ xs) all = let rest = all_kept profile xs all.1 in ((all.0.0, rest.0), rw (all.0.1, rest.1) refl)
+
+each_kept : (profile : Profile) (xs : List RowChange) → AllByRecursion IsChange xs → are_kept profile xs ≡ true
+    → AllByRecursion (IsKeptOne profile) xs
+each_kept profile [] all kept = tt
+each_kept profile (x ∷ xs) all kept =
+    let b = both_true (is_kept_change profile x) (are_kept profile xs) kept in ((all.0, b.0), each_kept profile xs all.1 b.1)
 
 change_count_is : IsField (λ bytes. such is_count byte_at bytes) (λ n. byte_bytes n) (λ n. is_count n ≡ true)
 change_count_is =
@@ -137,12 +155,17 @@ change_count_is =
     (such_is is_count (λ bytes. byte_at bytes) (λ n. byte_bytes n) (λ n. n < 256) byte_is)
     (λ n h. h.1) (λ n h. (omega (arith, leb-true _ _ (both_true (leb 1 n) (leb n 64) h).1), h))
 
-pub changes_is : IsField (λ bytes. changes_at bytes) changes_bytes AreChanges
-changes_is =
-    fits_is (λ bytes. changes_at bytes) changes_bytes (λ xs. (is_count (length xs) ≡ true) × AllByRecursion IsChange xs) AreChanges
-    (counted_is (λ bytes. such is_count byte_at bytes) _ _ change_count_is (λ known. change_at) _ _
-    (alone_is (λ bytes. change_at bytes) _ _ change_is) tt)
-    (λ xs h. record { count = h.0; each = by_all _ xs h.1 }) (λ xs h. (h.count, all_by _ xs h.each))
+abbrev pub AreKeptChanges : Profile → List RowChange → Type 0
+AreKeptChanges profile changes = AreChanges changes × (are_kept profile changes ≡ true)
+
+pub changes_is : (profile : Profile) → IsField (λ bytes. changes_at profile bytes) (changes_bytes profile) (AreKeptChanges profile)
+changes_is profile =
+    fits_is (λ bytes. changes_at profile bytes) (changes_bytes profile)
+    (λ xs. (is_count (length xs) ≡ true) × AllByRecursion (IsKeptOne profile) xs) (AreKeptChanges profile)
+    (counted_is (λ bytes. such is_count byte_at bytes) _ _ change_count_is (λ known. change_at profile) _ _
+    (alone_is (λ bytes. change_at profile bytes) _ _ (change_is profile)) tt)
+    (λ xs h. let parts = all_kept profile xs h.1 in (record { count = h.0; each = by_all IsChange xs parts.0 }, parts.1))
+    (λ xs h. (h.0.count, each_kept profile xs (all_by IsChange xs h.0.each) h.1))
 
 -- ---- settings
 
@@ -393,19 +416,23 @@ sticker_again (stickers.DeleteAll uri) rest good = ap (made stickers.DeleteAll) 
 
 -- ---- an op
 
+-- what an op that is read in a layout is
+abbrev pub IsReadOp : Layout → Op → Type 0
+IsReadOp layout op = IsOp op × (IsOpIn layout op × IsKeptOp layout.profile op)
+
 -- an op of a kind alone
 alone : (layout : Layout) {A : Type 0} (f : A → Op) (kind found : ℕ) (bytes rest : List ℕ) (at : List ℕ → Field A) (text : A
     → List ℕ) (Fits : A → Type 0)
     → IsField at text Fits
-    → Takes bytes (found ∷ []) rest → eqb found kind ≡ true → ((a : A) → kind ∷ text a ≡ op_bytes (f a)) → ((a : A) → Fits a
-    → IsOp (f a) × IsOpIn layout (f a))
-    → (y : Op × List ℕ) → made f (at rest) ≡ Ok y → Takes bytes (op_bytes y.0) y.1 × (IsOp y.0 × IsOpIn layout y.0)
+    → Takes bytes (found ∷ []) rest → eqb found kind ≡ true → ((a : A) → kind ∷ text a ≡ op_bytes layout.profile (f a))
+    → ((a : A) → Fits a → IsReadOp layout (f a))
+    → (y : Op × List ℕ) → made f (at rest) ≡ Ok y → Takes bytes (op_bytes layout.profile y.0) y.1 × IsReadOp layout y.0
 alone layout f kind found bytes rest at text Fits field front is_kind spelled keeps y e =
     let b = bind_ok (at rest) _ y e in
     let t = field.takes rest b.0 front.rest_fits b.1 in
     let named : Takes bytes (kind ∷ []) rest = subst (λ (k : ℕ). Takes bytes (k ∷ []) rest) (eqb-true _ _ is_kind) front in
     let joined : Takes bytes (kind ∷ text b.0.0) b.0.1 = Takes-then bytes (kind ∷ []) rest (text b.0.0) b.0.1 named t.0 in
-    subst (λ z. Takes bytes (op_bytes z.0) z.1 × (IsOp z.0 × IsOpIn layout z.0)) (ok_is (f b.0.0, b.0.1) y b.2)
+    subst (λ z. Takes bytes (op_bytes layout.profile z.0) z.1 × IsReadOp layout z.0) (ok_is (f b.0.0, b.0.1) y b.2)
     (subst (λ (w : List ℕ). Takes bytes w b.0.1) (spelled b.0.0) joined, keeps b.0.0 t.1)
 
 -- an op of a family
@@ -413,23 +440,23 @@ of_family : (layout : Layout) {B : Type 0} (f : B → Op) (kind_of : B → ℕ) 
     → Type 0) (found : ℕ) (bytes rest : List ℕ)
     (field : Field B)
     → Takes bytes (found ∷ []) rest → ((z : B × List ℕ) → field ≡ Ok z → IsKind kind_of fields Good found rest z)
-    → ((b : B) → kind_of b ∷ fields b ≡ op_bytes (f b)) → ((b : B) → Good b → IsOp (f b) × IsOpIn layout (f b)) → (y : Op × List ℕ)
-    → made f field ≡ Ok y
-    → Takes bytes (op_bytes y.0) y.1 × (IsOp y.0 × IsOpIn layout y.0)
+    → ((b : B) → kind_of b ∷ fields b ≡ op_bytes layout.profile (f b)) → ((b : B) → Good b → IsReadOp layout (f b))
+    → (y : Op × List ℕ) → made f field ≡ Ok y
+    → Takes bytes (op_bytes layout.profile y.0) y.1 × IsReadOp layout y.0
 of_family layout f kind_of fields Good found bytes rest field front takes spelled keeps y e =
     let b = bind_ok field _ y e in
     let k = takes b.0 b.1 in
     let named : Takes bytes (kind_of b.0.0 ∷ []) rest = subst (λ (n : ℕ). Takes bytes (n ∷ []) rest) (sym k.named) front in
     let joined : Takes bytes (kind_of b.0.0 ∷ fields b.0.0) b.0.1 =
     Takes-then bytes (kind_of b.0.0 ∷ []) rest (fields b.0.0) b.0.1 named k.taken in
-    subst (λ z. Takes bytes (op_bytes z.0) z.1 × (IsOp z.0 × IsOpIn layout z.0)) (ok_is (f b.0.0, b.0.1) y b.2)
+    subst (λ z. Takes bytes (op_bytes layout.profile z.0) z.1 × IsReadOp layout z.0) (ok_is (f b.0.0, b.0.1) y b.2)
     (subst (λ (w : List ℕ). Takes bytes w b.0.1) (spelled b.0.0) joined, keeps b.0.0 k.good)
 
 within : (low high n : ℕ) → is_in_range low high n ≡ true → (low ≤ n) × (n ≤ high)
 within low high n h = let b = both_true (leb low n) (leb n high) h in (leb-true _ _ b.0, leb-true _ _ b.1)
 
 pub op_takes : (layout : Layout) (bytes : List ℕ) (y : Op × List ℕ) → IsBytes bytes → op_at layout bytes ≡ Ok y
-    → Takes bytes (op_bytes y.0) y.1 × (IsOp y.0 × IsOpIn layout y.0)
+    → Takes bytes (op_bytes layout.profile y.0) y.1 × IsReadOp layout y.0
 unfolding op_at
 op_takes layout bytes y fits e =
     let b = bind_ok (byte_at bytes) _ y e in
@@ -438,28 +465,26 @@ op_takes layout bytes y fits e =
     let front = (byte_is.takes bytes b.0 fits b.1).0 in
     elim (chosen (eqb k 1) _ _ (Ok y) b.2) [
       | inl h ↦ alone layout SetOption 1 k bytes rest (λ s. setting_at layout s) _ _ (setting_is layout) front h.0 (λ a. refl) (λ a g.
-          (tt, g)) y h.1
+          (tt, (g, tt))) y h.1
       | inr n1 ↦ elim (chosen (eqb k 2) _ _ (Ok y) n1.1) [
-        | inl h ↦ alone layout SetVolume 2 k bytes rest (λ s. volume_at s) _ _ volume_is front h.0 (λ a. refl) (λ a g. (g, tt)) y h.1
+        | inl h ↦ alone layout SetVolume 2 k bytes rest (λ s. volume_at s) _ _ volume_is front h.0 (λ a. refl) (λ a g. (g, (tt, tt))) y h.1
         | inr n2 ↦ elim (chosen (eqb k 3) _ _ (Ok y) n2.1) [
-          | inl h ↦ alone layout SetOrder 3 k bytes rest (λ s. u64_at s) _ _ u64_is front h.0 (λ a. refl) (λ a g. (g, tt)) y h.1
+          | inl h ↦ alone layout SetOrder 3 k bytes rest (λ s. u64_at s) _ _ u64_is front h.0 (λ a. refl) (λ a g. (g, (tt, tt))) y h.1
           | inr n3 ↦ elim (chosen (is_in_range 4 9 k) _ _ (Ok y) n3.1) [
             | inl h ↦ let r = within 4 9 k h.0 in of_family layout Queue queue_kind queue_fields IsQueueOp k bytes rest (queue_op_at k
                 rest) front
-                (λ z f. queue_takes k rest z r.0 r.1 front.rest_fits f) (λ a. refl) (λ a g. (g, tt)) y h.1
+                (λ z f. queue_takes k rest z r.0 r.1 front.rest_fits f) (λ a. refl) (λ a g. (g, (tt, tt))) y h.1
             | inr n4 ↦ elim (chosen (is_in_range 10 16 k) _ _ (Ok y) n4.1) [
               | inl h ↦ let r = within 10 16 k h.0 in of_family layout OfList list_kind list_fields IsListOp k bytes rest (list_op_at k
                   rest) front
-                  (λ z f. list_takes k rest z r.0 r.1 front.rest_fits f) (λ a. refl) (λ a g. (g, tt)) y h.1
+                  (λ z f. list_takes k rest z r.0 r.1 front.rest_fits f) (λ a. refl) (λ a g. (g, (tt, tt))) y h.1
               | inr n5 ↦ elim (chosen (is_in_range 17 19 k) _ _ (Ok y) n5.1) [
                 | inl h ↦ let r = within 17 19 k h.0 in of_family layout Sticker sticker_kind sticker_fields IsStickerOp k bytes rest
-                    (sticker_op_at k rest) front (λ z f. sticker_takes k rest z r.0 r.1 front.rest_fits f) (λ a. refl) (λ a g. (g, tt))
+                    (sticker_op_at k rest) front (λ z f. sticker_takes k rest z r.0 r.1 front.rest_fits f) (λ a. refl) (λ a g. (g, (tt, tt)))
                     y h.1
                 | inr n6 ↦ elim (chosen (eqb k 20) _ _ (Ok y) n6.1) [
-                  | inl h ↦ alone layout Batch 20 k bytes rest (λ s. changes_at s) _ _ changes_is front h.0 (λ a. refl) (λ a g. (
-                    g,
-                    tt,
-                  )) y h.1
+                  | inl h ↦ alone layout Batch 20 k bytes rest (λ s. changes_at layout.profile s) _ _ (changes_is layout.profile) front h.0 (λ a. refl)
+                      (λ a g. (g.0, (tt, g.1))) y h.1
                   | inr n7 ↦ let h = n7.1 in absurd cc
                 ]
               ]
@@ -497,24 +522,25 @@ sticker_kinds layout (stickers.Set uri name value) rest = refl
 sticker_kinds layout (stickers.Delete uri name) rest = refl
 sticker_kinds layout (stickers.DeleteAll uri) rest = refl
 
-pub op_again : (layout : Layout) (op : Op) (rest : List ℕ) → IsOp op → IsOpIn layout op → op_at layout (op_bytes op ++ rest) ≡ Ok (op, rest)
+pub op_again : (layout : Layout) (op : Op) (rest : List ℕ) → IsOp op → IsOpIn layout op → IsKeptOp layout.profile op
+    → op_at layout (op_bytes layout.profile op ++ rest) ≡ Ok (op, rest)
 unfolding op_at
-op_again layout (SetOption value) rest good in_layout = ap (made SetOption) ((setting_is layout).again value rest in_layout)
-op_again layout (SetVolume volume) rest good in_layout = ap (made SetVolume) (volume_is.again volume rest good)
-op_again layout (SetOrder order) rest good in_layout = ap (made SetOrder) (u64_is.again order rest good)
-op_again layout (Queue op) rest good in_layout = queue_kinds layout op (queue_fields op ++ rest)
+op_again layout (SetOption value) rest good in_layout kept = ap (made SetOption) ((setting_is layout).again value rest in_layout)
+op_again layout (SetVolume volume) rest good in_layout kept = ap (made SetVolume) (volume_is.again volume rest good)
+op_again layout (SetOrder order) rest good in_layout kept = ap (made SetOrder) (u64_is.again order rest good)
+op_again layout (Queue op) rest good in_layout kept = queue_kinds layout op (queue_fields op ++ rest)
     ∙ ap (made Queue) (queue_again op rest good)
-op_again layout (OfList op) rest good in_layout = list_kinds layout op (list_fields op ++ rest) ∙ ap (made OfList) (list_again op rest good)
-op_again layout (Sticker op) rest good in_layout = sticker_kinds layout op (sticker_fields op ++ rest)
+op_again layout (OfList op) rest good in_layout kept = list_kinds layout op (list_fields op ++ rest) ∙ ap (made OfList) (list_again op rest good)
+op_again layout (Sticker op) rest good in_layout kept = sticker_kinds layout op (sticker_fields op ++ rest)
     ∙ ap (made Sticker) (sticker_again op rest good)
-op_again layout (Batch changes) rest good in_layout = ap (made Batch) (changes_is.again changes rest good)
+op_again layout (Batch changes) rest good in_layout kept = ap (made Batch) ((changes_is layout.profile).again changes rest (good, kept))
 
 -- an op takes a byte at least
-pub op_spelled : (op : Op) → 1 ≤ length (op_bytes op)
-op_spelled (SetOption value) = omega arith
-op_spelled (SetVolume volume) = omega arith
-op_spelled (SetOrder order) = omega arith
-op_spelled (Queue op) = omega arith
-op_spelled (OfList op) = omega arith
-op_spelled (Sticker op) = omega arith
-op_spelled (Batch changes) = omega arith
+pub op_spelled : (profile : Profile) (op : Op) → 1 ≤ length (op_bytes profile op)
+op_spelled profile (SetOption value) = omega arith
+op_spelled profile (SetVolume volume) = omega arith
+op_spelled profile (SetOrder order) = omega arith
+op_spelled profile (Queue op) = omega arith
+op_spelled profile (OfList op) = omega arith
+op_spelled profile (Sticker op) = omega arith
+op_spelled profile (Batch changes) = omega arith

@@ -18,13 +18,17 @@ use Rattle.song_db.specs.declared.change.RowChange.{RowChange}
 use Rattle.song_db.specs.declared.change.RowChange.TheVariants.{Put, Drop}
 use Rattle.song_db.proofs.SameRows.{same_exactly}
 use Rattle.song_db.proofs.Turns.{database_after}
+use Rattle.std.specs.Option.{option_map}
+use Rattle.song_db.specs.Refusal.{refusal_of as batch_refusal}
+use Rattle.state_codec.specs.declared.refusal.OpRefusal.TheVariants.{Songs}
 use Rattle.state_codec.specs.Laws.{LeaveRows}
 use Rattle.state_codec.specs.RowSteps.{row_left}
+use Rattle.state_codec.specs.Changes.{are_kept}
 use Rattle.state_codec.specs.OpsRows.{rows_refusal, changed_uris, without_songs, with_batch, after_rows, leaves_rows}
 use Rattle.state_codec.specs.SavedState.{SavedState, IsSavedState, IsSavedEntry, IsSavedSticker}
 use Rattle.state_codec.proofs.BatchFollowed.{changed_among}
 use Rattle.state_codec.proofs.BatchRows.{AllFit, row_after}
-use Rattle.state_codec.proofs.KeptOps.{map_none, cond_none, or_false}
+use Rattle.state_codec.proofs.KeptOps.{map_none, cond_none, kept_none, or_false}
 use Rattle.state_codec.proofs.QueueUnchanged.{ruled_unchanged, version_tells}
 use Rattle.state_codec.proofs.Unchanged.{none_changed}
 use Rattle.stickers.specs.Sticker.{Sticker}
@@ -175,7 +179,9 @@ batch_exactly changes s saved none = (
 )
   where
     fit : AllFit s.songs changes
-    fit = (cond_none _ _ _ (map_none _ _ none)).0
+    fit =
+        let whole : option_map Songs (batch_refusal (effects_of s.songs changes)) ≡ None = (kept_none (are_kept s.profile changes) _ none).1 in
+        (cond_none _ _ _ (map_none _ _ whole)).0
 
 pub batch_version : (changes : List RowChange) (s : SavedState)
     → ((after_rows changes s).queue.version ≡ s.queue.version) ↔ ((after_rows changes s).queue ≡ s.queue)

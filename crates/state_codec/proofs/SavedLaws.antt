@@ -6,20 +6,27 @@ use Rattle.std.proofs.lemmas.Bool.{eqb-true}
 use Rattle.std.proofs.lemmas.List.{append-nil, nil_from_length}
 use Rattle.play_queue.specs.Limits.{MAX_ID, MAX_VERSION}
 use Rattle.player_core.specs.declared.options.Options.{Options}
+use Rattle.profile.specs.declared.profile.Profile.{Profile}
+use Rattle.profile.specs.declared.profile.Profile.TheVariants.{Named, Wide}
 use Rattle.state_codec.specs.declared.layout.Layout.{Layout}
 use Rattle.state_codec.specs.declared.refusal.CodecError.{CodecError}
 use Rattle.state_codec.specs.declared.reading.saved.Header.{Header}
 use Rattle.state_codec.specs.Answers.{GivesSaved}
-use Rattle.state_codec.specs.Fields.{u64_at, number_within, volume_at, flag_at, consume_at, single_at, key_at}
-use Rattle.state_codec.specs.Layout.{layout_1, layout_2, layout_of, written_layout, is_consume, IsLayout, IsStateIn}
-use Rattle.state_codec.specs.Reading.{alone, in_bytes, saved_reading, saved_reading_in}
+use Rattle.state_codec.specs.Fields.{Field, such, byte_at, u64_at, number_within, volume_at, flag_at, consume_at, single_at, key_at}
+use Rattle.state_codec.specs.Layout.{layout_1, layout_2, layout_3, layout_of, written_layout, is_consume, IsLayout, IsStateIn}
+use Rattle.state_codec.specs.Reading.{alone, in_bytes, front_state, saved_reading, saved_reading_in}
 use Rattle.state_codec.specs.ReadingSaved.{options_at, songs_at, entries_at, lists_at, stickers_at, header_at, parts_at, saved_at}
-use Rattle.state_codec.specs.SavedState.{SavedState, IsSavedState, IsBytes, key_len}
+use Rattle.state_codec.specs.ReadingSaved.{before_fields}
+use Rattle.state_codec.specs.SavedState.{SavedState, IsSavedState, AreKeptSongs, IsBytes, key_len}
+use Rattle.state_codec.specs.Sealed.{sealed, unsealed}
 use Rattle.state_codec.specs.Spelling.{options_bytes, entry_bytes, playlist_bytes, sticker_bytes, head_bytes, parts_bytes, saved_bytes}
+use Rattle.state_codec.specs.Spelling.{with_fields}
 use Rattle.state_codec.specs.SpellingFields.{byte_bytes, u32_bytes, u64_bytes, flag_bytes, single_bytes, list_bytes}
 use Rattle.state_codec.specs.SpellingRows.{row_bytes}
+use Rattle.state_codec.specs.Steps.{◌>>=◌}
 use Rattle.state_codec.proofs.FieldLaws.{bind_ok, ok_is, passed_ok, Takes, Takes-then, u64_is, within_is, flag_is, single_is, volume_is}
-use Rattle.state_codec.proofs.FieldLaws.{key_is, consume_is, consume_2}
+use Rattle.state_codec.proofs.FieldLaws.{IsField, such_is, byte_is, key_is, consume_is, consume_written}
+use Rattle.state_codec.proofs.SealedLaws.{unseals, seals, front_fits}
 use Rattle.state_codec.proofs.SongsLaws.{songs_is}
 use Rattle.state_codec.proofs.EntriesLaws.{entries_is}
 use Rattle.state_codec.proofs.PlaylistsLaws.{lists_is}
@@ -166,18 +173,19 @@ parts_take : (layout : Layout) → IsLayout layout → (h : Header) (bytes : Lis
     → Takes bytes (parts_bytes x.0) x.1 × ((IsSavedState x.0 × IsStateIn layout x.0) × (header_of x.0 ≡ h))
 unfolding parts_at
 parts_take layout form h bytes x header fits e =
-    let songs = bind_ok (songs_at bytes) _ x e in
+    let songs = bind_ok (songs_at layout.profile bytes) _ x e in
     let entries = bind_ok (entries_at layout songs.0.0 h.version h.next_id songs.0.1) _ x songs.2 in
     let lists = bind_ok (lists_at layout entries.0.1) _ x entries.2 in
     let stickers = bind_ok (stickers_at songs.0.0 lists.0.1) _ x lists.2 in
-    let t0 = songs_is.takes bytes songs.0 fits songs.1 in
-    let t1 = (entries_is layout form songs.0.0 t0.1 h.version h.next_id header.version_low header.version_high header.next_low
+    let t0 = (songs_is layout.profile).takes bytes songs.0 fits songs.1 in
+    let t1 = (entries_is layout form songs.0.0 t0.1.0 h.version h.next_id header.version_low header.version_high header.next_low
     header.next_high).takes
     songs.0.1 entries.0 t0.0.rest_fits entries.1 in
     let t2 = (lists_is layout form).takes entries.0.1 lists.0 t1.0.rest_fits lists.1 in
-    let t3 = (stickers_is songs.0.0 t0.1).takes lists.0.1 stickers.0 t2.0.rest_fits stickers.1 in
+    let t3 = (stickers_is songs.0.0 t0.1.0).takes lists.0.1 stickers.0 t2.0.rest_fits stickers.1 in
     let end = stickers.0.1 in
     let s : SavedState = record {
+      profile = layout.profile;
       key = h.key;
       order = h.order;
       volume = h.volume;
@@ -187,7 +195,7 @@ parts_take layout form h bytes x header fits e =
       lists = lists.0.0;
       stickers = stickers.0.0;
     } in
-    let rows_text = list_bytes row_bytes s.songs in
+    let rows_text = list_bytes (row_bytes s.profile) s.songs in
     let entries_text = list_bytes (entry_bytes s.songs) s.queue.entries in
     let lists_text = list_bytes playlist_bytes s.lists in
     let stickers_text = list_bytes sticker_bytes s.stickers in
@@ -200,12 +208,13 @@ parts_take layout form h bytes x header fits e =
       key_bytes = header.key_bytes;
       order = header.order;
       volume = header.volume;
-      songs = t0.1;
+      songs = t0.1.0;
+      kept = t0.1.1;
       queue = t1.1.0;
       lists = t2.1.0;
       stickers = t3.1;
     } in
-    let within : IsStateIn layout s = record { consume = header.consume; queue = t1.1.1; lists = t2.1.1 } in
+    let within : IsStateIn layout s = record { profile = refl; consume = header.consume; queue = t1.1.1; lists = t2.1.1 } in
     subst (λ (y : SavedState × List ℕ). Takes bytes (parts_bytes y.0) y.1 × ((IsSavedState y.0 × IsStateIn layout y.0)
     × (header_of y.0 ≡ h))) {x = (s, end)} (ok_is (s, end) x stickers.2) (j0, ((good, within), refl))
 
@@ -214,45 +223,104 @@ parts_again : (layout : Layout) → IsLayout layout → (s : SavedState) (rest :
 unfolding parts_at
 parts_again layout form s rest fits within =
     let queue = fits.queue.queue in
+    let rows = list_bytes (row_bytes layout.profile) s.songs in
     let r3 = list_bytes sticker_bytes s.stickers ++ rest in
     let r2 = list_bytes playlist_bytes s.lists ++ r3 in
     let r1 = list_bytes (entry_bytes s.songs) s.queue.entries ++ r2 in
     let join : (a b c : List ℕ) → (a ++ b) ++ c ≡ a ++ (b ++ c) = append_assoc in
+    let others = list_bytes (entry_bytes s.songs) s.queue.entries ++ (list_bytes playlist_bytes s.lists ++ list_bytes sticker_bytes s.stickers) in
     let tail : (list_bytes playlist_bytes s.lists ++ list_bytes sticker_bytes s.stickers) ++ rest ≡ r2 =
     join (list_bytes playlist_bytes s.lists) (list_bytes sticker_bytes s.stickers) rest in
-    let middle : (list_bytes (entry_bytes s.songs) s.queue.entries
-    ++ (list_bytes playlist_bytes s.lists ++ list_bytes sticker_bytes s.stickers)) ++ rest ≡ r1 =
+    let middle : others ++ rest ≡ r1 =
     join (list_bytes (entry_bytes s.songs) s.queue.entries) (list_bytes playlist_bytes s.lists ++ list_bytes sticker_bytes s.stickers) rest
     ∙ ap (λ (r : List ℕ). list_bytes (entry_bytes s.songs) s.queue.entries ++ r) tail in
-    let regrouped : parts_bytes s ++ rest ≡ list_bytes row_bytes s.songs ++ r1 =
-    join (list_bytes row_bytes s.songs)
-    (list_bytes (entry_bytes s.songs) s.queue.entries ++ (list_bytes playlist_bytes s.lists ++ list_bytes sticker_bytes s.stickers))
-    rest ∙ ap (λ (r : List ℕ). list_bytes row_bytes s.songs ++ r) middle in
+    let regrouped : parts_bytes s ++ rest ≡ rows ++ r1 =
+    ap (λ (p : Profile). (list_bytes (row_bytes p) s.songs ++ others) ++ rest) within.profile
+    ∙ join rows others rest ∙ ap (λ (r : List ℕ). rows ++ r) middle in
+    let kept : AreKeptSongs layout.profile s.songs = subst (λ (p : Profile). AreKeptSongs p s.songs) within.profile fits.kept in
     ap (parts_at layout (header_of s)) regrouped
     ∙ rw (
-      songs_is.again s.songs r1 fits.songs,
+      (songs_is layout.profile).again s.songs r1 (fits.songs, kept),
       (entries_is layout form s.songs fits.songs s.queue.version s.queue.next_id queue.version_low queue.version_high queue.next_low
           queue.next_high).again s.queue.entries r2 (fits.queue, within.queue),
       (lists_is layout form).again s.lists r3 (fits.lists, within.lists),
       (stickers_is s.songs fits.songs).again s.stickers rest fits.stickers,
     )
     refl
+    ∙ ap (λ (p : Profile). Ok (record s { profile = p }, rest)) (sym within.profile)
+
+-- ---- the fields behind the parts
+
+abbrev pub fields_text : Profile → List ℕ
+fields_text Named = []
+fields_text Wide = byte_bytes 0
+
+pub with_fields_is : (profile : Profile) (bytes : List ℕ) → with_fields profile bytes ≡ bytes ++ fields_text profile
+with_fields_is Named bytes = sym (append-nil bytes)
+with_fields_is Wide bytes = refl
+
+-- the parts in front of the fields
+record BeforeFields (profile : Profile) (field : Field SavedState) (x : SavedState × List ℕ) : Type 0 where
+  parts : SavedState × List ℕ
+  read : field ≡ Ok parts
+  same : parts.0 ≡ x.0
+  taken : IsBytes parts.1 → Takes parts.1 (fields_text profile) x.1
+
+no_field_is : IsField (λ bytes. such (λ n. eqb n 0) byte_at bytes) (λ n. byte_bytes n) (λ n. (n < 256) × (eqb n 0 ≡ true))
+no_field_is = such_is (λ n. eqb n 0) (λ bytes. byte_at bytes) (λ n. byte_bytes n) (λ n. n < 256) byte_is
+
+fields_take : (profile : Profile) (field : Field SavedState) (x : SavedState × List ℕ) → before_fields profile field ≡ Ok x
+    → BeforeFields profile field x
+fields_take Named field x e = record { parts = x; read = e; same = refl; taken = λ fits. record { parts = refl; rest_fits = fits } }
+fields_take Wide field x e =
+    let parts = bind_ok field _ x e in
+    let count = bind_ok (such (λ n. eqb n 0) byte_at parts.0.1) _ x parts.2 in
+    let read = ok_is (parts.0.0, count.0.1) x count.2 in
+    record {
+      parts = parts.0;
+      read = parts.1;
+      same = ap (λ (y : SavedState × List ℕ). y.0) read;
+      taken = λ fits.
+          let t = no_field_is.takes parts.0.1 count.0 fits count.1 in
+          let none : count.0.0 ≡ 0 = eqb-true _ _ t.1.1 in
+          subst (λ (rest : List ℕ). Takes parts.0.1 (byte_bytes 0) rest) (ap (λ (y : SavedState × List ℕ). y.1) read)
+          (subst (λ (n : ℕ). Takes parts.0.1 (byte_bytes n) count.0.1) none t.0);
+    }
+
+fields_again : (profile : Profile) (s : SavedState) (rest : List ℕ)
+    → before_fields profile (Ok (s, fields_text profile ++ rest)) ≡ Ok (s, rest)
+unfolding such
+fields_again Named s rest = refl
+fields_again Wide s rest = refl
 
 -- ---- the state
 
+-- all of a snapshot but its checksum
+abbrev pub content_bytes : SavedState → List ℕ
+content_bytes s = with_fields s.profile (head_bytes s ++ parts_bytes s)
+
 pub saved_takes : (layout : Layout) → IsLayout layout → (bytes : List ℕ) (x : SavedState × List ℕ) → IsBytes bytes
     → saved_at layout bytes ≡ Ok x
-    → Takes bytes (saved_bytes x.0) x.1 × (IsSavedState x.0 × IsStateIn layout x.0)
+    → Takes bytes (content_bytes x.0) x.1 × (IsSavedState x.0 × IsStateIn layout x.0)
 unfolding saved_at
 saved_takes layout form bytes x fits e =
     let h = bind_ok (header_at layout bytes) _ x e in
     let t = header_takes layout bytes h.0 fits h.1 in
-    let u = parts_take layout form h.0.0 h.0.1 x t.1 t.0.rest_fits h.2 in
-    let front : Takes bytes (head_bytes x.0) h.0.1 = subst (λ (header : Header). Takes bytes (header_text header) h.0.1) (sym u.1.1) t.0 in
-    (Takes-then bytes (head_bytes x.0) h.0.1 (parts_bytes x.0) x.1 front u.0, u.1.0)
+    let b = fields_take layout.profile (parts_at layout h.0.0 h.0.1) x h.2 in
+    let u = parts_take layout form h.0.0 h.0.1 b.parts t.1 t.0.rest_fits b.read in
+    let s = b.parts.0 in
+    let front : Takes bytes (head_bytes s) h.0.1 = subst (λ (header : Header). Takes bytes (header_text header) h.0.1) (sym u.1.1) t.0 in
+    let both = Takes-then bytes (head_bytes s) h.0.1 (parts_bytes s) b.parts.1 front u.0 in
+    let all : Takes bytes ((head_bytes s ++ parts_bytes s) ++ fields_text layout.profile) x.1 =
+    Takes-then bytes (head_bytes s ++ parts_bytes s) b.parts.1 (fields_text layout.profile) x.1 both (b.taken u.0.rest_fits) in
+    let whole : (head_bytes s ++ parts_bytes s) ++ fields_text layout.profile ≡ content_bytes s =
+    ap (λ (p : Profile). (head_bytes s ++ parts_bytes s) ++ fields_text p) (sym u.1.0.1.profile)
+    ∙ sym (with_fields_is s.profile (head_bytes s ++ parts_bytes s)) in
+    subst (λ (y : SavedState). Takes bytes (content_bytes y) x.1 × (IsSavedState y × IsStateIn layout y)) b.same
+    (subst (λ (text : List ℕ). Takes bytes text x.1) whole all, u.1.0)
 
 pub saved_again : (layout : Layout) → IsLayout layout → (s : SavedState) (rest : List ℕ) → IsSavedState s → IsStateIn layout s
-    → saved_at layout (saved_bytes s ++ rest) ≡ Ok (s, rest)
+    → saved_at layout (content_bytes s ++ rest) ≡ Ok (s, rest)
 unfolding saved_at
 saved_again layout form s rest fits within =
     let queue = fits.queue.queue in
@@ -267,8 +335,15 @@ saved_again layout form s rest fits within =
       volume = fits.volume;
       consume = within.consume;
     } in
-    ap (saved_at layout) (append_assoc (head_bytes s) (parts_bytes s) rest)
-    ∙ rw (header_again layout (header_of s) (parts_bytes s ++ rest) header) (parts_again layout form s rest fits within)
+    let end = fields_text layout.profile ++ rest in
+    let regrouped : content_bytes s ++ rest ≡ head_bytes s ++ (parts_bytes s ++ end) =
+    ap (λ (text : List ℕ). text ++ rest) (with_fields_is s.profile (head_bytes s ++ parts_bytes s))
+    ∙ ap (λ (p : Profile). ((head_bytes s ++ parts_bytes s) ++ fields_text p) ++ rest) within.profile
+    ∙ append_assoc (head_bytes s ++ parts_bytes s) (fields_text layout.profile) rest
+    ∙ append_assoc (head_bytes s) (parts_bytes s) end in
+    ap (saved_at layout) regrouped
+    ∙ rw (header_again layout (header_of s) (parts_bytes s ++ end) header)
+    (ap (before_fields layout.profile) (parts_again layout form s end fits within) ∙ fields_again layout.profile s rest)
 
 -- ---- the whole snapshot
 
@@ -276,17 +351,26 @@ in_bytes_ok : {A : Type 0} (bytes : List ℕ) (r : Result A ℕ) (x : A) → in_
 in_bytes_ok bytes (Ok y) x e = e
 in_bytes_ok bytes (Err d) x e = absurd cc
 
-snapshot_read : (layout : Layout) → IsLayout layout → (bytes : List ℕ) (s : SavedState) → IsBytes bytes
-    → saved_reading_in layout bytes ≡ Ok s
-    → (IsSavedState s × IsStateIn layout s) × (bytes ≡ saved_bytes s)
-snapshot_read layout form bytes s fits e =
+front_read : (layout : Layout) → IsLayout layout → (bytes : List ℕ) (s : SavedState) → IsBytes bytes → front_state layout bytes ≡ Ok s
+    → (IsSavedState s × IsStateIn layout s) × (bytes ≡ content_bytes s)
+front_read layout form bytes s fits e =
     let b = bind_ok (saved_at layout bytes) _ s (in_bytes_ok bytes (alone (saved_at layout bytes)) s e) in
     let g = passed_ok (eqb (length b.0.1) 0) (length b.0.1) b.0.0 s b.2 in
     let t = saved_takes layout form bytes b.0 fits b.1 in
     let nothing : b.0.1 ≡ [] = nil_from_length b.0.1 (eqb-true _ _ g.0) in
-    let whole : bytes ≡ saved_bytes b.0.0 = t.0.parts ∙ ap (λ (r : List ℕ). saved_bytes b.0.0 ++ r) nothing
-    ∙ append-nil (saved_bytes b.0.0) in
-    subst (λ (y : SavedState). (IsSavedState y × IsStateIn layout y) × (bytes ≡ saved_bytes y)) g.1 (t.1, whole)
+    let whole : bytes ≡ content_bytes b.0.0 = t.0.parts ∙ ap (λ (r : List ℕ). content_bytes b.0.0 ++ r) nothing
+    ∙ append-nil (content_bytes b.0.0) in
+    subst (λ (y : SavedState). (IsSavedState y × IsStateIn layout y) × (bytes ≡ content_bytes y)) g.1 (t.1, whole)
+
+snapshot_read : (layout : Layout) → IsLayout layout → (bytes : List ℕ) (s : SavedState) → IsBytes bytes
+    → saved_reading_in layout bytes ≡ Ok s
+    → (IsSavedState s × IsStateIn layout s) × (bytes ≡ saved_bytes s)
+snapshot_read layout form bytes s fits e =
+    let front = bind_ok (unsealed layout.profile bytes) (front_state layout) s e in
+    let read = front_read layout form front.0 s (front_fits layout.profile bytes front.0 fits front.1) front.2 in
+    let whole : bytes ≡ saved_bytes s = seals layout.profile bytes front.0 front.1 ∙ ap (sealed layout.profile) read.1
+    ∙ ap (λ (p : Profile). sealed p (content_bytes s)) (sym read.0.1.profile) in
+    (read.0, whole)
 
 pub snapshot_takes : (layout : Layout) → IsLayout layout → (bytes : List ℕ) (s : SavedState) → IsBytes bytes
     → saved_reading_in layout bytes ≡ Ok s
@@ -301,9 +385,13 @@ snapshot_within layout form bytes s fits e = (snapshot_read layout form bytes s 
 pub snapshot_again_in : (layout : Layout) → IsLayout layout → (s : SavedState) → IsSavedState s → IsStateIn layout s
     → saved_reading_in layout (saved_bytes s) ≡ Ok s
 snapshot_again_in layout form s fits within =
-    let read : saved_at layout (saved_bytes s) ≡ Ok (s, []) =
-    ap (saved_at layout) (sym (append-nil (saved_bytes s))) ∙ saved_again layout form s [] fits within in
-    rw read refl
+    let content = content_bytes s in
+    let read : saved_at layout content ≡ Ok (s, []) =
+    ap (saved_at layout) (sym (append-nil content)) ∙ saved_again layout form s [] fits within in
+    let front : front_state layout content ≡ Ok s = rw read refl in
+    let opened : unsealed layout.profile (saved_bytes s) ≡ Ok content =
+    ap (λ (p : Profile). unsealed layout.profile (sealed p content)) within.profile ∙ unseals layout.profile content in
+    ap (λ (r : Result (List ℕ) ℕ). r >>= front_state layout) opened ∙ front
 
 form_1 : IsLayout layout_1
 form_1 = record { queue_limit = omega arith; list_limit = omega arith }
@@ -311,20 +399,37 @@ form_1 = record { queue_limit = omega arith; list_limit = omega arith }
 form_2 : IsLayout layout_2
 form_2 = record { queue_limit = omega arith; list_limit = omega arith }
 
-one_of : (is_first : Bool) → IsLayout (cond is_first layout_1 layout_2)
-one_of true = form_1
-one_of false = form_2
+form_3 : IsLayout layout_3
+form_3 = record { queue_limit = omega arith; list_limit = omega arith }
+
+one_of : (is_first is_third : Bool) → IsLayout (cond is_first layout_1 (cond is_third layout_3 layout_2))
+one_of true is_third = form_1
+one_of false true = form_3
+one_of false false = form_2
 
 -- a layout of any number allows no more than the program can hold
 pub form_of : (number : ℕ) → IsLayout (layout_of number)
-form_of number = one_of (eqb number 1)
+form_of number = one_of (eqb number 1) (eqb number 3)
 
 -- the layout that is written has the ranges of every state
-within_2 : (s : SavedState) → IsSavedState s → IsStateIn layout_2 s
-within_2 s fits = record { consume = consume_2 s.options.consume; queue = fits.queue.queue.few; lists = fits.lists.within.few_lists }
+within_written : (profile : Profile) (s : SavedState) → s.profile ≡ profile → IsSavedState s
+    → IsStateIn (layout_of (written_layout profile)) s
+within_written Named s is fits = record {
+  profile = is;
+  consume = consume_written Named s.options.consume;
+  queue = fits.queue.queue.few;
+  lists = fits.lists.within.few_lists;
+}
+within_written Wide s is fits = record {
+  profile = is;
+  consume = consume_written Wide s.options.consume;
+  queue = fits.queue.queue.few;
+  lists = fits.lists.within.few_lists;
+}
 
-pub snapshot_again : (s : SavedState) → IsSavedState s → saved_reading written_layout (saved_bytes s) ≡ Ok s
-snapshot_again s fits = snapshot_again_in layout_2 form_2 s fits (within_2 s fits)
+pub snapshot_again : (s : SavedState) → IsSavedState s → saved_reading (written_layout s.profile) (saved_bytes s) ≡ Ok s
+snapshot_again s fits =
+    snapshot_again_in (layout_of (written_layout s.profile)) (form_of (written_layout s.profile)) s fits (within_written s.profile s refl fits)
 
 pub snapshot_found : (layout : Layout) → IsLayout layout → (bytes : List ℕ) (r : Result SavedState CodecError) → IsBytes bytes
     → GivesSaved r (saved_reading_in layout bytes)

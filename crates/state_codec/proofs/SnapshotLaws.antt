@@ -17,7 +17,7 @@ use Rattle.stored_lists.specs.Songs.{AreUris}
 use Rattle.state_codec.specs.Appended.{IsShortList, IsShortSticker}
 use Rattle.state_codec.specs.Longest.{longest_sticker}
 use Rattle.state_codec.specs.SavedState.{SavedState, IsSavedState}
-use Rattle.state_codec.specs.Spelling.{entry_bytes, playlist_bytes, sticker_bytes, head_bytes, parts_bytes, saved_bytes}
+use Rattle.state_codec.specs.Spelling.{entry_bytes, playlist_bytes, sticker_bytes, head_bytes, parts_bytes}
 use Rattle.state_codec.specs.SpellingFields.{list_bytes}
 use Rattle.state_codec.specs.SpellingRows.{row_bytes}
 use Rattle.state_codec.proofs.FieldLaws.{both_true}
@@ -102,23 +102,23 @@ short_song song songs short =
 
 pub record PartsLen (s : SavedState) : Type 0 where
   pub head : length (head_bytes s) ≡ 53
-  pub rows : length (list_bytes row_bytes s.songs) ≡ 4 + length (flat_map row_bytes s.songs)
+  pub rows : length (list_bytes (row_bytes s.profile) s.songs) ≡ 4 + length (flat_map (row_bytes s.profile) s.songs)
   pub entries : length (list_bytes (entry_bytes s.songs) s.queue.entries) ≡ 4 + 13 * length s.queue.entries
   pub lists : length (list_bytes playlist_bytes s.lists) ≡ 4 + length (flat_map playlist_bytes s.lists)
   pub stickers : length (list_bytes sticker_bytes s.stickers) ≡ 4 + length (flat_map sticker_bytes s.stickers)
-  pub whole : length (saved_bytes s) ≡ length (head_bytes s) + length (list_bytes row_bytes s.songs)
+  pub whole : length (head_bytes s ++ parts_bytes s) ≡ length (head_bytes s) + length (list_bytes (row_bytes s.profile) s.songs)
       + length (list_bytes (entry_bytes s.songs) s.queue.entries) + length (list_bytes playlist_bytes s.lists)
       + length (list_bytes sticker_bytes s.stickers)
 
 pub parts_len : (s : SavedState) → IsSavedState s → PartsLen s
 parts_len s good =
-    let rows = list_bytes row_bytes s.songs in
+    let rows = list_bytes (row_bytes s.profile) s.songs in
     let entries = list_bytes (entry_bytes s.songs) s.queue.entries in
     let lists = list_bytes playlist_bytes s.lists in
     let stickers = list_bytes sticker_bytes s.stickers in
     record {
       head = head_len s good;
-      rows = list_len row_bytes s.songs;
+      rows = list_len (row_bytes s.profile) s.songs;
       entries = omega (arith, list_len (entry_bytes s.songs) s.queue.entries, thirteen_each s.songs s.queue.entries);
       lists = list_len playlist_bytes s.lists;
       stickers = list_len sticker_bytes s.stickers;

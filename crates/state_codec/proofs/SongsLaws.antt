@@ -1,7 +1,7 @@
 -- The rows of a snapshot.
 use Rattle.std.proofs.Common.{◌≡◌, ℕ, zero, suc, ◌<◌, ◌≤◌, Bool, true, false, ◌&&◌, cond, List, [], ◌∷◌, length, Some, refl, sym, ap, subst}
 use Rattle.std.proofs.Common.{◌∙◌, arith}
-use Rattle.std.specs.Prelude.{is_some}
+use Rattle.std.specs.Prelude.{is_some, IsTrue}
 use Rattle.std.specs.declared.cmp.Ordering.TheVariants.{Less}
 use Rattle.std.specs.Ordering.{nat_cmp, is_lt, is_eq, ordering_reverse}
 use Rattle.std.specs.Cmp.Lexicographic.{slice_cmp, nat_list_cmp_total}
@@ -11,23 +11,24 @@ use Rattle.std.specs.Str.{bytes_eq}
 use Rattle.std.proofs.lemmas.Slice.Eq.{bytes_eq-Decides}
 use Rattle.std.proofs.lemmas.Map.Text.{is_eq-slice_cmp}
 use Rattle.std.proofs.lemmas.Map.Keys.{sorted_head, sorted_tail}
+use Rattle.profile.specs.declared.profile.Profile.{Profile}
 use Rattle.song_db.specs.Change.{has_uri}
 use Rattle.song_db.specs.Last.{ends_before}
 use Rattle.song_db.specs.Limits.{MAX_ROWS}
 use Rattle.song_db.specs.Query.{number_at}
 use Rattle.song_db.specs.Replaced.{by_text, IsRising}
-use Rattle.song_db.specs.Row.{Row, row_uri}
+use Rattle.song_db.specs.Row.{Row, row_uri, is_kept_by}
 use Rattle.song_db.specs.Uri.{is_uri}
 use Rattle.state_codec.specs.Changes.{IsSavedRow}
 use Rattle.state_codec.specs.Fields.{number_within}
 use Rattle.state_codec.specs.ReadingRows.{row_at}
 use Rattle.state_codec.specs.ReadingSaved.{next_uri_at, songs_at}
-use Rattle.state_codec.specs.SavedState.{AreSavedSongs}
+use Rattle.state_codec.specs.SavedState.{AreSavedSongs, AreKeptSongs}
 use Rattle.state_codec.specs.SpellingFields.{u32_bytes, text_bytes, list_bytes}
 use Rattle.state_codec.specs.SpellingRows.{row_bytes}
 use Rattle.state_codec.proofs.FieldLaws.{both_true, IsField, fits_is, within_is}
 use Rattle.state_codec.proofs.ItemLaws.{all_push, all_middle, IsItem, counted_is}
-use Rattle.state_codec.proofs.RowLaws.{fields_fit, row_takes, row_again}
+use Rattle.state_codec.proofs.RowLaws.{IsKeptRow, uri_form, row_takes, row_again}
 use Rattle.state_codec.proofs.TextLaws.{form_is, both_is_true, uri_short}
 use Rattle.state_codec.proofs.Rising.{less_is, all_places, all_in_turn, rises_push, rises_above}
 
@@ -49,8 +50,8 @@ last_before (x ∷ []) uri before = ap is_lt before.0
 last_before (x ∷ y ∷ rows) uri before = last_before (y ∷ rows) uri before.1
 
 -- what rows that were read keep
-abbrev KnownSongs : List Row → Type 0
-KnownSongs rows = IsRising row_uri rows × AllByRecursion IsSavedRow rows
+abbrev KnownSongs : Profile → List Row → Type 0
+KnownSongs profile rows = IsRising row_uri rows × AllByRecursion (IsKeptRow profile) rows
 
 abbrev IsNext : List Row → List ℕ → Type 0
 IsNext known uri = (is_uri uri && ends_before known uri) ≡ true
@@ -59,32 +60,58 @@ next_uri_is : (known : List Row) → IsField (λ bytes. next_uri_at known bytes)
 next_uri_is known = form_is (λ uri. is_uri uri && ends_before known uri)
     (λ text h. uri_short text (both_true (is_uri text) (ends_before known text) h).0)
 
-song_is : IsItem (λ known. row_at (next_uri_at known)) row_bytes KnownSongs
-song_is = record {
+song_is : (profile : Profile) → IsItem (λ known. row_at profile (next_uri_at known)) (row_bytes profile) (KnownSongs profile)
+song_is profile = record {
   takes = λ known bytes x fits in_range e.
-      let t = row_takes (λ b. next_uri_at known b) (IsNext known) (next_uri_is known)
+      let t = row_takes profile (λ b. next_uri_at known b) (IsNext known) (next_uri_is known)
       (λ name h. (both_true (is_uri name) (ends_before known name) h).0) bytes x in_range e in
       let before = last_tells known x.0.uri fits.0 (both_true (is_uri x.0.uri) (ends_before known x.0.uri) t.1.1).1 in
-      (t.0, (rises_push (by_text row_uri) known x.0 fits.0 before, all_push IsSavedRow known x.0 fits.1 t.1.0));
+      (t.0, (rises_push (by_text row_uri) known x.0 fits.0 before, all_push (IsKeptRow profile) known x.0 fits.1 t.1.0));
   again = λ known row more rest fits.
-      let good = all_middle IsSavedRow known row more fits.1 in
+      let good = all_middle (IsKeptRow profile) known row more fits.1 in
       let before = last_before known row.uri (rises_above (by_text row_uri) known row more fits.0) in
-      row_again (λ b. next_uri_at known b) (IsNext known) (next_uri_is known) row rest good
-      (both_is_true (is_uri row.uri) (ends_before known row.uri) (fields_fit row good).1 before);
+      row_again profile (λ b. next_uri_at known b) (IsNext known) (next_uri_is known) row rest good
+      (both_is_true (is_uri row.uri) (ends_before known row.uri) (uri_form row good.0) before);
 }
 
-none_known : KnownSongs []
+none_known : (profile : Profile) → KnownSongs profile []
 unfolding IsStrictlySortedBy
-none_known = (tt, tt)
+none_known profile = (tt, tt)
 
-pub songs_is : IsField (λ bytes. songs_at bytes) (λ rows. list_bytes row_bytes rows) AreSavedSongs
-songs_is =
-    fits_is (λ bytes. songs_at bytes) (λ rows. list_bytes row_bytes rows)
-    (λ rows. ((0 ≤ length rows) × (length rows ≤ MAX_ROWS)) × KnownSongs rows) AreSavedSongs
+-- each row is one of the program's, and the profile keeps it
+kept_by_turn : (profile : Profile) (rows : List Row) → AllByRecursion (IsKeptRow profile) rows
+    → AllByRecursion IsSavedRow rows × AllByRecursion (λ row. IsTrue (is_kept_by profile row)) rows
+kept_by_turn profile [] all = (tt, tt)
+kept_by_turn profile (row ∷ rows) all = let rest = kept_by_turn profile rows all.1 in ((all.0.0, rest.0), (all.0.1, rest.1))
+
+by_turn : (profile : Profile) (rows : List Row) → AllByRecursion IsSavedRow rows → AllByRecursion (λ row. IsTrue (is_kept_by profile row)) rows
+    → AllByRecursion (IsKeptRow profile) rows
+by_turn profile [] good kept = tt
+by_turn profile (row ∷ rows) good kept = ((good.0, kept.0), by_turn profile rows good.1 kept.1)
+
+-- the songs of a saved state
+abbrev pub AreKeptRows : Profile → List Row → Type 0
+AreKeptRows profile rows = AreSavedSongs rows × AreKeptSongs profile rows
+
+pub songs_is : (profile : Profile)
+    → IsField (λ bytes. songs_at profile bytes) (λ rows. list_bytes (row_bytes profile) rows) (AreKeptRows profile)
+songs_is profile =
+    fits_is (λ bytes. songs_at profile bytes) (λ rows. list_bytes (row_bytes profile) rows)
+    (λ rows. ((0 ≤ length rows) × (length rows ≤ MAX_ROWS)) × KnownSongs profile rows) (AreKeptRows profile)
     (counted_is (λ bytes. number_within 0 MAX_ROWS bytes) (λ n. u32_bytes n) (λ n. (0 ≤ n) × (n ≤ MAX_ROWS))
-    (within_is 0 MAX_ROWS (omega arith)) (λ known. row_at (next_uri_at known)) row_bytes KnownSongs song_is none_known)
-    (λ rows h. record { database = record { few = h.0.1; rising = h.1.0 }; rows = all_places IsSavedRow rows h.1.1 })
-    (λ rows h. ((omega arith, h.database.few), (h.database.rising, all_in_turn IsSavedRow rows h.rows)))
+    (within_is 0 MAX_ROWS (omega arith)) (λ known. row_at profile (next_uri_at known)) (row_bytes profile) (KnownSongs profile)
+    (song_is profile) (none_known profile))
+    (λ rows h. let parts = kept_by_turn profile rows h.1.1 in (
+      record { database = record { few = h.0.1; rising = h.1.0 }; rows = all_places IsSavedRow rows parts.0 },
+      all_places (λ row. IsTrue (is_kept_by profile row)) rows parts.1,
+    ))
+    (λ rows h. (
+      (omega arith, h.0.database.few),
+      (
+        h.0.database.rising,
+        by_turn profile rows (all_in_turn IsSavedRow rows h.0.rows) (all_in_turn (λ row. IsTrue (is_kept_by profile row)) rows h.1),
+      ),
+    ))
 
 -- ---- the number of a row
 
@@ -162,7 +189,7 @@ has_of (x ∷ songs) (suc n) row at = by (bytes_eq row.uri x.uri) (has_of songs 
 pub has_form : (songs : List Row) (uri : List ℕ) → AllByRecursion IsSavedRow songs → has_uri songs uri ≡ true → is_uri uri ≡ true
 has_form songs uri good has =
     let found = row_of songs uri has in
-    subst (λ (u : List ℕ). is_uri u ≡ true) found.same (fields_fit found.row (at_place songs found.n found.row good found.at)).1
+    subst (λ (u : List ℕ). is_uri u ≡ true) found.same (uri_form found.row (at_place songs found.n found.row good found.at))
   where
     at_place : (rows : List Row) (k : ℕ) (row : Row) → AllByRecursion IsSavedRow rows → slice_get rows k ≡ Some row → IsSavedRow row
     at_place [] k row all is = absurd cc

@@ -48,7 +48,7 @@ tag_is_text text h =
     let utf8 = both_true _ (is_utf8 text) front.0 in
     both_is_true (is_utf8 text) (leb (length text) 65535) utf8.1 (le-leb (length text) 65535 (omega (arith, tag_text_short text h)))
 
-tag_text_is : IsField (λ bytes. such is_tag_text text_at bytes) (λ text. text_bytes text) (λ text. is_tag_text text ≡ true)
+pub tag_text_is : IsField (λ bytes. such is_tag_text text_at bytes) (λ text. text_bytes text) (λ text. is_tag_text text ≡ true)
 tag_text_is = form_is is_tag_text tag_is_text
 
 abbrev pub IsTextOrNone : Option (List ℕ) → Type 0

@@ -12,6 +12,7 @@ use Rattle.state_codec.specs.Applied.{applied}
 use Rattle.state_codec.specs.Layout.{layout_of}
 use Rattle.state_codec.specs.ReadingOps.{op_at}
 use Rattle.state_codec.specs.SavedState.{SavedState}
+use Rattle.state_codec.specs.Sealed.{unsealed}
 use Rattle.state_codec.specs.Steps.{◌>>=◌}
 
 -- a fault is told by its offset in so many bytes
@@ -29,9 +30,18 @@ body_from layout total (suc n) i (b ∷ rest) s = do
   next ← ok_or (applied op.0 s) (DoesNotApply i)
   body_from layout total n (suc i) op.1 next
 
--- the state after the body of a record, which has one op at least, or the first thing that is wrong
+-- the state after the ops of bytes without their checksum, one op at least, or the first thing that is wrong
+abbrev pub front_applied : Layout → SavedState → List ℕ → Result SavedState BodyError
+front_applied layout s body = if length body == 0 then Err (BadOp 0) else body_from layout (length body) (length body) 0 body s
+
+-- a fault is told by its offset
+abbrev pub told_offset : {A : Type 0} → Result A ℕ → Result A BodyError
+told_offset (Ok x) = Ok x
+told_offset (Err offset) = Err (BadOp offset)
+
+-- The state after the body of a record, or the first thing that is wrong. No op is applied before the checksum is known to be right.
 abbrev pub body_applied_in : Layout → List ℕ → SavedState → Result SavedState BodyError
-body_applied_in layout body s = if length body == 0 then Err (BadOp 0) else body_from layout (length body) (length body) 0 body s
+body_applied_in layout body s = told_offset (unsealed layout.profile body) >>= front_applied layout s
 
 -- the same in the layout of a number
 abbrev pub body_applied : ℕ → List ℕ → SavedState → Result SavedState BodyError

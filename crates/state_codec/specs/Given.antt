@@ -2,6 +2,7 @@
 use Rattle.std.specs.Prelude.{◌≡◌, ℕ, ⊤, true, false, List, [], ◌∷◌, ◌++◌, Option, Some, None, option_copied, Result, Ok, Err}
 use Rattle.song_files.specs.Tags.{TagText, added}
 use Rattle.song_files.specs.declared.tag.Tag.{Tag}
+use Rattle.song_files.specs.declared.folder.FileStamp.{FileStamp}
 use Rattle.wave_pcm.specs.declared.info.WaveInfo.{WaveInfo}
 use Rattle.std.specs.Global.{Vec}
 use denote.Ref.{Bor}
@@ -58,9 +59,10 @@ abbrev pub AddsTag : Result (Unit {0}) ReadError → Tag → List TagText → Li
 AddsTag (Ok done) tag known now rest field = (text : Option (List ℕ)) × (field ≡ Ok (text, rest)) × (now ≡ with_some known tag text)
 AddsTag (Err e) tag known now rest field = Fails e field
 
--- the same of a head of a WAVE file, as the fields of a row
-abbrev pub GivesHead : Result WaveInfo ReadError → List ℕ → Field RowFields → Type 0
-GivesHead (Ok info) rest field = field ≡ Ok ((info.rate, (info.channels, (info.first_byte, (info.frames, info.tags)))), rest)
+-- the same of the head and the stamp of a file, as the fields of a row
+abbrev pub GivesHead : Result (WaveInfo × Option FileStamp) ReadError → List ℕ → Field RowFields → Type 0
+GivesHead (Ok head) rest field =
+    field ≡ Ok ((head.0.rate, (head.0.channels, (head.0.first_byte, (head.0.frames, (head.1, head.0.tags))))), rest)
 GivesHead (Err e) rest field = Fails e field
 
 -- one more item was read behind the known ones, or the fault is that of reading it

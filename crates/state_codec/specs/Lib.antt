@@ -17,6 +17,8 @@ pub mod Steps
 pub mod Stored
 pub mod Text
 pub mod Layout
+pub mod Checksum
+pub mod Sealed
 pub mod Fields
 pub mod Items
 pub mod Given

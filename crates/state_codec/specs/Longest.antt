@@ -1,7 +1,9 @@
 -- How many bytes a snapshot has at most.
 use Rattle.std.specs.Prelude.{ℕ, ◌+◌, ◌*◌}
 use Rattle.play_queue.specs.Limits.{MAX_ENTRIES as QUEUE_LIMIT}
-use Rattle.song_db.specs.Limits.{MAX_URI_BYTES, MAX_ROWS}
+use Rattle.profile.specs.declared.profile.Profile.{Profile}
+use Rattle.profile.specs.declared.profile.Profile.TheVariants.{Named, Wide}
+use Rattle.song_db.specs.Limits.{MAX_URI_BYTES, MAX_ROWS, MAX_ROW_TAG_BYTES, MAX_CHANGES}
 use Rattle.stickers.specs.Limits.{MAX_STICKERS, MAX_VALUE_BYTES, MAX_NAME_BYTES as STICKER_NAME_BYTES}
 use Rattle.stored_lists.specs.Limits.{MAX_LISTS, MAX_ENTRIES as LISTS_LIMIT, MAX_NAME_BYTES as LIST_NAME_BYTES}
 use Rattle.song_files.specs.Limits.{MAX_TAG_BYTES}
@@ -10,9 +12,18 @@ use Rattle.song_files.specs.Limits.{MAX_TAG_BYTES}
 abbrev pub longest_text : ℕ → ℕ
 longest_text bytes = 2 + bytes
 
--- a URI; rate, channels, first byte and frames; six tags
-abbrev pub longest_row : ℕ
-longest_row = longest_text MAX_URI_BYTES + (4 + 1 + 8 + 8 + 6 * (1 + longest_text MAX_TAG_BYTES))
+-- six tags; or a stamp, and all texts of all tags
+abbrev pub longest_told : Profile → ℕ
+longest_told Named = 6 * (1 + longest_text MAX_TAG_BYTES)
+longest_told Wide = (1 + 8 + 8) + (1 + MAX_ROW_TAG_BYTES)
+
+-- a URI; rate, channels, first byte and frames; what else is told: 4,137 bytes, or 31,065
+abbrev pub longest_row : Profile → ℕ
+longest_row profile = longest_text MAX_URI_BYTES + (4 + 1 + 8 + 8 + longest_told profile)
+
+-- a batch: its number, how many changes it has, and each with its kind: 264,834 bytes, or 1,988,226
+abbrev pub longest_batch : Profile → ℕ
+longest_batch profile = 1 + (1 + MAX_CHANGES * (1 + longest_row profile))
 
 -- id, row number, priority and stamp
 abbrev pub longest_entry : ℕ
@@ -33,8 +44,13 @@ longest_head = 32 + 8 + 4 + 4 + 1 + 4
 abbrev pub longest_lists : ℕ
 longest_lists = MAX_LISTS * longest_list + LISTS_LIMIT * longest_text MAX_URI_BYTES
 
--- the head and the four parts, each behind its number: 692,197,445 bytes
-abbrev pub longest_snapshot : ℕ
-longest_snapshot =
-    longest_head + (4 + MAX_ROWS * longest_row) + (4 + QUEUE_LIMIT * longest_entry) + (4 + longest_lists)
-    + (4 + MAX_STICKERS * longest_sticker)
+-- no field, and the checksum
+abbrev pub longest_end : Profile → ℕ
+longest_end Named = 0
+longest_end Wide = 1 + 4
+
+-- the head and the four parts, each behind its number, and what stands behind them: 692,197,445 bytes, or 2,456,950,858
+abbrev pub longest_snapshot : Profile → ℕ
+longest_snapshot profile =
+    longest_head + (4 + MAX_ROWS * longest_row profile) + (4 + QUEUE_LIMIT * longest_entry) + (4 + longest_lists)
+    + (4 + MAX_STICKERS * longest_sticker) + longest_end profile

@@ -1,8 +1,9 @@
 -- What every op of the program keeps: its numbers are in range and its texts have their form.
 use Rattle.std.specs.Prelude.{ℕ, ◌<◌, ◌≤◌, ◌^◌, List, length, IsTrue}
 use Rattle.std.specs.List.{AllByRecursion}
+use Rattle.profile.specs.declared.profile.Profile.{Profile}
 use Rattle.song_db.specs.Uri.{is_uri}
-use Rattle.state_codec.specs.Changes.{AreChanges}
+use Rattle.state_codec.specs.Changes.{AreChanges, are_kept}
 use Rattle.state_codec.specs.Numbers.{MAX_COUNT, AreRowNumbers, AreOpRanges}
 use Rattle.state_codec.specs.Text.{is_text, is_sticker_text}
 use Rattle.state_codec.specs.declared.op.Op.{Op}
@@ -54,6 +55,16 @@ IsOp (OfList op) = IsListOp op
 IsOp (Sticker op) = IsStickerOp op
 IsOp (Batch changes) = AreChanges changes
 
--- the ops of one record: at least one
-abbrev pub AreOps : List Op → Type 0
-AreOps ops = (0 < length ops) × AllByRecursion IsOp ops
+-- an op all of whose rows the profile keeps
+abbrev pub IsKeptOp : Profile → Op → Type 0
+IsKeptOp profile (SetOption setting) = Unit {0}
+IsKeptOp profile (SetVolume volume) = Unit {0}
+IsKeptOp profile (SetOrder order) = Unit {0}
+IsKeptOp profile (Queue op) = Unit {0}
+IsKeptOp profile (OfList op) = Unit {0}
+IsKeptOp profile (Sticker op) = Unit {0}
+IsKeptOp profile (Batch changes) = IsTrue (are_kept profile changes)
+
+-- the ops of one record under a profile: at least one
+abbrev pub AreOps : Profile → List Op → Type 0
+AreOps profile ops = (0 < length ops) × (AllByRecursion IsOp ops × AllByRecursion (IsKeptOp profile) ops)

@@ -1,5 +1,5 @@
 -- What a batch of the database does. Its changes are made in their order, each at its turn.
-use Rattle.std.specs.Prelude.{Bool, true, not, List, filter, map, Option, Some, None, option_map}
+use Rattle.std.specs.Prelude.{Bool, true, not, List, filter, map, Option, Some, None, option_map, if◌then◌else◌}
 use Rattle.std.specs.List.{list_any}
 use Rattle.play_queue.specs.Entries.{Uris, is_among, kept}
 use Rattle.play_queue.specs.Queue.{QueueState, ruled}
@@ -10,14 +10,20 @@ use Rattle.song_db.specs.Row.{Row, row_uri, row_at}
 use Rattle.song_db.specs.Same.{same_row}
 use Rattle.song_db.specs.Scan.{drops_of}
 use Rattle.song_db.specs.declared.change.RowChange.{RowChange}
+use Rattle.song_db.specs.declared.refusal.SongDbError.TheVariants.{DbFull}
+use Rattle.state_codec.specs.Changes.{are_kept}
 use Rattle.state_codec.specs.SavedState.{SavedState}
 use Rattle.state_codec.specs.declared.refusal.OpRefusal.{OpRefusal}
 use Rattle.state_codec.specs.declared.refusal.OpRefusal.TheVariants.{Songs}
 use Rattle.stickers.specs.Sticker.{Sticker}
 
--- what refuses it: a row that the database has no place for at its turn
+-- refused where a row is put that has no place in what is saved under the profile, or else as it is otherwise
+abbrev pub if_kept : Bool → Option OpRefusal → Option OpRefusal
+if_kept kept refusal = if kept then refusal else Some (Songs DbFull)
+
+-- what refuses it: a row that the profile doesn't keep, or that the database has no place for at its turn
 abbrev pub rows_refusal : List RowChange → SavedState → Option OpRefusal
-rows_refusal changes s = option_map Songs (batch_refusal (effects_of s.songs changes))
+rows_refusal changes s = if_kept (are_kept s.profile changes) (option_map Songs (batch_refusal (effects_of s.songs changes)))
 
 -- the row of a URI isn't this one
 abbrev pub is_other : Row → Option Row → Bool

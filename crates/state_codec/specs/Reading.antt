@@ -7,6 +7,7 @@ use Rattle.state_codec.specs.Fields.{Field}
 use Rattle.state_codec.specs.ReadingOps.{ops_at}
 use Rattle.state_codec.specs.ReadingSaved.{saved_at}
 use Rattle.state_codec.specs.SavedState.{SavedState}
+use Rattle.state_codec.specs.Sealed.{unsealed}
 use Rattle.state_codec.specs.Steps.{◌>>=◌}
 
 -- nothing may stand after the value
@@ -20,13 +21,21 @@ abbrev pub in_bytes : {A : Type 0} → List ℕ → Result A ℕ → Result A �
 in_bytes bytes (Ok x) = Ok x
 in_bytes bytes (Err left) = Err (length bytes - left)
 
+-- the ops that bytes without their checksum spell in a layout
+abbrev pub front_ops : Layout → List ℕ → Result (List Op) ℕ
+front_ops layout bytes = if length bytes == 0 then Err 0 else in_bytes bytes (ops_at layout (length bytes) bytes)
+
+-- the state that bytes without their checksum spell in a layout
+abbrev pub front_state : Layout → List ℕ → Result SavedState ℕ
+front_state layout bytes = in_bytes bytes (alone (saved_at layout bytes))
+
 -- the ops that the body of a record spells in a layout
 abbrev pub ops_reading_in : Layout → List ℕ → Result (List Op) ℕ
-ops_reading_in layout bytes = if length bytes == 0 then Err 0 else in_bytes bytes (ops_at layout (length bytes) bytes)
+ops_reading_in layout bytes = unsealed layout.profile bytes >>= front_ops layout
 
 -- the state that a snapshot spells in a layout
 abbrev pub saved_reading_in : Layout → List ℕ → Result SavedState ℕ
-saved_reading_in layout bytes = in_bytes bytes (alone (saved_at layout bytes))
+saved_reading_in layout bytes = unsealed layout.profile bytes >>= front_state layout
 
 -- the same in the layout of a number
 abbrev pub ops_reading : ℕ → List ℕ → Result (List Op) ℕ

@@ -77,7 +77,7 @@ op_at layout bytes = do
       else if is_in_range 4 9 kind.0 then made Queue (queue_op_at kind.0 kind.1)
       else if is_in_range 10 16 kind.0 then made OfList (list_op_at kind.0 kind.1)
       else if is_in_range 17 19 kind.0 then made Sticker (sticker_op_at kind.0 kind.1)
-      else if kind.0 == 20 then made Batch (changes_at kind.1)
+      else if kind.0 == 20 then made Batch (changes_at layout.profile kind.1)
       else Err (length bytes)
 
 -- the ops up to the end, at most n of them

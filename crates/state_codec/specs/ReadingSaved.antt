@@ -1,10 +1,12 @@
 -- The reading of a snapshot.
-use Rattle.std.specs.Prelude.{ℕ, ◌+◌, ◌-◌, List, [], ◌∷◌, length, slice_get, Bool, not, ◌&&◌, Ok}
+use Rattle.std.specs.Prelude.{ℕ, ◌+◌, ◌-◌, List, [], ◌∷◌, length, slice_get, Bool, not, ◌&&◌, ◌==◌, Ok}
 use Rattle.std.specs.Option.{ok_or}
 use Rattle.std.specs.Int.{is_in_range}
 use Rattle.std.specs.Ordering.{nat_cmp, is_lt}
 use Rattle.std.specs.Cmp.Lexicographic.{slice_cmp}
 use Rattle.player_core.specs.declared.options.Options.{Options}
+use Rattle.profile.specs.declared.profile.Profile.{Profile}
+use Rattle.profile.specs.declared.profile.Profile.TheVariants.{Named, Wide}
 use Rattle.play_queue.specs.Builder.{has_id}
 use Rattle.play_queue.specs.Limits.{MAX_ID, MAX_VERSION}
 use Rattle.play_queue.specs.declared.entry.Entry.{Entry}
@@ -43,8 +45,8 @@ abbrev pub next_uri_at : List Row → List ℕ → Field (List ℕ)
 next_uri_at known bytes = such (λ uri. is_uri uri && ends_before known uri) text_at bytes
 
 -- the rows, rising by URI
-abbrev pub songs_at : List ℕ → Field (List Row)
-songs_at bytes = counted_at (number_within 0 MAX_ROWS) (λ known. row_at (next_uri_at known)) bytes
+abbrev pub songs_at : Profile → List ℕ → Field (List Row)
+songs_at profile bytes = counted_at (number_within 0 MAX_ROWS) (λ known. row_at profile (next_uri_at known)) bytes
 
 -- the URI of the row of a number
 unfoldable pub numbered_at : List Row → List ℕ → Field (List ℕ)
@@ -131,12 +133,13 @@ header_at layout bytes = do
 -- rows, queue entries, playlists and stickers, behind a header
 unfoldable pub parts_at : Layout → Header → List ℕ → Field SavedState
 parts_at layout header bytes = do
-  songs ← songs_at bytes
+  songs ← songs_at layout.profile bytes
   entries ← entries_at layout songs.0 header.version header.next_id songs.1
   lists ← lists_at layout entries.1
   stickers ← stickers_at songs.0 lists.1
   Ok (
     record {
+      profile = layout.profile;
       key = header.key;
       order = header.order;
       volume = header.volume;
@@ -149,8 +152,16 @@ parts_at layout header bytes = do
     stickers.1,
   )
 
--- a snapshot
+-- Behind the parts the second profile has fields, behind their number in one byte. As yet there is none.
+abbrev pub before_fields : {A : Type 0} → Profile → Field A → Field A
+before_fields Named field = field
+before_fields Wide field = do
+  parts ← field
+  count ← such (λ n. n == 0) byte_at parts.1
+  Ok (parts.0, count.1)
+
+-- a snapshot without its checksum
 unfoldable pub saved_at : Layout → List ℕ → Field SavedState
 saved_at layout bytes = do
   header ← header_at layout bytes
-  parts_at layout header.0 header.1
+  before_fields layout.profile (parts_at layout header.0 header.1)

@@ -6,13 +6,15 @@ use Rattle.play_queue.specs.declared.entry.Entry.{Entry}
 use Rattle.play_queue.specs.Queue.{QueueState, IsQueue}
 use Rattle.player_core.specs.declared.options.Options.{Options}
 use Rattle.player_core.specs.declared.options.Single.TheVariants.{Off}
+use Rattle.profile.specs.declared.profile.Profile.{Profile}
 use Rattle.song_db.specs.Change.{IsDatabase, has_uri}
-use Rattle.song_db.specs.Row.{Row}
+use Rattle.song_db.specs.Row.{Row, is_kept_by}
 use Rattle.state_codec.specs.Changes.{IsSavedRow}
 use Rattle.stickers.specs.Sticker.{Sticker, IsWithinLimits as AreStickers}
 use Rattle.stored_lists.specs.Lists.{Stored, IsRising, IsWithinLimits as AreLists}
 
 pub record SavedState : Type 0 where
+  pub profile : Profile
   pub key : List ℕ
   pub order : ℕ
   pub volume : ℕ
@@ -49,6 +51,10 @@ pub record AreSavedSongs (songs : List Row) : Type 0 where
   pub database : IsDatabase songs
   pub rows : All IsSavedRow songs
 
+-- each row is one that the profile keeps
+abbrev pub AreKeptSongs : Profile → List Row → Type 0
+AreKeptSongs profile songs = All (λ row. IsTrue (is_kept_by profile row)) songs
+
 pub record IsSavedQueue (songs : List Row) (saved : QueueState) : Type 0 where
   pub queue : IsQueue saved
   pub entries : All (IsSavedEntry songs) saved.entries
@@ -68,14 +74,16 @@ pub record IsSavedState (s : SavedState) : Type 0 where
   pub order : s.order < 2 ^ 64
   pub volume : s.volume ≤ 100
   pub songs : AreSavedSongs s.songs
+  pub kept : AreKeptSongs s.profile s.songs
   pub queue : IsSavedQueue s.songs s.queue
   pub lists : AreSavedLists s.lists
   pub stickers : AreSavedStickers s.songs s.stickers
 
 -- the state of a new journal
-abbrev pub fresh : List ℕ → SavedState
-fresh key =
+abbrev pub fresh : Profile → List ℕ → SavedState
+fresh profile key =
     record {
+      profile = profile;
       key = key;
       order = 0;
       volume = 100;

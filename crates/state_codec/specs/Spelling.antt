@@ -3,18 +3,25 @@ use Rattle.std.specs.Prelude.{ℕ, List, ◌++◌, unwrap_or}
 use Rattle.std.specs.List.{flat_map}
 use Rattle.play_queue.specs.declared.entry.Entry.{Entry}
 use Rattle.player_core.specs.declared.options.Options.{Options}
+use Rattle.profile.specs.declared.profile.Profile.{Profile}
+use Rattle.profile.specs.declared.profile.Profile.TheVariants.{Named, Wide}
 use Rattle.song_db.specs.Query.{number_at}
 use Rattle.song_db.specs.Row.{Row}
 use Rattle.stickers.specs.Sticker.{Sticker}
 use Rattle.state_codec.specs.declared.op.Op.{Op}
 use Rattle.state_codec.specs.SavedState.{SavedState}
+use Rattle.state_codec.specs.Sealed.{sealed}
 use Rattle.state_codec.specs.SpellingFields.{byte_bytes, u32_bytes, u64_bytes, flag_bytes, single_bytes, text_bytes, list_bytes}
 use Rattle.state_codec.specs.SpellingOps.{op_bytes}
 use Rattle.state_codec.specs.SpellingRows.{row_bytes}
 
--- the body of a record: its ops one after the other
-abbrev pub ops_bytes : List Op → List ℕ
-ops_bytes ops = flat_map op_bytes ops
+-- ops one after the other
+abbrev pub ops_bytes : Profile → List Op → List ℕ
+ops_bytes profile ops = flat_map (op_bytes profile) ops
+
+-- the body of a record: its ops, and their checksum where the profile asks for one
+abbrev pub body_bytes : Profile → List Op → List ℕ
+body_bytes profile ops = sealed profile (ops_bytes profile ops)
 
 abbrev pub options_bytes : Options → List ℕ
 options_bytes options =
@@ -41,9 +48,14 @@ head_bytes s =
 -- rows, queue entries, playlists and stickers, each behind their number
 abbrev pub parts_bytes : SavedState → List ℕ
 parts_bytes s =
-    list_bytes row_bytes s.songs
+    list_bytes (row_bytes s.profile) s.songs
     ++ (list_bytes (entry_bytes s.songs) s.queue.entries ++ (list_bytes playlist_bytes s.lists ++ list_bytes sticker_bytes s.stickers))
 
--- a snapshot
+-- Behind the parts the second profile has fields, behind their number in one byte. As yet there is none.
+abbrev pub with_fields : Profile → List ℕ → List ℕ
+with_fields Named bytes = bytes
+with_fields Wide bytes = bytes ++ byte_bytes 0
+
+-- a snapshot, with its checksum where the profile asks for one
 abbrev pub saved_bytes : SavedState → List ℕ
-saved_bytes s = head_bytes s ++ parts_bytes s
+saved_bytes s = sealed s.profile (with_fields s.profile (head_bytes s ++ parts_bytes s))

@@ -1,5 +1,6 @@
 -- The spelling of ops: an op's number and its fields.
 use Rattle.std.specs.Prelude.{ℕ, List, ◌∷◌, ◌++◌}
+use Rattle.profile.specs.declared.profile.Profile.{Profile}
 use Rattle.state_codec.specs.declared.op.Op.{Op}
 use Rattle.state_codec.specs.declared.op.Op.TheVariants.{SetOption, SetVolume, SetOrder, Queue, List as OfList, Sticker, Batch}
 use Rattle.state_codec.specs.declared.op.setting.Setting.{Setting}
@@ -74,11 +75,11 @@ sticker_fields (stickers.Delete uri name) = text_bytes uri ++ text_bytes name
 sticker_fields (stickers.DeleteAll uri) = text_bytes uri
 
 -- the op's number and its fields
-abbrev pub op_bytes : Op → List ℕ
-op_bytes (SetOption value) = 1 ∷ setting_bytes value
-op_bytes (SetVolume volume) = 2 ∷ byte_bytes volume
-op_bytes (SetOrder order) = 3 ∷ u64_bytes order
-op_bytes (Queue op) = queue_kind op ∷ queue_fields op
-op_bytes (OfList op) = list_kind op ∷ list_fields op
-op_bytes (Sticker op) = sticker_kind op ∷ sticker_fields op
-op_bytes (Batch changes) = 20 ∷ changes_bytes changes
+abbrev pub op_bytes : Profile → Op → List ℕ
+op_bytes profile (SetOption value) = 1 ∷ setting_bytes value
+op_bytes profile (SetVolume volume) = 2 ∷ byte_bytes volume
+op_bytes profile (SetOrder order) = 3 ∷ u64_bytes order
+op_bytes profile (Queue op) = queue_kind op ∷ queue_fields op
+op_bytes profile (OfList op) = list_kind op ∷ list_fields op
+op_bytes profile (Sticker op) = sticker_kind op ∷ sticker_fields op
+op_bytes profile (Batch changes) = 20 ∷ changes_bytes profile changes

@@ -5,6 +5,7 @@ use Rattle.state_codec.specs.SavedState.{SavedState}
 abbrev pub state_of : SavedParts → SavedState
 state_of parts =
     record {
+      profile = parts.profile;
       key = parts.key;
       order = parts.order;
       volume = parts.volume;

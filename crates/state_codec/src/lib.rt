@@ -1,6 +1,7 @@
 //! The stored form of the daemon's state: ops, of which the records of a journal are made, and the snapshot.
 #![tactic(auto)]
 
+mod checksum;
 mod fields;
 pub mod laws;
 mod layout;
@@ -8,10 +9,13 @@ pub mod op;
 mod reading;
 pub mod refusal;
 pub mod saved;
+mod sealed;
 mod writing;
 
+pub use layout::layout_number;
 pub use op::{Changes, ListOp, Op, OpRanges, QueueOp, RowNumbers, Setting, StickerOp, Text};
 pub use reading::{take_ops, take_saved};
 pub use refusal::{ApplyError, BodyError, CodecError, OpRefusal};
 pub use saved::{Saved, SavedParts, dropped_by, row_behind};
-pub use writing::{put_op, put_saved};
+pub use sealed::checksum_len;
+pub use writing::{put_op, put_ops, put_saved};

@@ -6,6 +6,7 @@ ghost use Rattle.state_codec.specs.Stored.{state_of};
 use no_memory::NoMemory;
 use play_queue::Queue;
 use player_core::{Options, Volume};
+use profile::Profile;
 use song_db::SongDb;
 use std::alloc::Global;
 use std::marker::Model;
@@ -46,11 +47,12 @@ impl Model for Saved {
 
 impl Saved {
     /// The state of a new journal, whose random order is drawn from this key. It takes no memory yet.
-    pub fn fresh(alloc: Global, key: [u8; 32]) -> Self
-        ensures { result ≡ fresh key }
+    pub fn fresh(alloc: Global, profile: Profile, key: [u8; 32]) -> Self
+        ensures { result ≡ fresh profile key }
     {
         Saved {
             parts: SavedParts {
+                profile,
                 key,
                 order: 0,
                 volume: Volume::default(),
@@ -69,6 +71,20 @@ impl Saved {
         ensures { result ≡ state_of parts }
     {
         Saved { parts }
+    }
+
+    /// What the daemon knows of MPD, and so the form in which the state is saved.
+    pub fn profile(&self) -> Profile
+        ensures { result ≡ self.now.profile }
+    {
+        self.parts.profile
+    }
+
+    /// Brings the state to the wide profile, which keeps all that the other one does.
+    pub fn widen(&mut self)
+        ensures { self.new ≡ record self.old { profile = Profile.Wide } }
+    {
+        self.parts.profile = Profile::Wide;
     }
 
     /// The key from which the random order is drawn.
@@ -129,6 +145,7 @@ impl Saved {
         let parts = &self.parts;
         Ok(Saved {
             parts: SavedParts {
+                profile: parts.profile,
                 key: parts.key,
                 order: parts.order,
                 volume: parts.volume,

@@ -1,13 +1,18 @@
 // Writes ops and the saved state as the bytes of a record and of a snapshot.
-ghost use Rattle.std.specs.Prelude.{◌≡◌, ◌+◌, ◌<◌, ◌↔◌, ◌++◌, length, vec_len, vec_capacity, OnOk, OnErr, IfOk, IsErr};
+ghost use Rattle.std.specs.Prelude.{◌≡◌, ◌+◌, ◌<◌, ◌≤◌, ◌↔◌, ◌++◌, length, vec_len, vec_capacity, OnOk, OnErr, IfOk, IsErr, IsTrue};
+ghost use Rattle.std.specs.List.{AllByRecursion, flat_map};
+ghost use Rattle.state_codec.specs.Appended.{HasRoom, Appends};
 ghost use Rattle.state_codec.specs.Ops.{IsOp};
 ghost use Rattle.state_codec.specs.SavedState.{IsSavedState};
-ghost use Rattle.state_codec.specs.Spelling.{saved_bytes};
+ghost use Rattle.state_codec.specs.Sealed.{sealed, checksum_len};
+ghost use Rattle.state_codec.specs.Spelling.{ops_bytes, body_bytes, head_bytes, parts_bytes, saved_bytes};
 ghost use Rattle.state_codec.specs.SpellingOps.{op_bytes};
 
 use crate::op::Op;
 use crate::saved::Saved;
+use crate::sealed::checksum_len;
 use no_memory::NoMemory;
+use profile::Profile;
 use std::alloc::Global;
 
 mod bytes;
@@ -15,25 +20,76 @@ mod lengths;
 mod ops;
 mod rows;
 mod saved;
+mod sums;
 
-/// Appends the spelling of an op. It takes no memory: it is refused where the spare room is less than `spelled_len` of the op,
-/// and then changes nothing.
-pub fn put_op(out: &mut Vec<u8>, op: &Op) -> Result<(), NoMemory>
-    ensures appended { OnOk result (out.new.items ≡ out.old.items ++ op_bytes op.now) }
-    ensures refused { IsErr result ↔ (vec_capacity out.old < vec_len out.old + length (op_bytes op.now)) }
+pub(crate) use rows::texts_len;
+
+/// Appends the spelling of an op under a profile. It takes no memory: it is refused where the spare room is less than
+/// `spelled_len` of the op, and then changes nothing.
+pub fn put_op(out: &mut Vec<u8>, profile: Profile, op: &Op) -> Result<(), NoMemory>
+    ensures appended { OnOk result (out.new.items ≡ out.old.items ++ op_bytes profile op.now) }
+    ensures refused { IsErr result ↔ (vec_capacity out.old < vec_len out.old + length (op_bytes profile op.now)) }
     ensures unchanged { OnErr result (out.new.items ≡ out.old.items) }
     ensures capacity { vec_capacity out.new ≡ vec_capacity out.old }
     ensures in_range { OnOk result (IsOp op.now) }
 {
-    if out.capacity() - out.len() < op.spelled_len() {
+    if out.capacity() - out.len() < op.spelled_len(profile) {
         return Err(NoMemory);
     }
-    ops::put_reserved(out, op);
+    ops::put_reserved(out, profile, op);
     Ok(())
 }
 
+/// Appends the body of a record: its ops, and their checksum where the profile asks for one. It takes no memory: it is refused
+/// where the spare room is less than the body takes, and then changes nothing.
+pub fn put_ops(out: &mut Vec<u8>, profile: Profile, ops: &[Op]) -> Result<(), NoMemory>
+    ensures appended { OnOk result (out.new.items ≡ out.old.items ++ body_bytes profile ops.now) }
+    ensures refused { IsErr result ↔ (vec_capacity out.old < vec_len out.old + length (body_bytes profile ops.now)) }
+    ensures unchanged { OnErr result (out.new.items ≡ out.old.items) }
+    ensures capacity { vec_capacity out.new ≡ vec_capacity out.old }
+    ensures in_range { OnOk result (AllByRecursion IsOp ops.now) }
+{
+    if !fits(out.capacity() - out.len(), profile, ops) {
+        return Err(NoMemory);
+    }
+    let start = out.len();
+    put_all(out, profile, ops);
+    sums::put_sum(out, profile, start);
+    Ok(())
+}
+
+// Whether a body takes no more bytes than this.
+fn fits(room: usize, profile: Profile, ops: &[Op]) -> bool
+    ensures { IsTrue result ↔ (length (ops_bytes profile ops.now) + checksum_len profile ≤ room) }
+{
+    let sum = checksum_len(profile);
+    if room < sum {
+        return false;
+    }
+    let mut left = room - sum;
+    for op in ops {
+        let len = op.spelled_len(profile);
+        if left < len {
+            return false;
+        }
+        left -= len;
+    }
+    true
+}
+
+fn put_all(out: &mut Vec<u8>, profile: Profile, ops: &[Op])
+    requires { HasRoom out.old (length (ops_bytes profile ops.now)) }
+    ensures appended { Appends out.old out.new (ops_bytes profile ops.now) }
+    ensures form { AllByRecursion IsOp ops.now }
+{
+    for op in ops {
+        ops::put_reserved(out, profile, op);
+    }
+}
+
 /// The one spelling of a saved state, a snapshot. Room for just its bytes is taken first, and nothing else is; then it is made
-/// from the parts in one pass. Each entry of the queue takes a binary search for its row.
+/// from the parts in one pass, and summed in another where the profile asks for a checksum. Each entry of the queue takes a
+/// binary search for its row.
 pub fn put_saved(alloc: Global, saved: &Saved) -> Result<Vec<u8>, NoMemory>
     ensures spelled { IfOk result (λ bytes. bytes.items ≡ saved_bytes saved.now) }
     ensures full { IfOk result (λ bytes. vec_capacity bytes ≡ vec_len bytes) }
@@ -41,10 +97,20 @@ pub fn put_saved(alloc: Global, saved: &Saved) -> Result<Vec<u8>, NoMemory>
 {
     let _key = saved.key();
     let mut out = Vec::with_capacity(alloc, lengths::saved_len(saved))?;
-    saved::put_head(&mut out, saved);
-    saved::put_songs(&mut out, saved.songs());
-    saved::put_queue(&mut out, saved.songs(), saved.queue());
-    saved::put_lists(&mut out, saved.lists());
-    saved::put_stickers(&mut out, saved.stickers());
+    put_parts(&mut out, saved);
+    sums::put_end(&mut out, saved.profile());
     Ok(out)
+}
+
+// Appends the head and the four parts.
+fn put_parts(out: &mut Vec<u8>, saved: &Saved)
+    requires { HasRoom out.old (length (head_bytes saved.now ++ parts_bytes saved.now)) }
+    ensures { Appends out.old out.new (head_bytes saved.now ++ parts_bytes saved.now) }
+{
+    let _key = saved.key();
+    saved::put_head(out, saved);
+    saved::put_songs(out, saved.profile(), saved.songs());
+    saved::put_queue(out, saved.songs(), saved.queue());
+    saved::put_lists(out, saved.lists());
+    saved::put_stickers(out, saved.stickers());
 }

@@ -10,7 +10,7 @@ use Rattle.stock_requests.specs.declared.change.Translation.{Translation}
 use Rattle.stock_requests.specs.declared.change.Translation.TheVariants.{Same, Songs, Changed, Other, Stepped}
 use Rattle.stock_requests.specs.declared.change.Change.{Change}
 use Rattle.stock_requests.specs.declared.change.Ending.{Ending}
-use Rattle.stock_requests.specs.declared.change.Ending.TheVariants.{Nothing, Text, Times, Tags, Masks}
+use Rattle.stock_requests.specs.declared.change.Ending.TheVariants.{Nothing, Text, Times, Masks}
 use Rattle.stock_requests.specs.declared.steps.Steps.{Steps}
 use Rattle.stock_clients.specs.declared.asking.Noticed.{Noticed}
 use Rattle.stock_clients.specs.declared.awaited.Awaited.{Awaited}
@@ -39,7 +39,6 @@ abbrev pub is_mask : Ending → Bool
 is_mask Nothing = false
 is_mask (Text text) = false
 is_mask Times = false
-is_mask Tags = false
 is_mask (Masks change) = true
 
 abbrev pub changes_mask : Translation → Bool

@@ -5,14 +5,14 @@ use Rattle.std.specs.List.{starts_with}
 use Rattle.std.specs.Fmt.{decimal}
 use Rattle.client_session.specs.Lines.{newline, ended}
 use Rattle.stock_requests.specs.Listed.{told_value}
-use Rattle.stock_requests.specs.Masks.{all_in_set, after_change, is_shown, tag_lines}
+use Rattle.stock_requests.specs.Masks.{all_in_set, after_change, is_shown}
 use Rattle.stock_requests.specs.declared.mask.TagSet.{TagSet}
 use Rattle.stock_requests.specs.Texts.{text_of}
 use Rattle.stock_requests.specs.declared.change.Change.{Change}
 use Rattle.stock_requests.specs.declared.change.LineChange.{LineChange}
 use Rattle.stock_requests.specs.declared.change.LineChange.TheVariants.{Kept, Masked, OnlyVolume, Values, Numbered, OnlyFiles, Dated, Below}
 use Rattle.stock_requests.specs.declared.change.Ending.{Ending}
-use Rattle.stock_requests.specs.declared.change.Ending.TheVariants.{Nothing, Text, Times, Tags, Masks}
+use Rattle.stock_requests.specs.declared.change.Ending.TheVariants.{Nothing, Text, Times, Masks}
 use Rattle.stock_requests.specs.declared.steps.Steps.{Steps}
 use Rattle.stock_requests.specs.Steps.{after_step, step_change, step_line, step_part, After, Told}
 use Rattle.stock_clients.specs.Lines.{kind_of, list_ok_text}
@@ -88,7 +88,6 @@ abbrev pub shown_behind : Ending → TagSet → TagSet
 shown_behind Nothing shown = shown
 shown_behind (Text text) shown = shown
 shown_behind Times shown = shown
-shown_behind Tags shown = shown
 shown_behind (Masks change) shown = after_change change shown
 
 -- what is told before the end of an answer
@@ -96,7 +95,6 @@ abbrev pub told_at_end : Ending → TagSet → DaemonTimes → List ℕ
 told_at_end Nothing shown times = []
 told_at_end (Text text) shown times = text_of text
 told_at_end Times shown times = number_pair (codes "uptime") times.uptime ++ number_pair (codes "db_update") times.db_update
-told_at_end Tags shown times = tag_lines shown
 told_at_end (Masks change) shown times = []
 
 -- what is left of a request behind a line, the tags that the client wants then, and what it is given

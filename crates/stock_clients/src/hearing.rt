@@ -22,7 +22,7 @@ use command_text::{write_number, write_pair};
 use itoa::Buffer;
 use no_memory::NoMemory;
 use std::alloc::Global;
-use stock_requests::{Change, Ending, LineChange, Steps, TagSet};
+use stock_requests::{Change, Ending, LineChange, Steps, TagSet, write_value};
 
 // Adds a line with its newline.
 pub(crate) fn write_line(out: &mut Vec<u8>, line: &[u8]) -> Result<(), NoMemory>
@@ -120,7 +120,7 @@ fn write_changed(
         LineChange::Masked => write_shown(out, shown, line),
         LineChange::OnlyVolume if line.starts_with(b"volume: ") => write_line(out, line),
         LineChange::OnlyVolume => Ok(()),
-        LineChange::Values(tag) => tag.write_value(out, line),
+        LineChange::Values(tag) => write_value(tag, out, line),
         LineChange::Numbered if is_file(line) => {
             let mut digits = Buffer::new();
             out.extend_from_slice(digits.format(told).as_bytes())?;
@@ -175,7 +175,6 @@ fn end_answer(
         Ending::Nothing => {}
         Ending::Text(text) => out.extend_from_slice(text.text().as_bytes())?,
         Ending::Times => write_times(out, times)?,
-        Ending::Tags => shown.write_lines(out)?,
         Ending::Masks(change) => *shown = shown.changed(*change),
     }
     Ok(())

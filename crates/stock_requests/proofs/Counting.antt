@@ -5,9 +5,9 @@ use Rattle.std.specs.Prelude.{codes, is_some}
 use Rattle.std.specs.Result.{is_ok}
 use Rattle.std.specs.Str.{is_utf8}
 use Rattle.std.proofs.lemmas.Str.{IsUtf8-nil, is_utf8-from_IsUtf8}
+use Rattle.profile.specs.declared.profile.Profile.TheVariants.{Wide}
 use Rattle.song_files.specs.declared.tag.Tag.{Tag}
-use Rattle.song_files.specs.declared.tag.Tag.TheVariants.{Title, Artist, Album, Date, Genre, Comment}
-use Rattle.song_files.specs.Tags.{first_text}
+use Rattle.song_files.specs.declared.tag.Tag.TheVariants as tags
 use Rattle.song_files.specs.Tag.{name_of, number_of, table, tag_named}
 use Rattle.song_files.specs.TagSet.{has_tag}
 use Rattle.filter_expr.specs.declared.case.Case.{Case}
@@ -26,95 +26,66 @@ use Rattle.filter_expr.specs.Words.Refusal.{BadFilter}
 use Rattle.command_text.specs.Counts.{Word}
 use Rattle.command_text.specs.Finding.{is_expression}
 use Rattle.command_text.specs.Words.{words_of}
-use Rattle.stock_requests.specs.declared.tag.ForeignTag.{ForeignTag}
-use Rattle.stock_requests.specs.declared.tag.ForeignTag.TheVariants as tags
-use Rattle.stock_requests.specs.declared.tag.Standing.{Standing}
-use Rattle.stock_requests.specs.declared.tag.Standing.TheVariants.{Native, FallsBackTo, Absent}
-use Rattle.stock_requests.specs.Counted.{CountsLacking, IsOf}
+use Rattle.stock_requests.specs.Counted.{CountsLacking}
 use Rattle.stock_requests.specs.Grouped.{open_filter}
-use Rattle.stock_requests.specs.Groups.{condition, count_line, filter_words, missing_line, named_test}
+use Rattle.stock_requests.specs.Groups.{count_line, missing_line, named_test}
 use Rattle.stock_requests.specs.Spelling.{escaped, space, spelled_line, spelled_word, spelled_words}
-use Rattle.stock_requests.specs.Tags.{standing_of}
 use Rattle.stock_requests.proofs.ReadBack.{read_back}
-use Rattle.stock_requests.proofs.TagLess.{lacks_text}
 
 -- how a filter means it
 
 abbrev with_test : Tag → Comparison → Tree → Tree
 with_test own comparison tree = And tree (Test (OfTag own) comparison [])
 
-pair_lacks : (own : Tag) (tree : Tree) (case : Case) (song : Song)
-    → denotes case (with_test own Pair tree) song ≡ (denotes case tree song && not (is_some (first_text song.tags own)))
-pair_lacks own tree case song = ap (λ lacks. denotes case tree song && lacks) (lacks_text song.tags own)
-
-test_lacks : (own : Tag) (tree : Tree) (case : Case) (song : Song)
-    → denotes case (with_test own Equals tree) song ≡ (denotes case tree song && not (is_some (first_text song.tags own)))
-test_lacks own tree case song = ap (λ lacks. denotes case tree song && lacks) (lacks_text song.tags own)
-
-alone_lacks : (own : Tag) (case : Case) (song : Song)
-    → denotes case (Test (OfTag own) Pair []) song ≡ (denotes case (Base []) song && not (is_some (first_text song.tags own)))
-alone_lacks own case song = lacks_text song.tags own
-
 -- how pairs are read
 
 -- a tag whose name a filter reads as this tag
 record IsKnown (own : Tag) : Type 0 where
-  named : key_named (name_of own) ≡ key_of (Some own) (name_of own)
+  named : key_named Wide (name_of own) ≡ key_of Wide (Some own) (name_of own)
   bare : begins_so opening (name_of own) ≡ false
 
-title : IsKnown Title
+known : (tag : Tag) → IsKnown tag
 unfolding key_named tag_named name_of number_of table has_tag
-title = record { named = refl; bare = refl }
-
-artist : IsKnown Artist
-unfolding key_named tag_named name_of number_of table has_tag
-artist = record { named = refl; bare = refl }
-
-album : IsKnown Album
-unfolding key_named tag_named name_of number_of table has_tag
-album = record { named = refl; bare = refl }
-
-date : IsKnown Date
-unfolding key_named tag_named name_of number_of table has_tag
-date = record { named = refl; bare = refl }
-
-genre : IsKnown Genre
-unfolding key_named tag_named name_of number_of table has_tag
-genre = record { named = refl; bare = refl }
-
-comment : IsKnown Comment
-unfolding key_named tag_named name_of number_of table has_tag
-comment = record { named = refl; bare = refl }
-
-abbrev IsKnownBy : Standing → Type 0
-IsKnownBy (Native own) = IsKnown own
-IsKnownBy (FallsBackTo own) = IsKnown own
-IsKnownBy Absent = Unit {0}
-
--- what songs have of a tag of MPD they have of such a tag
-known_standing : (tag : ForeignTag) → IsKnownBy (standing_of tag)
-known_standing tags.Title = title
-known_standing tags.Artist = artist
-known_standing tags.Album = album
-known_standing tags.Date = date
-known_standing tags.Genre = genre
-known_standing tags.Comment = comment
-known_standing tags.AlbumArtist = artist
-known_standing tags.AlbumArtistSort = artist
-known_standing tags.ArtistSort = artist
-known_standing tags.AlbumSort = album
-known_standing tag = tt
-
-known_of : (own : Tag) (tag : ForeignTag) → IsOf own tag → IsKnown own
-known_of own tag (inl e) = subst IsKnownBy e (known_standing tag)
-known_of own tag (inr e) = subst IsKnownBy e (known_standing tag)
+known tags.Title = record { named = refl; bare = refl }
+known tags.Artist = record { named = refl; bare = refl }
+known tags.Album = record { named = refl; bare = refl }
+known tags.Date = record { named = refl; bare = refl }
+known tags.Genre = record { named = refl; bare = refl }
+known tags.Comment = record { named = refl; bare = refl }
+known tags.ArtistSort = record { named = refl; bare = refl }
+known tags.AlbumSort = record { named = refl; bare = refl }
+known tags.AlbumArtist = record { named = refl; bare = refl }
+known tags.AlbumArtistSort = record { named = refl; bare = refl }
+known tags.Track = record { named = refl; bare = refl }
+known tags.Name = record { named = refl; bare = refl }
+known tags.OriginalDate = record { named = refl; bare = refl }
+known tags.Composer = record { named = refl; bare = refl }
+known tags.ComposerSort = record { named = refl; bare = refl }
+known tags.Performer = record { named = refl; bare = refl }
+known tags.Conductor = record { named = refl; bare = refl }
+known tags.Work = record { named = refl; bare = refl }
+known tags.Movement = record { named = refl; bare = refl }
+known tags.MovementNumber = record { named = refl; bare = refl }
+known tags.Ensemble = record { named = refl; bare = refl }
+known tags.Location = record { named = refl; bare = refl }
+known tags.Grouping = record { named = refl; bare = refl }
+known tags.Disc = record { named = refl; bare = refl }
+known tags.Label = record { named = refl; bare = refl }
+known tags.MusicBrainzArtistId = record { named = refl; bare = refl }
+known tags.MusicBrainzAlbumId = record { named = refl; bare = refl }
+known tags.MusicBrainzAlbumArtistId = record { named = refl; bare = refl }
+known tags.MusicBrainzTrackId = record { named = refl; bare = refl }
+known tags.MusicBrainzReleaseTrackId = record { named = refl; bare = refl }
+known tags.MusicBrainzWorkId = record { named = refl; bare = refl }
 
 empty_utf8 : is_utf8 [] ≡ true
 empty_utf8 = is_utf8-from_IsUtf8 [] IsUtf8-nil
 
-last_pair : (number : ℕ) (own : Tag) → IsKnown own → pair_of number (name_of own) [] ≡ Ok (Test (OfTag own) Pair [])
+last_pair : (number : ℕ) (own : Tag) → pair_of Wide number (name_of own) [] ≡ Ok (Test (OfTag own) Pair [])
 unfolding pair_of
-last_pair number own known = rw (known.named, empty_utf8) refl
+last_pair number own =
+    let is = known own in
+    rw (is.named, empty_utf8) refl
 
 abbrev last_words : Tag → List Word
 last_words own = name_of own ∷ [] ∷ []
@@ -123,66 +94,68 @@ no_bind : {K : Type 0} → (found : Result K Refusal) (refusal : Refusal) (tree 
 no_bind (Ok k) refusal tree h = absurd (cc)
 no_bind (Err e) refusal tree h = absurd (cc)
 
-no_half : (number : ℕ) (name : List ℕ) (tree : Tree) → half_pair number name ≡ Ok tree → ⊥
+no_half : (number : ℕ) (name : List ℕ) (tree : Tree) → half_pair Wide number name ≡ Ok tree → ⊥
 unfolding half_pair
-no_half number name tree h = no_bind (keyed (key_named name) name) (BadFilter (number + 1) 0) tree h
+no_half number name tree h = no_bind (keyed (key_named Wide name) name) (BadFilter (number + 1) 0) tree h
 
 -- a pair behind others
-one_more : (number : ℕ) (own : Tag) → IsKnown own → (tree last : Tree) (words : List Word) → more_pairs number tree words ≡ Ok last
-    → more_pairs number tree (words ++ last_words own) ≡ Ok (with_test own Pair last)
+one_more : (number : ℕ) (own : Tag) (tree last : Tree) (words : List Word) → more_pairs Wide number tree words ≡ Ok last
+    → more_pairs Wide number tree (words ++ last_words own) ≡ Ok (with_test own Pair last)
 unfolding more_pairs
-one_more number own known tree last [] h =
+one_more number own tree last [] h =
     let same : tree ≡ last = cc in
-    rw (last_pair number own known) (ap (λ (t : Tree). Ok (with_test own Pair t)) same)
-one_more number own known tree last (name ∷ []) h = absurd (no_half number name last h)
-one_more number own known tree last (name ∷ value ∷ words) h =
-    by_pair (pair_of number name value) (λ p. one_more (number + 2) own known (And tree p) last words) h
+    rw (last_pair number own) (ap (λ (t : Tree). Ok (with_test own Pair t)) same)
+one_more number own tree last (name ∷ []) h = absurd (no_half number name last h)
+one_more number own tree last (name ∷ value ∷ words) h =
+    by_pair (pair_of Wide number name value) (λ p. one_more (number + 2) own (And tree p) last words) h
   where
     by_pair : (pair : Result Tree Refusal)
-        → ((p : Tree) → more_pairs (number + 2) (And tree p) words ≡ Ok last
-        → more_pairs (number + 2) (And tree p) (words ++ last_words own) ≡ Ok (with_test own Pair last))
-        → (pair >>= λ p. more_pairs (number + 2) (And tree p) words) ≡ Ok last
-        → (pair >>= λ p. more_pairs (number + 2) (And tree p) (words ++ last_words own)) ≡ Ok (with_test own Pair last)
+        → ((p : Tree) → more_pairs Wide (number + 2) (And tree p) words ≡ Ok last
+        → more_pairs Wide (number + 2) (And tree p) (words ++ last_words own) ≡ Ok (with_test own Pair last))
+        → (pair >>= λ p. more_pairs Wide (number + 2) (And tree p) words) ≡ Ok last
+        → (pair >>= λ p. more_pairs Wide (number + 2) (And tree p) (words ++ last_words own)) ≡ Ok (with_test own Pair last)
     by_pair (Err refusal) more h = absurd (cc)
     by_pair (Ok p) more h = more p h
 
-no_first : (name : List ℕ) (tree : Tree) (more : Tree → Result Tree Refusal) → (half_pair 0 name >>= more) ≡ Ok tree → ⊥
-no_first name tree more h = by_half (half_pair 0 name) refl h
+no_first : (name : List ℕ) (tree : Tree) (more : Tree → Result Tree Refusal) → (half_pair Wide 0 name >>= more) ≡ Ok tree → ⊥
+no_first name tree more h = by_half (half_pair Wide 0 name) refl h
   where
-    by_half : (half : Result Tree Refusal) → half_pair 0 name ≡ half → (half >>= more) ≡ Ok tree → ⊥
+    by_half : (half : Result Tree Refusal) → half_pair Wide 0 name ≡ half → (half >>= more) ≡ Ok tree → ⊥
     by_half (Err refusal) e h = absurd (cc)
     by_half (Ok t) e h = no_half 0 name t e
 
-pairs_more : (own : Tag) → IsKnown own → (words : List Word) (tree : Tree) → pairs_of words ≡ Ok tree
-    → pairs_of (words ++ last_words own) ≡ Ok (with_test own Pair tree)
+pairs_more : (own : Tag) (words : List Word) (tree : Tree) → pairs_of Wide words ≡ Ok tree
+    → pairs_of Wide (words ++ last_words own) ≡ Ok (with_test own Pair tree)
 unfolding pairs_of
-pairs_more own known [] tree h = absurd (cc)
-pairs_more own known (name ∷ []) tree h = absurd (no_first name tree _ h)
-pairs_more own known (name ∷ value ∷ words) tree h = by_pair (pair_of 0 name value) h
+pairs_more own [] tree h = absurd (cc)
+pairs_more own (name ∷ []) tree h = absurd (no_first name tree _ h)
+pairs_more own (name ∷ value ∷ words) tree h = by_pair (pair_of Wide 0 name value) h
   where
-    by_pair : (pair : Result Tree Refusal) → (pair >>= λ p. more_pairs 2 p words) ≡ Ok tree
-        → (pair >>= λ p. more_pairs 2 p (words ++ last_words own)) ≡ Ok (with_test own Pair tree)
+    by_pair : (pair : Result Tree Refusal) → (pair >>= λ p. more_pairs Wide 2 p words) ≡ Ok tree
+        → (pair >>= λ p. more_pairs Wide 2 p (words ++ last_words own)) ≡ Ok (with_test own Pair tree)
     by_pair (Err refusal) h = absurd (cc)
-    by_pair (Ok p) h = one_more 2 own known p tree words h
+    by_pair (Ok p) h = one_more 2 own p tree words h
 
-alone_read : (own : Tag) → IsKnown own → pairs_of (last_words own) ≡ Ok (Test (OfTag own) Pair [])
+alone_read : (own : Tag) → pairs_of Wide (last_words own) ≡ Ok (Test (OfTag own) Pair [])
 unfolding pairs_of more_pairs
-alone_read own known = rw (last_pair 0 own known) refl
+alone_read own = rw (last_pair 0 own) refl
 
 as_pairs : (b : Bool) (one other found : Result Tree Refusal) → b ≡ false → cond b one other ≡ found → other ≡ found
 as_pairs true one other found e h = absurd (cc)
 as_pairs false one other found e h = h
 
-filter_more : (own : Tag) → IsKnown own → (words : List Word) (tree : Tree) → is_expression words ≡ false → filter_of words ≡ Ok tree
-    → filter_of (words ++ last_words own) ≡ Ok (with_test own Pair tree)
+filter_more : (own : Tag) (words : List Word) (tree : Tree) → is_expression words ≡ false → filter_of Wide words ≡ Ok tree
+    → filter_of Wide (words ++ last_words own) ≡ Ok (with_test own Pair tree)
 unfolding filter_of
-filter_more own known [] tree e h = absurd (cc)
-filter_more own known (word ∷ words) tree e h =
-    rw e (pairs_more own known (word ∷ words) tree (as_pairs (begins_so opening word) _ (pairs_of (word ∷ words)) (Ok tree) e h))
+filter_more own [] tree e h = absurd (cc)
+filter_more own (word ∷ words) tree e h =
+    rw e (pairs_more own (word ∷ words) tree (as_pairs (begins_so opening word) _ (pairs_of Wide (word ∷ words)) (Ok tree) e h))
 
-filter_alone : (own : Tag) → IsKnown own → filter_of (last_words own) ≡ Ok (Test (OfTag own) Pair [])
+filter_alone : (own : Tag) → filter_of Wide (last_words own) ≡ Ok (Test (OfTag own) Pair [])
 unfolding filter_of
-filter_alone own known = rw known.bare (alone_read own known)
+filter_alone own =
+    let is = known own in
+    rw is.bare (alone_read own)
 
 -- how lines are spelled
 
@@ -199,40 +172,34 @@ unfolding spelled_words
 counted_line [] own = refl
 counted_line (word ∷ words) own = refl
 
-pair_condition : (own : Tag) (tag : ForeignTag) → IsOf own tag → condition false (standing_of tag) [] ≡ spelled_words (last_words own)
-pair_condition own tag (inl e) = rw e refl
-pair_condition own tag (inr e) = rw e refl
+pair_line : (own : Tag) (words : List Word)
+    → missing_line false (spelled_words words) own ≡ spelled_line (codes "count") (words ++ last_words own)
+pair_line own words = ap count_line (spelled_more words (last_words own)) ∙ counted_line words own
 
-pair_line : (own : Tag) (tag : ForeignTag) (words : List Word) → IsOf own tag
-    → missing_line false (spelled_words words) tag ≡ spelled_line (codes "count") (words ++ last_words own)
-pair_line own tag words of =
-    ap (λ (s : List ℕ). count_line (spelled_words words ++ s)) (pair_condition own tag of)
-    ∙ ap count_line (spelled_more words (last_words own)) ∙ counted_line words own
+pair_words : (own : Tag) (words : List Word)
+    → words_of (missing_line false (spelled_words words) own) ≡ Some (codes "count" ∷ (words ++ last_words own))
+pair_words own words = ap words_of (pair_line own words) ∙ read_back (codes "count") (words ++ last_words own) refl
 
-pair_words : (own : Tag) (tag : ForeignTag) (words : List Word) → IsOf own tag
-    → words_of (missing_line false (spelled_words words) tag) ≡ Some (codes "count" ∷ (words ++ last_words own))
-pair_words own tag words of = ap words_of (pair_line own tag words of) ∙ read_back (codes "count") (words ++ last_words own) refl
-
-pub all_counted : (own : Tag) (tag : ForeignTag) → IsOf own tag → CountsLacking own (Base []) (missing_line false (open_filter []) tag)
-all_counted own tag of = record {
+pub all_counted : (own : Tag) → CountsLacking own (Base []) (missing_line false (open_filter []) own)
+all_counted own = record {
   words = last_words own;
   whole = Test (OfTag own) Pair [];
-  named = pair_words own tag [] of;
-  read = filter_alone own (known_of own tag of);
-  lacking = alone_lacks own;
+  named = pair_words own [];
+  read = filter_alone own;
+  lacking = λ case song. refl;
 }
 
 opened_pairs : (words : List Word) → is_expression words ≡ false → open_filter words ≡ spelled_words words
 opened_pairs words e = rw e refl
 
-pub pairs_counted : (own : Tag) (tag : ForeignTag) (words : List Word) (tree : Tree) → IsOf own tag → is_expression words ≡ false
-    → filter_of words ≡ Ok tree → CountsLacking own tree (missing_line false (open_filter words) tag)
-pairs_counted own tag words tree of e h = record {
+pub pairs_counted : (own : Tag) (words : List Word) (tree : Tree) → is_expression words ≡ false → filter_of Wide words ≡ Ok tree
+    → CountsLacking own tree (missing_line false (open_filter words) own)
+pairs_counted own words tree e h = record {
   words = words ++ last_words own;
   whole = with_test own Pair tree;
-  named = ap (λ (s : List ℕ). words_of (missing_line false s tag)) (opened_pairs words e) ∙ pair_words own tag words of;
-  read = filter_more own (known_of own tag of) words tree e h;
-  lacking = pair_lacks own tree;
+  named = ap (λ (s : List ℕ). words_of (missing_line false s own)) (opened_pairs words e) ∙ pair_words own words;
+  read = filter_more own words tree e h;
+  lacking = λ case song. refl;
 }
 
 -- how an expression is put into another one
@@ -251,16 +218,16 @@ got : {A E : Type 0} → (read : Result A E) → is_ok read ≡ true → A
 got (Ok x) e = x
 got (Err error) e = absurd (cc)
 
-spells_test : (own : Tag) → IsKnown own → SpellsTest (Test (OfTag own) Equals []) (name_of own ++ (codes " == " ++ codes "\"\""))
+spells_test : (own : Tag) → SpellsTest Wide (Test (OfTag own) Equals []) (name_of own ++ (codes " == " ++ codes "\"\""))
 unfolding operator_at word_at byte_at without_blanks got
-spells_test own known = record {
+spells_test own = record {
   name = name_of own;
   subject = OfTag own;
   middle = codes " == ";
   operator = (got (operator_at (OfTag own) (codes "==")) refl).0;
   quoted = codes "\"\"";
   value = [];
-  named = known.named;
+  named = let is = known own in is.named;
   compared = (codes " ", codes " ", refl, refl, refl);
   spelled = empty_value;
   parts = refl;
@@ -271,20 +238,20 @@ test_parts : (own : Tag) → test_text_of own ≡ opening ∷ ([] ++ ((name_of o
 test_parts own =
     ap (λ (s : List ℕ). opening ∷ s) (sym (append_assoc (name_of own) (codes " == " ++ codes "\"\"") (codes ")")))
 
-test_spelled : (room : ℕ) (own : Tag) → IsKnown own → Spells (suc room) (Test (OfTag own) Equals []) (test_text_of own)
+test_spelled : (room : ℕ) (own : Tag) → Spells Wide (suc room) (Test (OfTag own) Equals []) (test_text_of own)
 unfolding Spells
-test_spelled room own known = record {
+test_spelled room own = record {
   before = [];
   inside = name_of own ++ (codes " == " ++ codes "\"\"");
   after = [];
   blanks_before = refl;
   blanks_after = refl;
-  spelled = inl (inr (spells_test own known));
+  spelled = inl (inr (inr (spells_test own)));
   parts = test_parts own;
 }
 
-together_spelled : (room : ℕ) (own : Tag) (tree : Tree) (text : List ℕ) → Spells room tree text
-    → Spells room (Test (OfTag own) Equals []) (test_text_of own) → Spells (suc room) (with_test own Equals tree) (put_together text own)
+together_spelled : (room : ℕ) (own : Tag) (tree : Tree) (text : List ℕ) → Spells Wide room tree text
+    → Spells Wide room (Test (OfTag own) Equals []) (test_text_of own) → Spells Wide (suc room) (with_test own Equals tree) (put_together text own)
 unfolding Spells
 together_spelled room own tree text h t = record {
   before = [];
@@ -312,7 +279,7 @@ together_spelled room own tree text h t = record {
   parts = refl;
 }
 
-opens_it : (room : ℕ) (tree : Tree) (text : List ℕ) → Spells (suc room) tree text → begins_so opening text ≡ true
+opens_it : (room : ℕ) (tree : Tree) (text : List ℕ) → Spells Wide (suc room) tree text → begins_so opening text ≡ true
 unfolding Spells
 opens_it room tree text h = ap (begins_so opening) h.parts
 
@@ -324,40 +291,34 @@ same_word : (text : List ℕ) (own : Tag) → whole_word text own ≡ put_togeth
 unfolding escaped
 same_word text own = refl
 
-word_read : (text : List ℕ) (own : Tag) → IsKnown own → (tree : Tree) → IsReadAsSpelled → Spells 31 tree text
-    → whole (whole_word text own) ≡ Ok (with_test own Equals tree)
-word_read text own known tree read h =
-    (read (whole_word text own) (with_test own Equals tree)).1
-    (subst (Spells 32 (with_test own Equals tree)) (sym (same_word text own)) (together_spelled 31 own tree text h (test_spelled 30 own known)))
+word_read : (text : List ℕ) (own : Tag) (tree : Tree) → IsReadAsSpelled → Spells Wide 31 tree text
+    → whole Wide (whole_word text own) ≡ Ok (with_test own Equals tree)
+word_read text own tree read h =
+    (read Wide (whole_word text own) (with_test own Equals tree)).1
+    (subst (Spells Wide 32 (with_test own Equals tree)) (sym (same_word text own)) (together_spelled 31 own tree text h (test_spelled 30 own)))
 
-filter_read : (text : List ℕ) (own : Tag) (tree : Tree) → whole (whole_word text own) ≡ Ok tree → filter_of (whole_word text own ∷ []) ≡ Ok tree
+filter_read : (text : List ℕ) (own : Tag) (tree : Tree) → whole Wide (whole_word text own) ≡ Ok tree → filter_of Wide (whole_word text own ∷ []) ≡ Ok tree
 unfolding filter_of
 filter_read text own tree h = rw h refl
-
-test_condition : (own : Tag) (tag : ForeignTag) → IsOf own tag → condition true (standing_of tag) [] ≡ named_test (name_of own) []
-test_condition own tag (inl e) = rw e refl
-test_condition own tag (inr e) = rw e refl
 
 whole_line : (word : Word) → count_line (spelled_words (word ∷ [])) ≡ spelled_line (codes "count") (word ∷ [])
 unfolding spelled_words
 whole_line word = refl
 
-test_line : (own : Tag) (tag : ForeignTag) (text : List ℕ) → IsOf own tag
-    → missing_line true (codes "(" ++ text) tag ≡ spelled_line (codes "count") (whole_word text own ∷ [])
-test_line own tag text of =
-    ap (λ (s : List ℕ). count_line (filter_words true ((codes "(" ++ text) ++ s))) (test_condition own tag of)
-    ∙ whole_line (whole_word text own)
+test_line : (own : Tag) (text : List ℕ)
+    → missing_line true (codes "(" ++ text) own ≡ spelled_line (codes "count") (whole_word text own ∷ [])
+test_line own text = whole_line (whole_word text own)
 
-opened_text : (room : ℕ) (tree : Tree) (text : List ℕ) → Spells (suc room) tree text → open_filter (text ∷ []) ≡ codes "(" ++ text
+opened_text : (room : ℕ) (tree : Tree) (text : List ℕ) → Spells Wide (suc room) tree text → open_filter (text ∷ []) ≡ codes "(" ++ text
 opened_text room tree text h = rw (opens_it room tree text h) refl
 
-pub expression_counted : IsReadAsSpelled → (own : Tag) (tag : ForeignTag) (text : List ℕ) (tree : Tree) → IsOf own tag
-    → Spells 31 tree text → CountsLacking own tree (missing_line true (open_filter (text ∷ [])) tag)
-expression_counted read own tag text tree of h = record {
+pub expression_counted : IsReadAsSpelled → (own : Tag) (text : List ℕ) (tree : Tree) → Spells Wide 31 tree text
+    → CountsLacking own tree (missing_line true (open_filter (text ∷ [])) own)
+expression_counted read own text tree h = record {
   words = whole_word text own ∷ [];
   whole = with_test own Equals tree;
-  named = ap (λ (s : List ℕ). words_of (missing_line true s tag)) (opened_text 30 tree text h)
-      ∙ ap words_of (test_line own tag text of) ∙ read_back (codes "count") (whole_word text own ∷ []) refl;
-  read = filter_read text own (with_test own Equals tree) (word_read text own (known_of own tag of) tree read h);
-  lacking = test_lacks own tree;
+  named = ap (λ (s : List ℕ). words_of (missing_line true s own)) (opened_text 30 tree text h)
+      ∙ ap words_of (test_line own text) ∙ read_back (codes "count") (whole_word text own ∷ []) refl;
+  read = filter_read text own (with_test own Equals tree) (word_read text own tree read h);
+  lacking = λ case song. refl;
 }

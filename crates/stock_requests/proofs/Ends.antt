@@ -3,16 +3,16 @@ use Rattle.std.proofs.Common.{◌≡◌, ℕ, zero, suc, ◌<◌, List, [], ◌�
 use Rattle.command_text.specs.Counts.{Word}
 use Rattle.stock_requests.specs.declared.change.ForeignRefusal.{ForeignRefusal}
 use Rattle.stock_requests.specs.declared.mask.TagSet.{TagSet}
-use Rattle.stock_requests.specs.declared.tag.ForeignTag.{ForeignTag}
+use Rattle.song_files.specs.declared.tag.Tag.{Tag}
 use Rattle.stock_requests.specs.Grouped.{end_tag, is_grouped, last_word, part_ends, parted, with_outer, without_end, Parted}
 use Rattle.stock_requests.specs.Masks.{only_tag, with_tags}
-use Rattle.stock_requests.specs.Tags.{tag_named}
+use Rattle.song_files.specs.Tag.{tag_named}
 
 pub outer_none : (r : Result Parted ForeignRefusal) → with_outer [] r ≡ r
 outer_none (Ok p) = refl
 outer_none (Err refusal) = refl
 
-pub outer_twice : (a b : List ForeignTag) (r : Result Parted ForeignRefusal) → with_outer a (with_outer b r) ≡ with_outer (a ++ b) r
+pub outer_twice : (a b : List Tag) (r : Result Parted ForeignRefusal) → with_outer a (with_outer b r) ≡ with_outer (a ++ b) r
 outer_twice a b (Ok p) = ap (λ tags. Ok (parted p.words tags)) (sym (append_assoc a b p.tags))
 outer_twice a b (Err refusal) = refl
 
@@ -53,7 +53,7 @@ unfolding part_ends
 bad_end zero before words refusal lt e is = absurd (omega arith)
 bad_end (suc left) before words refusal lt e is = rw (e, is) refl
 
-pub good_end : (left next : ℕ) (before : TagSet) (words : List Word) (tag : ForeignTag) → left ≡ suc next → is_grouped words ≡ true
+pub good_end : (left next : ℕ) (before : TagSet) (words : List Word) (tag : Tag) → left ≡ suc next → is_grouped words ≡ true
     → end_tag before (tag_named (last_word words)) ≡ Ok tag
     → part_ends left before words ≡ with_outer (tag ∷ []) (part_ends next (with_tags before (only_tag tag)) (without_end words))
 unfolding part_ends

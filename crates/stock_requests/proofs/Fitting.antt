@@ -33,10 +33,8 @@ use Rattle.stock_requests.specs.declared.native.Handling.TheVariants as handling
 use Rattle.stock_requests.specs.declared.steps.Steps.{Steps}
 use Rattle.stock_requests.specs.declared.steps.Steps.TheVariants as steps
 use Rattle.stock_requests.specs.declared.steps.Steps.TheVariants.{Group}
-use Rattle.stock_requests.specs.declared.tag.ForeignTag.{ForeignTag}
+use Rattle.song_files.specs.declared.tag.Tag.{Tag}
 use Rattle.stock_requests.specs.declared.volume.VolumeStep.{VolumeStep}
-use Rattle.stock_requests.specs.declared.tag.Standing.{Standing}
-use Rattle.stock_requests.specs.declared.tag.Standing.TheVariants as standings
 use Rattle.stock_requests.specs.Filters.{native_filter}
 use Rattle.stock_requests.specs.Fits.{Fits, NativesFit}
 use Rattle.stock_requests.specs.Grouped.{begun_group, is_grouped, most_ends, part_ends, Parted}
@@ -49,15 +47,15 @@ use Rattle.stock_requests.specs.Native.{adding_to_playlist, answered, as_it_is, 
 use Rattle.stock_requests.specs.Native.{by_steps, grouped_count, grouped_count_of, grouped_list, grouped_list_of, grouping}
 use Rattle.stock_requests.specs.Expressions.{is_file_name}
 use Rattle.stock_requests.specs.Native.{files_change, files_natives, list_all, listing_files, shuffling, shuffling_in}
-use Rattle.stock_requests.specs.Native.{handling_of, list_info, listing, listing_by, listing_change, listing_empty, listing_of, listing_values}
-use Rattle.stock_requests.specs.Native.{listing_words, filter_or_all, has_list_count, is_root, mask_alone, mask_by, mask_change, mask_of}
+use Rattle.stock_requests.specs.Native.{handling_of, list_info, listing, listing_change, listing_of, listing_values}
+use Rattle.stock_requests.specs.Native.{listing_words, has_list_count, is_root, mask_alone, mask_by, mask_change, mask_of}
 use Rattle.stock_requests.specs.Native.{mask_refused, refused, root, songs_lines, tag_types, telling, with_named}
 use Rattle.stock_requests.specs.Masks.{empty_set, only_tag}
 use Rattle.stock_requests.specs.Shuffles.{begun_shuffle, shuffled_range}
 use Rattle.stock_requests.specs.Spelling.{line_limit, spelled_line, spelled_words, words_eq}
 use Rattle.stock_requests.specs.Steps.{group_name}
 use Rattle.stock_requests.specs.Volumes.{begun_volume}
-use Rattle.stock_requests.specs.Tags.{standing_of, tag_named}
+use Rattle.song_files.specs.Tag.{tag_named}
 use Rattle.stock_requests.specs.Translation as specs
 use Rattle.stock_requests.specs.Translation.{of_foreign, of_name, of_words, words_or_none}
 
@@ -122,7 +120,7 @@ steps_fit line steps = by_test (nat_le (length line) line_limit) refl
     by_test true e = rw e (steps_hold line steps (leb-true (length line) line_limit e))
     by_test false e = rw e same_holds
 
-grouping_fits : (listed : Option ForeignTag) (words : List Word) (tags : List ForeignTag) → Holds (grouping listed words tags)
+grouping_fits : (listed : Option Tag) (words : List Word) (tags : List Tag) → Holds (grouping listed words tags)
 grouping_fits listed words tags = choice (has_list_count words) _ _
     (steps_fit (count_line (spelled_words words)) (Group (begun_group listed words tags)))
     (refusal_fits (group_name (counts_in listed)) refusals.WrongCount)
@@ -165,30 +163,19 @@ by_natives_fits natives change = by_test (fits natives) refl
     by_test true e = rw e (natives_hold natives change e)
     by_test false e = rw e same_holds
 
-values_fit : (tag : ForeignTag) (words : List Word) → Holds (listing_values tag words)
+values_fit : (tag : Tag) (words : List Word) → Holds (listing_values tag words)
 values_fit tag words =
     choice (has_list_count words) _ Same (by_natives_fits (listing_natives tag words) (listing_change tag)) same_holds
 
-empty_fits : (tag : ForeignTag) (words : List Word) → Holds (listing_empty tag words)
-unfolding listing_empty
-empty_fits tag words =
-    choice (has_list_count words) _ Same (line_fits Same (spelled_line (codes "count") (filter_or_all words)) (listing_change tag) same_holds)
-    same_holds
-
-standing_fits : (standing : Standing) (tag : ForeignTag) (words : List Word) → Holds (listing_by standing tag words)
-standing_fits (standings.Native other) tag words = values_fit tag (listing_words other words)
-standing_fits (standings.FallsBackTo other) tag words = values_fit tag (native_filter false false words)
-standing_fits standings.Absent tag words = empty_fits tag words
-
-tag_fits : (tag : Option ForeignTag) (words : List Word) → Holds (listing_of tag words)
+tag_fits : (tag : Option Tag) (words : List Word) → Holds (listing_of tag words)
 tag_fits None words = same_holds
-tag_fits (Some tag) words = standing_fits (standing_of tag) tag words
+tag_fits (Some tag) words = values_fit tag (listing_words tag words)
 
-parted_list_fits : (tag : ForeignTag) (parted : Result Parted ForeignRefusal) → Holds (grouped_list_of tag parted)
+parted_list_fits : (tag : Tag) (parted : Result Parted ForeignRefusal) → Holds (grouped_list_of tag parted)
 parted_list_fits tag (Err refusal) = refusal_fits (group_name false) refusal
 parted_list_fits tag (Ok p) = grouping_fits (Some tag) (native_filter false false p.words) (p.tags ++ tag ∷ [])
 
-grouped_list_fits : (is_alone : Bool) (tag : Option ForeignTag) (words : List Word) → Holds (grouped_list is_alone tag words)
+grouped_list_fits : (is_alone : Bool) (tag : Option Tag) (words : List Word) → Holds (grouped_list is_alone tag words)
 grouped_list_fits is_alone None words = same_holds
 grouped_list_fits false (Some tag) words = refusal_fits (group_name false) refusals.NotInList
 grouped_list_fits true (Some tag) words = parted_list_fits tag (part_ends most_ends (only_tag tag) words)
@@ -240,7 +227,7 @@ mask_fits enables (word ∷ words) = tags_fit enables (with_named empty_set (wor
 
 masks_fit : (words : List Word) → Holds (tag_types words)
 unfolding tag_types
-masks_fit [] = answer_fits (Native names.TagTypes) endings.Tags
+masks_fit [] = songs_hold
 masks_fit (what ∷ words) =
     let disables = choice (bytes_eq what (codes "disable")) (mask_of false words) (mask_refused refusals.UnknownSubCommand)
     (mask_fits false words) (refusal_fits (Native names.TagTypes) refusals.UnknownSubCommand) in

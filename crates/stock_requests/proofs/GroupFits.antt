@@ -12,13 +12,13 @@ use Rattle.stock_requests.specs.declared.group.Grouping.{Grouping}
 use Rattle.stock_requests.specs.declared.group.Level.{Level}
 use Rattle.stock_requests.specs.declared.group.Phase.{Phase}
 use Rattle.stock_requests.specs.declared.group.Phase.TheVariants as phases
-use Rattle.stock_requests.specs.declared.tag.ForeignTag.{ForeignTag}
+use Rattle.song_files.specs.declared.tag.Tag.{Tag}
 use Rattle.stock_requests.specs.Fits.{LinesFit}
 use Rattle.stock_requests.specs.Groups.{answer_room, asked_so, asking_at, asking_below, asking_first, at_value, climbed, climbed_at, fits, further, further_count}
 use Rattle.stock_requests.specs.Groups.{further_is, group_after, group_after_by, is_short, most_further, native_lines, natives_of, natives_within, opened}
 use Rattle.stock_requests.specs.Groups.{phase_of, second_fits, surveyed, with_further, Further, GroupAfter}
 use Rattle.stock_requests.specs.Spelling.{line_limit}
-use Rattle.stock_requests.specs.Tags.{tag_text}
+use Rattle.song_files.specs.Tag.{name_of}
 
 abbrev AreShort : List (List ℕ) → Type 0
 AreShort lines = AllByRecursion (λ line. length line ≤ line_limit) lines
@@ -62,7 +62,7 @@ one_more_short false false natives value left more e short = tt
 one_more_short false true natives value left more e short =
     both_short (native_lines natives) more.lines (natives_short natives e) short
 
-further_short : (most : ℕ) (asking : Asking) (tag : ForeignTag) (outer : List ℕ) (left : List Word)
+further_short : (most : ℕ) (asking : Asking) (tag : Tag) (outer : List ℕ) (left : List Word)
     → AreShort (further most asking tag outer left).lines
 further_short most asking tag outer [] = tt
 further_short most asking tag outer (value ∷ left) =
@@ -81,14 +81,14 @@ one_more_few false false most natives value left more some few = omega arith
 one_more_few false true most natives value left more some few =
     omega (arith, length-append (native_lines natives) more.lines, few_natives natives, few, some refl)
 
-few_further : (most : ℕ) (asking : Asking) (tag : ForeignTag) (outer : List ℕ) (left : List Word)
+few_further : (most : ℕ) (asking : Asking) (tag : Tag) (outer : List ℕ) (left : List Word)
     → length (further most asking tag outer left).lines ≤ 2 * most
 few_further most asking tag outer [] = omega arith
 few_further most asking tag outer (value ∷ left) =
     one_more_few (most == 0) (fits (natives_within asking tag outer value)) most (natives_within asking tag outer value) value left
     (further (most - 1) asking tag outer left) (some_left most) (few_further (most - 1) asking tag outer left)
 
-few_values : (bytes : ℕ) (below : List ForeignTag) → further_count bytes below ≤ 119
+few_values : (bytes : ℕ) (below : List Tag) → further_count bytes below ≤ 119
 few_values bytes below = by_test (nat_le (length below) 1)
   where
     by_test : (b : Bool) → cond b (min (answer_room / max bytes 1 - 1) most_further) 0 ≤ 119
@@ -117,19 +117,19 @@ below_fits grouping =
     let asking = asking_at grouping.is_expression grouping.has_missing grouping.below in
     first_fits grouping (phase_of asking) asking
 
-survey_fits : (grouping : Grouping) (listed : Option ForeignTag) → Holds (surveyed grouping listed)
+survey_fits : (grouping : Grouping) (listed : Option Tag) → Holds (surveyed grouping listed)
 survey_fits grouping None = below_fits grouping
 survey_fits grouping (Some tag) = first_fits grouping (phases.SurveyMissing false)
     (record { is_expression = grouping.is_expression; asks_missing = true; tag = Some tag })
 
-value_fits : (grouping : Grouping) (tag : ForeignTag) (outer : List ℕ) (left : List Word) (value : Word) (above : List Level)
-    (below : List ForeignTag) → Holds (at_value grouping tag outer left value above below)
+value_fits : (grouping : Grouping) (tag : Tag) (outer : List ℕ) (left : List Word) (value : Word) (above : List Level)
+    (below : List Tag) → Holds (at_value grouping tag outer left value above below)
 value_fits grouping tag outer left value above below =
     let asking = asking_at grouping.is_expression grouping.has_missing below in
     let most = further_count grouping.bytes below in
     let natives = natives_within asking tag outer value in
     let more = further most asking tag outer left in
-    asked_fits (fits natives) _ (phase_of asking) (pair (tag_text tag) value) (native_lines natives ++ more.lines)
+    asked_fits (fits natives) _ (phase_of asking) (pair (name_of tag) value) (native_lines natives ++ more.lines)
     (λ e. (
       both_short (native_lines natives) more.lines (natives_short natives e) (further_short most asking tag outer left),
       omega (
@@ -141,7 +141,7 @@ value_fits grouping tag outer left value above below =
       ),
     ))
 
-climb_fits : (grouping : Grouping) (above : List Level) (below : List ForeignTag) → Holds (climbed grouping above below)
+climb_fits : (grouping : Grouping) (above : List Level) (below : List Tag) → Holds (climbed grouping above below)
 unfolding Holds
 climb_fits grouping [] below = tt
 climb_fits grouping (level ∷ above) below = by_left level.left (climb_fits grouping above (level.tag ∷ below))
@@ -151,7 +151,7 @@ climb_fits grouping (level ∷ above) below = by_left level.left (climb_fits gro
     by_left [] up = up
     by_left (value ∷ left) up = value_fits grouping level.tag level.outer left value above below
 
-open_fits : (grouping : Grouping) (values : List Word) (below : List ForeignTag) → Holds (opened grouping values below)
+open_fits : (grouping : Grouping) (values : List Word) (below : List Tag) → Holds (opened grouping values below)
 open_fits grouping [] below = climb_fits grouping grouping.above below
 open_fits grouping (value ∷ left) [] = climb_fits grouping grouping.above []
 open_fits grouping (value ∷ left) (tag ∷ below) = value_fits grouping tag grouping.filter left value grouping.above below

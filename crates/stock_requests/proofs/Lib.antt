@@ -2,8 +2,6 @@ pub mod Texts
 pub mod WordLists
 pub mod Lines
 pub mod ReadBack
-pub mod TagLess
-pub mod AbsentTags
 pub mod Counting
 pub mod SetLaws
 pub mod NameLaws

@@ -7,12 +7,12 @@ use Rattle.std.specs.Str.{bytes_eq}
 use Rattle.command_text.specs.Counts.{Word}
 use Rattle.command_text.specs.Finding.{begins_part}
 use Rattle.stock_requests.specs.declared.mask.TagSet.{TagSet}
-use Rattle.stock_requests.specs.declared.tag.ForeignTag.{ForeignTag}
+use Rattle.song_files.specs.declared.tag.Tag.{Tag}
 use Rattle.stock_requests.specs.Filters.{more_pairs, native_pair, native_parts}
-use Rattle.stock_requests.specs.Masks.{lines_of_tags, only_tag, tag_line, with_tags}
+use Rattle.stock_requests.specs.Masks.{only_tag, with_tags}
 use Rattle.stock_requests.specs.Native.{with_named}
 use Rattle.stock_requests.specs.Spelling.{escaped, escaped_byte, space, spelled_word, spelled_words, words_eq}
-use Rattle.stock_requests.specs.Tags.{tag_named}
+use Rattle.song_files.specs.Tag.{tag_named}
 
 pub item_at : {A : Type 0} (s : List A) (i : ℕ) (x : A) → i < length s → x ≡ get_or s i x → drop i s ≡ x ∷ drop (i + 1) s
 item_at s i x h e = rw (add-one, drop-cons s i x) (ap (λ y. y ∷ drop (suc i) s) (sym e))
@@ -91,7 +91,7 @@ other_lengths (word ∷ words) (other ∷ others) h =
     by_test false e = refl
 
 -- tags named one by one
-pub named_more : (set whole : TagSet) (words : List Word) (i : ℕ) (word bytes : Word) (tag : ForeignTag) (rest : Option TagSet) → i < length words
+pub named_more : (set whole : TagSet) (words : List Word) (i : ℕ) (word bytes : Word) (tag : Tag) (rest : Option TagSet) → i < length words
     → word ≡ get_or words i word → bytes ≡ word → Some tag ≡ tag_named bytes → with_named set (drop i words) ≡ rest
     → whole ≡ with_tags set (only_tag tag) → with_named whole (drop (i + 1) words) ≡ rest
 unfolding with_named
@@ -183,20 +183,3 @@ pairs_end sorts within front words whole i few before =
     few_words [] h = refl
     few_words (word ∷ []) h = refl
     few_words (word ∷ other ∷ words) h = absurd (omega arith)
-
--- lines of tags added one by one
-pub tags_on : (set : TagSet) (front out whole : List ℕ) (tags : List ForeignTag) (i : ℕ) (d : ForeignTag) → i < length tags
-    → out ≡ front ++ tag_line set (get_or tags i d) → front ++ lines_of_tags set (drop i tags) ≡ whole
-    → out ++ lines_of_tags set (drop (i + 1) tags) ≡ whole
-unfolding lines_of_tags
-tags_on set front out whole tags i d lt is before =
-    let here : drop i tags ≡ get_or tags i d ∷ drop (i + 1) tags = rw (add-one, drop-cons tags i d) refl in
-    ap (λ (s : List ℕ). s ++ lines_of_tags set (drop (i + 1) tags)) is
-    ∙ append_assoc front (tag_line set (get_or tags i d)) (lines_of_tags set (drop (i + 1) tags))
-    ∙ sym (ap (λ (ts : List ForeignTag). front ++ lines_of_tags set ts) here) ∙ before
-
-pub tags_end : (set : TagSet) (front whole : List ℕ) (tags : List ForeignTag) (i : ℕ) → length tags ≤ i
-    → front ++ lines_of_tags set (drop i tags) ≡ whole → front ≡ whole
-unfolding lines_of_tags
-tags_end set front whole tags i le before =
-    sym (append-nil front) ∙ sym (ap (λ (ts : List ForeignTag). front ++ lines_of_tags set ts) (none_left tags i le)) ∙ before

@@ -1,15 +1,11 @@
--- The words of a filter, and the order behind it, over the daemon's tags in the place of all of MPD's.
+-- The words of a filter, and the order behind it, as the daemon takes them in the place of MPD's.
 use Rattle.std.specs.Prelude.{ℕ, List, [], ◌∷◌, ◌++◌, ◌&&◌, ◌||◌, is_some, Bool, true, false, drop, codes, if◌then◌else◌}
 use Rattle.std.specs.Str.{bytes_eq, str_eq_ignore_ascii_case}
-use Rattle.song_files.specs.Tag.{name_of}
 use Rattle.filter_expr.specs.Parts.{opening, begins_so}
 use Rattle.command_text.specs.Counts.{Word}
 use Rattle.command_text.specs.Finding.{begins_part}
-use Rattle.stock_requests.specs.declared.expression.FilterName.{FilterName}
-use Rattle.stock_requests.specs.declared.expression.FilterName.TheVariants.{Kept, OfTag, File, Absent}
-use Rattle.stock_requests.specs.Expressions.{base_value, filter_name, holds_of_none, is_file_name, native_text}
-use Rattle.stock_requests.specs.declared.expression.Operator.TheVariants.{Equal}
-use Rattle.stock_requests.specs.Tags.{tag_named}
+use Rattle.stock_requests.specs.Expressions.{is_file_name, native_text}
+use Rattle.song_files.specs.Tag.{tag_named}
 
 abbrev pub minus : ℕ
 minus = 45
@@ -18,12 +14,9 @@ abbrev pub is_empty : Word → Bool
 is_empty [] = true
 is_empty (b ∷ word) = false
 
--- the pair of a name of this kind and a value
-abbrev pub pair_by : FilterName → Word → Word → List Word
-pair_by Kept name value = name ∷ value ∷ []
-pair_by (OfTag tag) name value = name_of tag ∷ value ∷ []
-pair_by File name value = codes "file" ∷ value ∷ []
-pair_by Absent name value = codes "base" ∷ base_value (holds_of_none Equal (is_empty value)) ∷ []
+-- the daemon's name of a song's file in the place of another one
+abbrev pub file_or : Word → Word
+file_or name = if is_file_name name then codes "file" else name
 
 -- what a pair may ask for: a tag, `any` of them, or a song's file
 abbrev pub is_asked_for : Word → Bool
@@ -32,24 +25,11 @@ is_asked_for name = is_some (tag_named name) || (str_eq_ignore_ascii_case name (
 -- a pair; `search` and its like look for a value within a text, and the empty one is within each, also where there is none
 abbrev pub native_pair : Bool → Word → Word → List Word
 native_pair within name value =
-    if within && (is_empty value && is_asked_for name) then codes "base" ∷ [] ∷ [] else pair_by (filter_name name) name value
+    if within && (is_empty value && is_asked_for name) then codes "base" ∷ [] ∷ [] else file_or name ∷ value ∷ []
 
--- What songs are sorted by in the place of a name, upwards or downwards. Where no song has the tag they stay as they are found, by URIs.
-abbrev pub sort_by : Bool → FilterName → Word → Word
-sort_by down Kept word = word
-sort_by false (OfTag tag) word = name_of tag
-sort_by true (OfTag tag) word = minus ∷ name_of tag
-sort_by false File word = codes "file"
-sort_by true File word = codes "-file"
-sort_by down Absent word = codes "file"
-
--- what is sorted by: no song has a time of its last change
-abbrev pub sort_name : Word → FilterName
-sort_name name = if str_eq_ignore_ascii_case name (codes "last-modified") then Absent else filter_name name
-
+-- what songs are sorted by in the place of a word, upwards or downwards
 unfoldable pub native_sort : Word → Word
-native_sort word =
-    if begins_so minus word then sort_by true (sort_name (drop 1 word)) word else sort_by false (sort_name word) word
+native_sort word = if begins_so minus word && is_file_name (drop 1 word) then codes "-file" else file_or word
 
 -- the words behind a filter; only the first part can be an order
 unfoldable pub native_parts : Bool → List Word → List Word

@@ -9,10 +9,10 @@ use Rattle.stock_requests.specs.declared.change.ForeignRefusal.TheVariants as re
 use Rattle.stock_requests.specs.declared.group.Grouping.{Grouping}
 use Rattle.stock_requests.specs.declared.group.Phase.TheVariants.{Check}
 use Rattle.stock_requests.specs.declared.mask.TagSet.{TagSet}
-use Rattle.stock_requests.specs.declared.tag.ForeignTag.{ForeignTag}
+use Rattle.song_files.specs.declared.tag.Tag.{Tag}
 use Rattle.stock_requests.specs.Masks.{has, only_tag, with_tags}
 use Rattle.stock_requests.specs.Spelling.{spelled_words}
-use Rattle.stock_requests.specs.Tags.{tag_named}
+use Rattle.song_files.specs.Tag.{tag_named}
 
 -- the words end in `group TAG`
 unfoldable pub is_grouped : List Word → Bool
@@ -21,17 +21,17 @@ is_grouped words = nat_le 2 (length words) && bytes_eq (slice_index_or words (le
 -- the words before such ends, and their tags, the last one first: that is the outermost
 pub record Parted : Type 0 where
   pub words : List Word
-  pub tags : List ForeignTag
+  pub tags : List Tag
 
-abbrev pub parted : List Word → List ForeignTag → Parted
+abbrev pub parted : List Word → List Tag → Parted
 parted words tags = record { words = words; tags = tags }
 
-abbrev pub with_outer : List ForeignTag → Result Parted ForeignRefusal → Result Parted ForeignRefusal
+abbrev pub with_outer : List Tag → Result Parted ForeignRefusal → Result Parted ForeignRefusal
 with_outer tags (Ok p) = Ok (parted p.words (tags ++ p.tags))
 with_outer tags (Err refusal) = Err refusal
 
 -- the tag of an end, one that was not named before
-abbrev pub end_tag : TagSet → Option ForeignTag → Result ForeignTag ForeignRefusal
+abbrev pub end_tag : TagSet → Option Tag → Result Tag ForeignRefusal
 end_tag before None = Err refusals.UnknownTag
 end_tag before (Some tag) = if has before tag then Err refusals.ConflictingGroup else Ok tag
 
@@ -41,7 +41,7 @@ last_word words = slice_index_or words (length words - 1) []
 abbrev pub without_end : List Word → List Word
 without_end words = take (length words - 2) words
 
-abbrev pub part_end : Result ForeignTag ForeignRefusal → (ForeignTag → Result Parted ForeignRefusal) → Result Parted ForeignRefusal
+abbrev pub part_end : Result Tag ForeignRefusal → (Tag → Result Parted ForeignRefusal) → Result Parted ForeignRefusal
 part_end (Err refusal) more = Err refusal
 part_end (Ok tag) more = with_outer (tag ∷ []) (more tag)
 
@@ -68,7 +68,7 @@ abbrev pub open_filter : List Word → List ℕ
 open_filter words = if is_expression words then codes "(" ++ first_of words else spelled_words words
 
 -- the filter alone is asked for first, so that it is refused where it is none
-abbrev pub begun_group : Option ForeignTag → List Word → List ForeignTag → Grouping
+abbrev pub begun_group : Option Tag → List Word → List Tag → Grouping
 begun_group listed words tags = record {
   listed = listed;
   is_expression = is_expression words;

@@ -16,36 +16,23 @@ use Rattle.stock_requests.specs.declared.group.Grouping.{Grouping}
 use Rattle.stock_requests.specs.declared.group.Level.{Level}
 use Rattle.stock_requests.specs.declared.group.Phase.{Phase}
 use Rattle.stock_requests.specs.declared.group.Phase.TheVariants as phases
-use Rattle.stock_requests.specs.declared.tag.ForeignTag.{ForeignTag}
-use Rattle.stock_requests.specs.declared.tag.Standing.{Standing}
-use Rattle.stock_requests.specs.declared.tag.Standing.TheVariants as standings
+use Rattle.song_files.specs.declared.tag.Tag.{Tag}
 use Rattle.stock_requests.specs.Masks.{is_line_of}
 use Rattle.stock_requests.specs.Spelling.{escaped, line_limit, spelled_words}
-use Rattle.stock_requests.specs.Tags.{standing_of, tag_text}
 
 -- ---- what the daemon is asked
 
--- a pair of a filter, and a further test of an expression; a tag that no song has needs none
-abbrev pub pair_text : Standing → Word → List ℕ
-pair_text (standings.Native tag) value = spelled_words (name_of tag ∷ value ∷ [])
-pair_text (standings.FallsBackTo tag) value = spelled_words (name_of tag ∷ value ∷ [])
-pair_text standings.Absent value = []
-
+-- a further test of an expression, or a pair of a filter
 abbrev pub named_test : List ℕ → Word → List ℕ
 named_test name value = codes " AND (" ++ (name ++ (codes " == \"" ++ (escaped value ++ codes "\")")))
 
-abbrev pub test_text : Standing → Word → List ℕ
-test_text (standings.Native tag) value = named_test (name_of tag) value
-test_text (standings.FallsBackTo tag) value = named_test (name_of tag) value
-test_text standings.Absent value = []
-
-abbrev pub condition : Bool → Standing → Word → List ℕ
-condition true standing value = test_text standing value
-condition false standing value = pair_text standing value
+abbrev pub condition : Bool → Tag → Word → List ℕ
+condition true tag value = named_test (name_of tag) value
+condition false tag value = spelled_words (name_of tag ∷ value ∷ [])
 
 -- a filter for songs of this value of a tag, or for those without the tag where it is empty
-abbrev pub narrowed : Bool → List ℕ → ForeignTag → Word → List ℕ
-narrowed is_expression filter tag value = filter ++ condition is_expression (standing_of tag) value
+abbrev pub narrowed : Bool → List ℕ → Tag → Word → List ℕ
+narrowed is_expression filter tag value = filter ++ condition is_expression tag value
 
 -- the words of a filter, behind a space each; the parenthesis of an expression is open as long as tests may come
 abbrev pub filter_words : Bool → List ℕ → List ℕ
@@ -56,10 +43,8 @@ abbrev pub count_line : List ℕ → List ℕ
 count_line [] = codes "count base \"\""
 count_line (b ∷ words) = codes "count" ++ (b ∷ words)
 
-abbrev pub list_line : Standing → List ℕ → List ℕ
-list_line (standings.Native tag) words = codes "list " ++ (name_of tag ++ words)
-list_line (standings.FallsBackTo tag) words = codes "list " ++ (name_of tag ++ words)
-list_line standings.Absent words = codes "ping"
+abbrev pub list_line : Tag → List ℕ → List ℕ
+list_line tag words = codes "list " ++ (name_of tag ++ words)
 
 abbrev pub one_native : List ℕ → Natives
 one_native first = record { first = first; second = None }
@@ -68,14 +53,14 @@ abbrev pub two_natives : List ℕ → List ℕ → Natives
 two_natives first second = record { first = first; second = Some second }
 
 -- how many songs are without a tag, within a filter
-abbrev pub missing_line : Bool → List ℕ → ForeignTag → List ℕ
+abbrev pub missing_line : Bool → List ℕ → Tag → List ℕ
 missing_line is_expression filter tag = count_line (filter_words is_expression (narrowed is_expression filter tag []))
 
-abbrev pub values_line : Bool → List ℕ → ForeignTag → List ℕ
-values_line is_expression filter tag = list_line (standing_of tag) (filter_words is_expression filter)
+abbrev pub values_line : Bool → List ℕ → Tag → List ℕ
+values_line is_expression filter tag = list_line tag (filter_words is_expression filter)
 
 -- how many songs there are; or, of a tag, its values, and before them whether there are songs without it, where that is asked
-abbrev pub natives_by : Asking → List ℕ → Option ForeignTag → Natives
+abbrev pub natives_by : Asking → List ℕ → Option Tag → Natives
 natives_by asking filter None = one_native (count_line (filter_words asking.is_expression filter))
 natives_by asking filter (Some tag) =
     if asking.asks_missing
@@ -101,7 +86,7 @@ fits natives = is_short natives.first && second_fits natives.second
 -- ---- several values at once
 
 -- within a value of a tag
-abbrev pub natives_within : Asking → ForeignTag → List ℕ → Word → Natives
+abbrev pub natives_within : Asking → Tag → List ℕ → Word → Natives
 natives_within asking tag outer value = natives_of asking (narrowed asking.is_expression outer tag value)
 
 -- what is asked within further values, the values, and those that are left
@@ -117,7 +102,7 @@ abbrev pub with_further : Natives → Word → Further → Further
 with_further natives value more = further_is (native_lines natives ++ more.lines) (value ∷ more.asked) more.left
 
 -- at most so many values, up to one whose lines would be too long
-abbrev pub further : ℕ → Asking → ForeignTag → List ℕ → List Word → Further
+abbrev pub further : ℕ → Asking → Tag → List ℕ → List Word → Further
 further most asking tag outer [] = further_is [] [] []
 further most asking tag outer (value ∷ left) =
     if most == 0 then further_is [] [] (value ∷ left)
@@ -133,7 +118,7 @@ abbrev pub most_further : ℕ
 most_further = 119
 
 -- the values of the last tag have so many bytes: so have those within one value of another tag, at most
-abbrev pub further_count : ℕ → List ForeignTag → ℕ
+abbrev pub further_count : ℕ → List Tag → ℕ
 further_count bytes below = if nat_le (length below) 1 then min (answer_room / max bytes 1 - 1) most_further else 0
 
 -- ---- what becomes of the answers
@@ -150,28 +135,23 @@ abbrev pub tells_songs : List ℕ → Bool
 tells_songs text = starts_with nat_eq text (codes "songs: ") && not (bytes_eq text (codes "songs: 0"))
 
 -- the value that a line tells of a tag
-abbrev pub named_value : List ℕ → List ℕ → Option Word
-named_value name text = if is_line_of name text then Some (drop (length name + 2) text) else None
+abbrev pub value_in : Tag → List ℕ → Option Word
+value_in tag text = if is_line_of (name_of tag) text then Some (drop (length (name_of tag) + 2) text) else None
 
-abbrev pub value_in : Standing → List ℕ → Option Word
-value_in (standings.Native tag) text = named_value (name_of tag) text
-value_in (standings.FallsBackTo tag) text = named_value (name_of tag) text
-value_in standings.Absent text = None
-
-abbrev pub counts_in : Option ForeignTag → Bool
+abbrev pub counts_in : Option Tag → Bool
 counts_in None = true
 counts_in (Some tag) = false
 
 -- whether values are told where they are found, and nothing is asked below them
-abbrev pub is_innermost : Bool → List ForeignTag → Bool
+abbrev pub is_innermost : Bool → List Tag → Bool
 is_innermost true below = false
 is_innermost false [] = true
 is_innermost false (tag ∷ below) = false
 
-abbrev pub with_value_below : Grouping → Word → List ForeignTag → ToldGroup
+abbrev pub with_value_below : Grouping → Word → List Tag → ToldGroup
 with_value_below grouping value [] = told_group grouping []
 with_value_below grouping value (tag ∷ below) =
-    if is_innermost (counts_in grouping.listed) below then told_group grouping (pair (tag_text tag) value)
+    if is_innermost (counts_in grouping.listed) below then told_group grouping (pair (name_of tag) value)
     else told_group (record grouping { values = grouping.values ++ value ∷ [] }) []
 
 -- a value of the tag that is asked for
@@ -182,9 +162,9 @@ abbrev pub with_some_value : Grouping → Option Word → ToldGroup
 with_some_value grouping None = told_group grouping []
 with_some_value grouping (Some value) = with_value grouping value
 
-abbrev pub value_below : List ForeignTag → List ℕ → Option Word
+abbrev pub value_below : List Tag → List ℕ → Option Word
 value_below [] text = None
-value_below (tag ∷ below) text = value_in (standing_of tag) text
+value_below (tag ∷ below) text = value_in tag text
 
 -- a line of an answer
 abbrev pub group_line_by : Phase → Grouping → List ℕ → ToldGroup
@@ -203,18 +183,18 @@ abbrev pub group_line : Grouping → List ℕ → ToldGroup
 group_line grouping text = group_line_by grouping.phase grouping text
 
 -- what is asked below a value, with these tags below
-abbrev pub first_tag : List ForeignTag → Option ForeignTag
+abbrev pub first_tag : List Tag → Option Tag
 first_tag [] = None
 first_tag (tag ∷ below) = Some tag
 
-abbrev pub asking_at : Bool → Bool → List ForeignTag → Asking
+abbrev pub asking_at : Bool → Bool → List Tag → Asking
 asking_at is_expression has_missing below = record {
   is_expression = is_expression;
   asks_missing = has_missing || nat_le 2 (length below);
   tag = first_tag below;
 }
 
-abbrev pub phase_by : Bool → Option ForeignTag → Phase
+abbrev pub phase_by : Bool → Option Tag → Phase
 phase_by asks_missing None = phases.Count
 phase_by true (Some tag) = phases.Missing false
 phase_by false (Some tag) = phases.Values
@@ -225,7 +205,7 @@ phase_of asking = phase_by asking.asks_missing asking.tag
 -- the value of the tag above, below which the next part of the answer stands
 abbrev pub value_above : List Level → Word → List ℕ
 value_above [] value = []
-value_above (level ∷ above) value = pair (tag_text level.tag) value
+value_above (level ∷ above) value = pair (name_of level.tag) value
 
 abbrev pub next_value : Grouping → List Word → ToldGroup
 next_value grouping [] = told_group grouping []
@@ -278,13 +258,13 @@ asking_below grouping =
     (asking_at grouping.is_expression grouping.has_missing grouping.below)
 
 -- of the values that are listed, whether there are songs without them, and how many bytes they have, before any is told
-abbrev pub surveyed : Grouping → Option ForeignTag → GroupAfter
+abbrev pub surveyed : Grouping → Option Tag → GroupAfter
 surveyed grouping None = asking_below grouping
 surveyed grouping (Some tag) = asking_first grouping (phases.SurveyMissing false)
     (record { is_expression = grouping.is_expression; asks_missing = true; tag = Some tag })
 
 -- a value is told, and what stands below it is asked for, and below further values
-abbrev pub at_value_so : Grouping → Asking → Level → Word → List Level → List ForeignTag → Further → GroupAfter
+abbrev pub at_value_so : Grouping → Asking → Level → Word → List Level → List Tag → Further → GroupAfter
 at_value_so grouping asking level value above below more =
     asked_so (fits (natives_within asking level.tag level.outer value)) (record grouping {
       filter = narrowed grouping.is_expression level.outer level.tag value;
@@ -292,29 +272,29 @@ at_value_so grouping asking level value above below more =
       below = below;
       values = [];
       asked = more.asked;
-    }) (phase_of asking) (pair (tag_text level.tag) value) (native_lines (natives_within asking level.tag level.outer value) ++ more.lines)
+    }) (phase_of asking) (pair (name_of level.tag) value) (native_lines (natives_within asking level.tag level.outer value) ++ more.lines)
 
-abbrev pub level_is : ForeignTag → List ℕ → List Word → Level
+abbrev pub level_is : Tag → List ℕ → List Word → Level
 level_is tag outer left = record { tag = tag; outer = outer; left = left }
 
-abbrev pub at_value : Grouping → ForeignTag → List ℕ → List Word → Word → List Level → List ForeignTag → GroupAfter
+abbrev pub at_value : Grouping → Tag → List ℕ → List Word → Word → List Level → List Tag → GroupAfter
 at_value grouping tag outer left value above below =
     let asking = asking_at grouping.is_expression grouping.has_missing below in
     at_value_so grouping asking (level_is tag outer left) value above below
     (further (further_count grouping.bytes below) asking tag outer left)
 
 -- a further value of the innermost level that has one; the tags of those that have none stand below again
-abbrev pub climbed_at : Grouping → Level → List Level → List ForeignTag → GroupAfter → List Word → GroupAfter
+abbrev pub climbed_at : Grouping → Level → List Level → List Tag → GroupAfter → List Word → GroupAfter
 climbed_at grouping level above below up [] = up
 climbed_at grouping level above below up (value ∷ left) = at_value grouping level.tag level.outer left value above below
 
-abbrev pub climbed : Grouping → List Level → List ForeignTag → GroupAfter
+abbrev pub climbed : Grouping → List Level → List Tag → GroupAfter
 climbed grouping [] below = group_after_is (record grouping { above = []; below = below; values = [] }) [] None
 climbed grouping (level ∷ above) below =
     climbed_at grouping level above below (climbed grouping above (level.tag ∷ below)) level.left
 
 -- the first of the values that were found, or else a further one above
-abbrev pub opened : Grouping → List Word → List ForeignTag → GroupAfter
+abbrev pub opened : Grouping → List Word → List Tag → GroupAfter
 opened grouping [] below = climbed grouping grouping.above below
 opened grouping (value ∷ left) [] = climbed grouping grouping.above []
 opened grouping (value ∷ left) (tag ∷ below) = at_value grouping tag grouping.filter left value grouping.above below

@@ -12,8 +12,6 @@ pub mod Native
 pub mod Shuffles
 pub mod Spelling
 pub mod Steps
-pub mod Tags
 pub mod Texts
 pub mod Translation
 pub mod Volumes
-pub mod Without

@@ -4,6 +4,7 @@ use Rattle.std.specs.Prelude.{if◌then◌else◌, Result, Ok, Err}
 use Rattle.std.specs.Str.{bytes_eq}
 use Rattle.song_files.specs.declared.tag.Tag.{Tag}
 use Rattle.song_files.specs.declared.tag.Tag.TheVariants as native
+use Rattle.song_files.specs.Tag.{tag_named}
 use Rattle.command_text.specs.declared.name.CommandName.{CommandName}
 use Rattle.command_text.specs.declared.name.CommandName.TheVariants as names
 use Rattle.filter_expr.specs.Parts.{begins_so, opening}
@@ -32,9 +33,6 @@ use Rattle.stock_requests.specs.declared.native.Handling.{Handling}
 use Rattle.stock_requests.specs.declared.native.Handling.TheVariants.{Untouched, TellsSongs, Adds, AddsTimes, Filters, Searches}
 use Rattle.stock_requests.specs.declared.native.Handling.TheVariants.{AddsToPlaylist, Counts, ListsValues, ListsFolder, ListsAll}
 use Rattle.stock_requests.specs.declared.native.Handling.TheVariants.{ListsPlaylists, Masks, Shuffles}
-use Rattle.stock_requests.specs.declared.tag.ForeignTag.{ForeignTag}
-use Rattle.stock_requests.specs.declared.tag.Standing.{Standing}
-use Rattle.stock_requests.specs.declared.tag.Standing.TheVariants as standings
 use Rattle.stock_requests.specs.declared.steps.Steps as declared
 use Rattle.stock_requests.specs.declared.steps.Steps.TheVariants.{Group, Shuffle}
 use Rattle.stock_requests.specs.Expressions.{is_file_name}
@@ -46,7 +44,6 @@ use Rattle.stock_requests.specs.Masks.{empty_set, only_tag, with_tags}
 use Rattle.stock_requests.specs.Shuffles.{begun_shuffle, shuffled_range}
 use Rattle.stock_requests.specs.Spelling.{line_limit, spelled_line, spelled_words, words_eq}
 use Rattle.stock_requests.specs.Steps.{group_name}
-use Rattle.stock_requests.specs.Tags.{standing_of, tag_named}
 
 -- an answer of which these lines are told, and this behind them
 abbrev pub telling : ForeignName → LineChange → Ending → Change
@@ -98,7 +95,7 @@ has_list_count [] = true
 has_list_count (word ∷ words) = has_filter_count (word ∷ words)
 
 -- a filter over the daemon's tags, within which songs are counted, or the values of the last tag listed, by the others
-abbrev pub grouping : Option ForeignTag → List Word → List ForeignTag → Translation
+abbrev pub grouping : Option Tag → List Word → List Tag → Translation
 grouping listed words tags =
     if has_list_count words then by_steps (count_line (spelled_words words)) (Group (begun_group listed words tags))
     else refused (group_name (counts_in listed)) refusals.WrongCount
@@ -124,46 +121,31 @@ abbrev pub is_artist_alone : Tag → List Word → Bool
 is_artist_alone native.Album (word ∷ []) = not (begins_so opening word)
 is_artist_alone tag words = false
 
--- the words behind the tag of a `list`, one that songs have
+-- the words behind the tag of a `list`
 abbrev pub listing_words : Tag → List Word → List Word
 listing_words tag words = if is_artist_alone tag words then codes "Artist" ∷ words else native_filter false false words
 
 -- an answer of which the values of a tag are told
-abbrev pub listing_change : ForeignTag → Change
+abbrev pub listing_change : Tag → Change
 listing_change tag = telling (Native names.ListTag) (lines.Values tag) endings.Nothing
 
 -- native lines in a command's place, where lines may be so long; else the command goes on as it is
 abbrev pub by_natives : Natives → Change → Translation
 by_natives natives change = if fits natives then Other natives change else Same
 
--- the values of a tag that songs have, or of the one that MPD falls back to, within a filter over the daemon's tags
-abbrev pub listing_values : ForeignTag → List Word → Translation
+-- the values of a tag within a filter of the daemon's
+abbrev pub listing_values : Tag → List Word → Translation
 listing_values tag words = if has_list_count words then by_natives (listing_natives tag words) (listing_change tag) else Same
 
--- a filter that holds for every song, where there is none
-abbrev pub filter_or_all : List Word → List Word
-filter_or_all [] = codes "base" ∷ [] ∷ []
-filter_or_all (word ∷ words) = native_filter false false (word ∷ words)
-
--- of a tag that no song has the empty one, where there are songs
-unfoldable pub listing_empty : ForeignTag → List Word → Translation
-listing_empty tag words =
-    if has_list_count words then by_line Same (spelled_line (codes "count") (filter_or_all words)) (listing_change tag) else Same
-
-abbrev pub listing_by : Standing → ForeignTag → List Word → Translation
-listing_by (standings.Native other) tag words = listing_values tag (listing_words other words)
-listing_by (standings.FallsBackTo other) tag words = listing_values tag (native_filter false false words)
-listing_by standings.Absent tag words = listing_empty tag words
-
-abbrev pub listing_of : Option ForeignTag → List Word → Translation
+abbrev pub listing_of : Option Tag → List Word → Translation
 listing_of None words = Same
-listing_of (Some tag) words = listing_by (standing_of tag) tag words
+listing_of (Some tag) words = listing_values tag (listing_words tag words)
 
-abbrev pub grouped_list_of : ForeignTag → Result Parted ForeignRefusal → Translation
+abbrev pub grouped_list_of : Tag → Result Parted ForeignRefusal → Translation
 grouped_list_of tag (Err refusal) = refused (group_name false) refusal
 grouped_list_of tag (Ok p) = grouping (Some tag) (native_filter false false p.words) (p.tags ++ tag ∷ [])
 
-abbrev pub grouped_list : Bool → Option ForeignTag → List Word → Translation
+abbrev pub grouped_list : Bool → Option Tag → List Word → Translation
 grouped_list is_alone None words = Same
 grouped_list false (Some tag) words = refused (group_name false) refusals.NotInList
 grouped_list true (Some tag) words = grouped_list_of tag (part_ends most_ends (only_tag tag) words)
@@ -241,7 +223,7 @@ mask_of enables [] = mask_refused refusals.MissingArguments
 mask_of enables (word ∷ words) = mask_by enables (with_named empty_set (word ∷ words))
 
 unfoldable pub tag_types : List Word → Translation
-tag_types [] = answered (Native names.TagTypes) endings.Tags
+tag_types [] = Songs
 tag_types (what ∷ words) =
     if bytes_eq what (codes "clear") then mask_alone Clear words
     else (if bytes_eq what (codes "all") then mask_alone All words

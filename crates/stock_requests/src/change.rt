@@ -5,15 +5,15 @@ ghost use Rattle.stock_requests.specs.Texts.{refusal_code, refusal_text, text_of
 use crate::mask::MaskChange;
 use crate::name::ForeignName;
 use crate::steps::Steps;
-use crate::tag::ForeignTag;
 use command_text::Line;
+use song_files::Tag;
 
 /// What becomes of a command of a client.
 #[derive(Debug, Drop)]
 pub enum Translation {
     /// It goes on as it is, and so does its answer.
     Same,
-    /// It goes on as it is; its answer tells songs, whose tags `tagtypes` may have taken away.
+    /// It goes on as it is; its answer tells songs or tags, of which `tagtypes` may have taken some away.
     Songs,
     /// It goes on as it is, and its answer is changed.
     Changed(Change),
@@ -48,8 +48,8 @@ pub enum LineChange {
     Masked,
     /// Only the line of the volume is told.
     OnlyVolume,
-    /// The values of the tag are told under its name: those of the one that MPD falls back to too, the empty one where songs are counted.
-    Values(ForeignTag),
+    /// The values of the tag are told, the empty one where songs are counted.
+    Values(Tag),
     /// Only lines of files are told, each behind its number, from 0 on.
     Numbered,
     /// Only lines of files are told.
@@ -67,8 +67,6 @@ pub enum Ending {
     Text(FixedText),
     /// For how long the daemon has run, and when its database was last updated.
     Times,
-    /// The tags that the connection wants to see.
-    Tags,
     /// Nothing is told: from the end of this answer on other tags are seen.
     Masks(MaskChange),
 }

@@ -1,35 +1,12 @@
-// Writes an expression over the daemon's tags in the place of one over all of MPD's.
+// Writes an expression of the daemon's in the place of one of MPD's.
 ghost use Rattle.std.specs.Prelude.{◌≡◌, ◌+◌, ◌<◌, ◌≤◌, ◌∷◌, ◌++◌, [], false, length, take, drop, codes, IfOk, IfSome, OnOk};
 ghost use Rattle.std.specs.Option.{option_map};
 ghost use Rattle.filter_expr.specs.Parts.{is_blank, is_quote, ends_name, opening, without_blanks, name_in, behind_name};
-ghost use Rattle.stock_requests.specs.Expressions.{base_test, begins_with_blank, compared, filter_name, holds_of_none, kept, native_text};
-ghost use Rattle.stock_requests.specs.Expressions.{opened_piece, operator_at, piece, piece_at, quoted_length, replaced, test_at, tested};
-ghost use Rattle.stock_requests.specs.Expressions.{is_file_name, quoted, quoted_by, unequal_at, value_length};
+ghost use Rattle.stock_requests.specs.Expressions.{is_file_name, kept, native_text, opened_piece, piece, piece_at, quoted, quoted_in};
+ghost use Rattle.stock_requests.specs.Expressions.{quoted_length, replaced, unequal_at, value_length};
 
-use crate::tag::{ForeignTag, Standing};
 use filter_expr::{ends_name, is_blank, is_quote};
-use song_files::Tag;
 use std::alloc::{AllocError, Global};
-
-/// What becomes of a name in a filter.
-#[derive(Clone, Copy, Debug)]
-pub(crate) enum FilterName {
-    Kept,
-    /// This tag's name takes its place.
-    OfTag(Tag),
-    /// `file` takes its place.
-    File,
-    /// No song has the tag.
-    Absent,
-}
-
-/// How a test compares a tag.
-#[derive(Clone, Copy, Debug)]
-pub(crate) enum Operator {
-    Equal,
-    Unequal,
-    Contains,
-}
 
 /// The first bytes of a text, and what stands in their place, in four parts.
 #[derive(Clone, Copy)]
@@ -46,38 +23,6 @@ pub(crate) fn is_file_name(word: &[u8]) -> bool
     ensures { result ≡ is_file_name word.now }
 {
     word.eq_ignore_ascii_case(b"file") || word.eq_ignore_ascii_case(b"filename")
-}
-
-impl FilterName {
-    /// What becomes of this name.
-    #[tactic(auto, unfolding(crate::specs::Expressions::filter_name))]
-    pub(crate) fn of(name: &[u8]) -> Self
-        ensures { result ≡ filter_name name.now }
-    {
-        if is_file_name(name) {
-            return FilterName::File;
-        }
-        match ForeignTag::named(name) {
-            None => FilterName::Kept,
-            Some(tag) => match tag.standing() {
-                Standing::Native(_) => FilterName::Kept,
-                Standing::FallsBackTo(tag) => FilterName::OfTag(tag),
-                Standing::Absent => FilterName::Absent,
-            },
-        }
-    }
-}
-
-impl Operator {
-    /// Whether a test of a tag that no song has holds, for a value that is empty or isn't.
-    pub(crate) fn holds_of_none(self, empty: bool) -> bool
-        ensures { result ≡ holds_of_none self empty }
-    {
-        match self {
-            Operator::Equal | Operator::Contains => empty,
-            Operator::Unequal => !empty,
-        }
-    }
 }
 
 /// The text from the first byte on that is no blank.
@@ -104,32 +49,6 @@ fn name_length(text: &[u8]) -> usize
         }
     }
     text.len()
-}
-
-fn begins_with_blank(text: &[u8]) -> bool
-    ensures { result ≡ begins_with_blank text.now }
-{
-    match text {
-        [] => false,
-        [first, ..] => is_blank(*first),
-    }
-}
-
-/// The operator in front, and what stands behind it.
-#[tactic(auto, unfolding(crate::specs::Expressions::operator_at))]
-fn operator_at(text: &[u8]) -> Option<(Operator, &[u8])>
-    ensures value { option_map (λ x. compared x.0 x.1.now) result ≡ operator_at text.now }
-    ensures bound { IfSome result (λ x. length x.1.now ≤ length text.now) }
-{
-    if text.starts_with(b"==") {
-        Some((Operator::Equal, &text[2..]))
-    } else if text.starts_with(b"!=") {
-        Some((Operator::Unequal, &text[2..]))
-    } else if text.starts_with(b"contains") && begins_with_blank(&text[8..]) {
-        Some((Operator::Contains, &text[8..]))
-    } else {
-        None
-    }
 }
 
 /// How many bytes a text in quotes has with its quotes; this is what stands behind the first one.
@@ -162,21 +81,14 @@ fn value_length(text: &[u8]) -> Option<usize>
     }
 }
 
-/// Whether a test of a tag that no song has holds for every song or for none, and what stands behind it. The text begins behind the name.
-#[tactic(auto, unfolding(crate::specs::Expressions::test_at))]
-fn test_at(text: &[u8]) -> Option<(bool, &[u8])>
-    ensures value { option_map (λ x. tested x.0 x.1.now) result ≡ test_at text.now }
+/// The text in quotes in front, and what stands behind it.
+fn quoted_in(text: &[u8]) -> Option<(&[u8], &[u8])>
+    ensures value { option_map (λ x. quoted x.0.now x.1.now) result ≡ quoted_in text.now }
     ensures bound { IfSome result (λ x. length x.1.now ≤ length text.now) }
 {
-    match operator_at(without_blanks(text)) {
+    match value_length(text) {
         None => None,
-        Some((operator, rest)) => {
-            let value = without_blanks(rest);
-            match value_length(value) {
-                None => None,
-                Some(length) => Some((operator.holds_of_none(length == 2), &value[length..])),
-            }
-        }
+        Some(length) => Some(text.split_at(length)),
     }
 }
 
@@ -186,23 +98,11 @@ fn unequal_at(text: &[u8]) -> Option<(&[u8], &[u8])>
     ensures value { option_map (λ x. quoted x.0.now x.1.now) result ≡ unequal_at text.now }
     ensures bound { IfSome result (λ x. length x.1.now ≤ length text.now) }
 {
-    match operator_at(without_blanks(text)) {
-        Some((Operator::Unequal, rest)) => {
-            let value = without_blanks(rest);
-            match value_length(value) {
-                None => None,
-                Some(length) => Some(value.split_at(length)),
-            }
-        }
-        _ => None,
+    let text = without_blanks(text);
+    if text.starts_with(b"!=") {
+        return quoted_in(without_blanks(&text[2..]));
     }
-}
-
-/// What stands in the place of a test that holds for every song or for none.
-fn base_test(always: bool) -> &'static str
-    ensures { result.now ≡ base_test always }
-{
-    if always { "base \"\"" } else { "base \"/\"" }
+    None
 }
 
 /// The first bytes of a text as they are.
@@ -267,17 +167,12 @@ fn opened_piece(text: &[u8]) -> TextPiece<'_>
 {
     let inner = without_blanks(&text[1..]);
     let (name, rest) = inner.split_at(name_length(inner));
-    match FilterName::of(name) {
-        FilterName::Kept => kept(1, text),
-        FilterName::OfTag(tag) => replaced(text, rest, tag.name()),
-        FilterName::File => match unequal_at(rest) {
-            None => replaced(text, rest, "file"),
-            Some((value, rest)) => other_file(text, value, rest),
-        },
-        FilterName::Absent => match test_at(rest) {
-            None => kept(1, text),
-            Some((always, rest)) => replaced(text, rest, base_test(always)),
-        },
+    if !is_file_name(name) {
+        return kept(1, text);
+    }
+    match unequal_at(rest) {
+        None => replaced(text, rest, "file"),
+        Some((value, rest)) => other_file(text, value, rest),
     }
 }
 

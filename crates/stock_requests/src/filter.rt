@@ -1,15 +1,14 @@
-// Writes a filter's words over the daemon's tags in the place of all of MPD's.
+// Writes a filter's words as the daemon takes them in the place of MPD's.
 ghost use Rattle.std.specs.Prelude.{◌≡◌, ◌&&◌, ◌<◌, ◌∷◌, ◌++◌, [], true, length, IsTrue, IfOk};
 ghost use Rattle.command_text.specs.Finding.{begins_part};
 ghost use Rattle.filter_expr.specs.Parts.{begins_so};
 ghost use Rattle.std.specs.Str.{bytes_eq};
-ghost use Rattle.stock_requests.specs.Expressions.{base_value};
-ghost use Rattle.stock_requests.specs.Filters.{minus, more_pairs, native_filter, native_pair, native_pairs, native_parts, native_sort};
-ghost use Rattle.stock_requests.specs.Filters.{is_asked_for, sort_by, sort_name};
+ghost use Rattle.stock_requests.specs.Filters.{file_or, is_asked_for, more_pairs, native_filter, native_pair, native_pairs, native_parts};
+ghost use Rattle.stock_requests.specs.Filters.{native_sort};
 
-use crate::expression::{FilterName, Operator, is_file_name, native_text};
-use crate::tag::ForeignTag;
+use crate::expression::{is_file_name, native_text};
 use filter_expr::LineWord;
+use song_files::Tag;
 use std::alloc::{AllocError, Global};
 
 /// Whether the word is this text.
@@ -37,18 +36,21 @@ fn again<'w>(word: &'w LineWord<'_>) -> LineWord<'w>
     LineWord::from_slice(word.bytes())
 }
 
-/// `base` of nothing holds for every song, and of `/` for none.
-fn base_value(always: bool) -> &'static str
-    ensures { result.now ≡ base_value always }
+/// The daemon's name of a song's file in the place of another one.
+fn file_or<'w>(name: &'w LineWord<'_>) -> LineWord<'w>
+    ensures { result ≡ file_or name.now }
 {
-    if always { "" } else { "/" }
+    if is_file_name(name.bytes()) {
+        return LineWord::from_slice(b"file");
+    }
+    again(name)
 }
 
 /// Whether a pair may ask for it: a tag, `any` of them, or a song's file.
 fn is_asked_for(name: &[u8]) -> bool
     ensures { result ≡ is_asked_for name.now }
 {
-    ForeignTag::named(name).is_some() || name.eq_ignore_ascii_case(b"any") || is_file_name(name)
+    Tag::named(name).is_some() || name.eq_ignore_ascii_case(b"any") || is_file_name(name)
 }
 
 /// The pair in the place of a name and a value, which is looked for within a text or isn't.
@@ -62,69 +64,19 @@ fn native_pair<'w>(
     if within && value.bytes().is_empty() && is_asked_for(name.bytes()) {
         return (LineWord::from_slice(b"base"), LineWord::from_slice(b""));
     }
-    match FilterName::of(name.bytes()) {
-        FilterName::Kept => (again(name), again(value)),
-        FilterName::OfTag(tag) => (LineWord::from_slice(tag.name().as_bytes()), again(value)),
-        FilterName::File => (LineWord::from_slice(b"file"), again(value)),
-        FilterName::Absent => {
-            let always = Operator::Equal.holds_of_none(value.bytes().is_empty());
-            (
-                LineWord::from_slice(b"base"),
-                LineWord::from_slice(base_value(always).as_bytes()),
-            )
-        }
-    }
-}
-
-/// A name behind a minus.
-fn turned(alloc: Global, name: &str) -> Result<Vec<u8>, AllocError>
-    ensures { IfOk result (λ text. text.items ≡ minus ∷ name.now) }
-{
-    let mut text = Vec::from_slice(alloc, b"-")?;
-    text.extend_from_slice(name.as_bytes())?;
-    Ok(text)
-}
-
-/// What songs are sorted by in the place of a word that is such a name, upwards or downwards.
-fn sort_by<'w>(
-    alloc: Global,
-    down: bool,
-    name: FilterName,
-    word: &'w LineWord<'_>,
-) -> Result<LineWord<'w>, AllocError>
-    ensures { IfOk result (λ new. new ≡ sort_by down name word.now) }
-{
-    match name {
-        FilterName::Kept => Ok(again(word)),
-        FilterName::OfTag(tag) if down => Ok(LineWord::from_vec(turned(alloc, tag.name())?)),
-        FilterName::OfTag(tag) => Ok(LineWord::from_slice(tag.name().as_bytes())),
-        FilterName::File if down => Ok(LineWord::from_slice(b"-file")),
-        FilterName::File => Ok(LineWord::from_slice(b"file")),
-        FilterName::Absent => Ok(LineWord::from_slice(b"file")),
-    }
-}
-
-/// What becomes of a name that songs are sorted by; no song has a time of its last change.
-fn sort_name(name: &[u8]) -> FilterName
-    ensures { result ≡ sort_name name.now }
-{
-    if name.eq_ignore_ascii_case(b"last-modified") {
-        return FilterName::Absent;
-    }
-    FilterName::of(name)
+    (file_or(name), again(value))
 }
 
 /// What songs are sorted by in the place of a word.
 #[tactic(auto, unfolding(crate::specs::Filters::native_sort))]
-fn native_sort<'w>(alloc: Global, word: &'w LineWord<'_>) -> Result<LineWord<'w>, AllocError>
-    ensures { IfOk result (λ new. new ≡ native_sort word.now) }
+fn native_sort<'w>(word: &'w LineWord<'_>) -> LineWord<'w>
+    ensures { result ≡ native_sort word.now }
 {
     let name = word.bytes();
-    if begins_so(b'-', name) {
-        sort_by(alloc, true, sort_name(&name[1..]), word)
-    } else {
-        sort_by(alloc, false, sort_name(name), word)
+    if begins_so(b'-', name) && is_file_name(&name[1..]) {
+        return LineWord::from_slice(b"-file");
     }
+    file_or(word)
 }
 
 /// Words, and these behind them.
@@ -155,7 +107,7 @@ fn with_parts<'w>(
         [part, value, rest @ ..] if sorts && is_word(part.bytes(), "sort") => {
             let mut words = words;
             words.push(again(part))?;
-            words.push(native_sort(alloc, value)?)?;
+            words.push(native_sort(value))?;
             with_words(words, rest)
         }
         _ => with_words(words, parts),

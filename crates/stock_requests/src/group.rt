@@ -2,27 +2,27 @@
 ghost use Rattle.std.specs.Prelude.{◌≡◌, ◌++◌, ◌∷◌, [], drop, option_map, IfOk, OnOk, Some, None};
 ghost use Rattle.stock_requests.specs.Groups.{asked_so, asking_at, asking_below, asking_first, at_value, climbed, condition, count_line};
 ghost use Rattle.stock_requests.specs.Groups.{counts_in, filter_words, fits, further_count, group_after, group_line, group_part};
-ghost use Rattle.stock_requests.specs.Groups.{is_innermost, is_short, list_line, missing_line, named_test, named_value, narrowed};
+ghost use Rattle.stock_requests.specs.Groups.{is_innermost, is_short, list_line, missing_line, named_test, narrowed};
 ghost use Rattle.stock_requests.specs.Groups.{native_lines, natives_of};
-ghost use Rattle.stock_requests.specs.Groups.{next_value, one_native, opened, pair_text, phase_of, phase_refusal, surveyed, tells_songs};
-ghost use Rattle.stock_requests.specs.Groups.{test_text, two_natives, value_above, value_below, value_in, values_line, with_value};
+ghost use Rattle.stock_requests.specs.Groups.{next_value, one_native, opened, phase_of, phase_refusal, surveyed, tells_songs};
+ghost use Rattle.stock_requests.specs.Groups.{two_natives, value_above, value_below, value_in, values_line, with_value};
 ghost use Rattle.stock_requests.specs.Spelling.{spelled_words};
 
 use crate::change::{ForeignRefusal, Natives, RefusalChange};
 use crate::mask::is_line_of;
 use crate::round::{Round, ask_further};
 use crate::spelling::{LINE_LIMIT, put_argument, put_escaped};
-use crate::tag::{ForeignTag, Standing};
 use crate::values::{Levels, Tags, Values};
 use command_text::{Line, Lines, write_pair};
 use no_memory::NoMemory;
+use song_files::Tag;
 use std::alloc::{AllocError, Global};
 use std::mem;
 
 /// A tag above the one that is asked for.
 #[derive(Debug, Drop)]
 pub struct Level {
-    pub tag: ForeignTag,
+    pub tag: Tag,
     /// The filter within which its values were found.
     pub outer: Line,
     /// The values that are not told yet.
@@ -55,14 +55,14 @@ pub struct Asking {
     /// Whether there are songs without the tag is asked too.
     pub asks_missing: bool,
     /// The tag whose values are asked for, or how many songs there are.
-    pub tag: Option<ForeignTag>,
+    pub tag: Option<Tag>,
 }
 
 /// A `list` or a `count` with `group` that is at work.
 #[derive(Debug, Drop)]
 pub struct Grouping {
     /// The tag whose values are listed; songs are counted where there is none.
-    pub listed: Option<ForeignTag>,
+    pub listed: Option<Tag>,
     pub is_expression: bool,
     /// The filter for the values above, as a line has its words, or an expression that is open.
     pub filter: Line,
@@ -98,7 +98,6 @@ fn put_test(out: &mut Vec<u8>, name: &str, value: &[u8]) -> Result<(), AllocErro
 }
 
 /// Adds a pair of a filter.
-
 fn put_pair(out: &mut Vec<u8>, name: &str, value: &[u8]) -> Result<(), AllocError>
     ensures { OnOk result (out.new.items ≡ out.old.items ++ spelled_words (name.now ∷ value.now ∷ [])) }
 {
@@ -110,20 +109,15 @@ fn put_pair(out: &mut Vec<u8>, name: &str, value: &[u8]) -> Result<(), AllocErro
 fn put_condition(
     out: &mut Vec<u8>,
     is_expression: bool,
-    standing: Standing,
+    tag: Tag,
     value: &[u8],
 ) -> Result<(), AllocError>
-    ensures { OnOk result (out.new.items ≡ out.old.items ++ condition is_expression standing value.now) }
+    ensures { OnOk result (out.new.items ≡ out.old.items ++ condition is_expression tag value.now) }
 {
-    match standing {
-        Standing::Absent => Ok(()),
-        Standing::Native(tag) | Standing::FallsBackTo(tag) => {
-            if is_expression {
-                put_test(out, tag.name(), value)
-            } else {
-                put_pair(out, tag.name(), value)
-            }
-        }
+    if is_expression {
+        put_test(out, tag.name(), value)
+    } else {
+        put_pair(out, tag.name(), value)
     }
 }
 
@@ -132,13 +126,13 @@ pub(crate) fn narrowed(
     alloc: Global,
     is_expression: bool,
     filter: &[u8],
-    tag: ForeignTag,
+    tag: Tag,
     value: &[u8],
 ) -> Result<Vec<u8>, AllocError>
     ensures { IfOk result (λ new. new.items ≡ narrowed is_expression filter.now tag value.now) }
 {
     let mut new = Vec::from_slice(alloc, filter)?;
-    put_condition(&mut new, is_expression, tag.standing(), value)?;
+    put_condition(&mut new, is_expression, tag, value)?;
     Ok(new)
 }
 
@@ -168,22 +162,13 @@ pub(crate) fn count_line(alloc: Global, words: &[u8]) -> Result<Vec<u8>, AllocEr
     Ok(line)
 }
 
-pub(crate) fn list_line(
-    alloc: Global,
-    standing: Standing,
-    words: &[u8],
-) -> Result<Vec<u8>, AllocError>
-    ensures { IfOk result (λ line. line.items ≡ list_line standing words.now) }
+pub(crate) fn list_line(alloc: Global, tag: Tag, words: &[u8]) -> Result<Vec<u8>, AllocError>
+    ensures { IfOk result (λ line. line.items ≡ list_line tag words.now) }
 {
-    match standing {
-        Standing::Absent => Vec::from_slice(alloc, b"ping"),
-        Standing::Native(tag) | Standing::FallsBackTo(tag) => {
-            let mut line = Vec::from_slice(alloc, b"list ")?;
-            line.extend_from_slice(tag.name().as_bytes())?;
-            line.extend_from_slice(words)?;
-            Ok(line)
-        }
-    }
+    let mut line = Vec::from_slice(alloc, b"list ")?;
+    line.extend_from_slice(tag.name().as_bytes())?;
+    line.extend_from_slice(words)?;
+    Ok(line)
 }
 
 /// One native line.
@@ -210,7 +195,7 @@ pub(crate) fn missing_line(
     alloc: Global,
     is_expression: bool,
     filter: &[u8],
-    tag: ForeignTag,
+    tag: Tag,
 ) -> Result<Vec<u8>, AllocError>
     ensures { IfOk result (λ line. line.items ≡ missing_line is_expression filter.now tag) }
 {
@@ -224,12 +209,12 @@ fn values_line(
     alloc: Global,
     is_expression: bool,
     filter: &[u8],
-    tag: ForeignTag,
+    tag: Tag,
 ) -> Result<Vec<u8>, AllocError>
     ensures { IfOk result (λ line. line.items ≡ values_line is_expression filter.now tag) }
 {
     let words = filter_words(alloc, is_expression, filter)?;
-    list_line(alloc, tag.standing(), words.as_slice())
+    list_line(alloc, tag, words.as_slice())
 }
 
 /// What asks how many songs there are, or for the values of a tag, and whether there are some without it.
@@ -284,25 +269,15 @@ fn behind(count: usize, text: &[u8]) -> &[u8]
     &text[count.min(text.len())..]
 }
 
-/// The value that a line tells of the tag of this name.
-fn named_value<'t>(name: &str, text: &'t [u8]) -> Option<&'t [u8]>
-    ensures { option_map (λ value. value.now) result ≡ named_value name.now text.now }
+/// The value that a line tells of a tag.
+pub(crate) fn value_in(tag: Tag, text: &[u8]) -> Option<&[u8]>
+    ensures { option_map (λ value. value.now) result ≡ value_in tag text.now }
 {
-    let name = name.as_bytes();
+    let name = tag.name().as_bytes();
     if is_line_of(name, text) {
         Some(behind(name.len() + 2, text))
     } else {
         None
-    }
-}
-
-/// The value that a line tells of a tag.
-pub(crate) fn value_in(standing: Standing, text: &[u8]) -> Option<&[u8]>
-    ensures { option_map (λ value. value.now) result ≡ value_in standing text.now }
-{
-    match standing {
-        Standing::Absent => None,
-        Standing::Native(tag) | Standing::FallsBackTo(tag) => named_value(tag.name(), text),
     }
 }
 
@@ -312,7 +287,7 @@ fn value_below<'t>(below: &Tags, text: &'t [u8]) -> Option<&'t [u8]>
 {
     match below.first() {
         None => None,
-        Some(tag) => value_in(tag.standing(), text),
+        Some(tag) => value_in(tag, text),
     }
 }
 
@@ -345,12 +320,12 @@ fn write_above(out: &mut Vec<u8>, above: &Levels, value: &[u8]) -> Result<(), No
 {
     match above.first_tag() {
         None => Ok(()),
-        Some(tag) => Ok(write_pair(out, tag.text(), value)?),
+        Some(tag) => Ok(write_pair(out, tag.name(), value)?),
     }
 }
 
 /// Whether songs are counted, and the values of no tag are listed.
-pub(crate) fn counts_in(listed: Option<ForeignTag>) -> bool
+pub(crate) fn counts_in(listed: Option<Tag>) -> bool
     ensures { result ≡ counts_in listed }
 {
     match listed {
@@ -392,7 +367,7 @@ impl Grouping {
     {
         match self.below.first() {
             None => {}
-            Some(tag) if self.is_innermost() => write_pair(out, tag.text(), value)?,
+            Some(tag) if self.is_innermost() => write_pair(out, tag.name(), value)?,
             Some(_) => self.values.push(Line::from_bytes(alloc, value)?)?,
         }
         Ok(())
@@ -546,7 +521,7 @@ impl Grouping {
     {
         let Level { tag, outer, left } = level;
         let mut left = left;
-        write_pair(out, tag.text(), value)?;
+        write_pair(out, tag.name(), value)?;
         let asking = self.asking();
         let most = further_count(self.bytes, &self.below);
         let filter = narrowed(alloc, self.is_expression, outer.bytes(), tag, value)?;

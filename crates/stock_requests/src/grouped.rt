@@ -2,17 +2,17 @@
 ghost use Rattle.std.specs.Prelude.{◌≡◌, ◌≤◌, [], length, take, Ok, Err, IfOk, IsTrue, MatchResult};
 ghost use Rattle.command_text.specs.Finding.{is_expression};
 ghost use Rattle.stock_requests.specs.Grouped.{begun_group, end_tag, is_grouped, last_word, open_filter, part_ends, parted};
-ghost use Rattle.stock_requests.specs.Tags.{tag_named};
+ghost use Rattle.song_files.specs.Tag.{tag_named};
 
 use crate::change::ForeignRefusal;
 use crate::filter::{begins_so, is_word};
 use crate::group::{Grouping, Phase};
 use crate::mask::TagSet;
 use crate::spelling::put_words;
-use crate::tag::ForeignTag;
 use crate::values::{Levels, Tags, Values};
 use command_text::Line;
 use filter_expr::LineWord;
+use song_files::Tag;
 use std::alloc::{AllocError, Global};
 
 /// How many ends are looked for: as many as there are tags.
@@ -28,7 +28,7 @@ pub(crate) fn is_grouped(words: &[LineWord<'_>]) -> bool
 }
 
 /// The tag of an end, one that was not named before.
-fn end_tag(before: TagSet, tag: Option<ForeignTag>) -> Result<ForeignTag, ForeignRefusal>
+fn end_tag(before: TagSet, tag: Option<Tag>) -> Result<Tag, ForeignRefusal>
     ensures { result ≡ end_tag before tag }
 {
     match tag {
@@ -39,11 +39,11 @@ fn end_tag(before: TagSet, tag: Option<ForeignTag>) -> Result<ForeignTag, Foreig
 }
 
 /// The tag that the last word names.
-fn last_tag(words: &[LineWord<'_>]) -> Option<ForeignTag>
+fn last_tag(words: &[LineWord<'_>]) -> Option<Tag>
     requires { 2 ≤ length words.now }
     ensures { result ≡ tag_named (last_word words.now) }
 {
-    ForeignTag::named(words[words.len() - 1].bytes())
+    Tag::named(words[words.len() - 1].bytes())
 }
 
 /// How many words stand before at most so many ends, whose tags are added, the last one first; or why these are none. No tag stands twice,
@@ -108,7 +108,7 @@ pub(crate) fn open_filter(alloc: Global, words: &[LineWord<'_>]) -> Result<Vec<u
 /// A group that begins.
 pub(crate) fn begun_group(
     alloc: Global,
-    listed: Option<ForeignTag>,
+    listed: Option<Tag>,
     words: &[LineWord<'_>],
     tags: Tags,
 ) -> Result<Grouping, AllocError>

@@ -1,11 +1,8 @@
 //! Laws of the definitions that the contracts cite.
 ghost use Rattle.std.specs.Prelude.{◌≡◌, ◌≢◌, ◌<◌, ◌^◌, ◌||◌, ◌&&◌, not, ℕ, Bool, true, false, List, [], ◌∷◌, Ok, Some, None, IfSome};
+ghost use Rattle.profile.specs.declared.profile.Profile.TheVariants.{Wide};
 ghost use Rattle.song_files.specs.declared.tag.Tag.{Tag};
-ghost use Rattle.song_files.specs.Tags.{first_text};
-ghost use Rattle.song_db.specs.Uri.{is_uri};
-ghost use Rattle.filter_expr.specs.declared.case.Case.{Case};
 ghost use Rattle.filter_expr.specs.Grammar.{Spells};
-ghost use Rattle.filter_expr.specs.Meaning.{Song, denotes};
 ghost use Rattle.filter_expr.specs.Tree.{Tree};
 ghost use Rattle.filter_expr.specs.Tree.Tree.{Base};
 ghost use Rattle.filter_expr.specs.Words.{filter_of};
@@ -13,12 +10,10 @@ ghost use Rattle.command_text.specs.Counts.{Word};
 ghost use Rattle.command_text.specs.Finding.{is_expression};
 ghost use Rattle.command_text.specs.Names.{named};
 ghost use Rattle.command_text.specs.Words.{words_of};
-ghost use Rattle.stock_requests.specs.declared.expression.Operator.{Operator};
 ghost use Rattle.stock_requests.specs.declared.mask.TagSet.{TagSet};
 ghost use Rattle.stock_requests.specs.declared.name.ForeignCommand.{ForeignCommand};
-ghost use Rattle.stock_requests.specs.declared.tag.ForeignTag.{ForeignTag};
 ghost use Rattle.stock_requests.specs.declared.group.Grouping.{Grouping};
-ghost use Rattle.stock_requests.specs.Counted.{CountsLacking, IsOf};
+ghost use Rattle.stock_requests.specs.Counted.{CountsLacking};
 ghost use Rattle.stock_requests.specs.Fits.{Fits, LinesFit};
 ghost use Rattle.stock_requests.specs.Grouped.{open_filter};
 ghost use Rattle.stock_requests.specs.Groups.{group_after, missing_line};
@@ -26,43 +21,32 @@ ghost use Rattle.stock_requests.specs.Masks.{all_in_set, empty_set, has, only_ta
 ghost use Rattle.stock_requests.specs.Names.{foreign_named, foreign_text};
 ghost use Rattle.stock_requests.specs.Spelling.{is_bare, spelled_line};
 ghost use Rattle.stock_requests.specs.Translation.{translation};
-ghost use Rattle.stock_requests.specs.Without.{in_its_place, pair_of, test_of};
 
 /// The words of a line that is put together are the words that it was put together from, whatever bytes they have.
 pub fn lines_are_read_back()
     ensures { (name : Word) (words : List Word) → is_bare name ≡ true → words_of (spelled_line name words) ≡ Some (name ∷ words) }
 {}
 
-/// What stands in the place of a test of a tag that no song has holds for a song just where that test holds of a tag that the song hasn't;
-/// so does what stands in the place of a pair.
-pub fn absent_tags_have_no_text()
-    ensures test { (case : Case) (operator : Operator) (value : List ℕ) (tag : Tag) (song : Song) → is_uri song.uri ≡ true
-        → first_text song.tags tag ≡ None
-        → denotes case (in_its_place operator value) song ≡ denotes case (test_of tag operator value) song }
-    ensures pair { (case : Case) (value : List ℕ) (tag : Tag) (song : Song) → is_uri song.uri ≡ true → first_text song.tags tag ≡ None
-        → denotes case (in_its_place Operator.Equal value) song ≡ denotes case (pair_of tag value) song }
-{}
-
 /// What is counted before the values of a tag are listed are the songs of the filter that lack the tag: of none, of pairs, and of an
 /// expression in which at most 31 parentheses are open at once.
 pub fn songs_without_the_tag_are_counted()
-    ensures all { (own : Tag) (tag : ForeignTag) → IsOf own tag → CountsLacking own (Base []) (missing_line false (open_filter []) tag) }
-    ensures pairs { (own : Tag) (tag : ForeignTag) (words : List Word) (tree : Tree) → IsOf own tag → is_expression words ≡ false
-        → filter_of words ≡ Ok tree → CountsLacking own tree (missing_line false (open_filter words) tag) }
-    ensures expression { (own : Tag) (tag : ForeignTag) (text : List ℕ) (tree : Tree) → IsOf own tag → Spells 31 tree text
-        → CountsLacking own tree (missing_line true (open_filter (text ∷ [])) tag) }
+    ensures all { (tag : Tag) → CountsLacking tag (Base []) (missing_line false (open_filter []) tag) }
+    ensures pairs { (tag : Tag) (words : List Word) (tree : Tree) → is_expression words ≡ false → filter_of Wide words ≡ Ok tree
+        → CountsLacking tag tree (missing_line false (open_filter words) tag) }
+    ensures expression { (tag : Tag) (text : List ℕ) (tree : Tree) → Spells Wide 31 tree text
+        → CountsLacking tag tree (missing_line true (open_filter (text ∷ [])) tag) }
 {
     filter_expr::laws::grammar_is_read();
 }
 
 /// The numbers are sets of tags.
 pub fn numbers_are_sets()
-    ensures empty { (tag : ForeignTag) → has empty_set tag ≡ false }
-    ensures all { (tag : ForeignTag) → has all_in_set tag ≡ true }
-    ensures only { (tag : ForeignTag) → has (only_tag tag) tag ≡ true }
-    ensures others { (tag other : ForeignTag) → tag ≢ other → has (only_tag tag) other ≡ false }
-    ensures with { (set others : TagSet) (tag : ForeignTag) → has (with_tags set others) tag ≡ (has set tag || has others tag) }
-    ensures without { (set others : TagSet) (tag : ForeignTag) → others.bits < 2 ^ 32
+    ensures empty { (tag : Tag) → has empty_set tag ≡ false }
+    ensures all { (tag : Tag) → has all_in_set tag ≡ true }
+    ensures only { (tag : Tag) → has (only_tag tag) tag ≡ true }
+    ensures others { (tag other : Tag) → tag ≢ other → has (only_tag tag) other ≡ false }
+    ensures with { (set others : TagSet) (tag : Tag) → has (with_tags set others) tag ≡ (has set tag || has others tag) }
+    ensures without { (set others : TagSet) (tag : Tag) → others.bits < 2 ^ 32
         → has (without_tags set others) tag ≡ (has set tag && not (has others tag)) }
 {}
 

@@ -17,7 +17,6 @@ mod round;
 mod shuffle;
 mod spelling;
 mod steps;
-mod tag;
 mod values;
 mod volume;
 
@@ -27,11 +26,11 @@ pub use change::{
 };
 pub use group::{Asking, Grouping, Level, Phase};
 pub use line::translate;
+pub use listed::write_value;
 pub use mask::{MaskChange, TagSet};
 pub use name::{ForeignCommand, ForeignName};
 pub use round::Round;
 pub use shuffle::ShuffleChange;
 pub use steps::Steps;
-pub use tag::{ForeignTag, Standing};
 pub use values::{Levels, Tags, Values};
 pub use volume::{VolumeChange, VolumeStep};

@@ -9,16 +9,17 @@ use crate::group::{
 };
 use crate::grouped::{is_expression, open_filter};
 use crate::spelling::put_words;
-use crate::tag::ForeignTag;
 use command_text::write_pair;
 use filter_expr::{Filter, FilterError, LineWord};
 use no_memory::NoMemory;
+use profile::Profile;
+use song_files::Tag;
 use std::alloc::{AllocError, Global};
 
 fn is_filter(alloc: Global, words: &[LineWord<'_>]) -> Result<bool, AllocError>
     ensures { IfOk result (λ found. found ≡ is_filter words.now) }
 {
-    match Filter::parse(alloc, words) {
+    match Filter::parse(alloc, Profile::Wide, words) {
         Ok(_) => Ok(true),
         Err(FilterError::NoMemory) => Err(AllocError),
         Err(FilterError::BadFilter(_))
@@ -28,7 +29,7 @@ fn is_filter(alloc: Global, words: &[LineWord<'_>]) -> Result<bool, AllocError>
 }
 
 /// Whether songs without a tag can be asked for within a filter: an expression is put into another one, which isn't too deep.
-fn is_narrowable(alloc: Global, tag: ForeignTag, words: &[LineWord<'_>]) -> Result<bool, AllocError>
+fn is_narrowable(alloc: Global, tag: Tag, words: &[LineWord<'_>]) -> Result<bool, AllocError>
     ensures { IfOk result (λ found. found ≡ is_narrowable (is_expression words.now) tag words.now) }
 {
     if !is_expression(words) {
@@ -44,23 +45,18 @@ fn is_narrowable(alloc: Global, tag: ForeignTag, words: &[LineWord<'_>]) -> Resu
 }
 
 /// What asks for the values.
-fn values_asked(
-    alloc: Global,
-    tag: ForeignTag,
-    words: &[LineWord<'_>],
-) -> Result<Vec<u8>, AllocError>
+fn values_asked(alloc: Global, tag: Tag, words: &[LineWord<'_>]) -> Result<Vec<u8>, AllocError>
     ensures { IfOk result (λ line. line.items ≡ values_asked tag words.now) }
 {
     let mut spelled = Vec::new(alloc);
     put_words(&mut spelled, words)?;
-    list_line(alloc, tag.standing(), spelled.as_slice())
+    list_line(alloc, tag, spelled.as_slice())
 }
 
-/// What asks for the values within a filter of a tag that songs have or fall back to, and before that, where it can be asked, how many
-/// songs are without it.
+/// What asks for the values of a tag within a filter, and before that, where it can be asked, how many songs are without it.
 pub(crate) fn listing_natives(
     alloc: Global,
-    tag: ForeignTag,
+    tag: Tag,
     words: &[LineWord<'_>],
 ) -> Result<Natives, AllocError>
     ensures { IfOk result (λ natives. natives ≡ listing_natives tag words.now) }
@@ -74,18 +70,16 @@ pub(crate) fn listing_natives(
     two_natives(alloc, missing.as_slice(), values.as_slice())
 }
 
-impl ForeignTag {
-    /// Adds what a client is given for a line of the answers about the tag's values: a value under its own name, the empty one where songs
-    /// without it are counted, or nothing.
-    pub fn write_value(self, out: &mut Vec<u8>, text: &[u8]) -> Result<(), NoMemory>
-        ensures { OnOk result (out.new.items ≡ out.old.items ++ told_value self text.now) }
-    {
-        if tells_songs(text) {
-            return Ok(write_pair(out, self.text(), b"")?);
-        }
-        match value_in(self.standing(), text) {
-            None => Ok(()),
-            Some(value) => Ok(write_pair(out, self.text(), value)?),
-        }
+/// Adds what a client is given for a line of the answers about a tag's values: a value, the empty one where songs without it are counted,
+/// or nothing.
+pub fn write_value(tag: Tag, out: &mut Vec<u8>, text: &[u8]) -> Result<(), NoMemory>
+    ensures { OnOk result (out.new.items ≡ out.old.items ++ told_value tag text.now) }
+{
+    if tells_songs(text) {
+        return Ok(write_pair(out, tag.name(), b"")?);
+    }
+    match value_in(tag, text) {
+        None => Ok(()),
+        Some(value) => Ok(write_pair(out, tag.name(), value)?),
     }
 }

@@ -1,13 +1,13 @@
 // Which tags a connection wants to see.
-ghost use Rattle.std.specs.Prelude.{◌≡◌, ◌++◌, ◌<◌, OnOk};
-ghost use Rattle.stock_requests.specs.Masks.{after_change, all_in_set, empty_set, has, is_hidden, is_line_of, is_shown, lines_of_tags};
-ghost use Rattle.stock_requests.specs.Masks.{only_tag, tag_line, tag_lines, with_tags};
+ghost use Rattle.std.specs.List.{list_any};
+ghost use Rattle.std.specs.Prelude.{◌≡◌};
+ghost use Rattle.song_files.specs.Tag.{all_tags};
+ghost use Rattle.stock_requests.specs.Masks.{after_change, all_in_set, empty_set, has, is_hidden, is_line_of, is_shown, only_tag};
+ghost use Rattle.stock_requests.specs.Masks.{tells_tag, with_tags};
 
-use crate::tag::ForeignTag;
-use command_text::write_pair;
-use no_memory::NoMemory;
+use song_files::Tag;
 
-/// A set of tags: a number whose bits are the tags at their places in printed order.
+/// A set of tags: a number whose bits are the tags of these numbers.
 #[derive(Clone, Copy, Debug)]
 pub struct TagSet {
     pub bits: u32,
@@ -28,15 +28,47 @@ pub enum MaskChange {
 
 const ALL_BITS: u32 = 0x7fff_ffff;
 
-// The tags that songs have.
-const NATIVE: [ForeignTag; 6] = [
-    ForeignTag::Title,
-    ForeignTag::Artist,
-    ForeignTag::Album,
-    ForeignTag::Date,
-    ForeignTag::Genre,
-    ForeignTag::Comment,
+// In the order of their numbers.
+const ALL_TAGS: [Tag; 31] = [
+    Tag::Title,
+    Tag::Artist,
+    Tag::Album,
+    Tag::Date,
+    Tag::Genre,
+    Tag::Comment,
+    Tag::ArtistSort,
+    Tag::AlbumSort,
+    Tag::AlbumArtist,
+    Tag::AlbumArtistSort,
+    Tag::Track,
+    Tag::Name,
+    Tag::OriginalDate,
+    Tag::Composer,
+    Tag::ComposerSort,
+    Tag::Performer,
+    Tag::Conductor,
+    Tag::Work,
+    Tag::Movement,
+    Tag::MovementNumber,
+    Tag::Ensemble,
+    Tag::Location,
+    Tag::Grouping,
+    Tag::Disc,
+    Tag::Label,
+    Tag::MusicBrainzArtistId,
+    Tag::MusicBrainzAlbumId,
+    Tag::MusicBrainzAlbumArtistId,
+    Tag::MusicBrainzTrackId,
+    Tag::MusicBrainzReleaseTrackId,
+    Tag::MusicBrainzWorkId,
 ];
+
+#[tactic(auto, unfolding(song_files::specs::Tag::all_tags, song_files::specs::Tag::table))]
+fn all_tags() -> &'static [Tag]
+    ensures { result.now ≡ all_tags }
+{
+    &ALL_TAGS
+}
 
 impl TagSet {
     /// No tag.
@@ -54,19 +86,19 @@ impl TagSet {
     }
 
     /// One tag alone.
-    pub fn only(tag: ForeignTag) -> Self
+    pub fn only(tag: Tag) -> Self
         ensures { result ≡ only_tag tag }
     {
         TagSet {
-            bits: 1 << tag.place(),
+            bits: 1 << tag.number(),
         }
     }
 
     /// Whether the tag is in the set.
-    pub fn contains(self, tag: ForeignTag) -> bool
+    pub fn contains(self, tag: Tag) -> bool
         ensures { result ≡ has self tag }
     {
-        (self.bits >> tag.place()) % 2 == 1
+        (self.bits >> tag.number()) % 2 == 1
     }
 
     /// The tags of both sets.
@@ -92,49 +124,36 @@ impl TagSet {
         }
     }
 
-    /// Adds what `tagtypes` lists (MPD protocol reference 0.23, `tagtypes`).
-    #[tactic(auto, unfolding(crate::specs::Masks::tag_lines))]
-    pub fn write_lines(self, out: &mut Vec<u8>) -> Result<(), NoMemory>
-        ensures { OnOk result (out.new.items ≡ out.old.items ++ tag_lines self) }
-    {
-        self.write_tags(ForeignTag::all(), out)
-    }
-
-    // Adds the lines of those of these tags that are in the set.
-    fn write_tags(self, tags: &[ForeignTag], out: &mut Vec<u8>) -> Result<(), NoMemory>
-        ensures { OnOk result (out.new.items ≡ out.old.items ++ lines_of_tags self tags.now) }
-    {
-        for tag in tags {
-            self.write_tag(*tag, out)?;
-        }
-        Ok(())
-    }
-
-    // Adds the line of a tag, if it is in the set.
-    fn write_tag(self, tag: ForeignTag, out: &mut Vec<u8>) -> Result<(), NoMemory>
-        ensures { OnOk result (out.new.items ≡ out.old.items ++ tag_line self tag) }
-    {
-        if self.contains(tag) {
-            write_pair(out, "tagtype", tag.text().as_bytes())?;
-        }
-        Ok(())
-    }
-
-    /// Whether a line of a native answer is shown: one `TAG: VALUE` of a tag that is not in the set isn't.
+    /// Whether a line of a native answer is shown: one `TAG: VALUE` or `tagtype: TAG` of a tag that is not in the set isn't.
     #[tactic(auto, unfolding(crate::specs::Masks::is_shown))]
     pub fn shows(self, line: &[u8]) -> bool
         ensures { result ≡ is_shown self line.now }
     {
-        !NATIVE.iter().copied().any(|tag| self.hides(tag, line))
+        !self.hides_any(all_tags(), line)
     }
 
-    // Whether the line is of this tag, and the tag is not in the set.
+    // Whether the line tells one of these tags that is not in the set.
+    fn hides_any(self, tags: &[Tag], line: &[u8]) -> bool
+        ensures { result ≡ list_any (is_hidden self line.now) tags.now }
+    {
+        tags.iter().any(|tag| self.hides(*tag, line))
+    }
+
+    // Whether the line tells this tag, and the tag is not in the set.
     #[tactic(auto, unfolding(crate::specs::Masks::is_hidden))]
-    fn hides(self, tag: ForeignTag, line: &[u8]) -> bool
+    fn hides(self, tag: Tag, line: &[u8]) -> bool
         ensures { result ≡ is_hidden self line.now tag }
     {
-        is_line_of(tag.text().as_bytes(), line) && !self.contains(tag)
+        tells_tag(tag, line) && !self.contains(tag)
     }
+}
+
+/// Whether the line has a text of this tag, or names it.
+fn tells_tag(tag: Tag, line: &[u8]) -> bool
+    ensures { result ≡ tells_tag tag line.now }
+{
+    let name = tag.name().as_bytes();
+    is_line_of(name, line) || line.starts_with(b"tagtype: ") && &line[9..] == name
 }
 
 /// Whether the line has this key.

@@ -6,7 +6,7 @@ ghost use Rattle.stock_requests.specs.Native.{handling_of, is_artist_alone, list
 ghost use Rattle.stock_requests.specs.Native.{adding_to_playlist, counting, has_list_count, is_root, list_info, listing};
 ghost use Rattle.stock_requests.specs.Native.{changing, files_change, files_natives, list_all, listing_files, shuffling};
 ghost use Rattle.stock_requests.specs.Native.{by_steps, grouped_count, grouped_list, grouping};
-ghost use Rattle.stock_requests.specs.Native.{filter_or_all, listing_empty, listing_values, mask_of, tag_types};
+ghost use Rattle.stock_requests.specs.Native.{listing_values, mask_of, tag_types};
 ghost use Rattle.stock_requests.specs.Native.{mask_alone, mask_refused, masked, songs_lines, telling, with_named};
 ghost use Rattle.stock_requests.specs.Masks.{empty_set};
 
@@ -23,7 +23,6 @@ use crate::name::ForeignName;
 use crate::shuffle::{ShuffleChange, shuffled_range};
 use crate::spelling::{LINE_LIMIT, line_of, put_words, same_words};
 use crate::steps::{Steps, group_name};
-use crate::tag::{ForeignTag, Standing};
 use crate::values::Tags;
 use command_text::{CommandName, Line};
 use filter_expr::LineWord;
@@ -231,7 +230,7 @@ pub(crate) fn by_steps(alloc: Global, line: &[u8], steps: Steps) -> Result<Trans
 /// A filter over the daemon's tags, within which songs are counted, or the values of the last tag listed, by the others.
 fn grouping(
     alloc: Global,
-    listed: Option<ForeignTag>,
+    listed: Option<Tag>,
     words: &[LineWord<'_>],
     tags: Tags,
 ) -> Result<Translation, AllocError>
@@ -326,7 +325,7 @@ fn is_artist_alone(tag: Tag, words: &[LineWord<'_>]) -> bool
     }
 }
 
-/// The words behind the tag of a `list`, one that songs have.
+/// The words behind the tag of a `list`.
 fn listing_words<'w>(
     alloc: Global,
     tag: Tag,
@@ -343,7 +342,7 @@ fn listing_words<'w>(
 }
 
 /// An answer of which the values of a tag are told.
-fn listing_change(tag: ForeignTag) -> Change
+fn listing_change(tag: Tag) -> Change
     ensures { result ≡ listing_change tag }
 {
     telling(
@@ -364,10 +363,10 @@ fn by_natives(natives: Natives, change: Change) -> Translation
     }
 }
 
-/// The values of a tag that songs have, or of the one that MPD falls back to, within a filter over the daemon's tags.
+/// The values of a tag within a filter of the daemon's.
 fn listing_values(
     alloc: Global,
-    tag: ForeignTag,
+    tag: Tag,
     words: &[LineWord<'_>],
 ) -> Result<Translation, AllocError>
     ensures { IfOk result (λ t. t ≡ listing_values tag words.now) }
@@ -386,44 +385,11 @@ fn has_list_count(words: &[LineWord<'_>]) -> bool
     words.is_empty() || has_filter_count(words)
 }
 
-/// The words of a filter, which holds for every song where there is none.
-fn filter_or_all<'w>(
-    alloc: Global,
-    words: &'w [LineWord<'_>],
-) -> Result<Vec<LineWord<'w>>, AllocError>
-    ensures { IfOk result (λ new. new.items ≡ filter_or_all words.now) }
-{
-    if words.is_empty() {
-        let mut all = Vec::with_capacity(alloc, 2)?;
-        all.push(LineWord::from_slice(b"base"))?;
-        all.push(LineWord::from_slice(b""))?;
-        return Ok(all);
-    }
-    native_filter(alloc, false, false, words)
-}
-
-/// The empty value of a tag that no song has, where there are songs.
-#[tactic(auto, unfolding(crate::specs::Native::listing_empty))]
-fn listing_empty(
-    alloc: Global,
-    tag: ForeignTag,
-    words: &[LineWord<'_>],
-) -> Result<Translation, AllocError>
-    ensures { IfOk result (λ t. t ≡ listing_empty tag words.now) }
-{
-    if !has_list_count(words) {
-        return Ok(Translation::Same);
-    }
-    let new = filter_or_all(alloc, words)?;
-    let line = line_of(alloc, "count", &[], new.as_slice())?;
-    by_line(alloc, false, line.as_slice(), listing_change(tag))
-}
-
 /// A `list` of this tag with `group` at the end.
 fn grouped_list(
     alloc: Global,
     is_alone: bool,
-    tag: ForeignTag,
+    tag: Tag,
     words: &[LineWord<'_>],
 ) -> Result<Translation, AllocError>
     ensures { IfOk result (λ t. t ≡ grouped_list is_alone (Some tag) words.now) }
@@ -489,20 +455,13 @@ fn listing(alloc: Global, is_alone: bool, words: &[LineWord<'_>]) -> Result<Tran
     if is_file_name(name[0].bytes()) {
         return listing_files(alloc, words);
     }
-    match ForeignTag::named(name[0].bytes()) {
+    match Tag::named(name[0].bytes()) {
         None => Ok(Translation::Same),
         Some(tag) if is_grouped(words) => grouped_list(alloc, is_alone, tag, words),
-        Some(tag) => match tag.standing() {
-            Standing::Native(other) => {
-                let new = listing_words(alloc, other, words)?;
-                listing_values(alloc, tag, new.as_slice())
-            }
-            Standing::FallsBackTo(_) => {
-                let new = native_filter(alloc, false, false, words)?;
-                listing_values(alloc, tag, new.as_slice())
-            }
-            Standing::Absent => listing_empty(alloc, tag, words),
-        },
+        Some(tag) => {
+            let new = listing_words(alloc, tag, words)?;
+            listing_values(alloc, tag, new.as_slice())
+        }
     }
 }
 
@@ -573,7 +532,7 @@ fn tags_named(words: &[LineWord<'_>]) -> Option<TagSet>
 {
     let mut set = TagSet::empty();
     for word in words {
-        match ForeignTag::named(word.bytes()) {
+        match Tag::named(word.bytes()) {
             None => return None,
             Some(tag) => set = set.with(TagSet::only(tag)),
         }
@@ -600,8 +559,7 @@ fn tag_types(alloc: Global, words: &[LineWord<'_>]) -> Result<Translation, Alloc
     ensures { IfOk result (λ t. t ≡ tag_types words.now) }
 {
     let Some((what, words)) = words.split_first() else {
-        let name = ForeignName::Native(CommandName::TagTypes);
-        return answered(alloc, name, Ending::Tags);
+        return Ok(Translation::Songs);
     };
     let what = what.bytes();
     if is_word(what, "clear") {

@@ -4,9 +4,9 @@ ghost use Rattle.stock_requests.specs.Groups.{further, native_lines};
 
 use crate::change::Natives;
 use crate::group::{Asking, fits, narrowed, natives_of};
-use crate::tag::ForeignTag;
 use crate::values::Values;
 use command_text::Lines;
+use song_files::Tag;
 use std::alloc::{AllocError, Global};
 
 /// Lines that are asked at once, and the values within which they ask, the first one apart.
@@ -45,7 +45,7 @@ pub(crate) fn ask_further(
     alloc: Global,
     asking: Asking,
     most: usize,
-    tag: ForeignTag,
+    tag: Tag,
     outer: &[u8],
     left: &mut Values,
     round: &mut Round,

@@ -4,8 +4,8 @@ ghost use Rattle.stock_requests.specs.Groups.{first_tag};
 ghost use Rattle.stock_requests.specs.declared.group.Level.{Level};
 
 use crate::group::Level;
-use crate::tag::ForeignTag;
 use command_text::Line;
+use song_files::Tag;
 use std::alloc::{AllocError, Global};
 use std::collections::VecDeque;
 use std::marker::Model;
@@ -61,14 +61,14 @@ impl Values {
 /// Tags, the outermost first.
 #[derive(Debug, Drop)]
 pub struct Tags {
-    tags: VecDeque<ForeignTag>,
+    tags: VecDeque<Tag>,
 }
 
 impl Model for Tags {
     ghost use Rattle.std.specs.Prelude.{List};
-    ghost use Rattle.stock_requests.specs.declared.tag.ForeignTag.{ForeignTag};
+    ghost use Rattle.song_files.specs.declared.tag.Tag.{Tag};
 
-    ghost Value = { List ForeignTag };
+    ghost Value = { List Tag };
 
     ghost view = { λ t. t.tags.items };
 }
@@ -89,14 +89,14 @@ impl Tags {
     }
 
     /// The first of them.
-    pub(crate) fn first(&self) -> Option<ForeignTag>
+    pub(crate) fn first(&self) -> Option<Tag>
         ensures rest { MatchOption result (self.now ≡ []) (λ tag. self.now ≡ tag ∷ drop 1 self.now) }
         ensures first { result ≡ first_tag self.now }
     {
         self.tags.front().copied()
     }
 
-    pub(crate) fn push(&mut self, tag: ForeignTag) -> Result<(), AllocError>
+    pub(crate) fn push(&mut self, tag: Tag) -> Result<(), AllocError>
         ensures { OnOk result (self.new ≡ self.old ++ tag ∷ []) }
     {
         self.tags.reserve(1)?;
@@ -104,14 +104,14 @@ impl Tags {
         Ok(())
     }
 
-    pub(crate) fn take(&mut self) -> Option<ForeignTag>
+    pub(crate) fn take(&mut self) -> Option<Tag>
         ensures { MatchOption result ((self.old ≡ []) × (self.new ≡ [])) (λ tag. self.old ≡ tag ∷ self.new) }
     {
         self.tags.pop_front()
     }
 
     /// Puts a tag before the others.
-    pub(crate) fn put_back(&mut self, tag: ForeignTag) -> Result<(), AllocError>
+    pub(crate) fn put_back(&mut self, tag: Tag) -> Result<(), AllocError>
         ensures { OnOk result (self.new ≡ tag ∷ self.old) }
     {
         self.tags.reserve(1)?;
@@ -145,7 +145,7 @@ impl Levels {
     }
 
     /// The tag of the innermost.
-    pub(crate) fn first_tag(&self) -> Option<ForeignTag>
+    pub(crate) fn first_tag(&self) -> Option<Tag>
         ensures { MatchOption result (self.now ≡ []) (λ tag. (level : Level) × (self.now ≡ level ∷ drop 1 self.now) × (tag ≡ level.tag)) }
     {
         match self.levels.front() {

@@ -8,6 +8,7 @@ use daemon_core::Event;
 use driver_base::TestDisk;
 use live_stage::{Live, Receipt, Refused};
 use player_core::PlayOrder;
+use profile::Profile;
 use song_db::ScanOrder;
 use stage_workers::{
     Pass, Scanned, Served, SettleError, SharedStage, StageError, Worker, laws, player_worker,
@@ -26,6 +27,7 @@ pub type Answer<A, C, P, S> = (Result<A, StageError>, Pass<C, P, S>);
 /// A stage over these disks: made, with a key of zeros, or opened.
 pub fn begun(
     alloc: Global,
+    profile: Profile,
     a: TestDisk,
     b: TestDisk,
     is_new: bool,
@@ -33,9 +35,9 @@ pub fn begun(
     ensures first { IfOk result (λ live. live.numbers.event ≡ 0) }
 {
     if is_new {
-        Live::create(alloc, a, b, [0; 32])
+        Live::create(alloc, profile, a, b, [0; 32])
     } else {
-        Live::open(alloc, a, b)
+        Live::open(alloc, profile, a, b)
     }
 }
 

@@ -11,6 +11,7 @@ use log::sink::Discard;
 use log::{Level, Logged};
 use mio_clients::{Clients, MemReady};
 use mpd_server::{NothingWaits, Opened, ServeEnd, ServeStatus, Workers, open_journal};
+use profile::Profile;
 use song_db::LibraryRules;
 use song_files::MemFolder;
 use song_output::{Form, SoundOutput};
@@ -56,7 +57,7 @@ fn serve<W: Threads + Wait + Clock + Sync>(
     (a, b): (DaemonDisk, DaemonDisk),
     clients: &mut DaemonClients,
 ) -> ServeEnd<DaemonDisk> {
-    match open_journal(alloc, a, b) {
+    match open_journal(alloc, Profile::Named, a, b) {
         Ok(opened) => serve_opened(waits, alloc, opened, clients),
         Err(end) => end,
     }

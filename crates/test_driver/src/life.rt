@@ -197,7 +197,7 @@ pub fn live_once<R: Threads + Wait + Clock + Sync, B: BufRead>(
     lines: &mut Lines<B>,
 ) -> Result<(), Fault> {
     let (a, b) = desk.take_disks();
-    match begun(host.alloc(), a, b, is_new) {
+    match begun(host.alloc(), desk.profile, a, b, is_new) {
         Ok(live) => {
             let (refusal, live) = live_on(rt, host, live, lines)?;
             tell_settled(&mut desk.printer, refusal, &live);

@@ -118,7 +118,7 @@ pub fn loop_once<R: BufRead, W: Wait + Clock>(
 ) -> Result<bool, Fault> {
     let mut beside = Beside::new(rt.alloc());
     let (a, b) = desk.take_disks();
-    match begun(rt.alloc(), a, b, is_new) {
+    match begun(rt.alloc(), desk.profile, a, b, is_new) {
         Ok(live) => serve_stage(rt, waits, desk, live, &mut beside, lines),
         Err(Refused { error, a, b }) => {
             desk.refuse(error.number(), error, a, b);

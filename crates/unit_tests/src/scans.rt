@@ -4,8 +4,8 @@ ghost use Rattle.std.specs.Prelude.{[]};
 use crate::assertions::{equal, same_text, uri};
 use crate::waves::WAVE_A;
 use song_db::{
-    Effect, Effects, LibraryRules, MAX_ROWS, RowChange, Scan, ScanOrder, SongDb, SongDbError,
-    SongRow, Uri,
+    Effect, Effects, KnownSong, LibraryRules, MAX_ROWS, RowChange, Scan, ScanOrder, SongDb,
+    SongDbError, SongRow, Uri,
 };
 use song_files::{
     FaultyFolder, FaultySource, FileStamp, Folder, FolderEntry, FolderFault, MemFolder, MemSource,
@@ -71,13 +71,16 @@ fn folder_of(alloc: Global, paths: &str) -> Result<MemFolder<'static>, Fail> {
     Ok(folder)
 }
 
-/// The known URIs.
-fn known(alloc: Global) -> Result<Vec<Uri>, Fail> {
-    let mut uris = Vec::new(alloc);
+/// The known songs, of which no stamp is known.
+fn known(alloc: Global) -> Result<Vec<KnownSong>, Fail> {
+    let mut songs = Vec::new(alloc);
     for text in ["d/A.wav", "d/B.wav", "x.wav"] {
-        uris.push(uri(alloc, text)?)?;
+        songs.push(KnownSong {
+            uri: uri(alloc, text)?,
+            stamp: None,
+        })?;
     }
-    Ok(uris)
+    Ok(songs)
 }
 
 /// The next changes. (This has no contract: the prover then reads the long one of a scan here alone, and in no test.)

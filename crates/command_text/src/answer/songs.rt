@@ -1,11 +1,14 @@
 //! The lines of a song, and of an entry of the queue (MPD protocol reference 0.23, "Other Metadata").
 ghost use Rattle.play_queue.specs.Shown.{shown};
 ghost use Rattle.command_text.specs.Answer.{Adds, pair};
-ghost use Rattle.command_text.specs.AnswerSongs.{file_line, format_text, tag_line, tag_lines, song_lines, priority_line, entry_lines};
+ghost use Rattle.command_text.specs.AnswerSongs.{file_line, modified_line, head_lines, format_text, tag_line};
+ghost use Rattle.command_text.specs.AnswerSongs.{tag_lines, song_lines, priority_line, entry_lines};
 ghost use Rattle.command_text.specs.AnswerSongs.{place_lines, id_line};
 
+use crate::answer::dates::write_time;
 use crate::answer::pairs::{append, write_number, write_pair, write_position_and_id};
 use crate::answer::times::{write_exact_seconds, write_whole_seconds};
+use filter_expr::known_time;
 use itoa::Buffer;
 use no_memory::NoMemory;
 use play_queue::EntryRef;
@@ -18,6 +21,24 @@ pub fn write_file(out: &mut Vec<u8>, uri: &str) -> Result<(), NoMemory>
     ensures { Adds (file_line uri.now) result out.old out.new }
 {
     write_pair(out, "file", uri.as_bytes())
+}
+
+/// Adds the line `Last-Modified` of a time that is known.
+fn write_modified(out: &mut Vec<u8>, time: Option<u64>) -> Result<(), NoMemory>
+    ensures { Adds (modified_line time) result out.old out.new }
+{
+    match time {
+        None => Ok(()),
+        Some(time) => write_time(out, "Last-Modified", time),
+    }
+}
+
+/// Adds the lines of a song's file.
+fn write_head(out: &mut Vec<u8>, row: &SongRow) -> Result<(), NoMemory>
+    ensures { Adds (head_lines row.now) result out.old out.new }
+{
+    write_file(out, row.uri())?;
+    write_modified(out, known_time(row.stamp()))
 }
 
 /// Adds the line of a format, `key: RATE:16:CHANNELS`.
@@ -57,11 +78,11 @@ fn write_tags(out: &mut Vec<u8>, tags: &Tags) -> Result<(), NoMemory>
     Ok(())
 }
 
-/// Adds the lines of a song: `file`, `Format`, its tags, `Time` and `duration`.
+/// Adds the lines of a song: `file`, `Last-Modified` where that is known, `Format`, its tags, `Time` and `duration`.
 pub fn write_song(out: &mut Vec<u8>, row: &SongRow) -> Result<(), NoMemory>
     ensures { Adds (song_lines row.now) result out.old out.new }
 {
-    write_file(out, row.uri())?;
+    write_head(out, row)?;
     write_format(out, "Format", row.info())?;
     write_tags(out, row.tags())?;
     let milliseconds = row.milliseconds();

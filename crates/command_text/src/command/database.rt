@@ -26,7 +26,9 @@ pub enum DatabaseCommand<'w> {
     NotCommands,
     Stats,
     TagTypes,
-    /// Reads the files at and below a place, or all; `rescan` is the same, as every file is read.
+    /// Reads the files at and below a place, or all, whether they changed or not.
+    Rescan(Option<Uri>),
+    /// Reads those of them that changed, where that can be told.
     Update(Option<Uri>),
 }
 
@@ -48,7 +50,8 @@ pub(crate) fn read<'w>(
         DatabaseName::NotCommands => Ok(no_argument(DatabaseCommand::NotCommands, words)?),
         DatabaseName::Stats => Ok(no_argument(DatabaseCommand::Stats, words)?),
         DatabaseName::TagTypes => Ok(no_argument(DatabaseCommand::TagTypes, words)?),
-        DatabaseName::Rescan | DatabaseName::Update => scan(alloc, words),
+        DatabaseName::Rescan => Ok(DatabaseCommand::Rescan(scan(alloc, words)?)),
+        DatabaseName::Update => Ok(DatabaseCommand::Update(scan(alloc, words)?)),
     }
 }
 
@@ -59,13 +62,14 @@ fn path_argument<'w>(words: &'w [LineWord<'_>]) -> Result<Option<Text<'w>>, Comm
     optional_text(1, optional(words)?)
 }
 
+/// The place that a scan reads, if one is given.
 #[tactic(auto, unfolding(crate::specs::Database::scan_of))]
-fn scan<'w>(alloc: Global, words: &'w [LineWord<'_>]) -> Result<DatabaseCommand<'w>, Stop>
+fn scan(alloc: Global, words: &[LineWord<'_>]) -> Result<Option<Uri>, Stop>
     ensures { Reads result (scan_of words.now) }
 {
     match optional(words)? {
-        None => Ok(DatabaseCommand::Update(None)),
-        Some(word) => Ok(DatabaseCommand::Update(scanned_place(alloc, word)?)),
+        None => Ok(None),
+        Some(word) => scanned_place(alloc, word),
     }
 }
 

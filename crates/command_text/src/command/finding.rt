@@ -18,6 +18,7 @@ use crate::text::Text;
 use crate::topic::FindingName;
 use filter_expr::{Case, Filter, LineWord, SortOrder};
 use play_queue::Target;
+use profile::Profile;
 use song_files::Tag;
 use std::alloc::Global;
 
@@ -50,27 +51,28 @@ pub enum FindingCommand<'w> {
 #[tactic(auto, unfolding(crate::specs::Finding::finding_of))]
 pub(crate) fn read<'w>(
     alloc: Global,
+    profile: Profile,
     name: FindingName,
     words: &'w [LineWord<'_>],
 ) -> Result<FindingCommand<'w>, Stop>
-    ensures { Reads result (finding_of name words.now) }
+    ensures { Reads result (finding_of profile name words.now) }
 {
     match name {
-        FindingName::Count => Ok(FindingCommand::Count(filter_alone(alloc, words)?)),
-        FindingName::Find => find(alloc, Case::Exact, words),
-        FindingName::FindAdd => find_add(alloc, Case::Exact, words),
-        FindingName::ListTag => list(alloc, words),
+        FindingName::Count => Ok(FindingCommand::Count(filter_alone(alloc, profile, words)?)),
+        FindingName::Find => find(alloc, profile, Case::Exact, words),
+        FindingName::FindAdd => find_add(alloc, profile, Case::Exact, words),
+        FindingName::ListTag => list(alloc, profile, words),
         FindingName::QueueFind => {
-            let filter = filter_alone(alloc, words)?;
+            let filter = filter_alone(alloc, profile, words)?;
             Ok(FindingCommand::InQueue(Case::Exact, filter))
         }
         FindingName::QueueSearch => {
-            let filter = filter_alone(alloc, words)?;
+            let filter = filter_alone(alloc, profile, words)?;
             Ok(FindingCommand::InQueue(Case::Folded, filter))
         }
-        FindingName::Search => find(alloc, Case::Folded, words),
-        FindingName::SearchAdd => find_add(alloc, Case::Folded, words),
-        FindingName::SearchAddPlaylist => add_to_playlist(alloc, words),
+        FindingName::Search => find(alloc, profile, Case::Folded, words),
+        FindingName::SearchAdd => find_add(alloc, profile, Case::Folded, words),
+        FindingName::SearchAddPlaylist => add_to_playlist(alloc, profile, words),
     }
 }
 
@@ -182,13 +184,14 @@ fn second_place(total: usize, words: &[LineWord<'_>]) -> usize
 #[tactic(auto, unfolding(crate::specs::Finding::sort_part))]
 fn sort_part<'w, 'a>(
     alloc: Global,
+    profile: Profile,
     words: &'w [LineWord<'a>],
 ) -> Result<(Option<SortOrder>, &'w [LineWord<'a>]), Stop>
-    ensures exact { ReadsAs (λ x. (x.0, x.1.now)) result (sort_part words.now) }
+    ensures exact { ReadsAs (λ x. (x.0, x.1.now)) result (sort_part profile words.now) }
 {
     match value_behind(b"sort", words) {
         None => Ok((None, words)),
-        Some(word) => Ok((Some(sort_order(alloc, word)?), &words[2..])),
+        Some(word) => Ok((Some(sort_order(alloc, profile, word)?), &words[2..])),
     }
 }
 
@@ -246,16 +249,17 @@ fn nothing_left<T: Drop>(
 #[tactic(auto, unfolding(crate::specs::Finding::search_parts))]
 fn search_parts<'w, 'a>(
     alloc: Global,
+    profile: Profile,
     adds: bool,
     case: Case,
     words: &'w [LineWord<'a>],
 ) -> Result<(Search, &'w [LineWord<'a>]), Stop>
     requires { IsTrue (has_search_count words.now) }
-    ensures { ReadsAs (λ x. (x.0, x.1.now)) result (search_parts adds case words.now) }
+    ensures { ReadsAs (λ x. (x.0, x.1.now)) result (search_parts profile adds case words.now) }
 {
     let (of_filter, behind) = words.split_at(filter_length(adds, words));
-    let filter = filter_argument(alloc, of_filter)?;
-    let (sort, behind) = sort_part(alloc, behind)?;
+    let filter = filter_argument(alloc, profile, of_filter)?;
+    let (sort, behind) = sort_part(alloc, profile, behind)?;
     let (window, behind) = window_part(words.len(), behind)?;
     let search = Search {
         case,
@@ -269,15 +273,16 @@ fn search_parts<'w, 'a>(
 #[tactic(auto, unfolding(crate::specs::Finding::find_of))]
 fn find<'w>(
     alloc: Global,
+    profile: Profile,
     case: Case,
     words: &'w [LineWord<'_>],
 ) -> Result<FindingCommand<'w>, Stop>
-    ensures { Reads result (find_of case words.now) }
+    ensures { Reads result (find_of profile case words.now) }
 {
     if !has_search_count(words) {
         return Err(Stop::Refused(CommandRefusal::WrongCount));
     }
-    let (search, behind) = search_parts(alloc, false, case, words)?;
+    let (search, behind) = search_parts(alloc, profile, false, case, words)?;
     let command = FindingCommand::Find(search);
     Ok(nothing_left(words.len(), behind, command)?)
 }
@@ -285,15 +290,16 @@ fn find<'w>(
 #[tactic(auto, unfolding(crate::specs::Finding::find_add_of))]
 fn find_add<'w>(
     alloc: Global,
+    profile: Profile,
     case: Case,
     words: &'w [LineWord<'_>],
 ) -> Result<FindingCommand<'w>, Stop>
-    ensures { Reads result (find_add_of case words.now) }
+    ensures { Reads result (find_add_of profile case words.now) }
 {
     if !has_search_count(words) {
         return Err(Stop::Refused(CommandRefusal::WrongCount));
     }
-    let (search, behind) = search_parts(alloc, true, case, words)?;
+    let (search, behind) = search_parts(alloc, profile, true, case, words)?;
     let (to, behind) = position_part(words.len(), behind)?;
     let command = FindingCommand::Add(search, to);
     Ok(nothing_left(words.len(), behind, command)?)
@@ -301,18 +307,22 @@ fn find_add<'w>(
 
 /// A filter and nothing behind it.
 #[tactic(auto, unfolding(crate::specs::Finding::filter_alone))]
-fn filter_alone(alloc: Global, words: &[LineWord<'_>]) -> Result<Filter, Stop>
-    ensures { Reads result (filter_alone words.now) }
+fn filter_alone(alloc: Global, profile: Profile, words: &[LineWord<'_>]) -> Result<Filter, Stop>
+    ensures { Reads result (filter_alone profile words.now) }
 {
     if !has_filter_count(words) {
         return Err(Stop::Refused(CommandRefusal::WrongCount));
     }
-    filter_argument(alloc, words)
+    filter_argument(alloc, profile, words)
 }
 
 #[tactic(auto, unfolding(crate::specs::Finding::add_to_playlist_of))]
-fn add_to_playlist<'w>(alloc: Global, words: &'w [LineWord<'_>]) -> Result<FindingCommand<'w>, Stop>
-    ensures { Reads result (add_to_playlist_of words.now) }
+fn add_to_playlist<'w>(
+    alloc: Global,
+    profile: Profile,
+    words: &'w [LineWord<'_>],
+) -> Result<FindingCommand<'w>, Stop>
+    ensures { Reads result (add_to_playlist_of profile words.now) }
 {
     match words {
         [] => Err(Stop::Refused(CommandRefusal::WrongCount)),
@@ -321,28 +331,32 @@ fn add_to_playlist<'w>(alloc: Global, words: &'w [LineWord<'_>]) -> Result<Findi
                 return Err(Stop::Refused(CommandRefusal::WrongCount));
             }
             let name = playlist_name(name.bytes())?;
-            let filter = filter_argument(alloc, words)?;
+            let filter = filter_argument(alloc, profile, words)?;
             Ok(FindingCommand::AddToPlaylist(name, filter))
         }
     }
 }
 
 #[tactic(auto, unfolding(crate::specs::Finding::list_of))]
-fn list<'w>(alloc: Global, words: &'w [LineWord<'_>]) -> Result<FindingCommand<'w>, Stop>
-    ensures { Reads result (list_of words.now) }
+fn list<'w>(
+    alloc: Global,
+    profile: Profile,
+    words: &'w [LineWord<'_>],
+) -> Result<FindingCommand<'w>, Stop>
+    ensures { Reads result (list_of profile words.now) }
 {
     match words {
         [] => Err(Stop::Refused(CommandRefusal::WrongCount)),
         [tag] => {
-            let tag = tag_argument(alloc, tag.bytes())?;
+            let tag = tag_argument(alloc, profile, tag.bytes())?;
             Ok(FindingCommand::ListTag(tag, None))
         }
         [tag, words @ ..] => {
             if !has_filter_count(words) {
                 return Err(Stop::Refused(CommandRefusal::WrongCount));
             }
-            let tag = tag_argument(alloc, tag.bytes())?;
-            let filter = filter_argument(alloc, words)?;
+            let tag = tag_argument(alloc, profile, tag.bytes())?;
+            let filter = filter_argument(alloc, profile, words)?;
             Ok(FindingCommand::ListTag(tag, Some(filter)))
         }
     }

@@ -4,6 +4,7 @@ use crate::codec::ops::put;
 use crate::printer::Printer;
 use daemon_core::{Core, Event, NoMemory, Outcome, Output};
 use idle_masks::ClientId;
+use profile::Profile;
 use state_codec::Op;
 use std::alloc::Global;
 
@@ -43,7 +44,10 @@ fn happen(
     event: Event,
 ) {
     match stepped(core, printed.printer.alloc, event) {
-        Ok(outcome) => give_out(clients, printed, refused, &outcome),
+        Ok(outcome) => {
+            let profile = core.as_saved().profile();
+            give_out(clients, printed, profile, refused, &outcome);
+        }
         Err(NoMemory) => printed.printer.line("no memory"),
     }
 }
@@ -51,6 +55,7 @@ fn happen(
 fn give_out(
     clients: &mut Connected,
     printed: &mut Printed,
+    profile: Profile,
     refused: &mut Vec<ClientId>,
     outcome: &Outcome,
 ) {
@@ -61,7 +66,11 @@ fn give_out(
     for number in &outcome.closes {
         close(clients, *number, printer);
     }
-    print_ops(printer, printed.spells, &outcome.ops);
+    if printed.spells {
+        spell_all(printer, profile, &outcome.ops);
+    } else {
+        count_ops(printer, &outcome.ops);
+    }
     print_end(printer, outcome);
 }
 
@@ -80,27 +89,29 @@ fn deliver(
     }
 }
 
-fn print_ops(printer: &mut Printer, spells: bool, ops: &[Op]) {
-    if spells {
-        for op in ops {
-            spell(printer, op);
-        }
-    } else if !ops.is_empty() {
+fn spell_all(printer: &mut Printer, profile: Profile, ops: &[Op]) {
+    for op in ops {
+        spell(printer, profile, op);
+    }
+}
+
+fn count_ops(printer: &mut Printer, ops: &[Op]) {
+    if !ops.is_empty() {
         printer.count("ops", ops.len() as u64);
     }
 }
 
 /// Prints an op by its bytes.
-fn spell(printer: &mut Printer, op: &Op) {
-    match spelled(printer.alloc, op) {
+fn spell(printer: &mut Printer, profile: Profile, op: &Op) {
+    match spelled(printer.alloc, profile, op) {
         Ok(bytes) => printer.hex("op", &bytes),
         Err(NoMemory) => printer.lack(),
     }
 }
 
-fn spelled(alloc: Global, op: &Op) -> Result<Vec<u8>, NoMemory> {
-    let mut bytes = Vec::with_capacity(alloc, op.spelled_len())?;
-    put(&mut bytes, op)?;
+fn spelled(alloc: Global, profile: Profile, op: &Op) -> Result<Vec<u8>, NoMemory> {
+    let mut bytes = Vec::with_capacity(alloc, op.spelled_len(profile))?;
+    put(&mut bytes, profile, op)?;
     Ok(bytes)
 }
 

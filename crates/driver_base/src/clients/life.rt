@@ -15,6 +15,7 @@ use crate::wire::takes_of;
 use crate::words::{first_word, number};
 use daemon_core::{Core, Event};
 use idle_masks::ClientId;
+use profile::Profile;
 use song_db::RowChange;
 use state_codec::Saved;
 use std::alloc::Global;
@@ -137,7 +138,7 @@ impl Life {
     // A core over a fresh saved state, whose key is of zeros, and no client.
     fn new(alloc: Global) -> Self {
         Life {
-            core: Core::new(alloc, Saved::fresh(alloc, [0; 32])),
+            core: Core::new(alloc, Saved::fresh(alloc, Profile::Named, [0; 32])),
             clients: BTreeMap::new(alloc),
             printed: Printed {
                 printer: Printer::new(alloc),

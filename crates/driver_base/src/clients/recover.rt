@@ -1,12 +1,11 @@
 //! A core from what was saved and ops.
 use super::connected::Connected;
-use crate::codec::{ops, snapshots};
+use crate::codec::{LAYOUT, ops, snapshots};
 use crate::fault::Fault;
 use crate::given::read_bytes;
 use crate::printer::Printer;
 use crate::words::first_word;
 use daemon_core::{Core, RecoverError};
-use play_journal::LAYOUT;
 use state_codec::{Op, Saved};
 use std::alloc::Global;
 

@@ -2,6 +2,7 @@
 use crate::fault::Fault;
 use crate::printer::Printer;
 use no_memory::NoMemory;
+use profile::Profile;
 use state_codec::{CodecError, Op, put_op, take_ops};
 use std::alloc::Global;
 
@@ -11,8 +12,17 @@ pub fn taken(alloc: Global, layout: u32, bytes: &[u8]) -> Result<Vec<Op>, CodecE
     take_ops(alloc, layout, bytes)
 }
 
-pub fn put(out: &mut Vec<u8>, op: &Op) -> Result<(), NoMemory> {
-    put_op(out, op)
+pub fn put(out: &mut Vec<u8>, profile: Profile, op: &Op) -> Result<(), NoMemory> {
+    put_op(out, profile, op)
+}
+
+/// The profile whose ops a layout spells.
+fn profile_of(layout: u32) -> Profile {
+    if layout == 3 {
+        Profile::Wide
+    } else {
+        Profile::Named
+    }
 }
 
 /// Bytes can't be read.
@@ -34,9 +44,14 @@ pub fn fault_of(alloc: Global, layout: u32, bytes: &[u8]) -> Option<CodecError> 
 }
 
 /// Prints the bytes of an op in so much room, or that it is refused and how many bytes then stand there.
-fn tell_in_room(printer: &mut Printer, op: &Op, room: usize) -> Result<(), Fault> {
+fn tell_in_room(
+    printer: &mut Printer,
+    profile: Profile,
+    op: &Op,
+    room: usize,
+) -> Result<(), Fault> {
     let mut out = Vec::with_capacity(printer.alloc, room)?;
-    match put(&mut out, op) {
+    match put(&mut out, profile, op) {
         Ok(()) => printer.hex("written", &out),
         Err(refusal) => {
             let (number, len) = (refusal.number(), out.len());
@@ -48,16 +63,16 @@ fn tell_in_room(printer: &mut Printer, op: &Op, room: usize) -> Result<(), Fault
     Ok(())
 }
 
-fn tell_op(printer: &mut Printer, op: &Op) -> Result<(), Fault> {
+fn tell_op(printer: &mut Printer, profile: Profile, op: &Op) -> Result<(), Fault> {
     printer.text(format!(in printer.alloc; "op {op:?}\n").ok());
-    let len = op.spelled_len();
-    tell_in_room(printer, op, len)?;
-    tell_in_room(printer, op, len.saturating_sub(1))
+    let len = op.spelled_len(profile);
+    tell_in_room(printer, profile, op, len)?;
+    tell_in_room(printer, profile, op, len.saturating_sub(1))
 }
 
-fn tell_all(printer: &mut Printer, ops: &[Op]) -> Result<(), Fault> {
+fn tell_all(printer: &mut Printer, profile: Profile, ops: &[Op]) -> Result<(), Fault> {
     for op in ops {
-        tell_op(printer, op)?;
+        tell_op(printer, profile, op)?;
     }
     Ok(())
 }
@@ -65,7 +80,7 @@ fn tell_all(printer: &mut Printer, ops: &[Op]) -> Result<(), Fault> {
 /// Prints the ops that the bytes spell in a layout: each of them, and what it is spelled to.
 pub fn tell_ops(printer: &mut Printer, layout: u32, bytes: &[u8]) -> Result<(), Fault> {
     match taken(printer.alloc, layout, bytes) {
-        Ok(ops) => tell_all(printer, &ops),
+        Ok(ops) => tell_all(printer, profile_of(layout), &ops),
         Err(error) => {
             printer.refused(error.number(), error);
             Ok(())

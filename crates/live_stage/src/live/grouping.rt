@@ -98,6 +98,7 @@ impl<D: Disk> Live<D> {
     }
 
     // Handles the events of a group, by records in the file that is in use. Their answers say whether the checkpoint is overdue.
+    #[tactic(auto, using(crate::proofs::ProfileLaws::written_so))]
     fn handle_group(
         &mut self,
         alloc: Global,

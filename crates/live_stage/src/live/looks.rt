@@ -9,6 +9,7 @@ use super::Live;
 use crate::LiveError;
 use disk_model::Disk;
 use player_core::Order;
+use profile::Profile;
 use song_db::{ScanOrder, SongDb};
 use std::alloc::Global;
 
@@ -44,6 +45,13 @@ impl<D: Disk> Live<D> {
         ensures waits { result ≡ false → play_order self.now.state.machine ≡ PlayOrder.Wait }
     {
         self.core.is_playing()
+    }
+
+    /// The profile with which the stage was made or opened. It takes no memory and refuses nothing.
+    pub fn profile(&self) -> Profile
+        ensures { result ≡ self.now.state.machine.saved.profile }
+    {
+        self.core.as_saved().profile()
     }
 
     /// The songs of the database. It takes no memory and refuses nothing; of a broken stage it tells what was before the fault.

@@ -1,11 +1,11 @@
-// A stage over a journal that was opened, which has the present layout from then on.
-ghost use Rattle.std.specs.Prelude.{◌≡◌, ◌+◌, ◌≤◌, false, length, Err, Some, IfOk, IfErr, OnOk, MatchResult, vec_capacity};
+// A stage over a journal that was opened, which has the layout that its profile writes from then on.
+ghost use Rattle.std.specs.Prelude.{◌≡◌, ◌+◌, ◌≤◌, true, false, length, Err, Some, IfOk, IfErr, OnOk, MatchResult, vec_capacity};
 ghost use Rattle.disk_model.specs.Later.{AreLater, HasFailed};
 ghost use Rattle.play_journal.specs.Calls.{SameFaults};
-ghost use Rattle.play_journal.specs.Content.{present_layout};
-ghost use Rattle.live_stage.specs.Decoding.{GivesState};
+ghost use Rattle.state_codec.specs.Layout.{written_layout};
+ghost use Rattle.live_stage.specs.Decoding.{GivesState, brought_reading};
 ghost use Rattle.live_stage.specs.Errors.{IsRefusalOfMigration, migration_error};
-ghost use Rattle.live_stage.specs.Found.{state_of, stored_reading, AllFindSince};
+ghost use Rattle.live_stage.specs.Found.{state_of, stored_reading, brought, is_read, taken_state, AllOpenSince};
 ghost use Rattle.live_stage.specs.Turns.{IsBegun, IsOver, is_old, migrated};
 ghost use Rattle.live_stage.specs.Writing.{CallsDisks};
 
@@ -15,12 +15,13 @@ use crate::decoding::take_state;
 use crate::{LiveError, Refused, StartError};
 use daemon_core::Core;
 use disk_model::Disk;
-use play_journal::{Group, Journal, LAYOUT, Stored};
-use state_codec::Saved;
+use play_journal::{Group, Journal, Stored};
+use profile::Profile;
+use state_codec::{Saved, layout_number};
 use std::alloc::Global;
 
 // The state that the files of an opened journal stand for. What was read of them is let go.
-pub(super) fn state_in<D: Disk>(
+fn state_read<D: Disk>(
     alloc: Global,
     journal: &Journal<D>,
     stored: Stored,
@@ -28,6 +29,36 @@ pub(super) fn state_in<D: Disk>(
     ensures { GivesState result (stored_reading journal.now.layout stored.snapshot stored.records) }
 {
     take_state(alloc, journal.layout(), &stored)
+}
+
+// A state as the profile takes it.
+fn brought(profile: Profile, saved: Saved) -> Saved
+    ensures { result ≡ brought profile saved }
+{
+    match profile {
+        Profile::Named => saved,
+        Profile::Wide => {
+            let mut saved = saved;
+            saved.widen();
+            saved
+        }
+    }
+}
+
+// The state that the files of an opened journal stand for, as the profile takes it.
+pub(super) fn state_in<D: Disk>(
+    alloc: Global,
+    profile: Profile,
+    journal: &Journal<D>,
+    stored: Stored,
+) -> Result<Saved, StartError>
+    ensures read { GivesState result (brought_reading profile (stored_reading journal.now.layout stored.snapshot stored.records)) }
+    ensures profile { is_read profile journal.now.layout ≡ true → IfOk result (λ saved. saved.profile ≡ profile) }
+{
+    match state_read(alloc, journal, stored) {
+        Ok(saved) => Ok(brought(profile, saved)),
+        Err(error) => Err(error),
+    }
 }
 
 // A journal over whose files there is no stage.
@@ -40,7 +71,7 @@ pub(super) fn refused_over<D: Disk>(error: StartError, journal: Journal<D>) -> R
     Refused { error, a, b }
 }
 
-// Why a journal was not brought to the present layout, whose checkpoint was refused.
+// Why a journal was not brought to the layout that is written, whose checkpoint was refused.
 fn refused_migration(error: LiveError) -> StartError
     ensures { result ≡ migration_error error }
 {
@@ -51,29 +82,30 @@ fn refused_migration(error: LiveError) -> StartError
     }
 }
 
-// Brings a journal of an old layout to the present one, by a checkpoint of its state, and says whether it did so. Any other journal
-// stays as it is.
+// Brings a journal to the layout that the profile of its state writes, by a checkpoint of the state, and says whether it did so. A journal
+// of that layout stays as it is.
 fn migrate<D: Disk>(
     alloc: Global,
     journal: &mut Journal<D>,
     saved: &Saved,
 ) -> Result<bool, StartError>
     requires usable { journal.old.is_spent ≡ false }
-    requires stands { D.honest journal.old.a → D.honest journal.old.b → state_of (Some journal.old.content) ≡ Some saved.now }
-    ensures told { IfOk result (λ made. made ≡ is_old journal.old.layout) }
-    ensures layout { OnOk result ((journal.new.layout ≡ present_layout) × (journal.new.is_spent ≡ false)) }
+    requires stands { D.honest journal.old.a → D.honest journal.old.b
+        → taken_state saved.now.profile journal.old.content ≡ Some saved.now }
+    ensures told { IfOk result (λ made. made ≡ is_old saved.now.profile journal.old.layout) }
+    ensures layout { OnOk result ((journal.new.layout ≡ written_layout saved.now.profile) × (journal.new.is_spent ≡ false)) }
     ensures content { D.honest journal.old.a → D.honest journal.old.b
         → OnOk result (journal.new.content ≡ migrated journal.old.content saved.now) }
     ensures stands { D.honest journal.old.a → D.honest journal.old.b → OnOk result (state_of (Some journal.new.content) ≡ Some saved.now) }
     ensures last { OnOk result (journal.new.base + journal.new.count ≡ journal.old.base + journal.old.count) }
-    ensures same_state { D.honest journal.old.a → D.honest journal.old.b → AllFindSince (λ f. f ≡ Some saved.now)
+    ensures same_state { D.honest journal.old.a → D.honest journal.old.b → AllOpenSince saved.now.profile (λ f. f ≡ Some saved.now)
         (D.history journal.new.a) (length (D.history journal.old.a)) (D.history journal.new.b) (length (D.history journal.old.b)) }
-    ensures refuses { IfErr result (λ e. IsRefusalOfMigration journal.old e) }
+    ensures refuses { IfErr result (λ e. IsRefusalOfMigration saved.now.profile journal.old e) }
     ensures disks { CallsDisks D.honest D.history D.faults journal.old journal.new StartError.Broken result }
 {
     // As long as the journal isn't spent, the files say its content.
     let _spent = journal.is_spent();
-    if journal.layout() == LAYOUT {
+    if journal.layout() == layout_number(saved.profile()) {
         return Ok(false);
     }
     if journal.generation() == u64::MAX {
@@ -86,7 +118,8 @@ fn migrate<D: Disk>(
 }
 
 impl<D: Disk> Live<D> {
-    // A stage over a journal whose files stand for this state. A journal of an old layout is brought to the present one first.
+    // A stage over a journal in whose files this state was found. A journal of another layout than the profile of the state writes is
+    // brought to that first.
     pub(super) fn over(
         alloc: Global,
         journal: Journal<D>,
@@ -96,15 +129,15 @@ impl<D: Disk> Live<D> {
     ) -> Result<Live<D>, Refused<D>>
         requires room { 2097152 ≤ vec_capacity room }
         requires usable { journal.is_spent ≡ false }
-        requires stands { D.honest journal.a → D.honest journal.b → state_of (Some journal.content) ≡ Some saved }
+        requires stands { D.honest journal.a → D.honest journal.b → taken_state saved.profile journal.content ≡ Some saved }
         ensures begun { IfOk result (λ live. IsBegun saved live) }
         ensures over { D.honest journal.a → D.honest journal.b → IfOk result (λ live. IsOver D.history journal.content live) }
         ensures same_state { D.honest journal.a → D.honest journal.b → MatchResult result
-            (λ live. AllFindSince (λ f. f ≡ Some saved)
+            (λ live. AllOpenSince saved.profile (λ f. f ≡ Some saved)
             (D.history live.a) (length (D.history journal.a)) (D.history live.b) (length (D.history journal.b)))
-            (λ e. AllFindSince (λ f. f ≡ Some saved)
+            (λ e. AllOpenSince saved.profile (λ f. f ≡ Some saved)
             (D.history e.a) (length (D.history journal.a)) (D.history e.b) (length (D.history journal.b))) }
-        ensures refuses { IfErr result (λ e. IsRefusalOfMigration journal e.error) }
+        ensures refuses { IfErr result (λ e. IsRefusalOfMigration saved.profile journal e.error) }
         ensures fault { MatchResult result (λ live. SameFaults D.faults journal.a journal.b live.a live.b)
             (λ e. D.honest journal.a → D.honest journal.b → e.error ≡ StartError.Broken
             → HasFailed D.faults journal.a journal.b e.a e.b) }

@@ -4,14 +4,15 @@ use Rattle.std.proofs.Common.{refl, sym, ap, subst, ◌∙◌}
 use Rattle.std.specs.Str.{bytes_eq}
 use Rattle.command_text.specs.AnswerNames.{database_lines}
 use Rattle.command_text.specs.AnswerStatus.{job_line}
-use Rattle.command_text.specs.declared.command.database.DatabaseCommand.TheVariants.{Update}
 use Rattle.command_text.specs.declared.refusal.CommandRefusal.TheVariants.{AlreadyUpdating}
+use Rattle.profile.specs.declared.profile.Profile.{Profile}
 use Rattle.song_db.specs.Duration.{total_of}
 use Rattle.song_db.specs.Place.{place_of}
 use Rattle.song_db.specs.Query.{values_of}
 use Rattle.song_db.specs.Row.{Row}
 use Rattle.song_files.specs.declared.tag.Tag.TheVariants.{Artist, Album}
-use Rattle.machine_core.specs.Database.{all_below, begun, database_meaning, next_job, statistics}
+use Rattle.state_codec.specs.Spelling.{ops_bytes}
+use Rattle.machine_core.specs.Database.{all_below, begins_job, begun, next_job, statistics}
 use Rattle.machine_core.specs.Lent.{lent}
 use Rattle.machine_core.specs.Meaning.{Meaning, Meant, begins, says}
 use Rattle.machine_core.specs.State.{MachineState}
@@ -32,25 +33,23 @@ same_all_below detail path songs = by_cases (bytes_eq path.now [] || bytes_eq pa
   by_cases false is = rw is
 
 -- a job runs already
-pub runs_already : (place : Option (List ℕ)) (m : MachineState) (w : Work) → m.job.runs ≡ true
-    → Performs {T = Unit {0}} (database_meaning (Update place) m) m m w w (Err (Refused AlreadyUpdating))
-unfolding database_meaning
-runs_already place m w runs = is_refused AlreadyUpdating _ m w (rw runs)
+pub runs_already : (place : Option (List ℕ)) (all : Bool) (m : MachineState) (w : Work) → m.job.runs ≡ true
+    → Performs {T = Unit {0}} (begins_job place all m) m m w w (Err (Refused AlreadyUpdating))
+runs_already place all m w runs = is_refused AlreadyUpdating _ m w (rw runs)
 
-pub update_begins : (place : Option (List ℕ)) (m : MachineState) → m.job.runs ≡ false
-    → database_meaning (Update place) m ≡ begins (begun (next_job m.job.number) place) (job_line (next_job m.job.number)) m
-unfolding database_meaning
-update_begins place m free = rw free
+update_begins : (place : Option (List ℕ)) (all : Bool) (m : MachineState) → m.job.runs ≡ false
+    → begins_job place all m ≡ begins (begun (next_job m.job.number) place all) (job_line (next_job m.job.number)) m
+update_begins place all m free = rw free
 
 -- a job whose lines were told begins
-pub begins_told : (job : Job) (lines : List ℕ) (m : MachineState) (w y : Work) → Went (says lines m) m w y
-    → Went (begins job lines m) (record m { job = job }) w y
-begins_told job lines m w y g = record {
+begins_told : (profile : Profile) (job : Job) (lines : List ℕ) (m : MachineState) (w y : Work) → Went profile (says lines m) m w y
+    → Went profile (begins job lines m) (record m { job = job }) w y
+begins_told profile job lines m w y g = record {
   meaning = record { text = lines; ops = []; after = record m { job = job } };
   means = refl;
   stands = refl;
   text = g.text ∙ ap (λ (x : Meaning). w.text.items ++ x.text) (sym is);
-  ops = subst (λ (x : Meaning). AddsOps x.ops w y) (sym is) g.ops;
+  ops = subst (λ (x : Meaning). AddsOps x.ops (length (ops_bytes profile x.ops)) w y) (sym is) g.ops;
   room = g.room;
 }
   where
@@ -58,18 +57,19 @@ begins_told job lines m w y g = record {
     is = cc
 
 -- so it is of the next job, told of a machine by another name
-pub job_began : (place : Option (List ℕ)) (number : ℕ) (m n : MachineState) (w y : Work) (job : Job) → n ≡ m
-    → number ≡ next_job n.job.number → n.job.runs ≡ false → job ≡ begun number place → Went (says (job_line number) m) m w y
-    → Went (database_meaning (Update place) m) (record n { job = job }) w y
-job_began place number m n w y job same is free began told =
+pub job_began : (place : Option (List ℕ)) (all : Bool) (number : ℕ) (m n : MachineState) (w y : Work) (job : Job) → n ≡ m
+    → number ≡ next_job n.job.number → n.job.runs ≡ false → job ≡ begun number place all
+    → Went m.saved.profile (says (job_line number) m) m w y → Went m.saved.profile (begins_job place all m) (record n { job = job }) w y
+job_began place all number m n w y job same is free began told =
     let next : number ≡ next_job m.job.number = is ∙ ap (λ (k : MachineState). next_job k.job.number) same in
     let runs : m.job.runs ≡ false = sym (ap (λ (k : MachineState). k.job.runs) same) ∙ free in
-    let means : begins job (job_line number) m ≡ database_meaning (Update place) m =
-    ap (λ (j : Job). begins j (job_line number) m) began ∙ ap (λ k. begins (begun k place) (job_line k) m) next
-    ∙ sym (update_begins place m runs) in
-    subst (λ (k : Meant). Went k (record n { job = job }) w y) means
-    (subst (λ (k : MachineState). Went (begins job (job_line number) m) (record k { job = job }) w y) (sym same)
-    (begins_told job (job_line number) m w y told))
+    let p = m.saved.profile in
+    let means : begins job (job_line number) m ≡ begins_job place all m =
+    ap (λ (j : Job). begins j (job_line number) m) began ∙ ap (λ k. begins (begun k place all) (job_line k) m) next
+    ∙ sym (update_begins place all m runs) in
+    subst (λ (k : Meant). Went p k (record n { job = job }) w y) means
+    (subst (λ (k : MachineState). Went p (begins job (job_line number) m) (record k { job = job }) w y) (sym same)
+    (begins_told p job (job_line number) m w y told))
 
 -- what was counted of the songs
 pub counted : (songs all : List Row) (artists albums count total : ℕ) → songs ≡ all → artists ≡ length (values_of songs Artist)

@@ -11,14 +11,13 @@ use Rattle.filter_expr.specs.Tree.{Tree}
 use Rattle.filter_expr.specs.declared.case.Case.{Case}
 use Rattle.filter_expr.specs.declared.case.Case.TheVariants.{Exact}
 use Rattle.song_db.specs.Duration.{total_of}
-use Rattle.song_db.specs.Query.{values_of}
 use Rattle.song_db.specs.Row.{Row}
 use Rattle.filter_expr.specs.Meaning.{is_match}
 use Rattle.filter_expr.specs.Order.{is_before, sorted}
 use Rattle.filter_expr.specs.declared.order.SortOrder.{SortOrder}
 use Rattle.song_files.specs.declared.tag.Tag.{Tag}
 use Rattle.machine_core.specs.Adding.{adds}
-use Rattle.machine_core.specs.Finding.{finding_meaning, matching, found, numbers_in, chosen, entries_found, value_lines}
+use Rattle.machine_core.specs.Finding.{finding_meaning, matching, found, numbers_in, chosen, entries_found, told_values, value_lines}
 use Rattle.machine_core.specs.Finding.{in_order, in_window, part_of}
 use Rattle.machine_core.specs.declared.commands.finding.part.Part.{Part}
 use Rattle.machine_core.specs.Meaning.{says}
@@ -41,7 +40,7 @@ unfolding finding_meaning
 entries_mean m case tree = refl
 
 pub values_mean : (m : MachineState) (tag : Tag) (tree : Option Tree)
-    → finding_meaning (ListTag tag tree) m ≡ says (value_lines tag (values_of (chosen tree m.saved.songs) tag)) m
+    → finding_meaning (ListTag tag tree) m ≡ says (value_lines tag (told_values (chosen tree m.saved.songs) tag)) m
 unfolding finding_meaning
 values_mean m tag tree = refl
 

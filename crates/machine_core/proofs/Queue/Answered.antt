@@ -11,6 +11,7 @@ use Rattle.command_text.specs.Answer.{Adds}
 use Rattle.command_text.specs.declared.refusal.CommandRefusal.{CommandRefusal}
 use Rattle.command_text.specs.declared.refusal.CommandRefusal.TheVariants.{RequestTooLarge}
 use Rattle.no_memory.specs.declared.NoMemory.{NoMemory as WantOfMemory}
+use Rattle.profile.specs.declared.profile.Profile.{Profile}
 use Rattle.state_codec.specs.Applied.{changes_nothing, refusal_of}
 use Rattle.state_codec.specs.Spelling.{ops_bytes}
 use Rattle.state_codec.specs.declared.op.Op.{Op}
@@ -60,20 +61,20 @@ edits_silent op m = of (told (refusal_of op m.saved))
     of (Some refusal) = tt
 
 -- the lines are nothing to the limit
-same_within : (size : ℕ) (lines : List ℕ) (meant : Meant) (refusal : CommandRefusal) → within size meant ≡ Err refusal
-    → within size (telling lines meant) ≡ Err refusal
-same_within size lines (Err other) refusal is = is
-same_within size lines (Ok x) refusal is = of (nat_le (size + length (ops_bytes x.ops)) max_request_bytes) is
+same_within : (profile : Profile) (size : ℕ) (lines : List ℕ) (meant : Meant) (refusal : CommandRefusal)
+    → within profile size meant ≡ Err refusal → within profile size (telling lines meant) ≡ Err refusal
+same_within profile size lines (Err other) refusal is = is
+same_within profile size lines (Ok x) refusal is = of (nat_le (size + length (ops_bytes profile x.ops)) max_request_bytes) is
   where
     of : (b : Bool) → (if b then Ok x else Err RequestTooLarge) ≡ Err refusal
         → (if b then Ok (record x { text = lines }) else Err RequestTooLarge) ≡ Err refusal
     of true e = cc
     of false e = e
 
-same_refusal : (size : ℕ) (lines : List ℕ) (meant : Meant) (failure : Failure) → IsRefusalOf meant size failure
-    → IsRefusalOf (telling lines meant) size failure
-same_refusal size lines meant (Refused refusal) is = same_within size lines meant refusal is
-same_refusal size lines meant NoMemory is = tt
+same_refusal : (profile : Profile) (size : ℕ) (lines : List ℕ) (meant : Meant) (failure : Failure)
+    → IsRefusalOf profile meant size failure → IsRefusalOf profile (telling lines meant) size failure
+same_refusal profile size lines meant (Refused refusal) is = same_within profile size lines meant refusal is
+same_refusal profile size lines meant NoMemory is = tt
 
 -- what stood in front of the mark stands there still
 front_stays : (mark : ℕ) (old new added : List ℕ) → mark ≡ length old → new ≡ old ++ added → take mark new ≡ old
@@ -119,9 +120,9 @@ module _ (op : Op) (lines : List ℕ) (m n : MachineState) (mark : ℕ) (w x y d
     };
     refusal =
         let before : y.size ≡ w.size = keeps.size ∙ size in
-        subst (λ (t : Meant). IsRefusalOf t w.size failure) (sym (edits_tell op lines m))
-        (same_refusal w.size lines (edits op [] m) failure
-        (subst (λ (s : ℕ). IsRefusalOf (edits op [] m) s failure) before failed.refusal));
+        subst (λ (t : Meant). IsRefusalOf m.saved.profile t w.size failure) (sym (edits_tell op lines m))
+        (same_refusal m.saved.profile w.size lines (edits op [] m) failure
+        (subst (λ (s : ℕ). IsRefusalOf m.saved.profile (edits op [] m) s failure) before failed.refusal));
   }
 
   pub was_made : (r : Result (Unit {0}) Failure) → is_err r ≡ false → Performs (edits op [] m) m n y done r

@@ -18,7 +18,7 @@ use Rattle.state_codec.specs.Changes.{is_count}
 use Rattle.state_codec.specs.OpsRows.{without_songs}
 use Rattle.state_codec.specs.OpsSettings.{same_flag}
 use Rattle.state_codec.specs.SavedState.{SavedState}
-use Rattle.state_codec.specs.Spelling.{ops_bytes}
+use Rattle.state_codec.specs.Spelling.{body_bytes}
 use Rattle.state_codec.specs.Steps.{◌>>=◌}
 use Rattle.state_codec.specs.declared.op.Op.{Op}
 use Rattle.state_codec.specs.declared.op.Op.TheVariants.{Batch}
@@ -26,13 +26,16 @@ use Rattle.state_codec.proofs.OpsUnchanged.{op_refused}
 use Rattle.stickers.specs.Sticker.{Sticker}
 use Rattle.machine_core.specs.Before.{before_of, changed_since, is_of_lists}
 use Rattle.machine_core.specs.Changed.{same_job, same_lists, same_options, same_playing, same_stickers, changed}
-use Rattle.machine_core.specs.Followed.{follows_batch}
+use Rattle.machine_core.specs.Followed.{Following, current_row, cut_to, follows_batch, no_block, of_step, step_as_they_leave}
+use Rattle.player_core.specs.Player.{PlayerState}
 use Rattle.machine_core.specs.Happening.{HasHappened, nothing_happens}
 use Rattle.machine_core.specs.Meaning.{order_ops}
-use Rattle.machine_core.specs.Scanning.{is_running, over, when_scanned, telling, changes_rows, finds, when_found}
+use Rattle.machine_core.specs.Size.{max_request_bytes}
+use Rattle.machine_core.specs.Scanning.{is_running, over, found_a_change, when_scanned, kept_changes, telling, changes_rows, finds, when_found}
 use Rattle.machine_core.specs.State.{MachineState}
 use Rattle.machine_core.specs.declared.changed.Before.{Before}
 use Rattle.machine_core.specs.declared.happened.Happened.{Happened}
+use Rattle.machine_core.proofs.Sizes.{none_short}
 use Rattle.machine_core.proofs.SameParts.{lists_decide, stickers_decide, text_itself, told_same}
 
 -- where playlists and the job's place stay, the values of before tell what changed
@@ -72,7 +75,7 @@ scan_ended job m n before happened running state is ops told = rw running (recor
   ops = ops;
   changed = told ∙ ap (λ (s : Subsystems). record s { database = m.job.has_changed_a_row }) changes;
   rebuilt = refl;
-  fits = omega arith;
+  fits = none_short m.saved.profile;
 })
   where
     after_it : MachineState
@@ -132,6 +135,28 @@ count_tells all uris = ap not (of (length all == length left) refl)
 abbrev done : List RowChange → Option ℕ → SavedState → SavedState
 done changes order s = after_all (order_ops order ++ Batch changes ∷ []) s
 
+-- the order stands apart from the rows
+order_stands : (changes : List RowChange) (order : Option ℕ) (s : SavedState)
+    → after_all (order_ops order) (after (Batch changes) s) ≡ done changes order s
+order_stands changes None s = refl
+order_stands changes (Some g) s = refl
+
+-- the rows were changed first, and then the new random order began
+pub batch_made : (changes : List RowChange) (m n : MachineState) (next : Following) (saved : SavedState) (player : PlayerState)
+    → next ≡ of_step (step_as_they_leave no_block (drops_of changes) m)
+    → n ≡ record m { saved = after (Batch changes) m.saved } → saved ≡ after_all (order_ops next.order) n.saved
+    → player ≡ cut_to (current_row n.saved next.player) next.player
+    → record n { saved = saved; player = player; job = found_a_change n.job } ≡ (changes_rows changes m).after
+batch_made changes m n next saved player is stands kept cut =
+    (λ i. record n { saved = kept i; player = cut i; job = found_a_change n.job })
+    ∙ (λ i. record (stands i) {
+      saved = after_all (order_ops (is i).order) (stands i).saved;
+      player = cut_to (current_row (stands i).saved (is i).player) (is i).player;
+      job = found_a_change (stands i).job;
+    })
+    ∙ ap (λ (s : SavedState). record m { saved = s; player = (follows_batch changes m).player; job = found_a_change m.job })
+    (order_stands changes (of_step (step_as_they_leave no_block (drops_of changes) m)).order m.saved)
+
 no_list_op : (changes : List RowChange) (order : Option ℕ) → list_any is_of_lists (order_ops order ++ Batch changes ∷ []) ≡ false
 no_list_op changes None = refl
 no_list_op changes (Some g) = refl
@@ -159,7 +184,7 @@ pub rows_changed : (changes : List RowChange) (m n : MachineState) (before : Bef
     → happened.ops.items ≡ (changes_rows changes m).ops
     → happened.changed ≡ record (changed_since before happened.ops.items n)
     { sticker = not (length m.saved.stickers == length n.saved.stickers) }
-    → length (ops_bytes (changes_rows changes m).ops) ≤ 2097152
+    → length (body_bytes m.saved.profile (changes_rows changes m).ops) ≤ max_request_bytes
     → HasHappened (changes_rows changes m) m n happened
 rows_changed changes m n before happened free state is ops told fits = record {
   state = state;
@@ -187,7 +212,7 @@ rows_changed changes m n before happened free state is ops told fits = record {
 
 -- what is found by a job that runs
 pub found_is : (job : ℕ) (changes : List RowChange) (m : MachineState) → is_running job m ≡ true
-    → when_found job changes m ≡ finds (telling m.saved.songs changes) m
+    → when_found job changes m ≡ finds (telling m.saved.songs (kept_changes m.saved.profile changes)) m
 found_is job changes m running = rw running refl
 
 -- changes of which some tell something
@@ -216,4 +241,4 @@ none_told made (change ∷ changes) is none few =
 
 pub nothing_happened : (m : MachineState) (happened : Happened) → happened.ops.items ≡ [] → happened.changed ≡ none
     → HasHappened (nothing_happens m) m m happened
-nothing_happened m happened ops told = record { state = refl; ops = ops; changed = told; rebuilt = refl; fits = omega arith }
+nothing_happened m happened ops told = record { state = refl; ops = ops; changed = told; rebuilt = refl; fits = none_short m.saved.profile }

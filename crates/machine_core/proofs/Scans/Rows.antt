@@ -1,7 +1,10 @@
 -- What one change of a batch does at its turn, and which changes tell something.
 use Rattle.std.proofs.Common.{◌≡◌, ℕ, ◌+◌, ◌-◌, ◌≤◌, Bool, true, false, cond, ◌||◌, List, [], ◌∷◌, ◌++◌, length, nat_lt}
-use Rattle.std.proofs.Common.{Option, Some, None, is_some, refl, sym, ap, ◌∙◌, arith, append_assoc, if◌then◌else◌}
+use Rattle.std.proofs.Common.{Option, Some, None, is_some, refl, sym, ap, ◌∙◌, arith, append_assoc, if◌then◌else◌, filter}
+use Rattle.std.specs.List.{list_all}
+use Rattle.std.proofs.lemmas.Bool.{and_parts}
 use Rattle.std.proofs.lemmas.List.{append-nil}
+use Rattle.profile.specs.declared.profile.Profile.{Profile}
 use Rattle.song_db.specs.Change.{IsDatabase, after_change, after_batch, uri_of}
 use Rattle.song_db.specs.Effect.{effect_of, put_effect, drop_effect, changes_a_row, is_left_out}
 use Rattle.song_db.specs.Limits.{MAX_ROWS}
@@ -11,9 +14,10 @@ use Rattle.song_db.specs.declared.change.RowChange.{RowChange}
 use Rattle.song_db.specs.declared.change.RowChange.TheVariants.{Put, Drop}
 use Rattle.song_db.specs.declared.effect.Effect.{Effect}
 use Rattle.song_db.specs.declared.effect.Effect.TheVariants.{Nothing, Came, Replaced, Went, LeftOut}
+use Rattle.state_codec.specs.Changes.{are_kept, is_kept_change}
 use Rattle.state_codec.proofs.BatchRows.{length_after, database_batch, batch_more, fit_more}
 use Rattle.state_codec.proofs.Unchanged.{none_changed}
-use Rattle.machine_core.specs.Scanning.{telling}
+use Rattle.machine_core.specs.Scanning.{kept_changes, telling}
 use Rattle.machine_core.specs.ScanningRows.{AreTold, count_told}
 
 -- what changes a row isn't left out
@@ -25,7 +29,7 @@ changes_fits (Went old) h = refl
 changes_fits (LeftOut row) h = absurd (cc)
 
 -- those that tell something are no more than all
-pub telling_few : (rows : List Row) (changes : List RowChange) → length (telling rows changes) ≤ length changes
+telling_few : (rows : List Row) (changes : List RowChange) → length (telling rows changes) ≤ length changes
 telling_few rows [] = omega arith
 telling_few rows (change ∷ changes) =
     of (changes_a_row (effect_of rows change)) (telling_few (after_change rows change) changes)
@@ -91,7 +95,7 @@ kept_one rows told change count next row database all is some =
     of false n h = absurd (cc)
 
 -- a change that is kept or not, with those behind it
-pub tell_on : (rows : List Row) (told rest more : List RowChange) (change : RowChange) → IsDatabase rows
+tell_on : (rows : List Row) (told rest more : List RowChange) (change : RowChange) → IsDatabase rows
     → more ≡ told ++ telling (after_batch rows told) (change ∷ [])
     → more ++ telling (after_batch rows more) rest ≡ told ++ telling (after_batch rows told) (change ∷ rest)
 tell_on rows told rest more change database is =
@@ -114,3 +118,69 @@ tell_on rows told rest more change database is =
     by_cases false h e =
         (λ i. (e ∙ append-nil told) i ++ telling (after_batch rows ((e ∙ append-nil told) i)) rest)
         ∙ ap (λ rs. told ++ telling rs rest) (sym (none_changed after change (database_batch rows told database) h))
+
+-- so it is where the profile keeps a part of the changes
+pub tell_kept_on : (profile : Profile) (rows : List Row) (told rest more : List RowChange) (change : RowChange) → IsDatabase rows
+    → more ≡ told ++ telling (after_batch rows told) (kept_changes profile (change ∷ []))
+    → more ++ telling (after_batch rows more) (kept_changes profile rest)
+    ≡ told ++ telling (after_batch rows told) (kept_changes profile (change ∷ rest))
+tell_kept_on profile rows told rest more change database is = of (is_kept_change profile change) is
+  where
+    others : List RowChange
+    others = kept_changes profile rest
+
+    of : (b : Bool) → more ≡ told ++ telling (after_batch rows told) (cond b (change ∷ []) [])
+        → more ++ telling (after_batch rows more) others ≡ told ++ telling (after_batch rows told) (cond b (change ∷ others) others)
+    of true e = tell_on rows told others more change database e
+    of false e = ap (λ (m : List RowChange). m ++ telling (after_batch rows m) others) (e ∙ append-nil told)
+
+-- a change that is kept, and one that isn't
+pub kept_alone : (profile : Profile) (rows : List Row) (change : RowChange) → is_kept_change profile change ≡ true
+    → telling rows (change ∷ []) ≡ telling rows (kept_changes profile (change ∷ []))
+kept_alone profile rows change kept = rw kept refl
+
+pub none_kept : (profile : Profile) (rows : List Row) (change : RowChange) (told : List RowChange)
+    → is_kept_change profile change ≡ false → told ≡ told ++ telling rows (kept_changes profile (change ∷ []))
+none_kept profile rows change told kept = rw kept (sym (append-nil told))
+
+-- all that is told is kept
+telling_all : (test : RowChange → Bool) (rows : List Row) (changes : List RowChange) → list_all test changes ≡ true
+    → list_all test (telling rows changes) ≡ true
+telling_all test rows [] all = refl
+telling_all test rows (change ∷ changes) all =
+    let parts = and_parts (test change) (list_all test changes) all in
+    of (changes_a_row (effect_of rows change)) parts.0 (telling_all test (after_change rows change) changes parts.1)
+  where
+    of : (b : Bool) → test change ≡ true → list_all test (telling (after_change rows change) changes) ≡ true
+        → list_all test (if b then change ∷ telling (after_change rows change) changes else telling (after_change rows change) changes)
+        ≡ true
+    of true one rest = rw (one, rest) refl
+    of false one rest = rest
+
+filter_all : (test : RowChange → Bool) (changes : List RowChange) → list_all test (filter test changes) ≡ true
+filter_all test [] = refl
+filter_all test (change ∷ changes) = of (test change) refl (filter_all test changes)
+  where
+    of : (b : Bool) → test change ≡ b → list_all test (filter test changes) ≡ true
+        → list_all test (cond b (change ∷ filter test changes) (filter test changes)) ≡ true
+    of true one rest = rw (one, rest) refl
+    of false one rest = rest
+
+pub telling_kept : (profile : Profile) (rows : List Row) (changes : List RowChange)
+    → are_kept profile (telling rows (kept_changes profile changes)) ≡ true
+telling_kept profile rows changes =
+    telling_all (is_kept_change profile) rows (kept_changes profile changes) (filter_all (is_kept_change profile) changes)
+
+kept_few : (profile : Profile) (changes : List RowChange) → length (kept_changes profile changes) ≤ length changes
+kept_few profile [] = omega arith
+kept_few profile (change ∷ changes) = of (is_kept_change profile change) (kept_few profile changes)
+  where
+    of : (b : Bool) → length (kept_changes profile changes) ≤ length changes
+        → length (cond b (change ∷ kept_changes profile changes) (kept_changes profile changes)) ≤ length (change ∷ changes)
+    of true few = omega (arith, few)
+    of false few = omega (arith, few)
+
+-- and no more than all
+pub told_few : (profile : Profile) (rows : List Row) (changes : List RowChange)
+    → length (telling rows (kept_changes profile changes)) ≤ length changes
+told_few profile rows changes = omega (arith, telling_few rows (kept_changes profile changes), kept_few profile changes)

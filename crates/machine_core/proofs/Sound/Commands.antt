@@ -18,7 +18,7 @@ use Rattle.machine_core.specs.Followed.{current_row, followed}
 use Rattle.machine_core.specs.Happening.{nothing_happens}
 use Rattle.machine_core.specs.Meaning.{Meaning, order_ops}
 use Rattle.machine_core.specs.Reports.{fed_in, broken_in, when_fed, when_ended, when_broken}
-use Rattle.machine_core.specs.Scanning.{is_running, telling, finds, ends_scan, when_found, when_scanned}
+use Rattle.machine_core.specs.Scanning.{is_running, kept_changes, telling, finds, ends_scan, when_found, when_scanned}
 use Rattle.machine_core.specs.Sound.{IsSoundPlayer, IsSound}
 use Rattle.machine_core.specs.State.{MachineState, settings_of}
 use Rattle.machine_core.specs.Steps.{current_length, puts}
@@ -105,8 +105,8 @@ pub when_found_sound : (job : ℕ) (changes : List RowChange) (m : MachineState)
     IsSound h.after
 when_found_sound job changes m sound = of (is_running job m)
   where
-    of : (b : Bool) → let h = cond b (finds (telling m.saved.songs changes) m) (nothing_happens m) in IsSound h.after
-    of true = finds_sound (telling m.saved.songs changes) m sound
+    of : (b : Bool) → let h = cond b (finds (telling m.saved.songs (kept_changes m.saved.profile changes)) m) (nothing_happens m) in IsSound h.after
+    of true = finds_sound (telling m.saved.songs (kept_changes m.saved.profile changes)) m sound
     of false = sound
 
 pub when_scanned_sound : (job : ℕ) (m : MachineState) → IsSound m → let h = when_scanned job m in IsSound h.after

@@ -19,7 +19,7 @@ use Rattle.machine_core.specs.Followed.{current_row, followed}
 use Rattle.machine_core.specs.Happening.{nothing_happens}
 use Rattle.machine_core.specs.Meaning.{Meaning, order_ops}
 use Rattle.machine_core.specs.Reports.{broken_in, fed_in, when_broken, when_ended, when_fed}
-use Rattle.machine_core.specs.Scanning.{ends_scan, finds, is_running, telling, when_found, when_scanned}
+use Rattle.machine_core.specs.Scanning.{ends_scan, finds, is_running, kept_changes, telling, when_found, when_scanned}
 use Rattle.machine_core.specs.Sound.{IsSoundMachine, IsWithinSong}
 use Rattle.machine_core.specs.State.{MachineState}
 use Rattle.machine_core.specs.Steps.{moves, puts, step_in}
@@ -138,12 +138,12 @@ when_found_holds job changes m holds = record {
   frame = frame_of (is_running job m);
 }
   where
-    queue_of : (b : Bool) → let h = cond b (finds (telling m.saved.songs changes) m) (nothing_happens m) in IsQueue h.after.saved.queue
-    queue_of true = finds_queue (telling m.saved.songs changes) m holds.queue
+    queue_of : (b : Bool) → let h = cond b (finds (telling m.saved.songs (kept_changes m.saved.profile changes)) m) (nothing_happens m) in IsQueue h.after.saved.queue
+    queue_of true = finds_queue (telling m.saved.songs (kept_changes m.saved.profile changes)) m holds.queue
     queue_of false = holds.queue
 
-    frame_of : (b : Bool) → let h = cond b (finds (telling m.saved.songs changes) m) (nothing_happens m) in IsWithinSong h.after
-    frame_of true = finds_within (telling m.saved.songs changes) m holds.frame
+    frame_of : (b : Bool) → let h = cond b (finds (telling m.saved.songs (kept_changes m.saved.profile changes)) m) (nothing_happens m) in IsWithinSong h.after
+    frame_of true = finds_within (telling m.saved.songs (kept_changes m.saved.profile changes)) m holds.frame
     frame_of false = holds.frame
 
 pub when_scanned_holds : (job : ℕ) (m : MachineState) → IsSoundMachine m → let h = when_scanned job m in IsSoundMachine h.after

@@ -2,12 +2,12 @@
 ghost use Rattle.std.specs.Prelude.{◌≡◌, [], true, false, not, flat_map, unwrap_or};
 ghost use Rattle.command_text.specs.AnswerNames.{listed_commands, tag_type_line};
 ghost use Rattle.command_text.specs.AnswerStatus.{job_line};
-ghost use Rattle.command_text.specs.declared.command.database.DatabaseCommand.TheVariants.{Update};
+ghost use Rattle.profile.specs.Profile.{tags_of};
 ghost use Rattle.song_db.specs.Change.{has_uri};
 ghost use Rattle.song_db.specs.Query.{is_folder};
 ghost use Rattle.song_db.specs.Row.{row_at};
 ghost use Rattle.song_files.specs.TagSet.{tags_in};
-ghost use Rattle.machine_core.specs.Database.{database_meaning, folder_info, info_at, all_at, all_below, statistics};
+ghost use Rattle.machine_core.specs.Database.{database_meaning, begins_job, folder_info, info_at, all_at, all_below, statistics};
 ghost use Rattle.machine_core.specs.Meaning.{answers, says};
 ghost use Rattle.machine_core.specs.Memory.{database_takes_memory};
 ghost use Rattle.machine_core.specs.Work.{HasRoom, Performs, command_room};
@@ -21,7 +21,6 @@ use command_text::{
     CommandRefusal, DatabaseCommand, Text, write_commands, write_job, write_song, write_statistics,
 };
 use song_db::{Place, Uri};
-use song_files::TagSet;
 use std::alloc::Global;
 
 // The path that is named, or the empty one, which is the root.
@@ -71,8 +70,9 @@ impl Machine {
             DatabaseCommand::ListInfo(path) => self.list_info(alloc, path_or_root(&path), work),
             DatabaseCommand::NotCommands => Ok(()),
             DatabaseCommand::Stats => self.put_statistics(alloc, work),
+            DatabaseCommand::Rescan(place) => self.begin_job(place, true, work),
             DatabaseCommand::TagTypes => self.list_tag_types(work),
-            DatabaseCommand::Update(place) => self.begin_job(place, work),
+            DatabaseCommand::Update(place) => self.begin_job(place, false, work),
         }
     }
 
@@ -87,10 +87,11 @@ impl Machine {
 
     // `tagtypes`
     fn list_tag_types(&self, work: &mut Work) -> Result<(), Failure>
-        ensures { Performs (says (flat_map tag_type_line (tags_in TagSet.SIX)) self.now) self.now self.now work.old work.new result }
+        ensures { Performs (says (flat_map tag_type_line (tags_in (tags_of self.now.saved.profile))) self.now)
+            self.now self.now work.old work.new result }
     {
         let mark = work.text.len();
-        let written = write_tag_types(&mut work.text, TagSet::SIX);
+        let written = write_tag_types(&mut work.text, self.saved.profile().tags());
         work.keep(mark, written)
     }
 
@@ -114,10 +115,15 @@ impl Machine {
         work.keep(mark, written)
     }
 
-    // `update`: a job begins, unless one runs.
-    fn begin_job(&mut self, place: Option<Uri>, work: &mut Work) -> Result<(), Failure>
+    // `update` and `rescan`, which opens every file: a job begins, unless one runs.
+    fn begin_job(
+        &mut self,
+        place: Option<Uri>,
+        opens_all: bool,
+        work: &mut Work,
+    ) -> Result<(), Failure>
         requires { HasRoom command_room work.old }
-        ensures performs { Performs (database_meaning (Update place) self.old) self.old self.new work.old work.new result }
+        ensures performs { Performs (begins_job place opens_all self.old) self.old self.new work.old work.new result }
         ensures memory { result ≡ Err Failure.NoMemory → not self.old.job.runs ≡ true }
     {
         if self.job.runs {
@@ -125,7 +131,7 @@ impl Machine {
         }
         let number = self.job.next_number();
         self.tell_job(number, work)?;
-        self.job = Job::begun(number, place);
+        self.job = Job::begun(number, place, opens_all);
         Ok(())
     }
 

@@ -5,8 +5,7 @@ ghost use Rattle.command_text.specs.declared.command.finding.FindingCommand.TheV
 ghost use Rattle.filter_expr.specs.declared.case.Case.TheVariants.{Exact, Folded};
 ghost use Rattle.song_db.specs.Duration.{total_of};
 ghost use Rattle.song_db.specs.Limits.{MAX_ROWS};
-ghost use Rattle.song_db.specs.Query.{values_of};
-ghost use Rattle.machine_core.specs.Finding.{finding_meaning, matching, found, in_window, chosen, numbers_in};
+ghost use Rattle.machine_core.specs.Finding.{finding_meaning, matching, found, in_window, numbers_in};
 ghost use Rattle.machine_core.specs.Work.{HasRoom, Performs, command_room};
 
 use super::lists::list_name;
@@ -16,18 +15,18 @@ use crate::named::row_numbers;
 use crate::work::{Failure, Work};
 use command_text::{FindingCommand, NoMemory, Search, Window, write_counts};
 use filter_expr::{Case, Filter, SortOrder, window};
-use gathering::{
-    all_numbers, matching_rows, matching_values, numbers_by_uri, numbers_of, sorted_rows,
-};
+use gathering::{all_numbers, matching_rows, numbers_by_uri, numbers_of, sorted_rows};
 use play_queue::Target;
-use song_db::{SongDb, SongRow, Texts};
+use song_db::{SongDb, SongRow};
 use song_files::Tag;
 use state_codec::{ListOp, Op, RowNumbers};
 use std::alloc::Global;
+use values::chosen_values;
 use writing::{write_by_uri, write_entries, write_values};
 
 mod gathering;
 mod part;
+mod values;
 mod writing;
 
 // How many rows match, and how many milliseconds they play together.
@@ -247,22 +246,4 @@ fn folded_numbers(alloc: Global, songs: &SongDb, filter: &Filter) -> Result<RowN
 {
     let numbers = all_numbers(alloc, songs, Case::Folded, filter)?;
     Ok(row_numbers(numbers))
-}
-
-// The values of a tag, of all rows or of those that match.
-fn chosen_values<'a>(
-    alloc: Global,
-    songs: &'a SongDb,
-    tag: Tag,
-    filter: Option<&Filter>,
-) -> Result<Texts<'a>, NoMemory>
-    ensures { IfOk result (λ values. values ≡ values_of (chosen (option_copied filter.entry) songs.now) tag) }
-{
-    match filter {
-        Some(filter) => matching_values(alloc, songs, filter, tag),
-        None => match songs.distinct(alloc, tag) {
-            Ok(values) => Ok(values),
-            Err(_) => Err(NoMemory),
-        },
-    }
 }

@@ -2,6 +2,7 @@
 ghost use Rattle.std.specs.Prelude.{◌≡◌, ℕ, None, Ok, [], IfOk, IfErr, OnOk, OnErr, IsOkUnless, if◌then◌else◌};
 ghost use Rattle.command_text.specs.declared.command.lists.ListsCommand.TheVariants as commands;
 ghost use Rattle.command_text.specs.declared.command.lists.SaveMode.TheVariants.{Create, Append, Replace};
+ghost use Rattle.profile.specs.declared.profile.Profile.{Profile};
 ghost use Rattle.state_codec.specs.Applied.{after_all};
 ghost use Rattle.state_codec.specs.Replacing.{replace_ops};
 ghost use Rattle.machine_core.specs.Lists.{lists_meaning, replaces, replaced};
@@ -78,9 +79,10 @@ impl Machine {
         let saved = Op::List(ListOp::Save {
             name: name.try_clone(alloc)?,
         });
-        work.admit_both(&gone, &saved)?;
+        let profile = self.saved.profile();
+        work.admit_both(profile, &gone, &saved)?;
         self.put_songs(alloc, name.as_str())?;
-        work.push_both(gone, saved);
+        work.push_both(profile, gone, saved);
         Ok(())
     }
 
@@ -88,7 +90,7 @@ impl Machine {
     fn would_replace(&self, name: &str) -> Result<bool, Failure>
         ensures changes { IfOk result (λ changes. replaces name.now self.now
             ≡ Ok (if changes then replaced name.now self.now else stands [] self.now)) }
-        ensures refused { (size : ℕ) → IfErr result (IsRefusalOf (replaces name.now self.now) size) }
+        ensures refused { (profile : Profile) → (size : ℕ) → IfErr result (IsRefusalOf profile (replaces name.now self.now) size) }
     {
         let _key = self.saved.key();
         self.saved.check_replace(name)?;

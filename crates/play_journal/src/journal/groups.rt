@@ -9,7 +9,7 @@ ghost use Rattle.play_journal.specs.Pair.{AllPairsSince};
 
 use super::Journal;
 use crate::appending::append_at;
-use crate::reading::LAYOUT;
+use crate::reading::is_written;
 use crate::{Group, JournalError};
 use disk_model::Disk;
 
@@ -46,7 +46,7 @@ impl<D: Disk> Journal<D> {
         if self.spent {
             return Err(JournalError::DiskFault);
         }
-        if self.layout != LAYOUT {
+        if !is_written(self.layout) {
             return Err(JournalError::OldLayout);
         }
         let Some(last) = (self.base + self.count).checked_add(group.records()) else {

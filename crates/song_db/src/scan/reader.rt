@@ -3,16 +3,17 @@ ghost use Rattle.std.specs.Prelude.{◌≡◌, ◌↔◌, ℕ, ◌+◌, ◌<◌,
 ghost use Rattle.std.specs.Prelude.{IfOk, OnOk, IsOkUnless, IsTrue};
 ghost use Rattle.song_db.specs.Batch.{IsBatch, IsRead, after_listing, after_own, visit_after};
 ghost use Rattle.song_db.specs.Found.{IsVisitIn, visited};
-ghost use Rattle.song_db.specs.Music.{music_of};
 ghost use Rattle.song_db.specs.Pending.{listed_pending, own_pending, own_prefix, still_pending, times_pending};
-ghost use Rattle.song_db.specs.Reader.{IsFilled, IsReadOn, IsSameFolder, IsSameScan};
+ghost use Rattle.song_db.specs.Music.{music_of};
+ghost use Rattle.song_db.specs.Reader.{IsFilled, IsReadOn, IsSameOrderRead, IsSameScan};
+ghost use Rattle.song_db.specs.SameFolder.{IsSameFolder};
 ghost use Rattle.song_db.specs.Scan.{is_in, IsHonestRead, IsWholeRead};
 
 use crate::change::RowChange;
 use crate::limits::MAX_CHANGES;
 use crate::refusal::SongDbError;
 use crate::scan::droppable::Droppable;
-use crate::scan::found::{found_in, settle};
+use crate::scan::found::{found_at, settle};
 use crate::scan::visit::{Visit, visit_of};
 use crate::scan::walk::{FolderWalk, prefix_of};
 use crate::uri::Uri;
@@ -33,7 +34,7 @@ impl Reader {
     pub(crate) fn is_at_end(&mut self) -> bool
         ensures same { self.new ≡ self.old }
         ensures end { IsTrue result
-            ↔ ((self.old.is_begun ≡ true) × (self.old.walk.pending ≡ []) × (self.old.droppable ≡ [])) }
+            ↔ ((self.old.is_begun ≡ true) × (self.old.walk.pending ≡ []) × (self.old.droppable.left ≡ [])) }
     {
         self.is_begun && self.walk.is_at_end() && self.droppable.is_at_end()
     }
@@ -45,18 +46,22 @@ impl Reader {
         folder: &mut F,
     ) -> Result<Vec<RowChange>, SongDbError>
         requires { self.old.is_begun ≡ false → self.old.walk.pending ≡ [] }
-        ensures rules { self.new.walk.rules ≡ self.old.walk.rules }
-        ensures place { self.new.walk.place ≡ self.old.walk.place }
+        ensures order { IsSameOrderRead self.old self.new }
         ensures few { IfOk result (λ changes. length changes.items ≤ MAX_CHANGES) }
-        ensures read { IfOk result (λ changes. IsRead self.old.walk.rules self.old.walk.place self.old.droppable self.new.droppable changes.items) }
+        ensures read { IfOk result (λ changes. IsRead self.old.walk.rules self.old.walk.place self.old.droppable.left
+            self.new.droppable.left changes.items) }
         ensures last { IfOk result (λ changes. length changes.items < MAX_CHANGES →
-            (self.new.walk.pending ≡ []) × (self.new.droppable ≡ [])) }
+            (self.new.walk.pending ≡ []) × (self.new.droppable.left ≡ [])) }
         ensures begun { IfOk result (λ changes. self.new.is_begun ≡ true) }
-        ensures honest_read { F.honest folder.old → IfOk result (λ changes. IsHonestRead (music_of self.old.walk.rules (F.files folder.old)) self.old.walk.place
-            (still_pending self.old.is_begun self.old.walk) self.new.walk.pending self.old.droppable self.new.droppable changes.items) }
+        ensures honest_read { F.honest folder.old → IfOk result (λ changes. IsHonestRead
+            (music_of self.old.walk.rules self.old.droppable.known (F.files folder.old)) self.old.walk.place
+            (still_pending self.old.is_begun self.old.walk) self.new.walk.pending
+            self.old.droppable.left self.new.droppable.left changes.items) }
         ensures whole_read { F.honest folder.old → F.steady folder.old →
-            IfOk result (λ changes. IsWholeRead (music_of self.old.walk.rules (F.files folder.old)) self.old.walk.place
-            (still_pending self.old.is_begun self.old.walk) self.new.walk.pending self.old.droppable self.new.droppable changes.items) }
+            IfOk result (λ changes. IsWholeRead
+            (music_of self.old.walk.rules self.old.droppable.known (F.files folder.old)) self.old.walk.place
+            (still_pending self.old.is_begun self.old.walk) self.new.walk.pending
+            self.old.droppable.left self.new.droppable.left changes.items) }
         ensures folder { IsSameFolder F.honest F.steady F.files folder.old folder.new }
         ensures only { IsOkUnless result SongDbError.NoMemory }
     {
@@ -84,11 +89,13 @@ impl Reader {
         ensures scan { IsSameScan self.old self.new }
         ensures capacity { vec_capacity changes.new ≡ vec_capacity changes.old }
         ensures few { vec_len changes.new ≤ vec_len changes.old + 1 }
-        ensures batch { (start : List (List ℕ)) → IsBatch self.old.walk.rules self.old.walk.place start self.old.droppable changes.old.items →
-            OnOk result (IsBatch self.old.walk.rules self.old.walk.place start self.new.droppable changes.new.items) }
-        ensures read { F.honest folder.old → OnOk result (IsReadOn (music_of self.old.walk.rules (F.files folder.old)) (F.steady folder.old) self.old.walk.place
-            (own_pending self.old.walk.place) self.old.droppable changes.old.items
-            self.new.walk.pending self.new.droppable changes.new.items) }
+        ensures batch { (start : List (List ℕ)) →
+            IsBatch self.old.walk.rules self.old.walk.place start self.old.droppable.left changes.old.items →
+            OnOk result (IsBatch self.old.walk.rules self.old.walk.place start self.new.droppable.left changes.new.items) }
+        ensures read { F.honest folder.old → OnOk result (IsReadOn
+            (music_of self.old.walk.rules self.old.droppable.known (F.files folder.old)) (F.steady folder.old) self.old.walk.place
+            (own_pending self.old.walk.place) self.old.droppable.left changes.old.items
+            self.new.walk.pending self.new.droppable.left changes.new.items) }
         ensures folder { IsSameFolder F.honest F.steady F.files folder.old folder.new }
         ensures only { IsOkUnless result SongDbError.NoMemory }
     {
@@ -110,11 +117,13 @@ impl Reader {
         ensures capacity { vec_capacity changes.new ≡ vec_capacity changes.old }
         ensures few { vec_len changes.new ≤ MAX_CHANGES }
         ensures filled { IfOk result (λ is_full. IsFilled is_full (vec_len changes.new) self.new.walk.pending) }
-        ensures batch { (start : List (List ℕ)) → IsBatch self.old.walk.rules self.old.walk.place start self.old.droppable changes.old.items →
-            OnOk result (IsBatch self.old.walk.rules self.old.walk.place start self.new.droppable changes.new.items) }
-        ensures read { F.honest folder.old → OnOk result (IsReadOn (music_of self.old.walk.rules (F.files folder.old)) (F.steady folder.old) self.old.walk.place
-            self.old.walk.pending self.old.droppable changes.old.items
-            self.new.walk.pending self.new.droppable changes.new.items) }
+        ensures batch { (start : List (List ℕ)) →
+            IsBatch self.old.walk.rules self.old.walk.place start self.old.droppable.left changes.old.items →
+            OnOk result (IsBatch self.old.walk.rules self.old.walk.place start self.new.droppable.left changes.new.items) }
+        ensures read { F.honest folder.old → OnOk result (IsReadOn
+            (music_of self.old.walk.rules self.old.droppable.known (F.files folder.old)) (F.steady folder.old) self.old.walk.place
+            self.old.walk.pending self.old.droppable.left changes.old.items
+            self.new.walk.pending self.new.droppable.left changes.new.items) }
         ensures folder { IsSameFolder F.honest F.steady F.files folder.old folder.new }
         ensures only { IsOkUnless result SongDbError.NoMemory }
     {
@@ -134,10 +143,9 @@ impl Reader {
 
     // Nothing more is read or dropped.
     pub(crate) fn give_up(&mut self)
-        ensures rules { self.new.walk.rules ≡ self.old.walk.rules }
-        ensures place { self.new.walk.place ≡ self.old.walk.place }
+        ensures order { IsSameOrderRead self.old self.new }
         ensures pending { self.new.walk.pending ≡ [] }
-        ensures droppable { self.new.droppable ≡ [] }
+        ensures droppable { self.new.droppable.left ≡ [] }
         ensures begun { self.new.is_begun ≡ true }
     {
         self.is_begun = true;
@@ -158,18 +166,19 @@ impl Reader {
         ensures scan { IsSameScan self.old self.new }
         ensures capacity { vec_capacity changes.new ≡ vec_capacity changes.old }
         ensures few { vec_len changes.new ≤ vec_len changes.old + 1 }
-        ensures batch { (start : List (List ℕ)) → IsBatch self.old.walk.rules self.old.walk.place start self.old.droppable changes.old.items →
-            OnOk result (IsBatch self.old.walk.rules self.old.walk.place start self.new.droppable changes.new.items) }
-        ensures read { F.honest folder.old → OnOk result (IsReadOn (music_of self.old.walk.rules (F.files folder.old)) (F.steady folder.old) self.old.walk.place
-            (visited visit ++ self.old.walk.pending) self.old.droppable changes.old.items
-            self.new.walk.pending self.new.droppable changes.new.items) }
+        ensures batch { (start : List (List ℕ)) →
+            IsBatch self.old.walk.rules self.old.walk.place start self.old.droppable.left changes.old.items →
+            OnOk result (IsBatch self.old.walk.rules self.old.walk.place start self.new.droppable.left changes.new.items) }
+        ensures read { F.honest folder.old → OnOk result (IsReadOn
+            (music_of self.old.walk.rules self.old.droppable.known (F.files folder.old)) (F.steady folder.old) self.old.walk.place
+            (visited visit ++ self.old.walk.pending) self.old.droppable.left changes.old.items
+            self.new.walk.pending self.new.droppable.left changes.new.items) }
         ensures folder { IsSameFolder F.honest F.steady F.files folder.old folder.new }
         ensures only { IsOkUnless result SongDbError.NoMemory }
     {
         match visit {
             Visit::File(uri) => {
-                let opened = folder.open(alloc, uri.as_str());
-                let found = found_in(alloc, self.walk.rules(), uri, opened)?;
+                let found = found_at(alloc, folder, self.walk.rules(), &self.droppable, uri)?;
                 settle(&mut self.droppable, changes, found);
                 Ok(())
             }
@@ -189,10 +198,8 @@ impl Reader {
         listing: Result<Option<Vec<FolderEntry>>, FolderFault>,
     ) -> Result<(), SongDbError>
         requires { is_in self.old.walk.place uri.now ≡ true }
-        ensures rules { self.new.walk.rules ≡ self.old.walk.rules }
-        ensures place { self.new.walk.place ≡ self.old.walk.place }
-        ensures begun { self.new.is_begun ≡ self.old.is_begun }
-        ensures droppable { OnOk result (self.new.droppable ≡ after_listing uri.now listing self.old.droppable) }
+        ensures scan { IsSameScan self.old self.new }
+        ensures droppable { OnOk result (self.new.droppable.left ≡ after_listing uri.now listing self.old.droppable.left) }
         ensures pending { OnOk result ((path : List ℕ) → times_pending self.new.walk.pending path
             ≡ times_pending (listed_pending (uri.now ++ 47 ∷ []) listing) path + times_pending self.old.walk.pending path) }
         ensures memory { listing ≡ Err FolderFault.NoMemory → result ≡ Err SongDbError.NoMemory }
@@ -216,10 +223,8 @@ impl Reader {
         alloc: Global,
         listing: Result<Option<Vec<FolderEntry>>, FolderFault>,
     ) -> Result<Visit, SongDbError>
-        ensures rules { self.new.walk.rules ≡ self.old.walk.rules }
-        ensures place { self.new.walk.place ≡ self.old.walk.place }
-        ensures begun { self.new.is_begun ≡ self.old.is_begun }
-        ensures droppable { OnOk result (self.new.droppable ≡ after_own listing self.old.droppable) }
+        ensures scan { IsSameScan self.old self.new }
+        ensures droppable { OnOk result (self.new.droppable.left ≡ after_own listing self.old.droppable.left) }
         ensures pending { OnOk result ((path : List ℕ) → times_pending self.new.walk.pending path
             ≡ times_pending (listed_pending (own_prefix self.old.walk.place) listing) path + times_pending self.old.walk.pending path) }
         ensures memory { listing ≡ Err FolderFault.NoMemory → result ≡ Err SongDbError.NoMemory }

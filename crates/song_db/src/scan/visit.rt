@@ -4,6 +4,7 @@ ghost use Rattle.song_db.specs.Endings.{has_ending, is_named};
 ghost use Rattle.song_db.specs.Found.{visit_of};
 ghost use Rattle.song_db.specs.Name.{folders_over, is_song};
 
+use crate::decoded::is_decoded;
 use crate::limits::MAX_FOLDERS;
 use crate::rules::{Endings, LibraryRules};
 use crate::uri::Uri;
@@ -43,7 +44,10 @@ fn is_song(rules: LibraryRules, path: &str) -> bool
 fn is_named(endings: Endings, path: &[u8]) -> bool
     ensures { result ≡ is_named endings path.now }
 {
-    ends_as_wav(path) || endings.wave && ends_as_wave(path) || endings.flac && ends_as_flac(path)
+    ends_as_wav(path)
+        || endings.wave && ends_as_wave(path)
+        || endings.flac && ends_as_flac(path)
+        || endings.decoded && is_decoded(path)
 }
 
 fn ends_as_wav(path: &[u8]) -> bool

@@ -1,9 +1,10 @@
 // The changes of rows that a batch of a scan brings: no more than a batch has, each of them sound.
-ghost use Rattle.std.specs.Prelude.{◌≡◌, ◌++◌, length, Some, None, if◌then◌else◌, IfOk, OnOk};
+ghost use Rattle.std.specs.Prelude.{◌≡◌, ◌++◌, length, Some, None, if◌then◌else◌, IfOk, IfSome, OnOk};
 ghost use Rattle.std.specs.List.{All};
-ghost use Rattle.state_codec.specs.Changes.{is_count, AreChanges, IsChange, IsSavedRow};
+ghost use Rattle.state_codec.specs.Changes.{is_count, AreChanges, IsChange, IsSavedRow, IsSavedStamp};
 
 use song_db::{MAX_CHANGES, RowChange, SongRow};
+use song_files::FileStamp;
 use std::alloc::{AllocError, Global};
 use std::marker::Model;
 
@@ -112,4 +113,16 @@ fn row_is_sound(row: &SongRow)
     let info = row.info();
     let _first_byte = info.first_byte;
     let _frames = info.frames;
+    let _tags = row.tags().len();
+    stamp_is_sound(row.stamp());
+}
+
+// Its numbers have 64 bits.
+fn stamp_is_sound(stamp: Option<FileStamp>)
+    ensures { IfSome stamp IsSavedStamp }
+{
+    if let Some(stamp) = stamp {
+        let _modified = stamp.modified;
+        let _length = stamp.length;
+    }
 }

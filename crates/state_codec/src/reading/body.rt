@@ -1,7 +1,7 @@
 // The body of a record, applied as it is read.
 ghost use Rattle.std.specs.Prelude.{◌≡◌, List, Ok, Some, OnOk, length};
 ghost use Rattle.state_codec.specs.Applied.{refusal_of, applied, applied_from};
-ghost use Rattle.state_codec.specs.Body.{body_applied, body_applied_in, GivesBody, told_place, bad_op, not_applied};
+ghost use Rattle.state_codec.specs.Body.{body_applied, body_applied_in, front_applied, GivesBody, told_place, bad_op, not_applied};
 ghost use Rattle.state_codec.specs.Editing.{AnswersApply};
 ghost use Rattle.state_codec.specs.Reading.{ops_reading};
 ghost use Rattle.state_codec.specs.declared.op.Op.{Op as AnOp};
@@ -11,6 +11,7 @@ use crate::layout::{Layout, layout_of};
 use crate::op::Op;
 use crate::refusal::{ApplyError, BodyError};
 use crate::saved::Saved;
+use crate::sealed::unsealed;
 use std::alloc::Global;
 
 // What is told of a fault in the body.
@@ -34,9 +35,9 @@ fn not_applied(place: usize, error: ApplyError) -> BodyError
 }
 
 impl Saved {
-    /// Applies the ops that the body of a record spells in a layout of the journal (1 or 2, and any other number is taken
-    /// for 2): each is read, applied in place, and then the next. Refused by `BadOp`, `DoesNotApply` and `NoMemory`; the
-    /// state is then to be given up, since ops before the one at fault were applied.
+    /// Applies the ops that the body of a record spells in a layout of the journal (1, 2 or 3, and any other number is taken
+    /// for 2): each is read, applied in place, and then the next. In layout 3 the checksum is looked at before. Refused by
+    /// `BadOp`, `DoesNotApply` and `NoMemory`; the state is then to be given up, since ops before the one at fault were applied.
     pub fn apply_body(&mut self, alloc: Global, layout: u32, body: &[u8]) -> Result<(), BodyError>
         ensures exact { GivesBody result self.new (body_applied layout body.now self.old) }
         // Of a body that spells ops: the state after all of them, or the first that doesn't apply.
@@ -56,6 +57,16 @@ impl Saved {
 
     fn apply_all(&mut self, alloc: Global, layout: Layout, body: &[u8]) -> Result<(), BodyError>
         ensures { GivesBody result self.new (body_applied_in layout body.now self.old) }
+    {
+        match unsealed(layout.profile, body) {
+            Ok(front) => self.apply_front(alloc, layout, front),
+            Err(offset) => Err(BodyError::BadOp(offset)),
+        }
+    }
+
+    // Applies the ops of bytes without their checksum.
+    fn apply_front(&mut self, alloc: Global, layout: Layout, body: &[u8]) -> Result<(), BodyError>
+        ensures { GivesBody result self.new (front_applied layout self.old body.now) }
     {
         if body.is_empty() {
             return Err(BodyError::BadOp(0));

@@ -266,7 +266,7 @@ impl Reader<'_> {
             4..=9 => Ok(Op::Queue(self.queue_op(alloc, kind)?)),
             10..=16 => Ok(Op::List(self.list_op(alloc, kind)?)),
             17..=19 => Ok(Op::Sticker(self.sticker_op(alloc, kind)?)),
-            20 => Ok(Op::Batch(self.changes(alloc)?)),
+            20 => Ok(Op::Batch(self.changes(alloc, layout.profile)?)),
             _ => Err(fault),
         }
     }

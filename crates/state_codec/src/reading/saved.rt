@@ -1,9 +1,10 @@
 // The reading of the head of a snapshot, its rows and the whole.
-ghost use Rattle.std.specs.Prelude.{◌≡◌, ◌+◌, ◌≤◌, [], IfOk, IsTrue};
+ghost use Rattle.std.specs.Prelude.{◌≡◌, ◌+◌, ◌≤◌, ◌==◌, [], IfOk, IsTrue};
 ghost use Rattle.std.specs.Int.{IsInRange};
 ghost use Rattle.play_queue.specs.Limits.{MAX_ID, MAX_VERSION};
 ghost use Rattle.song_db.specs.Last.{ends_before};
 ghost use Rattle.song_db.specs.Limits.{MAX_ROWS};
+ghost use Rattle.state_codec.specs.Fields.{such, byte_at};
 ghost use Rattle.state_codec.specs.Given.{Gives, GivesParts};
 ghost use Rattle.state_codec.specs.Items.{items_at};
 ghost use Rattle.state_codec.specs.Layout.{IsLayout};
@@ -15,6 +16,7 @@ use crate::layout::Layout;
 use crate::saved::{Saved, SavedParts};
 use play_queue::{MAX_ID, MAX_VERSION};
 use player_core::{Options, Volume};
+use profile::Profile;
 use song_db::{MAX_ROWS, PushError, SongDb, SongRow, Uri};
 use std::alloc::Global;
 
@@ -40,7 +42,7 @@ fn ends_before(songs: &SongDb, uri: &str) -> bool
 }
 
 impl Reader<'_> {
-    ghost use Rattle.state_codec.specs.ReadingSaved.{options_at, header_at, saved_at, parts_at};
+    ghost use Rattle.state_codec.specs.ReadingSaved.{options_at, header_at, saved_at, parts_at, before_fields};
 
     #[tactic(auto, unfolding(crate::specs::ReadingSaved::options_at))]
     fn options(&mut self, layout: Layout) -> Result<Options, ReadError>
@@ -94,21 +96,27 @@ impl Reader<'_> {
     }
 
     #[tactic(auto, unfolding(crate::specs::ReadingRows::row_at))]
-    fn next_row(&mut self, alloc: Global, songs: &SongDb) -> Result<SongRow, ReadError>
-        ensures row { Gives result self.new.rest.now (row_at (next_uri_at songs.now) self.old.rest.now) }
+    fn next_row(
+        &mut self,
+        alloc: Global,
+        profile: Profile,
+        songs: &SongDb,
+    ) -> Result<SongRow, ReadError>
+        ensures row { Gives result self.new.rest.now (row_at profile (next_uri_at songs.now) self.old.rest.now) }
         ensures behind { IfOk result (λ row. IsTrue (ends_before songs.now row.uri)) }
     {
         let uri = self.next_uri(alloc, songs)?;
-        self.rest_of_row(alloc, uri)
+        self.rest_of_row(alloc, profile, uri)
     }
 
-    fn rows(&mut self, alloc: Global, count: u32) -> Result<SongDb, ReadError>
+    fn rows(&mut self, alloc: Global, profile: Profile, count: u32) -> Result<SongDb, ReadError>
         requires { count ≤ MAX_ROWS }
-        ensures { Gives result self.new.rest.now (items_at (λ known. row_at (next_uri_at known)) count [] self.old.rest.now) }
+        ensures { Gives result self.new.rest.now (items_at (λ known. row_at profile (next_uri_at known)) count []
+            self.old.rest.now) }
     {
         let mut songs = SongDb::new(alloc);
         for _i in 0..count {
-            let row = match self.next_row(alloc, &songs) {
+            let row = match self.next_row(alloc, profile, &songs) {
                 Ok(row) => row,
                 Err(e) => return Err(e),
             };
@@ -123,11 +131,11 @@ impl Reader<'_> {
     }
 
     #[tactic(auto, unfolding(crate::specs::Items::counted_at))]
-    fn songs(&mut self, alloc: Global) -> Result<SongDb, ReadError>
-        ensures { Gives result self.new.rest.now (songs_at self.old.rest.now) }
+    fn songs(&mut self, alloc: Global, profile: Profile) -> Result<SongDb, ReadError>
+        ensures { Gives result self.new.rest.now (songs_at profile self.old.rest.now) }
     {
         let count = self.u32_within(0, MAX_ROWS as u32)?;
-        self.rows(alloc, count)
+        self.rows(alloc, profile, count)
     }
 
     #[tactic(auto, unfolding(crate::specs::ReadingSaved::parts_at))]
@@ -142,12 +150,13 @@ impl Reader<'_> {
         requires next_id { IsInRange 1 (MAX_ID + 1) header.next_id }
         ensures { GivesParts result self.new.rest.now (parts_at layout header self.old.rest.now) }
     {
-        let songs = self.songs(alloc)?;
+        let songs = self.songs(alloc, layout.profile)?;
         let queue = self.queue(alloc, layout, &songs, header.version, header.next_id)?;
         let lists = self.lists(alloc, layout)?;
         let stickers = self.stickers(alloc, &songs)?;
         let key = header.key;
         Ok(SavedParts {
+            profile: layout.profile,
             key,
             order: header.order,
             volume: header.volume,
@@ -159,7 +168,39 @@ impl Reader<'_> {
         })
     }
 
-    /// The state that the bytes spell.
+    // The fields behind the parts: as yet there is none.
+    #[tactic(auto, unfolding(crate::specs::Fields::such))]
+    fn no_fields(&mut self) -> Result<u8, ReadError>
+        ensures { Gives result self.new.rest.now (such (λ n. n == 0) byte_at self.old.rest.now) }
+    {
+        let fault = self.fault();
+        let count = self.byte()?;
+        if count != 0 {
+            return Err(fault);
+        }
+        Ok(count)
+    }
+
+    // The parts, and what stands behind them.
+    fn all_parts(
+        &mut self,
+        alloc: Global,
+        layout: Layout,
+        header: Header,
+    ) -> Result<SavedParts, ReadError>
+        requires layout { IsLayout layout }
+        requires version { IsInRange 1 MAX_VERSION header.version }
+        requires next_id { IsInRange 1 (MAX_ID + 1) header.next_id }
+        ensures { GivesParts result self.new.rest.now (before_fields layout.profile (parts_at layout header self.old.rest.now)) }
+    {
+        let parts = self.parts(alloc, layout, header)?;
+        if let Profile::Wide = layout.profile {
+            let _none = self.no_fields()?;
+        }
+        Ok(parts)
+    }
+
+    /// The state that the bytes spell, in front of their checksum.
     #[tactic(auto, unfolding(crate::specs::ReadingSaved::saved_at))]
     pub(crate) fn saved(&mut self, alloc: Global, layout: Layout) -> Result<Saved, ReadError>
         requires { IsLayout layout }
@@ -167,7 +208,7 @@ impl Reader<'_> {
     {
         are_bytes(self.rest);
         let header = self.header(layout)?;
-        let parts = self.parts(alloc, layout, header)?;
+        let parts = self.all_parts(alloc, layout, header)?;
         Ok(Saved::from_parts(parts))
     }
 }

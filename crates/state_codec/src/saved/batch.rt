@@ -7,16 +7,50 @@ ghost use Rattle.song_db.specs.Effect.{effects_of, is_left_out};
 ghost use Rattle.song_db.specs.Refusal.{refusal_of as batch_refusal};
 ghost use Rattle.song_db.specs.Row.{row_at};
 ghost use Rattle.song_db.specs.Scan.{drops_of};
+ghost use Rattle.state_codec.specs.Changes.{is_kept_change, are_kept};
 ghost use Rattle.state_codec.specs.Editing.{AnswersCheck};
+ghost use Rattle.state_codec.specs.OpsRows.{if_kept};
 ghost use Rattle.state_codec.specs.RowSteps.{row_left, count_after, is_named, says_other, changed_first, changed_by};
 ghost use Rattle.state_codec.specs.declared.refusal.OpRefusal.TheVariants.{Songs};
 
 use crate::refusal::OpRefusal;
+use profile::Profile;
 use song_db::{MAX_ROWS, RowChange, SongDb, SongDbError, SongRow, Uri};
 use std::alloc::{AllocError, Global};
 
+// Refused where a row is put that the profile doesn't keep, or a new row finds the database full at its turn.
+pub(super) fn check_changes(
+    profile: Profile,
+    songs: &SongDb,
+    changes: &[RowChange],
+) -> Result<(), OpRefusal>
+    ensures { AnswersCheck (if_kept (are_kept profile changes.now) (option_map Songs (batch_refusal (effects_of songs.now changes.now))))
+        result }
+{
+    if !are_kept(profile, changes) {
+        return Err(OpRefusal::Songs(SongDbError::DbFull));
+    }
+    check_rows(songs, changes)
+}
+
+// Whether the profile keeps each row that is put.
+fn are_kept(profile: Profile, changes: &[RowChange]) -> bool
+    ensures { result ≡ are_kept profile changes.now }
+{
+    changes.iter().all(|change| is_kept(profile, change))
+}
+
+fn is_kept(profile: Profile, change: &RowChange) -> bool
+    ensures { result ≡ is_kept_change profile change.now }
+{
+    match change {
+        RowChange::Put(row) => row.is_kept_by(profile),
+        RowChange::Drop(_) => true,
+    }
+}
+
 // Refused where a new row finds the database full at its turn.
-pub(super) fn check_rows(songs: &SongDb, changes: &[RowChange]) -> Result<(), OpRefusal>
+fn check_rows(songs: &SongDb, changes: &[RowChange]) -> Result<(), OpRefusal>
     ensures { AnswersCheck (option_map Songs (batch_refusal (effects_of songs.now changes.now))) result }
 {
     let mut count = songs.len();

@@ -19,7 +19,7 @@ ghost use Rattle.state_codec.specs.Stored.{state_of};
 ghost use Rattle.state_codec.specs.declared.refusal.OpRefusal.{OpRefusal as AnOpRefusal};
 ghost use Rattle.state_codec.specs.declared.refusal.OpRefusal.TheVariants.{Queue, Lists, Stickers};
 
-use super::batch::check_rows;
+use super::batch::check_changes;
 use super::telling::{adds_nothing, changes_rows, has_no_songs, has_value, is_set};
 use super::{Saved, SavedParts};
 use crate::op::{Changes, ListOp, Op, QueueOp, StickerOp};
@@ -143,7 +143,7 @@ fn check_batch(parts: &SavedParts, changes: &Changes) -> Result<bool, OpRefusal>
     ensures answer { AnswersCheck (rows_refusal changes.now (state_of parts.now)) result }
     ensures changes { IfOk result (λ changed. changed ≡ not (leaves_rows changes.now (state_of parts.now))) }
 {
-    check_rows(&parts.songs, changes.as_slice())?;
+    check_changes(parts.profile, &parts.songs, changes.as_slice())?;
     Ok(changes_rows(&parts.songs, changes.as_slice()))
 }
 

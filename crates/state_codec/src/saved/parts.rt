@@ -1,6 +1,7 @@
 // The parts of a saved state, each by a name.
 use play_queue::Queue;
 use player_core::{Options, Volume};
+use profile::Profile;
 use song_db::SongDb;
 use stickers::Stickers;
 use stored_lists::Lists;
@@ -8,6 +9,8 @@ use stored_lists::Lists;
 /// The parts of a saved state.
 #[derive(Debug, Drop)]
 pub struct SavedParts {
+    /// What the daemon knows of MPD.
+    pub profile: Profile,
     /// The key from which the random order is drawn.
     pub key: [u8; 32],
     /// The number of the random order that is in force.

@@ -7,7 +7,7 @@ ghost use Rattle.state_codec.specs.SavedState.{IsSavedState};
 ghost use Rattle.state_codec.specs.Stored.{state_of};
 
 use super::SavedParts;
-use super::batch::{changed_by, check_rows, dropped_by};
+use super::batch::{changed_by, check_changes, dropped_by};
 use crate::op::Changes;
 use crate::refusal::ApplyError;
 use play_queue::SortedUris;
@@ -23,7 +23,7 @@ impl SavedParts {
             (state_of self.old) (state_of self.new) result }
         ensures form { AreChanges changes.now }
     {
-        check_rows(&self.songs, changes.as_slice())?;
+        check_changes(self.profile, &self.songs, changes.as_slice())?;
         let dropped = SortedUris::new(dropped_by(alloc, changes.as_slice())?);
         let changed = SortedUris::new(changed_by(alloc, &self.songs, changes.as_slice())?);
         let copies = changes.try_clone(alloc)?;

@@ -3,6 +3,7 @@ ghost use Rattle.std.specs.Prelude.{◌≡◌, ◌+◌, ◌*◌, ◌≤◌, ◌<
 ghost use Rattle.std.specs.List.{AllByRecursion, flat_map};
 ghost use Rattle.stickers.specs.Sticker.{in_song, sticker};
 ghost use Rattle.state_codec.specs.Appended.{IsShortList, IsShortSticker};
+ghost use Rattle.state_codec.specs.Longest.{longest_end};
 ghost use Rattle.state_codec.specs.SavedState.{IsSavedState};
 ghost use Rattle.state_codec.specs.Spelling.{playlist_bytes, sticker_bytes, saved_bytes};
 ghost use Rattle.state_codec.specs.SpellingFields.{text_bytes};
@@ -12,18 +13,20 @@ use super::bytes::text_len;
 use super::ops::uri_len;
 use super::rows::row_len;
 use crate::saved::Saved;
+use crate::sealed::checksum_len;
+use profile::Profile;
 use song_db::{SongRow, Uri};
 use stickers::{SongStickers, Stickers};
 use stored_lists::{Lists, Songs};
 
-fn rows_len(rows: &[SongRow]) -> usize
+fn rows_len(profile: Profile, rows: &[SongRow]) -> usize
     requires { length rows.now ≤ 65536 }
-    ensures len { result ≡ length (flat_map row_bytes rows.now) }
+    ensures len { result ≡ length (flat_map (row_bytes profile) rows.now) }
     ensures within { result < 2 ^ 40 }
 {
     let mut len = 0;
     for row in rows {
-        len += row_len(row);
+        len += row_len(profile, row);
     }
     len
 }
@@ -93,15 +96,26 @@ fn stickers_len(stickers: &Stickers) -> usize
     len
 }
 
+// How many bytes stand behind the parts: the number of fields, and the checksum.
+fn end_len(profile: Profile) -> usize
+    ensures { result ≡ longest_end profile }
+{
+    match profile {
+        Profile::Named => 0,
+        Profile::Wide => 1 + checksum_len(profile),
+    }
+}
+
 /// How many bytes the snapshot of a saved state takes.
 pub(crate) fn saved_len(saved: &Saved) -> usize
     requires { IsSavedState saved.now }
     ensures { result ≡ length (saved_bytes saved.now) }
 {
-    let rows = rows_len(saved.songs().rows());
+    let profile = saved.profile();
+    let rows = rows_len(profile, saved.songs().rows());
     let entries = 13 * saved.queue().len();
     let lists = lists_len(saved.lists());
     let stickers = stickers_len(saved.stickers());
     // The head has 53 bytes, and each of the four parts a number of 4 in front.
-    69 + rows + entries + lists + stickers
+    69 + rows + entries + lists + stickers + end_len(profile)
 }

@@ -13,6 +13,7 @@ use super::bytes::{put_byte, put_pair, put_text, put_u32, put_u64, text_len};
 use super::rows::{changes_len, put_changes};
 use crate::op::{ListOp, Op, OpRanges, QueueOp, RowNumbers, Setting, StickerOp, Text};
 use player_core::Single;
+use profile::Profile;
 use song_db::Uri;
 use stickers::StickerValue;
 
@@ -301,9 +302,9 @@ fn put_sticker_fields(out: &mut Vec<u8>, op: &StickerOp)
 }
 
 impl Op {
-    /// How many bytes the op takes in the body of a record.
-    pub fn spelled_len(&self) -> usize
-        ensures { result ≡ length (op_bytes self.now) }
+    /// How many bytes the op takes in the body of a record under a profile.
+    pub fn spelled_len(&self, profile: Profile) -> usize
+        ensures { result ≡ length (op_bytes profile self.now) }
     {
         match self {
             Op::SetOption(_) => 3,
@@ -312,15 +313,15 @@ impl Op {
             Op::Queue(op) => 1 + queue_len(op),
             Op::List(op) => 1 + list_len(op),
             Op::Sticker(op) => 1 + sticker_len(op),
-            Op::Batch(changes) => 1 + changes_len(changes),
+            Op::Batch(changes) => 1 + changes_len(profile, changes),
         }
     }
 }
 
 // Appends the spelling of an op, which has its numbers in range and its texts in their form.
-pub(crate) fn put_reserved(out: &mut Vec<u8>, op: &Op)
-    requires { HasRoom out.old (length (op_bytes op.now)) }
-    ensures appended { Appends out.old out.new (op_bytes op.now) }
+pub(crate) fn put_reserved(out: &mut Vec<u8>, profile: Profile, op: &Op)
+    requires { HasRoom out.old (length (op_bytes profile op.now)) }
+    ensures appended { Appends out.old out.new (op_bytes profile op.now) }
     ensures form { IsOp op.now }
 {
     match op {
@@ -350,7 +351,7 @@ pub(crate) fn put_reserved(out: &mut Vec<u8>, op: &Op)
         }
         Op::Batch(changes) => {
             put_byte(out, 20);
-            put_changes(out, changes);
+            put_changes(out, profile, changes);
         }
     }
 }

@@ -17,6 +17,7 @@ use super::rows::put_row;
 use crate::saved::Saved;
 use play_queue::{Entries, EntryRef, Queue};
 use player_core::Options;
+use profile::Profile;
 use song_db::{RowUri, SongDb, SongRow, Uri};
 use stickers::{SongStickers, Stickers};
 use stored_lists::{Lists, Songs};
@@ -45,22 +46,22 @@ pub(crate) fn put_head(out: &mut Vec<u8>, saved: &Saved)
     put_options(out, saved.options());
 }
 
-fn put_rows(out: &mut Vec<u8>, rows: &[SongRow])
-    requires { HasRoom out.old (length (flat_map row_bytes rows.now)) }
-    ensures { Appends out.old out.new (flat_map row_bytes rows.now) }
+fn put_rows(out: &mut Vec<u8>, profile: Profile, rows: &[SongRow])
+    requires { HasRoom out.old (length (flat_map (row_bytes profile) rows.now)) }
+    ensures { Appends out.old out.new (flat_map (row_bytes profile) rows.now) }
 {
     for row in rows {
-        put_row(out, row);
+        put_row(out, profile, row);
     }
 }
 
 /// Appends the rows.
-pub(crate) fn put_songs(out: &mut Vec<u8>, songs: &SongDb)
-    requires { HasRoom out.old (length (list_bytes row_bytes songs.now)) }
-    ensures { Appends out.old out.new (list_bytes row_bytes songs.now) }
+pub(crate) fn put_songs(out: &mut Vec<u8>, profile: Profile, songs: &SongDb)
+    requires { HasRoom out.old (length (list_bytes (row_bytes profile) songs.now)) }
+    ensures { Appends out.old out.new (list_bytes (row_bytes profile) songs.now) }
 {
     put_u32(out, songs.len() as u32);
-    put_rows(out, songs.rows());
+    put_rows(out, profile, songs.rows());
 }
 
 // The number of the row of a URI that has one.

@@ -1,6 +1,9 @@
-use Rattle.std.proofs.Common.{refl}
+use Rattle.std.proofs.Common.{◌≡◌, refl, ap, ◌∙◌}
+use Rattle.std.specs.Prelude.{Ok, Err}
+use Rattle.state_codec.specs.SavedState.{SavedState}
 use Rattle.daemon_core.specs.Run.{separator, spent_of}
 use Rattle.daemon_core.proofs.RequestLaws.{words_stop, words_count, command_stop, command_counts, line_runs, line_looks, looks_counted}
+use Rattle.daemon_core.proofs.RequestLaws.{read_under}
 use Rattle.daemon_core.proofs.request.run_line.Goals as goal
 
 pub returns-in-Err-clause-runs : goal.returns-in-Err-clause-runs
@@ -18,30 +21,43 @@ returns-in-Err-clause-looks c =
     c.in-Err.ensures.exact c.stop_of_reading.ensures
 
 pub returns-clause-runs : goal.returns-clause-runs
-returns-clause-runs c = record {
-  stands = refl;
-  nothing = c.make_room.ensures.nothing;
-  why = command_stop c.args.place (spent_of c.args.work.now.size c.args.looks.now) c.args.line.now c.in-Ok.words.items c.as_slice.result.now
-      c.args.machine.now c.in-Err-read.error c.stop_of_reading-in-Err-read.result c.in-Ok.ensures.exact c.as_slice.ensures.value
-      c.in-Err-read.ensures.exact c.stop_of_reading-in-Err-read.ensures;
-}
+returns-clause-runs c =
+    let same : c.profile-profile.result ≡ c.args.machine.now.saved.profile =
+    c.profile-profile.ensures ∙ ap (λ (s : SavedState). s.profile) c.saved.ensures in
+    record {
+      stands = refl;
+      nothing = c.make_room.ensures.nothing;
+      why = command_stop c.args.place (spent_of c.args.work.now.size c.args.looks.now) c.args.line.now c.in-Ok.words.items
+          c.as_slice.result.now c.args.machine.now c.in-Err-read.error c.stop_of_reading-in-Err-read.result c.in-Ok.ensures.exact
+          c.as_slice.ensures.value (read_under c.args.place c.as_slice.result.now (Err c.in-Err-read.error) same
+          c.in-Err-read.ensures.exact) c.stop_of_reading-in-Err-read.ensures;
+    }
 
 pub returns-clause-looks : goal.returns-clause-looks
 returns-clause-looks c =
+    let same : c.profile-profile.result ≡ c.args.machine.now.saved.profile =
+    c.profile-profile.ensures ∙ ap (λ (s : SavedState). s.profile) c.saved.ensures in
     command_counts c.args.place c.args.line.now c.in-Ok.words.items c.as_slice.result.now c.args.machine.now c.in-Err-read.error
-    c.stop_of_reading-in-Err-read.result c.args.looks.now c.in-Ok.ensures.exact c.as_slice.ensures.value c.in-Err-read.ensures.exact
+    c.stop_of_reading-in-Err-read.result c.args.looks.now c.in-Ok.ensures.exact c.as_slice.ensures.value
+    (read_under c.args.place c.as_slice.result.now (Err c.in-Err-read.error) same c.in-Err-read.ensures.exact)
     c.stop_of_reading-in-Err-read.ensures
 
 pub returns-in-Ok-read-clause-runs : goal.returns-in-Ok-read-clause-runs
 returns-in-Ok-read-clause-runs c =
+    let same : c.profile-profile.result ≡ c.args.machine.now.saved.profile =
+    c.profile-profile.ensures ∙ ap (λ (s : SavedState). s.profile) c.saved.ensures in
     line_runs c.args.place (separator c.args.separated) c.args.line.now c.in-Ok.words.items c.as_slice.result.now c.in-Ok-read.command
     c.args.machine.now c.run_command.new.machine c.args.work.now c.make_room.new.self c.run_command.new.work
-    c.args.looks.now c.run_command.result c.in-Ok.ensures.exact c.as_slice.ensures.value c.in-Ok-read.ensures.exact
+    c.args.looks.now c.run_command.result c.in-Ok.ensures.exact c.as_slice.ensures.value
+    (read_under c.args.place c.as_slice.result.now (Ok c.in-Ok-read.command) same c.in-Ok-read.ensures.exact)
     c.make_room.ensures.nothing
     c.run_command.ensures.ran
 
 pub returns-in-Ok-read-clause-looks : goal.returns-in-Ok-read-clause-looks
 returns-in-Ok-read-clause-looks c =
+    let same : c.profile-profile.result ≡ c.args.machine.now.saved.profile =
+    c.profile-profile.ensures ∙ ap (λ (s : SavedState). s.profile) c.saved.ensures in
     looks_counted c.run_command.result c.args.looks.now c.run_command.new.looks
     (line_looks c.args.place c.args.line.now c.in-Ok.words.items c.as_slice.result.now c.in-Ok-read.command c.args.machine.now
-    c.in-Ok.ensures.exact c.as_slice.ensures.value c.in-Ok-read.ensures.exact) c.run_command.ensures.looks
+    c.in-Ok.ensures.exact c.as_slice.ensures.value
+    (read_under c.args.place c.as_slice.result.now (Ok c.in-Ok-read.command) same c.in-Ok-read.ensures.exact)) c.run_command.ensures.looks

@@ -13,48 +13,48 @@ use Rattle.filter_expr.proofs.reading.+expression.Goals as goal
 pub expression_at-returns-in_err-rest-clause-exact : goal.expression_at-returns-in_err-rest-clause-exact
 expression_at-returns-in_err-rest-clause-exact t c =
     let stop = c.in_err-rest.field-0.0 in
-    let form = expression_form c.args.room c.args.text.now in
-    gives_stop (λ x. (tree_of x.0, x.1.now)) stop c.from_residual.result (expression_at c.args.room c.args.text.now)
+    let form = expression_form c.args.profile c.args.room c.args.text.now in
+    gives_stop (λ x. (tree_of x.0, x.1.now)) stop c.from_residual.result (expression_at c.args.profile c.args.room c.args.text.now)
     (err_from_is_err_and c.from_residual.result c.from_residual.ensures.1)
     (subst (Stops stop) (sym form.1) (stops_then stop (byte_at opening c.args.text.now) form.0 c.in_err-rest.ensures.exact))
 
 pub expression_at-returns-then-room-eq0-clause-exact : goal.expression_at-returns-then-room-eq0-clause-exact
 expression_at-returns-then-room-eq0-clause-exact t c =
-    expression_deep c.args.room c.args.text.now c.in_ok-rest.rest.now c.if-room-eq0.true c.in_ok-rest.ensures.exact
+    expression_deep c.args.profile c.args.room c.args.text.now c.in_ok-rest.rest.now c.if-room-eq0.true c.in_ok-rest.ensures.exact
 
 pub expression_at-returns-then-begins_so-clause-exact : goal.expression_at-returns-then-begins_so-clause-exact
 expression_at-returns-then-begins_so-clause-exact t c =
     let inner = c.without_blanks-inner.result.now in
-    let read = expression_at (c.args.room - 1) in
-    let inside = expression_inside c.args.room c.args.text.now c.in_ok-rest.rest.now inner c.if-room-eq0.false c.in_ok-rest.ensures.exact
+    let read = expression_at c.args.profile (c.args.room - 1) in
+    let inside = expression_inside c.args.profile c.args.room c.args.text.now c.in_ok-rest.rest.now inner c.if-room-eq0.false c.in_ok-rest.ensures.exact
     c.without_blanks-inner.ensures.value in
-    let group = inside_group read inner (sym c.begins_so.ensures ∙ c.if-begins_so.true) in
+    let group = inside_group c.args.profile read inner (sym c.begins_so.ensures ∙ c.if-begins_so.true) in
     subst (Gives (λ x. (tree_of x.0, x.1.now)) c.group_at.result) (sym (inside ∙ group)) c.group_at.ensures.exact
 
 pub expression_at-returns-then-begins_so-2-clause-exact : goal.expression_at-returns-then-begins_so-2-clause-exact
 expression_at-returns-then-begins_so-2-clause-exact t c =
     let inner = c.without_blanks-inner.result.now in
-    let read = expression_at (c.args.room - 1) in
-    let inside = expression_inside c.args.room c.args.text.now c.in_ok-rest.rest.now inner c.if-room-eq0.false c.in_ok-rest.ensures.exact
+    let read = expression_at c.args.profile (c.args.room - 1) in
+    let inside = expression_inside c.args.profile c.args.room c.args.text.now c.in_ok-rest.rest.now inner c.if-room-eq0.false c.in_ok-rest.ensures.exact
     c.without_blanks-inner.ensures.value in
-    let negation = inside_negation read inner (sym c.begins_so.ensures ∙ c.if-begins_so.false)
+    let negation = inside_negation c.args.profile read inner (sym c.begins_so.ensures ∙ c.if-begins_so.false)
     (sym c.begins_so-else-begins_so.ensures ∙ c.if-begins_so-2.true) in
     subst (Gives (λ x. (tree_of x.0, x.1.now)) c.negation_at.result) (sym (inside ∙ negation)) c.negation_at.ensures.exact
 
 pub expression_at-returns-else-begins_so-2-clause-exact : goal.expression_at-returns-else-begins_so-2-clause-exact
 expression_at-returns-else-begins_so-2-clause-exact t c =
     let inner = c.without_blanks-inner.result.now in
-    let read = expression_at (c.args.room - 1) in
-    let inside = expression_inside c.args.room c.args.text.now c.in_ok-rest.rest.now inner c.if-room-eq0.false c.in_ok-rest.ensures.exact
+    let read = expression_at c.args.profile (c.args.room - 1) in
+    let inside = expression_inside c.args.profile c.args.room c.args.text.now c.in_ok-rest.rest.now inner c.if-room-eq0.false c.in_ok-rest.ensures.exact
     c.without_blanks-inner.ensures.value in
-    let test = inside_test read inner (sym c.begins_so.ensures ∙ c.if-begins_so.false)
+    let test = inside_test c.args.profile read inner (sym c.begins_so.ensures ∙ c.if-begins_so.false)
     (sym c.begins_so-else-begins_so.ensures ∙ c.if-begins_so-2.false) in
     subst (Gives (λ x. (tree_of x.0, x.1.now)) c.test_at.result) (sym (inside ∙ test)) c.test_at.ensures.exact
 
 pub group_at-returns-in_err-tree-clause-exact : goal.group_at-returns-in_err-tree-clause-exact
 group_at-returns-in_err-tree-clause-exact t c =
     let stop = c.in_err-tree.field-0.0 in
-    let read = expression_at c.args.room in
+    let read = expression_at c.args.profile c.args.room in
     gives_stop (λ x. (tree_of x.0, x.1.now)) stop c.from_residual.result (group_at read c.args.text.now)
     (err_from_is_err_and c.from_residual.result c.from_residual.ensures.1)
     (subst (Stops stop) (sym (group_form read c.args.text.now))
@@ -62,7 +62,7 @@ group_at-returns-in_err-tree-clause-exact t c =
 
 pub group_at-others-init : goal.group_at-others-init
 group_at-others-init t c =
-    let read = expression_at c.args.room in
+    let read = expression_at c.args.profile c.args.room in
     let first = c.in_ok-tree.ensures.exact in (
       c.in_ok-tree.ensures.shorter,
       (
@@ -75,7 +75,7 @@ group_at-others-init t c =
 pub group_at-returns-in_err-between_gaps-clause-exact : goal.group_at-returns-in_err-between_gaps-clause-exact
 group_at-returns-in_err-between_gaps-clause-exact t c =
     let stop = c.in_err-between_gaps.field-0.0 in
-    let read = expression_at c.args.room in
+    let read = expression_at c.args.profile c.args.room in
     let kept = c.others.invariant.1 in
     let goes_on = ap (begins_so closing) (sym c.without_blanks.ensures.value) ∙ sym c.begins_so.ensures ∙ c.others-test.true in
     gives_stop (λ x. (tree_of x.0, x.1.now)) stop c.from_residual-in_err-between_gaps.result (group_at read c.args.text.now)
@@ -86,7 +86,7 @@ group_at-returns-in_err-between_gaps-clause-exact t c =
 pub group_at-returns-in_err-right-clause-exact : goal.group_at-returns-in_err-right-clause-exact
 group_at-returns-in_err-right-clause-exact t c =
     let stop = c.in_err-right.field-0.0 in
-    let read = expression_at c.args.room in
+    let read = expression_at c.args.profile c.args.room in
     let kept = c.others.invariant.1 in
     let next = c.in_ok-between_gaps.field-0.now in
     let goes_on = ap (begins_so closing) (sym c.without_blanks.ensures.value) ∙ sym c.begins_so.ensures ∙ c.others-test.true in
@@ -100,7 +100,7 @@ group_at-returns-in_err-right-clause-exact t c =
 
 pub group_at-others-preserved : goal.group_at-others-preserved
 group_at-others-preserved t c =
-    let read = expression_at c.args.room in
+    let read = expression_at c.args.profile c.args.room in
     let kept = c.others.invariant.1 in
     let next = c.in_ok-between_gaps.field-0.now in
     let goes_on = ap (begins_so closing) (sym c.without_blanks.ensures.value) ∙ sym c.begins_so.ensures ∙ c.others-test.true in
@@ -118,7 +118,7 @@ group_at-others-preserved t c =
 
 pub group_at-returns-clause-exact : goal.group_at-returns-clause-exact
 group_at-returns-clause-exact t c =
-    let read = expression_at c.args.room in
+    let read = expression_at c.args.profile c.args.room in
     let kept = c.others.invariant.1 in
     let end = ap (begins_so closing) (sym c.without_blanks.ensures.value) ∙ sym c.begins_so.ensures ∙ c.others-test.false in
     subst (Gives (λ x. (tree_of x.0, x.1.now)) c.closed.result) (sym (others_end read kept.0 (tree_of c.others.tree, c.others.rest.now) end)

@@ -16,7 +16,7 @@ decreases-negation_at l = 2 * l.room + 1
 abbrev pub invariant-group_at-others : goal.invariant-group_at-others
 invariant-group_at-others l =
     (length l.rest < length l.text) × ((most : ℕ) × (length l.rest ≤ most)
-    × (others_at (expression_at l.room) most (tree_of l.tree, l.rest) ≡ group_at (expression_at l.room) l.text))
+    × (others_at (expression_at l.profile l.room) most (tree_of l.tree, l.rest) ≡ group_at (expression_at l.profile l.room) l.text))
 
 abbrev pub decreases-group_at-others : goal.decreases-group_at-others
 decreases-group_at-others l = length l.rest

@@ -5,7 +5,7 @@ use Rattle.filter_expr.proofs.words.pairs_of.Given as goal
 
 abbrev pub invariant-pairs : goal.invariant-pairs
 invariant-pairs l =
-    more_pairs l.number (tree_of l.tree) (drop l.number l.words) ≡ pairs_of l.words
+    more_pairs l.profile l.number (tree_of l.tree) (drop l.number l.words) ≡ pairs_of l.profile l.words
 
 abbrev pub decreases-pairs : goal.decreases-pairs
 decreases-pairs l = length l.words - l.number

@@ -1,13 +1,13 @@
 use Rattle.std.proofs.Common.{ap, sym, ◌∙◌}
 use Rattle.std.proofs.Common.{Err}
-use Rattle.state_codec.specs.Spelling.{saved_bytes}
+use Rattle.live_stage.specs.Turns.{with_state}
 use Rattle.live_stage.proofs.StartLaws.{checkpoint_fault, not_spent, for_memory, fault_is}
 use Rattle.live_stage.proofs.TurnLaws.{pairs_still, error_is}
 use Rattle.live_stage.proofs.checkpointing.write_snapshot.Goals as goal
 
 pub returns-in-Err-clause-any_moment : goal.returns-in-Err-clause-any_moment
 returns-in-Err-clause-any_moment g c = λ ha hb. record {
-  during = pairs_still _ _ c.args.journal.now.content (saved_bytes c.args.saved.now) (c.is_spent-spent.ensures.kept ha hb c.requires.usable);
+  during = pairs_still _ _ c.args.journal.now.content (with_state c.args.journal.now.content c.args.saved.now) (c.is_spent-spent.ensures.kept ha hb c.requires.usable);
   kept = tt;
 }
 

@@ -9,7 +9,7 @@ use Rattle.machine_core.specs.Followed.{followed}
 use Rattle.machine_core.specs.Happening.{nothing_happens}
 use Rattle.machine_core.specs.Meaning.{order_ops}
 use Rattle.machine_core.specs.Reports.{when_ended}
-use Rattle.machine_core.specs.Scanning.{finds, is_running, telling}
+use Rattle.machine_core.specs.Scanning.{finds, is_running, kept_changes, telling}
 use Rattle.machine_core.specs.State.{MachineState}
 use Rattle.machine_core.specs.declared.steps.PlayerStep.TheVariants.{Ended}
 use Rattle.machine_core.proofs.StepsLawful.{moves_lawful}
@@ -38,4 +38,4 @@ of_running true told m is = (finds_none told m, λ e. subst (λ (t : List RowCha
 of_running false told m is = absurd (false≢true is)
 
 pub returns-clause-found : goal.returns-clause-found
-returns-clause-found c = λ job changes m runs. of_running (is_running job m) (telling m.saved.songs changes) m runs
+returns-clause-found c = λ job changes m runs. of_running (is_running job m) (telling m.saved.songs (kept_changes m.saved.profile changes)) m runs

@@ -2,10 +2,8 @@
 ghost use Rattle.std.specs.Prelude.{◌≡◌, ◌≤◌, ◌++◌, length, map, slice_get, None, IfOk, OnOk, option_to_list};
 ghost use Rattle.std.specs.List.{filter_map};
 ghost use Rattle.song_db.specs.Limits.{MAX_ROWS};
-ghost use Rattle.song_db.specs.Query.{values_of};
 ghost use Rattle.song_db.specs.Replaced.{IsRising};
 ghost use Rattle.song_db.specs.Row.{row_uri};
-ghost use Rattle.filter_expr.specs.declared.case.Case.TheVariants.{Exact};
 ghost use Rattle.filter_expr.specs.Order.{is_before, sorted};
 ghost use Rattle.machine_core.specs.Finding.{found, matching, numbers_in, part_of};
 
@@ -14,8 +12,7 @@ use super::windowed;
 use crate::named::push_number;
 use command_text::{NoMemory, Search};
 use filter_expr::{Case, Filter, SortOrder, sort_rows};
-use song_db::{SongDb, SongRow, Texts, values_among};
-use song_files::Tag;
+use song_db::{SongDb, SongRow};
 use std::alloc::Global;
 
 // The rows that match, by URI.
@@ -78,19 +75,6 @@ pub(super) fn sorted_rows<'a>(
     let mut found = matching_rows(alloc, songs, case, filter)?;
     sort_rows(alloc, &mut found, order)?;
     Ok(found)
-}
-
-// The values of a tag among the rows that match.
-pub(super) fn matching_values<'a>(
-    alloc: Global,
-    songs: &'a SongDb,
-    filter: &Filter,
-    tag: Tag,
-) -> Result<Texts<'a>, NoMemory>
-    ensures { IfOk result (λ values. values ≡ values_of (matching Exact filter.now songs.now) tag) }
-{
-    let found = matching_rows(alloc, songs, Case::Exact, filter)?;
-    Ok(values_among(alloc, &found, tag)?)
 }
 
 // The numbers of all rows that match.

@@ -9,7 +9,7 @@ returns-clause-transcript g c =
     let first = c.serve_life-first.ensures in
     let second = c.serve_life-second.ensures in
     rw c.ended-2.ensures
-    (two_lives (g.D.Disk.honest c.args.a × g.D.Disk.honest c.args.b) (g.D.Disk.honest c.serve_life-first.result.a
+    (two_lives c.args.profile (g.D.Disk.honest c.args.a × g.D.Disk.honest c.args.b) (g.D.Disk.honest c.serve_life-first.result.a
     × g.D.Disk.honest c.serve_life-first.result.b)
     (moment_of g.D.Disk.content g.D.Disk.history g.D.Disk.faults c.args.a c.args.b (g.R.Read.remaining c.args.reader.now)
     (g.W.Write.contents c.args.writer.now))
@@ -26,7 +26,7 @@ returns-clause-transcript g c =
     second.life second.later.a.counted second.later.b.counted refl refl)
 
 pub returns-clause-opens : goal.returns-clause-opens
-returns-clause-opens g c = λ ha hb all number is. good_files _ _ _ _ _ (returns-clause-transcript g c) (ha, hb) all number is
+returns-clause-opens g c = λ ha hb all number is. good_files c.history_keeps_the_profile.ensures c.args.profile _ _ _ _ _ (returns-clause-transcript g c) (ha, hb) all number is
 
 pub returns-clause-later : goal.returns-clause-later
 returns-clause-later g c = rw c.ended-2.ensures (pair_on c.serve_life-first.ensures.later c.serve_life-second.ensures.later)

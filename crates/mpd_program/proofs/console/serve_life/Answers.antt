@@ -15,7 +15,7 @@ returns-in-Err-clause-life g c =
     let input = g.R.Read.remaining c.args.reader.now in
     let output = g.W.Write.contents c.args.writer.now in
     rw (c.refused_life.ensures.came_to, c.refused_life.ensures.a, c.refused_life.ensures.b)
-    (refused_life _ c.args.client
+    (refused_life c.args.profile _ c.args.client
     (moment_of g.D.Disk.content g.D.Disk.history g.D.Disk.faults c.args.a c.args.b input output)
     (moment_of g.D.Disk.content g.D.Disk.history g.D.Disk.faults c.in-Err.refused.a c.in-Err.refused.b input output)
     c.in-Err.refused.error was.nothing_else (λ h. was.cause h.0 h.1) (λ h. was.opens h.0 h.1) (keeps_itself input) (keeps_itself output)
@@ -23,7 +23,7 @@ returns-in-Err-clause-life g c =
 
 pub serve_client-served-requires-clause-ready : goal.serve_client-served-requires-clause-ready
 serve_client-served-requires-clause-ready g c =
-    let begun = c.in-Ok.ensures.begun in
+    let begun = c.in-Ok.ensures.begun.0 in
     record {
       usable = record { stage = begun.usable; sent = ap (λ (s : SessionState). s.queued) c.new.ensures.fresh };
       idle = ap (λ (s : State). s.machine.job.runs) begun.state;
@@ -41,10 +41,10 @@ returns-clause-life g c =
     let input = g.R.Read.remaining c.args.reader.now in
     let output = g.W.Write.contents c.args.writer.now in
     rw (c.into_disks-a.ensures, c.ending_with.ensures)
-    (opened_life _ c.args.client
+    (opened_life c.args.profile _ c.args.client
     (moment_of g.D.Disk.content g.D.Disk.history g.D.Disk.faults c.args.a c.args.b input output)
     (moment_of g.D.Disk.content g.D.Disk.history g.D.Disk.faults live.a live.b (g.R.Read.remaining c.serve_client-served.new.reader) _)
-    c.in-Ok.live.state live.state client.read c.serve_client-served.result was.begun.state (λ h. was.found h.0 h.1) client.consumed
+    c.in-Ok.live.state live.state client.read c.serve_client-served.result was.begun.0.state (λ h. was.found h.0 h.1) was.begun.1 client.consumed
     (written_as (search rules) (events_under (λ h. (was.later.a.honesty.0 h.0, was.later.b.honesty.0 h.1)) served.served)) client.at_end
     (λ other h. c.is_broken-broken.ensures.kept (served.stage.later.a.honesty.0 (was.later.a.honesty.0 h.0))
     (served.stage.later.b.honesty.0 (was.later.b.honesty.0 h.1)) (let unfailed = served.stage.usable other in unfailed.usable))

@@ -35,7 +35,7 @@ returns-in-Ok-open_life-clause-again g c = λ ha hb is.
     record {
       between_a = c.in-Err.first.a;
       between_b = c.in-Err.first.b;
-      first = subst (λ (e : StartError). IsOpening g.D.Disk.content g.D.Disk.history g.D.Disk.faults c.args.a c.args.b (Err e)
+      first = subst (λ (e : StartError). IsOpening c.args.profile g.D.Disk.content g.D.Disk.history g.D.Disk.faults c.args.a c.args.b (Err e)
           c.in-Err.first.a c.in-Err.first.b) broken (was.reason ha hb);
       image_a = g.met.D.Disk.content_is_image c.in-Err.first.a pa;
       image_b = g.met.D.Disk.content_is_image c.in-Err.first.b pb;
@@ -59,7 +59,7 @@ returns-in-Err-open_life-clause-refused g c =
       reason = λ ha hb. inr (record {
         between_a = c.in-Err.first.a;
         between_b = c.in-Err.first.b;
-        first = subst (λ (e : StartError). IsOpening g.D.Disk.content g.D.Disk.history g.D.Disk.faults c.args.a c.args.b (Err e)
+        first = subst (λ (e : StartError). IsOpening c.args.profile g.D.Disk.content g.D.Disk.history g.D.Disk.faults c.args.a c.args.b (Err e)
             c.in-Err.first.a c.in-Err.first.b) broken (was.reason ha hb);
         image_a = g.met.D.Disk.content_is_image c.in-Err.first.a (later.a.honesty.0 ha);
         image_b = g.met.D.Disk.content_is_image c.in-Err.first.b (later.b.honesty.0 hb);
@@ -75,7 +75,7 @@ returns-in-Err-open_life-clause-opens g c = λ ha hb all.
     let first_kept = was.reason ha hb in
     let opening = second.reason (later.a.honesty.0 ha) (later.b.honesty.0 hb) in
     good_status second.error c.last-in-Err-open_life.result.status (rw c.last-in-Err-open_life.ensures (ap status_of second.told))
-    (opening.opens (still_gives _ _ _ _ first_kept.any_moment all))
+    (opening.opens (still_gives _ _ _ _ _ first_kept.any_moment all))
 
 pub returns-in-Err-open_life-clause-later : goal.returns-in-Err-open_life-clause-later
 returns-in-Err-open_life-clause-later g c =

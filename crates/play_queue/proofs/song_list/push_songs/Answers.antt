@@ -3,6 +3,7 @@ use Rattle.std.specs.Vec.Iter.{into_iter_items}
 use Rattle.std.proofs.lemmas.List.{length-append}
 use Rattle.play_queue.specs.Songs.{song_of}
 use Rattle.play_queue.proofs.InOrder.{in_order-more, entries-more, step_entries, none_later}
+use Rattle.play_queue.proofs.Tops.{tops-with}
 use Rattle.play_queue.proofs.song_list.push_songs.Goals as goal
 
 -- one more URI has its song
@@ -34,4 +35,6 @@ loop-uri-preserved c =
       omega (arith, c.push_song.ensures.near, c.push_song.ensures.spare_places, at.invariant.9),
       omega (arith, long, at.invariant.10),
       omega (arith, long, at.invariant.11),
+      λ top all. tops-with songs c.push_song.new.songs.entries top top at.id c.new.result (at.invariant.12 top all) (omega arith)
+          (rw (c.new.ensures.priority) (omega arith)) c.push_song.ensures.songs,
     )

@@ -3,7 +3,7 @@ use Rattle.std.specs.Vec.Iter.{into_iter_items}
 use Rattle.indexmap.specs.IndexMap.{spare}
 use Rattle.play_queue.specs.Entries.{new_entries}
 use Rattle.play_queue.specs.Limits.{MAX_ENTRIES}
-use Rattle.play_queue.specs.Songs.{AreInOrder, in_order, song_of, unstamped}
+use Rattle.play_queue.specs.Songs.{AreInOrder, HaveNoMore, in_order, song_of, unstamped}
 use Rattle.play_queue.proofs.song_list.push_songs.Given as goal
 
 abbrev pub invariant-loop-uri : goal.invariant-loop-uri
@@ -20,3 +20,4 @@ invariant-loop-uri l = ((goal.iterator-loop-uri).can_next l.uri-iterator × (goa
     × (vec_len l.near + length (into_iter_items l.uri-iterator) ≤ vec_capacity l.near)
     × (length l.order.items + length (into_iter_items l.uri-iterator) ≤ MAX_ENTRIES)
     × (length l.order.items ≡ length l.initial.order.items + length l.yielded)
+    × ((top : ℕ) → HaveNoMore top l.initial.songs.entries → HaveNoMore top l.songs.entries)

@@ -8,7 +8,8 @@ use Rattle.state_codec.proofs.reading.take_ops.Goals as goal
 
 pub returns-clause-found : goal.returns-clause-found
 returns-clause-found c =
-    body_found c.layout_of.result c.args.bytes.now c.all_ops.result (λ i. omega (arith, c.type_inv.bytes i)) c.all_ops.ensures
+    body_found (layout_of c.args.layout) c.args.bytes.now c.all_ops.result (λ i. omega (arith, c.type_inv.bytes i))
+    (subst (λ (l : Layout). GivesOps c.all_ops.result (ops_reading_in l c.args.bytes.now)) c.layout_of.ensures.value c.all_ops.ensures)
 
 pub returns-clause-within : goal.returns-clause-within
 returns-clause-within c =

@@ -1,5 +1,7 @@
 use Rattle.daemon_core.specs.Run.{separator}
-use Rattle.std.proofs.Common.{refl}
+use Rattle.std.proofs.Common.{refl, ap, ◌∙◌}
+use Rattle.state_codec.specs.SavedState.{SavedState}
+use Rattle.state_codec.specs.Sealed.{checksum_len}
 use Rattle.daemon_core.proofs.RequestLaws.{lines_do, lines_place}
 use Rattle.daemon_core.proofs.parts.CoreParts.answer_lines.Goals as goal
 
@@ -8,7 +10,9 @@ returns-clause-ok c =
     lines_do c.args.client c.args.place (separator c.args.separated) c.args.lines c.args.self.now
     (record c.args.self.now { machine = c.run_lines-end.new.machine })
     c.end_request.new.self c.in_ok-work.work c.run_lines-end.new.work c.run_lines-end.result c.end_request.result
-    c.in_ok-work.ensures.text c.in_ok-work.ensures.ops c.in_ok-work.ensures.size c.run_lines-end.ensures
+    c.in_ok-work.ensures.text c.in_ok-work.ensures.ops
+    (c.in_ok-work.ensures.size ∙ ap checksum_len (c.profile-profile.ensures ∙ ap (λ (s : SavedState). s.profile) c.saved.ensures))
+    c.run_lines-end.ensures
     refl c.end_request.ensures
 
 pub returns-clause-place : goal.returns-clause-place

@@ -1,18 +1,29 @@
-use Rattle.std.proofs.Common.{◌≡◌, [], Some, ap, ◌∙◌, sym}
+use Rattle.std.proofs.Common.{◌≡◌, [], Some, ap, ◌∙◌, sym, refl, length, ℕ, List}
 use Rattle.daemon_core.specs.State.{State}
+use Rattle.state_codec.specs.Layout.{written_layout}
+use Rattle.state_codec.specs.SavedState.{SavedState}
+use Rattle.live_stage.proofs.ProfileLaws.{written_so}
 use Rattle.live_stage.proofs.FoundLaws.{find_now}
+use Rattle.live_stage.specs.Numbers.{first_file}
 use Rattle.live_stage.proofs.StartLaws.{fresh_stands, only_a_fault}
+use Rattle.live_stage.proofs.TurnLaws.{file_made, numbers_made}
 use Rattle.live_stage.proofs.live.Live.create.Goals as goal
+
+pub create-requires : goal.create-requires
+create-requires g c = record { written = written_so c.args.profile c.layout_number.result c.layout_number.ensures }
 
 pub invariant_of-result : goal.invariant_of-result
 invariant_of-result g c = (
   c.in-Ok.ensures.room,
-  λ usable. c.in-Ok-create.ensures.new.layout,
+  λ usable. c.in-Ok-create.ensures.new.layout ∙ c.layout_number.ensures
+      ∙ ap written_layout (sym (ap (λ (s : State). s.machine.saved.profile) c.new.ensures
+      ∙ ap (λ (s : SavedState). s.profile) c.fresh-saved.ensures)),
   λ usable ha' hb'.
       let ha = c.in-Ok-create.ensures.later.a.honesty.1 ha' in
       let hb = c.in-Ok-create.ensures.later.b.honesty.1 hb' in
       let held = c.in-Ok-create.ensures.kept ha hb in
-      fresh_stands _ c.deref.result.now c.fresh-saved.result held.says (c.deref.ensures.value ∙ c.in-Ok.ensures.snapshot)
+      fresh_stands _ c.layout_number.result c.deref.result.now c.fresh-saved.result
+      (c.layout_number.ensures ∙ ap (λ (s : SavedState). written_layout s.profile) (sym c.fresh-saved.ensures)) held.says (c.deref.ensures.value ∙ c.in-Ok.ensures.snapshot)
       c.in-Ok.ensures.in_range
       ∙ ap (λ (s : State). Some s.machine.saved) (sym c.new.ensures),
 )
@@ -22,7 +33,8 @@ returns-in-Ok-create-clause-kept g c = λ ha hb.
     let held = c.in-Ok-create.ensures.kept ha hb in
     find_now (g.D.Disk.history c.in-Ok-create.journal.a) (g.D.Disk.history c.in-Ok-create.journal.b) c.in-Ok-create.journal.content _
     held.kept
-    (fresh_stands _ c.deref.result.now c.fresh-saved.result held.says (c.deref.ensures.value ∙ c.in-Ok.ensures.snapshot)
+    (fresh_stands _ c.layout_number.result c.deref.result.now c.fresh-saved.result
+    (c.layout_number.ensures ∙ ap (λ (s : SavedState). written_layout s.profile) (sym c.fresh-saved.ensures)) held.says (c.deref.ensures.value ∙ c.in-Ok.ensures.snapshot)
     c.in-Ok.ensures.in_range
     ∙ ap Some c.fresh-saved.ensures)
 
@@ -35,3 +47,13 @@ returns-in-Err-create-clause-fault g c = λ ha hb broken.
     c.in-Err-create.ensures.nothing_else (λ is. (c.in-Err-create.ensures.too_long ha hb empty_a empty_b).0 is)
     (sym c.refused_start.ensures.error ∙ broken) in
     rw (c.refused_start.ensures.a, c.refused_start.ensures.b) (c.in-Err-create.ensures.fault ha hb fault)
+
+pub returns-in-Ok-create-clause-numbers : goal.returns-in-Ok-create-clause-numbers
+returns-in-Ok-create-clause-numbers g c =
+    let new = c.in-Ok-create.ensures.new in
+    let long = ap (λ (l : List ℕ). length l) (c.deref.ensures.value ∙ c.in-Ok.ensures.snapshot) in (
+      numbers_made g.D.Disk.faults c.args.a c.args.b c.in-Ok-create.journal c.layout_number.result (length c.deref.result.now) new,
+      file_made g.D.Disk.faults c.args.a c.args.b c.in-Ok-create.journal c.layout_number.result (length c.deref.result.now)
+          c.fresh-saved.result new long ∙ ap (λ (s : SavedState). first_file s) c.fresh-saved.ensures,
+      refl,
+    )

@@ -1,16 +1,39 @@
 use Rattle.std.proofs.Common.{rules, ◌≡◌, ◌≤◌, ℕ, List, length, false, Option, Some, None, sym, ap, subst, ◌∙◌, arith}
+use Rattle.profile.specs.declared.profile.Profile.{Profile}
 use Rattle.state_codec.specs.declared.op.Op.{Op}
+use Rattle.state_codec.specs.Layout.{written_layout}
+use Rattle.state_codec.specs.SavedState.{SavedState}
+use Rattle.live_stage.specs.Answer.{profile_of_step}
 use Rattle.live_stage.specs.Numbers.{longest_record, record_bytes}
 use Rattle.live_stage.specs.Turns.{recorded_content}
 use Rattle.std.specs.List.{AllByRecursion}
 use Rattle.state_codec.specs.Ops.{IsOp}
 use Rattle.state_codec.specs.Applied.{all_applied}
-use Rattle.state_codec.specs.Spelling.{ops_bytes}
+use Rattle.state_codec.specs.Spelling.{body_bytes}
 use Rattle.daemon_core.specs.State.{State}
 use Rattle.daemon_core.specs.Step.{Stepped, step}
 use Rattle.live_stage.proofs.FoundLaws.{find_now, find_still, find_either, find_after, content_after, content_recorded}
+use Rattle.live_stage.proofs.ProfileLaws.{profile_stays, written_so}
 use Rattle.live_stage.proofs.TurnLaws.{still_in_file, no_call_made, record_short}
 use Rattle.live_stage.proofs.live.Live.handle.Goals as goal
+
+pub record_ops-requires-clause-takes : goal.record_ops-requires-clause-takes
+record_ops-requires-clause-takes g c =
+    let usable : c.self.inside.journal.is_spent ≡ false = ap (λ v. v.is_broken) c.self.view_is ∙ c.requires.usable in
+    let mine : c.self.inside.core.machine.saved.profile ≡ c.profile-profile.result =
+    sym (profile_stays c.in-Ok.outcome.ops.items c.self.inside.core.machine.saved c.step.new.self.machine.saved c.in-Ok.ensures.rebuilt)
+    ∙ ap (λ (s : SavedState). s.profile) (sym c.as_saved.ensures) ∙ sym c.profile-profile.ensures in
+    record {
+      usable = usable;
+      layout = written_so c.self.inside.core.machine.saved.profile c.self.inside.journal.layout (c.self.invariant.1 usable);
+      numbers = search rules;
+      fits = omega (
+        arith,
+        c.in-Ok.ensures.fits,
+        ap (λ (p : Profile). length (body_bytes p c.in-Ok.outcome.ops.items)) mine,
+        ap (λ (ops : List Op). length (body_bytes c.profile-profile.result ops)) c.deref.ensures.value,
+      );
+    }
 
 pub returns-in-Err-clause-any_moment : goal.returns-in-Err-clause-any_moment
 returns-in-Err-clause-any_moment g c =
@@ -36,13 +59,17 @@ returns-in_err-number-clause-any_moment g c =
     let valid : AllByRecursion IsOp c.deref.result.now = c.record_ops.ensures.valid in
     let applies : all_applied c.deref.result.now c.self.inside.core.machine.saved ≡ Some asked.after.machine.saved =
     rw c.deref.ensures.value (c.in-Ok.ensures.rebuilt ∙ ap (λ (s : State). Some s.machine.saved) c.in-Ok.ensures.ok.after) in
+    let mine : c.self.inside.core.machine.saved.profile ≡ c.profile-profile.result =
+    sym (profile_stays c.in-Ok.outcome.ops.items c.self.inside.core.machine.saved c.step.new.self.machine.saved c.in-Ok.ensures.rebuilt)
+    ∙ ap (λ (s : SavedState). s.profile) (sym c.as_saved.ensures) ∙ sym c.profile-profile.ensures in
     rw (← c.self.view_is) (λ ha hb. record {
       during = (
         c.in-Ok.outcome.refused_at,
         search rules,
-        find_either _ _ _ _ c.self.inside.journal.content c.deref.result.now c.self.inside.core.machine.saved asked.after.machine.saved
+        find_either c.profile-profile.result _ _ _ _ c.self.inside.journal.content c.deref.result.now c.self.inside.core.machine.saved
+            asked.after.machine.saved mine
             (c.is_spent-spent.ensures.kept ha hb usable) (c.self.invariant.2 usable ha hb)
-            ((c.is_spent-spent.ensures.numbers ha hb usable).layout ∙ c.self.invariant.1 usable) valid applies
+            ((c.is_spent-spent.ensures.numbers ha hb usable).layout ∙ c.self.invariant.1 usable ∙ ap written_layout mine) valid applies
             (λ e. (
               ap (λ j. g.D.Disk.history j.a) (c.record_ops.ensures.none e).1,
               ap (λ j. g.D.Disk.history j.b) (c.record_ops.ensures.none e).1,
@@ -60,16 +87,21 @@ invariant_of-self-2 g c =
     let valid : AllByRecursion IsOp c.deref.result.now = c.record_ops.ensures.valid in
     let applies : all_applied c.deref.result.now c.self.inside.core.machine.saved ≡ Some c.step.new.self.machine.saved =
     rw c.deref.ensures.value c.in-Ok.ensures.rebuilt in
+    let mine : c.self.inside.core.machine.saved.profile ≡ c.profile-profile.result =
+    sym (profile_stays c.in-Ok.outcome.ops.items c.self.inside.core.machine.saved c.step.new.self.machine.saved c.in-Ok.ensures.rebuilt)
+    ∙ ap (λ (s : SavedState). s.profile) (sym c.as_saved.ensures) ∙ sym c.profile-profile.ensures in
+    let stays = profile_stays c.in-Ok.outcome.ops.items c.self.inside.core.machine.saved c.step.new.self.machine.saved
+    c.in-Ok.ensures.rebuilt in
     let room = c.self.invariant.0 in (
       omega (arith, c.record_ops.ensures.capacity, room),
-      λ unspent. c.record_ops.ensures.file.layout ∙ c.self.invariant.1 usable,
+      λ unspent. c.record_ops.ensures.file.layout ∙ c.self.invariant.1 usable ∙ ap written_layout (sym stays),
       λ unspent ha' hb'.
           let ha = c.record_ops.ensures.disks.later.a.honesty.1 ha' in
           let hb = c.record_ops.ensures.disks.later.b.honesty.1 hb' in
-          content_after c.self.inside.journal.content c.record_ops.new.journal.content c.deref.result.now c.self.inside.core.machine.saved
-          c.step.new.self.machine.saved
+          content_after c.profile-profile.result c.self.inside.journal.content c.record_ops.new.journal.content c.deref.result.now
+          c.self.inside.core.machine.saved c.step.new.self.machine.saved mine
           (c.self.invariant.2 usable ha hb)
-          ((c.is_spent-spent.ensures.numbers ha hb usable).layout ∙ c.self.invariant.1 usable) valid applies
+          ((c.is_spent-spent.ensures.numbers ha hb usable).layout ∙ c.self.invariant.1 usable ∙ ap written_layout mine) valid applies
           (λ e. ap (λ j. j.content) (c.record_ops.ensures.none e).1)
           (λ some. let held = (c.in_ok-number.ensures.any_moment some ha hb).kept in held.says),
     )
@@ -87,36 +119,51 @@ returns-clause-any_moment g c =
     let place : c.in-Ok.outcome.refused_at ≡ c.new.result.refused_at = sym (ap (λ t. t.refused_at) c.new.ensures) in
     let ops_are : c.deref.result.now ≡ (let of_answer : Stepped = asked c.new.result.refused_at in of_answer.ops) =
     c.deref.ensures.value ∙ c.in-Ok.ensures.ok.ops ∙ ap (λ (k : Option ℕ). let of_answer : Stepped = asked k in of_answer.ops) place in
+    let mine : c.self.inside.core.machine.saved.profile ≡ c.profile-profile.result =
+    sym (profile_stays c.in-Ok.outcome.ops.items c.self.inside.core.machine.saved c.step.new.self.machine.saved c.in-Ok.ensures.rebuilt)
+    ∙ ap (λ (s : SavedState). s.profile) (sym c.as_saved.ensures) ∙ sym c.profile-profile.ensures in
+    let spelled : c.profile-profile.result ≡ profile_of_step (asked c.new.result.refused_at) =
+    c.profile-profile.ensures ∙ ap (λ (s : SavedState). s.profile) c.as_saved.ensures
+    ∙ ap (λ (s : State). s.machine.saved.profile) c.in-Ok.ensures.ok.after
+    ∙ ap (λ (k : Option ℕ). profile_of_step (asked k)) place in
     rw (← c.self.view_is) (λ ha hb.
     let first = c.is_spent-spent.ensures.kept ha hb usable in
     let stands = c.self.invariant.2 usable ha hb in
-    let layout = (c.is_spent-spent.ensures.numbers ha hb usable).layout ∙ c.self.invariant.1 usable in
+    let layout = (c.is_spent-spent.ensures.numbers ha hb usable).layout ∙ c.self.invariant.1 usable ∙ ap written_layout mine in
     record {
       during = (
         c.in-Ok.outcome.refused_at,
         ap (λ t. t.refused_at) c.new.ensures,
-        find_either _ _ _ _ c.self.inside.journal.content c.deref.result.now c.self.inside.core.machine.saved now.after.machine.saved
-            first stands layout valid applies
+        find_either c.profile-profile.result _ _ _ _ c.self.inside.journal.content c.deref.result.now c.self.inside.core.machine.saved
+            now.after.machine.saved mine first stands layout valid applies
             (λ e. (
               ap (λ j. g.D.Disk.history j.a) (c.record_ops.ensures.none e).1,
               ap (λ j. g.D.Disk.history j.b) (c.record_ops.ensures.none e).1,
             ))
             (λ some. (c.record_ops.ensures.any_moment some ha hb).during),
       );
-      kept = λ unbroken. find_after _ _ _ _ c.self.inside.journal.content c.record_ops.new.journal.content c.deref.result.now
-          c.self.inside.core.machine.saved c.step.new.self.machine.saved first stands layout valid rebuilt
+      kept = λ unbroken. find_after c.profile-profile.result _ _ _ _ c.self.inside.journal.content c.record_ops.new.journal.content
+          c.deref.result.now c.self.inside.core.machine.saved c.step.new.self.machine.saved mine first stands layout valid rebuilt
           (λ e. (
             ap (λ j. g.D.Disk.history j.a) (c.record_ops.ensures.none e).1,
             ap (λ j. g.D.Disk.history j.b) (c.record_ops.ensures.none e).1,
           ))
           (λ some. let held = (c.in_ok-number.ensures.any_moment some ha hb).kept in held.says)
           (λ some. let held = (c.in_ok-number.ensures.any_moment some ha hb).kept in held.kept);
-      content = subst (λ (ops : List Op). c.record_ops.new.journal.content ≡ recorded_content c.self.inside.journal.content ops) ops_are
-          (content_recorded c.self.inside.journal.content c.record_ops.new.journal.content c.deref.result.now
+      content = content_recorded c.profile-profile.result c.self.inside.journal.content c.record_ops.new.journal.content c.deref.result.now
           (λ e. ap (λ j. j.content) (c.record_ops.ensures.none e).1)
-          (λ some. let held = (c.in_ok-number.ensures.any_moment some ha hb).kept in held.says));
-      short = subst (λ (ops : List Op). record_bytes ops ≤ longest_record) ops_are (record_short c.deref.result.now
-          (omega (arith, c.in-Ok.ensures.fits, ap (λ (ops : List Op). length (ops_bytes ops)) c.deref.ensures.value)));
+          (λ some. let held = (c.in_ok-number.ensures.any_moment some ha hb).kept in held.says)
+          ∙ ap (λ (ops : List Op). recorded_content c.profile-profile.result c.self.inside.journal.content ops) ops_are
+          ∙ ap (λ (p : Profile). let of_answer : Stepped = asked c.new.result.refused_at in
+          recorded_content p c.self.inside.journal.content of_answer.ops) spelled;
+      short = subst (λ (p : Profile). let of_answer : Stepped = asked c.new.result.refused_at in record_bytes p of_answer.ops ≤ longest_record)
+          spelled (subst (λ (ops : List Op). record_bytes c.profile-profile.result ops ≤ longest_record) ops_are
+          (record_short c.profile-profile.result c.deref.result.now (omega (
+            arith,
+            c.in-Ok.ensures.fits,
+            ap (λ (p : Profile). length (body_bytes p c.in-Ok.outcome.ops.items)) mine,
+            ap (λ (ops : List Op). length (body_bytes c.profile-profile.result ops)) c.deref.ensures.value,
+          ))));
     })
 
 pub returns-in-Err-clause-file : goal.returns-in-Err-clause-file

@@ -13,7 +13,9 @@ use Rattle.live_stage.specs.Staging.{AreStaged, AreTaken}
 use Rattle.live_stage.specs.Transcript.{replayed}
 use Rattle.live_stage.proofs.FoundLaws.{find_now}
 use Rattle.live_stage.proofs.HandledLaws.{all_refused, handled, none_answered, of_begun, taken_of}
+use Rattle.state_codec.specs.Layout.{written_layout}
 use Rattle.live_stage.proofs.PhaseLaws.{none_found, records_found}
+use Rattle.live_stage.proofs.ProfileLaws.{written_so}
 use Rattle.live_stage.proofs.live.Live.handle_group.Goals as goal
 
 pub returns-then-is_empty-clause-any_moment : goal.returns-then-is_empty-clause-any_moment

@@ -3,7 +3,7 @@ use Rattle.machine_core.specs.Before.{changed_since}
 use Rattle.machine_core.specs.Followed.{follows_batch}
 use Rattle.machine_core.specs.State.{MachineState}
 use Rattle.machine_core.proofs.Scans.Laws.{rows_changed}
-use Rattle.machine_core.proofs.Scans.Size.{batch_fits}
+use Rattle.machine_core.proofs.Scans.Size.{batch_fits, fits_kept}
 use Rattle.machine_core.proofs.machine.Machine.change_rows.Goals as goal
 
 pub returns-clause-ok : goal.returns-clause-ok
@@ -22,4 +22,5 @@ returns-clause-ok c =
     ∙ (λ i. record (changed_since before (c.deref.ensures.value i) n) {
       sticker = not (length m.saved.stickers == length n.saved.stickers);
     }))
-    (batch_fits changes (follows_batch changes m).order c.in_ok-ops.ensures.form)
+    (batch_fits c.body_len.ensures.batch m.saved.profile changes (follows_batch changes m).order c.in_ok-ops.ensures.form
+    (fits_kept changes m.saved c.requires))

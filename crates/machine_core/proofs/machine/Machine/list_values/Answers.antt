@@ -1,9 +1,8 @@
 use Rattle.std.proofs.Common.{List, refl, ap, ◌∙◌}
 use Rattle.command_text.proofs.Adding.{adds_same}
-use Rattle.song_db.specs.Query.{values_of}
 use Rattle.song_db.specs.Row.{Row}
 use Rattle.std.specs.Option.{option_copied}
-use Rattle.machine_core.specs.Finding.{chosen, value_lines}
+use Rattle.machine_core.specs.Finding.{chosen, told_values, value_lines}
 use Rattle.machine_core.specs.State.{MachineState}
 use Rattle.machine_core.proofs.Answering.{reads}
 use Rattle.machine_core.proofs.Finding.Meanings.{values_mean}
@@ -17,4 +16,4 @@ returns c =
     let songs = c.songs.ensures ∙ ap (λ (n : MachineState). n.saved.songs) c.self.view_is in
     reads _ _ m m _ c.args.work.now _ c.keep.new.self _ _ (values_mean m tag tree) refl c.len-mark.ensures refl refl
     (adds_same _ _ _ _ _ c.write_values-written.ensures (ap (value_lines tag) (c.in_ok-values.ensures
-    ∙ ap (λ (rows : List Row). values_of (chosen tree rows) tag) songs))) c.keep.ensures
+    ∙ ap (λ (rows : List Row). told_values (chosen tree rows) tag) songs))) c.keep.ensures

@@ -6,8 +6,8 @@ use Rattle.play_journal.proofs.GroupLaws.{one_spelled, one_short, records_len-on
 use Rattle.play_journal.proofs.PlaceLaws.{honest_both, kept_now, later_here}
 use Rattle.play_journal.proofs.journal.Journal.append.Goals as goal
 
-pub returns-then-self-ne-LAYOUT-clause-any_moment : goal.returns-then-self-ne-LAYOUT-clause-any_moment
-returns-then-self-ne-LAYOUT-clause-any_moment g c = rw (← c.self.view_is) (λ a b usable.
+pub returns-then-not-is_written-clause-any_moment : goal.returns-then-not-is_written-clause-any_moment
+returns-then-not-is_written-clause-any_moment g c = rw (← c.self.view_is) (λ a b usable.
     let j = c.self.inside in
     let honest = honest_both g.D.Disk.honest j.swapped j.here j.there a b in
     still_either g.D.Disk.content g.D.Disk.history j.swapped j.here j.there j.end j.layout j.generation j.base j.count

@@ -1,7 +1,7 @@
 use Rattle.std.proofs.Common.{◌≡◌, ◌∙◌, ◌+◌, ◌^◌, ◌<◌, [], ◌∷◌, ◌++◌, Some, length, arith, ap, subst, refl, ℕ, List}
 use Rattle.std.specs.Prelude.{not}
 use Rattle.disk_model.specs.Moments.{AllSince}
-use Rattle.play_journal.specs.Content.{IsOldOrNew, with_snapshot, present_layout}
+use Rattle.play_journal.specs.Content.{IsOldOrNew, with_snapshot}
 use Rattle.play_journal.specs.File.{open_gate, head}
 use Rattle.play_journal.specs.JournalState.{content_in, IsKept}
 use Rattle.play_journal.specs.Laying.{IsLaidDown}
@@ -19,7 +19,7 @@ returns-then-snapshot-gt-LONGEST_SNAPSHOT-clause-any_moment g c = rw (← c.self
     let j = c.self.inside in
     let honest = honest_both g.D.Disk.honest j.swapped j.here j.there a b in
     let kept = c.self.invariant.2 usable honest.0 honest.1 in
-    old_or_new _ c.args.snapshot.now _ (still_since (λ f. f ≡ Some (content_in (g.D.Disk.content j.here))) _ _
+    old_or_new _ c.args.layout c.args.snapshot.now _ (still_since (λ f. f ≡ Some (content_in (g.D.Disk.content j.here))) _ _
     (kept_now g.D.Disk.content g.D.Disk.history j.swapped j.here j.there j.end j.layout j.generation j.base j.count kept) x y left right))
 
 pub returns-then-self-2-clause-any_moment : goal.returns-then-self-2-clause-any_moment
@@ -27,7 +27,7 @@ returns-then-self-2-clause-any_moment g c = rw (← c.self.view_is) (λ a b usab
     let j = c.self.inside in
     let honest = honest_both g.D.Disk.honest j.swapped j.here j.there a b in
     let kept = c.self.invariant.2 usable honest.0 honest.1 in
-    old_or_new _ c.args.snapshot.now _ (still_since (λ f. f ≡ Some (content_in (g.D.Disk.content j.here))) _ _
+    old_or_new _ c.args.layout c.args.snapshot.now _ (still_since (λ f. f ≡ Some (content_in (g.D.Disk.content j.here))) _ _
     (kept_now g.D.Disk.content g.D.Disk.history j.swapped j.here j.there j.end j.layout j.generation j.base j.count kept) x y left right))
 
 pub returns-in_err-head-clause-any_moment : goal.returns-in_err-head-clause-any_moment
@@ -35,7 +35,7 @@ returns-in_err-head-clause-any_moment g c = rw (← c.self.view_is) (λ a b usab
     let j = c.self.inside in
     let honest = honest_both g.D.Disk.honest j.swapped j.here j.there a b in
     let kept = c.self.invariant.2 usable honest.0 honest.1 in
-    old_or_new _ c.args.snapshot.now _ (still_since (λ f. f ≡ Some (content_in (g.D.Disk.content j.here))) _ _
+    old_or_new _ c.args.layout c.args.snapshot.now _ (still_since (λ f. f ≡ Some (content_in (g.D.Disk.content j.here))) _ _
     (kept_now g.D.Disk.content g.D.Disk.history j.swapped j.here j.there j.end j.layout j.generation j.base j.count kept) x y left right))
 
 pub returns-in-Err-clause-any_moment : goal.returns-in-Err-clause-any_moment
@@ -46,7 +46,7 @@ returns-in-Err-clause-any_moment g c = rw (← c.self.view_is) (λ a b usable.
     let snapshot = c.args.snapshot.now in
     let honest = honest_both g.D.Disk.honest j.swapped j.here j.there a b in
     let kept = c.self.invariant.2 usable honest.0 honest.1 in
-    let new = open_gate ∷ head present_layout (j.generation + 1) (j.base + j.count) (length snapshot) ++ snapshot ++ 0 ∷ [] in
+    let new = open_gate ∷ head c.args.layout (j.generation + 1) (j.base + j.count) (length snapshot) ++ snapshot ++ 0 ∷ [] in
     let short : length snapshot < 2 ^ 32 = omega arith in
     let next : j.generation + 1 < 2 ^ 64 = omega arith in
     let head_is = c.deref.ensures.value ∙ c.in_ok-head.ensures in
@@ -54,11 +54,11 @@ returns-in-Err-clause-any_moment g c = rw (← c.self.view_is) (λ a b usable.
     subst (λ (l : List ℕ). AllSince (IsLaidDown there (open_gate ∷ l ++ snapshot
     ++ 0 ∷ [])) (g.D.Disk.history c.lay_down.new.disk) (length (g.D.Disk.history j.there))) head_is
     (c.lay_down.ensures.any_moment honest.1 kept.there_settled) in
-    let first = first_laid here there j.end j.layout j.generation j.base j.count kept.in_use new snapshot refl next c.self.invariant.1 short
+    let first = first_laid here there j.end j.layout j.generation j.base j.count kept.in_use c.args.layout c.requires.written new snapshot refl next c.self.invariant.1 short
     (g.D.Disk.history j.here) (g.D.Disk.history j.there) (g.D.Disk.history c.lay_down.new.disk) kept.here_settled since in
-    let second = second_laid here there j.end j.layout j.generation j.base j.count kept.in_use new snapshot refl next c.self.invariant.1 short
+    let second = second_laid here there j.end j.layout j.generation j.base j.count kept.in_use c.args.layout c.requires.written new snapshot refl next c.self.invariant.1 short
     (g.D.Disk.history j.here) (g.D.Disk.history j.there) (g.D.Disk.history c.lay_down.new.disk) kept.here_settled since in
-    other_since g.D.Disk.history (IsOldOrNew (content_in here) snapshot) j.swapped j.here j.there c.lay_down.new.disk first second)
+    other_since g.D.Disk.history (IsOldOrNew (content_in here) c.args.layout snapshot) j.swapped j.here j.there c.lay_down.new.disk first second)
 
 pub returns-clause-any_moment : goal.returns-clause-any_moment
 returns-clause-any_moment g c = rw (← c.self.view_is, c.swap.ensures.x_after, c.swap.ensures.y_after) (λ a b usable.
@@ -68,7 +68,7 @@ returns-clause-any_moment g c = rw (← c.self.view_is, c.swap.ensures.x_after, 
     let snapshot = c.args.snapshot.now in
     let honest = honest_both g.D.Disk.honest j.swapped j.here j.there a b in
     let kept = c.self.invariant.2 usable honest.0 honest.1 in
-    let new = open_gate ∷ head present_layout (j.generation + 1) (j.base + j.count) (length snapshot) ++ snapshot ++ 0 ∷ [] in
+    let new = open_gate ∷ head c.args.layout (j.generation + 1) (j.base + j.count) (length snapshot) ++ snapshot ++ 0 ∷ [] in
     let short : length snapshot < 2 ^ 32 = omega arith in
     let next : j.generation + 1 < 2 ^ 64 = omega arith in
     let head_is = c.deref.ensures.value ∙ c.in_ok-head.ensures in
@@ -76,18 +76,18 @@ returns-clause-any_moment g c = rw (← c.self.view_is, c.swap.ensures.x_after, 
     subst (λ (l : List ℕ). AllSince (IsLaidDown there (open_gate ∷ l ++ snapshot
     ++ 0 ∷ [])) (g.D.Disk.history c.lay_down.new.disk) (length (g.D.Disk.history j.there))) head_is
     (c.lay_down.ensures.any_moment honest.1 kept.there_settled) in
-    let first = first_laid here there j.end j.layout j.generation j.base j.count kept.in_use new snapshot refl next c.self.invariant.1 short
+    let first = first_laid here there j.end j.layout j.generation j.base j.count kept.in_use c.args.layout c.requires.written new snapshot refl next c.self.invariant.1 short
     (g.D.Disk.history j.here) (g.D.Disk.history j.there) (g.D.Disk.history c.lay_down.new.disk) kept.here_settled since in
-    let second = second_laid here there j.end j.layout j.generation j.base j.count kept.in_use new snapshot refl next c.self.invariant.1 short
+    let second = second_laid here there j.end j.layout j.generation j.base j.count kept.in_use c.args.layout c.requires.written new snapshot refl next c.self.invariant.1 short
     (g.D.Disk.history j.here) (g.D.Disk.history j.there) (g.D.Disk.history c.lay_down.new.disk) kept.here_settled since in
-    swapped_since g.D.Disk.history (IsOldOrNew (content_in here) snapshot) j.swapped j.here j.there c.lay_down.new.disk first second)
+    swapped_since g.D.Disk.history (IsOldOrNew (content_in here) c.args.layout snapshot) j.swapped j.here j.there c.lay_down.new.disk first second)
 
 done : (g : _) (c : goal.After-drop-head-2 g) → g.D.Disk.honest c.self.inside.here → g.D.Disk.honest c.self.inside.there
     → IsKept (g.D.Disk.content c.lay_down.new.disk) (g.D.Disk.content c.self.inside.here) (g.D.Disk.history c.lay_down.new.disk)
-    (g.D.Disk.history c.self.inside.here) (32 + length c.args.snapshot.now) present_layout (c.self.inside.generation + 1)
+    (g.D.Disk.history c.self.inside.here) (32 + length c.args.snapshot.now) c.args.layout (c.self.inside.generation + 1)
     (c.self.inside.base + c.self.inside.count) 0
     × (content_in (g.D.Disk.content c.lay_down.new.disk) ≡ with_snapshot (content_in
-    (g.D.Disk.content c.self.inside.here)) c.args.snapshot.now)
+    (g.D.Disk.content c.self.inside.here)) c.args.layout c.args.snapshot.now)
 done g c first second =
     let j = c.self.inside in
     let here = g.D.Disk.content j.here in
@@ -98,12 +98,12 @@ done g c first second =
     let short : length snapshot < 2 ^ 32 = omega arith in
     let next : j.generation + 1 < 2 ^ 64 = omega arith in
     let head_is = c.deref.ensures.value ∙ c.in_ok-head.ensures in
-    let is_new : new ≡ open_gate ∷ head present_layout (j.generation + 1) (j.base + j.count) (length snapshot) ++ snapshot ++ 0 ∷ [] =
+    let is_new : new ≡ open_gate ∷ head c.args.layout (j.generation + 1) (j.base + j.count) (length snapshot) ++ snapshot ++ 0 ∷ [] =
     c.in_default.ensures.written second ∙ ap (λ (l : List ℕ). open_gate ∷ l ++ snapshot ++ 0 ∷ []) head_is in (
-      next_kept here there j.end j.layout j.generation j.base j.count kept.in_use new snapshot is_new next c.self.invariant.1 short
+      next_kept here there j.end j.layout j.generation j.base j.count kept.in_use c.args.layout c.requires.written new snapshot is_new next c.self.invariant.1 short
           (g.D.Disk.history j.here) (g.D.Disk.history c.lay_down.new.disk) (32 + length snapshot) refl kept.here_settled
           (c.in_default.ensures.settled second),
-      next_content here there j.end j.layout j.generation j.base j.count kept.in_use new snapshot is_new next c.self.invariant.1 short,
+      next_content here there j.end j.layout j.generation j.base j.count kept.in_use c.args.layout c.requires.written new snapshot is_new next c.self.invariant.1 short,
     )
 
 pub invariant_of-self-2 : goal.invariant_of-self-2
@@ -112,7 +112,7 @@ invariant_of-self-2 g c = rw (c.swap.ensures.x_after, c.swap.ensures.y_after) (
   omega (arith, c.self.invariant.1),
   λ usable a b. (done g c b (c.lay_down.ensures.later.honesty.1 a)).0,
   λ usable a b. new_measured (content_in (g.D.Disk.content c.self.inside.here)) (content_in (g.D.Disk.content c.lay_down.new.disk))
-      c.args.snapshot.now (done g c b (c.lay_down.ensures.later.honesty.1 a)).1,
+      c.args.layout c.args.snapshot.now (done g c b (c.lay_down.ensures.later.honesty.1 a)).1,
 )
 
 pub returns-clause-kept : goal.returns-clause-kept
@@ -123,5 +123,5 @@ returns-clause-kept g c = rw (← c.self.view_is, c.swap.ensures.x_after, c.swap
     record {
       says = both.1;
       kept = kept_now g.D.Disk.content g.D.Disk.history (not j.swapped) c.lay_down.new.disk j.here (32 + length c.args.snapshot.now)
-          present_layout (j.generation + 1) (j.base + j.count) 0 both.0;
+          c.args.layout (j.generation + 1) (j.base + j.count) 0 both.0;
     })

@@ -1,7 +1,7 @@
 use Rattle.std.proofs.Common.{◌≡◌, ◌∙◌, ◌<◌, ◌^◌, [], length, arith, rules, inl, inr, lit<}
 use Rattle.std.specs.Prelude.{IsTrue, false}
 use Rattle.std.proofs.lemmas.Bool.{cases_lt}
-use Rattle.play_journal.specs.Content.{fresh, present_layout}
+use Rattle.play_journal.specs.Content.{fresh}
 use Rattle.play_journal.specs.JournalState.{content_in, IsKept}
 use Rattle.play_journal.proofs.InUseLaws.{laid_content, fresh_kept}
 use Rattle.play_journal.proofs.MeasureLaws.{fresh_measured}
@@ -21,14 +21,14 @@ empty g c b =
 
 written : (g : _) (c : goal.In-Ok g) → g.D.Disk.honest c.args.a → g.D.Disk.honest c.args.b
     → IsKept (g.D.Disk.content c.fresh_journal.new.a) (g.D.Disk.content c.fresh_journal.new.b) (g.D.Disk.history c.fresh_journal.new.a)
-    (g.D.Disk.history c.fresh_journal.new.b) c.in-Ok.end present_layout 1 0 0
-    × (content_in (g.D.Disk.content c.fresh_journal.new.a) ≡ fresh c.args.snapshot.now)
+    (g.D.Disk.history c.fresh_journal.new.b) c.in-Ok.end c.args.layout 1 0 0
+    × (content_in (g.D.Disk.content c.fresh_journal.new.a) ≡ fresh c.args.layout c.args.snapshot.now)
 written g c a b =
     let here = c.in-Ok.ensures.laid.written a in (
       fresh_kept (g.D.Disk.content c.fresh_journal.new.a) (g.D.Disk.content c.fresh_journal.new.b) c.args.snapshot.now
           (g.D.Disk.history c.fresh_journal.new.a) (g.D.Disk.history c.fresh_journal.new.b) c.in-Ok.end
-          here (empty g c b) c.in-Ok.ensures.end (short g c) (c.in-Ok.ensures.laid.settled.a a) (c.in-Ok.ensures.laid.settled.b b),
-      laid_content (g.D.Disk.content c.fresh_journal.new.a) c.args.snapshot.now 1 0 here (lit< tt) (lit< tt) (short g c),
+          c.args.layout c.requires.written here (empty g c b) c.in-Ok.ensures.end (short g c) (c.in-Ok.ensures.laid.settled.a a) (c.in-Ok.ensures.laid.settled.b b),
+      laid_content (g.D.Disk.content c.fresh_journal.new.a) c.args.snapshot.now c.args.layout 1 0 c.requires.written here (lit< tt) (lit< tt) (short g c),
     )
 
 pub invariant_of-result : goal.invariant_of-result
@@ -36,14 +36,14 @@ invariant_of-result g c = (
   c.in-Ok.ensures.room,
   lit< tt,
   λ usable a b. (written g c (c.fresh_journal.ensures.later.a.honesty.1 a) (c.fresh_journal.ensures.later.b.honesty.1 b)).0,
-  λ usable a b. fresh_measured _ c.args.snapshot.now
+  λ usable a b. fresh_measured _ c.args.layout c.args.snapshot.now
       (written g c (c.fresh_journal.ensures.later.a.honesty.1 a) (c.fresh_journal.ensures.later.b.honesty.1 b)).1,
 )
 
 pub returns-in-Ok-clause-kept : goal.returns-in-Ok-clause-kept
 returns-in-Ok-clause-kept g c = λ a b. record {
   says = (written g c a b).1;
-  kept = kept_now g.D.Disk.content g.D.Disk.history false c.fresh_journal.new.a c.fresh_journal.new.b c.in-Ok.end present_layout 1 0 0 (written g c a b).0;
+  kept = kept_now g.D.Disk.content g.D.Disk.history false c.fresh_journal.new.a c.fresh_journal.new.b c.in-Ok.end c.args.layout 1 0 0 (written g c a b).0;
 }
 
 pub returns-in-Ok-clause-empty : goal.returns-in-Ok-clause-empty

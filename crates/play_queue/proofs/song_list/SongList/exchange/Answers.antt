@@ -17,6 +17,7 @@ invariant_of-self c =
       in_order-permuted c.self.inside.songs.entries order (exchanged order c.args.low c.args.middle c.args.high) moved c.self.invariant.0,
       omega (arith, long, as_long, c.self.invariant.1),
       omega (arith, long, c.self.invariant.2),
+      c.self.invariant.3,
     )
 
 pub returns : goal.returns

@@ -2,6 +2,7 @@ use Rattle.std.proofs.Common.{◌≡◌, None, length, ◌+◌, ◌∷◌, [], a
 use Rattle.std.proofs.lemmas.List.{length-append, length-map}
 use Rattle.play_queue.specs.Songs.{AreInOrder, song_of, entry_of, in_order}
 use Rattle.play_queue.proofs.InOrder.{absent-other, in_order-more, entries-more}
+use Rattle.play_queue.proofs.Tops.{tops-with}
 use Rattle.play_queue.proofs.song_list.SongList.push.Goals as goal
 
 pub invariant_of-self-2 : goal.invariant_of-self-2
@@ -20,6 +21,9 @@ invariant_of-self-2 c =
           (in_order-more songs c.push_song.new.songs.entries order c.args.id c.new.result kept none c.push_song.ensures.songs),
       omega (arith, long, c.push_song.ensures.near, c.reserve-2.ensures.len, c.reserve-3.ensures.len, c.self.invariant.1),
       omega (arith, long, c.reserve-2.ensures.len, count, rw (← c.self.view_is) at c.requires.few),
+      tops-with songs c.push_song.new.songs.entries c.self.inside.top c.greater-top.result c.args.id c.new.result
+          (rw (c.reserve.ensures.entries) c.self.invariant.3) c.greater-top.ensures.first (rw (c.new.ensures.priority) c.greater-top.ensures.second)
+          c.push_song.ensures.songs,
     )
 
 pub returns-clause-ok : goal.returns-clause-ok

@@ -17,4 +17,5 @@ invariant_of-self-2 c =
       c.push_songs.ensures.kept,
       omega (arith, c.push_songs.ensures.len, c.push_songs.ensures.near, c.reserve-2.ensures.len, c.reserve-3.ensures.len, c.self.invariant.1),
       omega (arith, c.push_songs.ensures.len, c.reserve-2.ensures.len, count, rw (← c.self.view_is) at c.requires.few),
+      c.push_songs.ensures.top c.self.inside.top (rw (c.reserve.ensures.entries) c.self.invariant.3),
     )

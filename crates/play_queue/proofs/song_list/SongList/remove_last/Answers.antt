@@ -2,6 +2,7 @@ use Rattle.std.proofs.Common.{◌≡◌, ◌-◌, ◌∷◌, [], ◌++◌, lengt
 use Rattle.std.proofs.lemmas.List.{length-append, length-take-le}
 use Rattle.play_queue.specs.Songs.{AreInOrder}
 use Rattle.play_queue.proofs.InOrder.{in_order-less, entries-less}
+use Rattle.play_queue.proofs.Tops.{tops-without}
 use Rattle.play_queue.proofs.song_list.SongList.remove_last.Goals as goal
 
 pub invariant_of-self : goal.invariant_of-self
@@ -18,6 +19,7 @@ invariant_of-self c =
       in_order-less songs c.forget.new.songs.entries left id kept c.forget.ensures,
       ap length c.pop-in-Some.ensures.rest ∙ short,
       omega (arith, ap length was, length-append left (id ∷ []), c.self.invariant.2),
+      tops-without songs c.forget.new.songs.entries c.self.inside.top id c.self.invariant.3 c.forget.ensures,
     )
 
 pub returns-in-Some : goal.returns-in-Some

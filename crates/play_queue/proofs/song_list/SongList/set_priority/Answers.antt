@@ -3,6 +3,7 @@ use Rattle.std.proofs.lemmas.List.{length-map, get_or_default}
 use Rattle.play_queue.specs.declared.song.Song.{Song}
 use Rattle.play_queue.specs.Songs.{song_of, entry_of, in_order}
 use Rattle.play_queue.proofs.InOrder.{song_at, in_order-prioritized, prioritized-at}
+use Rattle.play_queue.proofs.Tops.{tops-with}
 use Rattle.play_queue.proofs.song_list.SongList.set_priority.Goals as goal
 
 pub invariant_of-self : goal.invariant_of-self
@@ -19,6 +20,8 @@ invariant_of-self c =
           (λ id. c.prioritize.ensures found.0 id there),
       c.self.invariant.1,
       c.self.invariant.2,
+      tops-with songs c.prioritize.new.songs.entries c.self.inside.top c.greater-top.result c.index.result.now changed c.self.invariant.3
+          c.greater-top.ensures.first c.greater-top.ensures.second (λ id. c.prioritize.ensures found.0 id there),
     )
 
 pub returns : goal.returns

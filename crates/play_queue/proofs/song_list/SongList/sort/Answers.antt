@@ -48,6 +48,7 @@ invariant_of-self c =
       in_order-permuted c.self.inside.songs.entries order _ all c.self.invariant.0,
       omega (arith, long, c.put_back.ensures.places, c.self.invariant.1),
       omega (arith, long, c.self.invariant.2),
+      c.self.invariant.3,
     )
 
 pub returns-clause-ok : goal.returns-clause-ok

@@ -18,6 +18,7 @@ invariant_of-self c =
           c.self.invariant.0,
       omega (arith, length-swap order c.args.one c.args.other, length-swap near c.args.one c.args.other, c.self.invariant.1),
       omega (arith, length-swap order c.args.one c.args.other, c.self.invariant.2),
+      c.self.invariant.3,
     )
 
 pub returns : goal.returns

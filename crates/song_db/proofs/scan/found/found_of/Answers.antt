@@ -13,9 +13,9 @@ no_song true own is = absurd (cc)
 no_song false own is = refl
 
 pub returns-in-Some-clause-found : goal.returns-in-Some-clause-found
-returns-in-Some-clause-found c = rw c.in-Ok.is (ap Ok (song (is_within_limits (row_of c.args.uri c.in-Ok.info None)) c.in-Some.row
-    (row_of c.args.uri c.in-Ok.info None) (sym c.in-Some.is ∙ c.in_ok-row-in-Ok.ensures)))
+returns-in-Some-clause-found c = rw c.in-Ok.is (ap Ok (song (is_within_limits (row_of c.args.uri c.in-Ok.info c.args.stamp)) c.in-Some.row
+    (row_of c.args.uri c.in-Ok.info c.args.stamp) (sym c.in-Some.is ∙ c.in_ok-row-in-Ok.ensures)))
 
 pub returns-in-None-clause-found : goal.returns-in-None-clause-found
-returns-in-None-clause-found c = rw c.in-Ok.is (ap Ok (no_song (is_within_limits (row_of c.args.uri c.in-Ok.info None)) (row_of
-    c.args.uri c.in-Ok.info None) (sym c.in-None.is ∙ c.in_ok-row-in-Ok.ensures)))
+returns-in-None-clause-found c = rw c.in-Ok.is (ap Ok (no_song (is_within_limits (row_of c.args.uri c.in-Ok.info c.args.stamp)) (row_of
+    c.args.uri c.in-Ok.info c.args.stamp) (sym c.in-None.is ∙ c.in_ok-row-in-Ok.ensures)))

@@ -14,16 +14,17 @@ kept false x y o e f = absurd cc
 
 pub unreachable-requires : goal.unreachable-requires
 unreachable-requires c =
-    let info = c.in_ok-info.info in
-    let fields : RowFields = (info.rate, (info.channels, (info.first_byte, (info.frames, info.tags)))) in
-    let read = fields_is.takes c.args.self.now.rest.now (fields, c.head.new.self.rest.now) c.are_bytes.ensures c.in_ok-info.ensures in
-    let good = row_fits c.args.uri fields c.as_str-form.ensures.form read.1 in
-    not_none _ _ _ c.in_ok-row.ensures (both_true (is_uri c.args.uri) (is_within_limits (row_with c.args.uri fields)) good.form).1
+    let info = c.in_ok-head.head.0 in
+    let fields : RowFields = (info.rate, (info.channels, (info.first_byte, (info.frames, (c.in_ok-head.head.1, info.tags))))) in
+    let read = (fields_is c.args.profile).takes c.args.self.now.rest.now (fields, c.head.new.self.rest.now) c.are_bytes.ensures
+    c.in_ok-head.ensures in
+    let good = row_fits c.args.profile c.args.uri fields c.as_str-form.ensures.form read.1 in
+    not_none _ _ _ c.in_ok-row.ensures (both_true (is_uri c.args.uri) (is_within_limits (row_with c.args.uri fields)) good.0.form).1
     c.in-None.is
 
 pub returns-clause-row : goal.returns-clause-row
 returns-clause-row c =
-    rw c.in_ok-info.ensures (ap (λ r. Ok (r, c.head.new.self.rest.now)) (kept _ _ _ _ c.in_ok-row.ensures c.in-Some.is))
+    rw c.in_ok-head.ensures (ap (λ r. Ok (r, c.head.new.self.rest.now)) (kept _ _ _ _ c.in_ok-row.ensures c.in-Some.is))
 
 pub returns-clause-uri : goal.returns-clause-uri
 returns-clause-uri c = sym (ap (λ (r : Row). r.uri) (kept _ _ _ _ c.in_ok-row.ensures c.in-Some.is))

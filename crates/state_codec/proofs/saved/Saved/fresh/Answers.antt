@@ -4,4 +4,4 @@ use Rattle.state_codec.proofs.saved.Saved.fresh.Goals as goal
 
 pub invariant_of-result : goal.invariant_of-result
 invariant_of-result c = rw (c.default.ensures, c.new.ensures, c.new-2.ensures, c.new-3.ensures, c.new-4.ensures)
-    (fresh_kept c.args.key c.default-2.result (search rules) (search rules))
+    (fresh_kept c.args.profile c.args.key c.default-2.result (search rules) (search rules))

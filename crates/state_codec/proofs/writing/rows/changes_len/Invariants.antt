@@ -4,4 +4,4 @@ use Rattle.state_codec.specs.SpellingRows.{change_bytes}
 use Rattle.state_codec.proofs.writing.rows.changes_len.Given as goal
 
 abbrev pub invariant-loop-change : goal.invariant-loop-change
-invariant-loop-change l = (l.len ≡ 1 + length (flat_map change_bytes (take l.change-index l.changes))) × (l.len ≤ 1 + 4138 * l.change-index)
+invariant-loop-change l = (l.len ≡ 1 + length (flat_map (change_bytes l.profile) (take l.change-index l.changes))) × (l.len ≤ 1 + 132391 * l.change-index)

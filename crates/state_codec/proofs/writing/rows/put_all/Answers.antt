@@ -17,7 +17,7 @@ put_change-requires-clause-room c =
       c.args.out.now.ok.0,
       c.loop-change.invariant.1,
       ap length c.loop-change.invariant.0,
-      length-append c.args.out.now.items (flat_map change_bytes (take i c.args.changes.now)),
-      length-flat_map-take change_bytes c.args.changes.now i item (omega arith),
-      ap (λ (x : RowChange). length (change_bytes x)) c.change-item.is,
+      length-append c.args.out.now.items (flat_map (change_bytes c.args.profile) (take i c.args.changes.now)),
+      length-flat_map-take (change_bytes c.args.profile) c.args.changes.now i item (omega arith),
+      ap (λ (x : RowChange). length (change_bytes c.args.profile x)) c.change-item.is,
     )

@@ -4,5 +4,5 @@ use Rattle.state_codec.specs.SpellingRows.{change_bytes}
 use Rattle.state_codec.proofs.writing.rows.put_all.Given as goal
 
 abbrev pub invariant-loop-change : goal.invariant-loop-change
-invariant-loop-change l = (l.out.items ≡ l.fn.out.items ++ flat_map change_bytes (take l.change-index l.changes))
+invariant-loop-change l = (l.out.items ≡ l.fn.out.items ++ flat_map (change_bytes l.profile) (take l.change-index l.changes))
     × (vec_capacity l.out ≡ vec_capacity l.fn.out)

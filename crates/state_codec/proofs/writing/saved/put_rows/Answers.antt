@@ -18,15 +18,15 @@ put_row-requires c =
       c.args.out.now.ok.0,
       c.loop-row.invariant.1,
       ap length c.loop-row.invariant.0,
-      length-append c.args.out.now.items (flat_map row_bytes (take i c.args.rows.now)),
-      length-flat_map-take row_bytes c.args.rows.now i item (omega arith),
-      ap (λ (x : Row). length (row_bytes x)) c.row-item.is,
+      length-append c.args.out.now.items (flat_map (row_bytes c.args.profile) (take i c.args.rows.now)),
+      length-flat_map-take (row_bytes c.args.profile) c.args.rows.now i item (omega arith),
+      ap (λ (x : Row). length (row_bytes c.args.profile x)) c.row-item.is,
     )
 
 pub loop-row-preserved : goal.loop-row-preserved
 loop-row-preserved c = (
   c.put_row.ensures.items
-      ∙ more_items row_bytes c.args.out.now.items c.loop-row.out.items c.args.rows.now c.loop-row.row-index c.row-item.result (omega arith)
+      ∙ more_items (row_bytes c.args.profile) c.args.out.now.items c.loop-row.out.items c.args.rows.now c.loop-row.row-index c.row-item.result (omega arith)
       c.row-item.is c.loop-row.invariant.0,
   c.put_row.ensures.capacity ∙ c.loop-row.invariant.1,
 )

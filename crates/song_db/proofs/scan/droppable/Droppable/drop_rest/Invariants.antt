@@ -7,7 +7,8 @@ abbrev pub invariant-drops : goal.invariant-drops
 invariant-drops l = record {
   room : MAX_CHANGES ≤ vec_capacity l.changes;
   few : vec_len l.changes ≤ MAX_CHANGES;
-  dropped : drops_of l.changes.items ++ l.self ≡ drops_of l.initial.changes.items ++ l.initial.self;
+  known : l.self.known ≡ l.initial.self.known;
+  dropped : drops_of l.changes.items ++ l.self.left ≡ drops_of l.initial.changes.items ++ l.initial.self.left;
   put : puts_of l.changes.items ≡ puts_of l.initial.changes.items;
 }
 

@@ -9,18 +9,18 @@ loop-preserved g c =
     let place : c.next.new.self.place ≡ first = c.next.ensures.place ∙ c.loop.invariant.scan.place in
     let rules : c.next.new.self.rules ≡ c.args.self.now.walk.rules = c.next.ensures.rules ∙ c.loop.invariant.scan.rules in
     record {
-      scan = record { rules = c.make.ensures.scan.rules ∙ rules; place = c.make.ensures.scan.place ∙ place; begun = c.make.ensures.scan.begun ∙ c.loop.invariant.scan.begun };
+      scan = record { place = c.make.ensures.scan.place ∙ place; rules = c.make.ensures.scan.rules ∙ rules; known = c.make.ensures.scan.known ∙ c.loop.invariant.scan.known; begun = c.make.ensures.scan.begun ∙ c.loop.invariant.scan.begun };
       capacity = c.make.ensures.capacity ∙ c.loop.invariant.capacity;
       few = omega arith;
       batch = λ start batch. rw (place, rules) at (c.in_ok-make.ensures.batch start (rw (place, rules) (c.loop.invariant.batch start batch)));
       read = λ honest.
-          let files = music_of c.args.self.now.walk.rules (g.F.Folder.files c.args.folder.now) in
+          let files = music_of c.args.self.now.walk.rules c.args.self.now.droppable.known (g.F.Folder.files c.args.folder.now) in
           let steady = g.F.Folder.steady c.args.folder.now in
-          let made = rw (place, rules, c.loop.invariant.folder.same_files honest)
+          let made = rw (place, rules, c.loop.invariant.scan.known, c.loop.invariant.folder.same_files honest)
           at (c.in_ok-make.ensures.read (c.loop.invariant.folder.honesty honest)) in
           read_then files steady _ first _ _ _ _ _ _ _ _ _ c.loop.invariant.folder.steadiness
           (read_then files steady steady first _ _ _ _ _ _ _ _ _ (λ is. is) (c.loop.invariant.read honest)
-          (read_taken files steady first c.loop.self.walk.pending c.next.new.self.pending c.in_ok-visit.visit c.loop.self.droppable
+          (read_taken files steady first c.loop.self.walk.pending c.next.new.self.pending c.in_ok-visit.visit c.loop.self.droppable.left
           c.loop.changes.items (rw c.loop.invariant.scan.rules at c.in_ok-visit.ensures.taken)))
           made;
       folder = folder_then g.F.Folder.honest g.F.Folder.steady g.F.Folder.files _ _ _ c.loop.invariant.folder c.make.ensures.folder;

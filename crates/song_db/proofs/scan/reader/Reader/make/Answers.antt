@@ -6,7 +6,7 @@ use Rattle.song_db.specs.Music.{music_of}
 use Rattle.song_db.specs.declared.refusal.SongDbError.{SongDbError}
 use Rattle.song_db.specs.declared.refusal.SongDbError.TheVariants.{NoMemory as MemoryRefused}
 use Rattle.song_db.proofs.BatchSteps.{batch_settled, songs_settled, batch_listed}
-use Rattle.song_db.proofs.HonestSteps.{found_tells, found_known}
+use Rattle.song_db.proofs.HonestSteps.{found_sure, found_tells}
 use Rattle.song_db.proofs.ReaderSteps.{read_listed, read_none, read_told, then_ok}
 use Rattle.song_db.proofs.scan.reader.Reader.make.Goals as goal
 
@@ -30,35 +30,28 @@ both_ok P Q (Err e) p q = tt
 
 pub returns-in_ok-found-in-File-clause-batch : goal.returns-in_ok-found-in-File-clause-batch
 returns-in_ok-found-in-File-clause-batch g c = λ start batch.
-    rw (c.settle.ensures.changes, c.settle.ensures.droppable)
-    (batch_settled c.args.self.now.walk.rules c.args.self.now.walk.place start c.args.self.now.droppable c.args.changes.now.items c.in-File.uri
+    rw (c.settle.ensures.changes, c.settle.ensures.left)
+    (batch_settled c.args.self.now.walk.rules c.args.self.now.walk.place start c.args.self.now.droppable.left c.args.changes.now.items c.in-File.uri
     c.in_ok-found-in-File.found batch (rw c.in-File.is at c.requires.visit).0 c.in_ok-found-in-File.ensures.of)
 
 pub returns-in_ok-found-in-File-clause-read : goal.returns-in_ok-found-in-File-clause-read
 returns-in_ok-found-in-File-clause-read g c = λ honest.
-    let files = music_of c.args.self.now.walk.rules (g.F.Folder.files c.args.folder.now) in
+    let files = music_of c.args.self.now.walk.rules c.args.self.now.droppable.known (g.F.Folder.files c.args.folder.now) in
     let visit = rw c.in-File.is at c.requires.visit in
-    let opened = rw c.as_str.ensures.text at (c.open-opened.ensures.opened honest) in
-    rw (c.in-File.is, c.settle.ensures.changes, c.settle.ensures.droppable)
+    let told = rw c.rules.ensures at (c.in_ok-found-in-File.ensures.found honest) in
+    rw (c.in-File.is, c.settle.ensures.changes, c.settle.ensures.left)
     (read_told files (g.F.Folder.steady c.args.folder.now) c.args.self.now.walk.place c.args.self.now.walk.pending
-    c.args.self.now.droppable c.args.changes.now.items c.in-File.uri c.in_ok-found-in-File.found
-    (songs_settled {S = g.row.F-File.Denot} g.F.File.Source.bytes g.F.File.Source.honest files
-    c.in-File.uri c.args.changes.now.items c.open-opened.result c.in_ok-found-in-File.found c.found_in.result
-    c.in_ok-found-in-File.was opened c.found_in.ensures.fault
-    c.found_in.ensures.none c.found_in.ensures.memory c.in_ok-found-in-File.ensures.of (rw c.rules.ensures at c.in_ok-found-in-File.ensures.song))
-    (found_tells {S = g.row.F-File.Denot} g.F.File.Source.bytes g.F.File.Source.honest files
-    c.args.self.now.walk.place c.in-File.uri c.open-opened.result c.in_ok-found-in-File.found c.found_in.result visit.0 visit.1
-    c.in_ok-found-in-File.was opened c.found_in.ensures.fault
-    c.found_in.ensures.none c.found_in.ensures.memory c.in_ok-found-in-File.ensures.of (rw c.rules.ensures at c.in_ok-found-in-File.ensures.song))
-    (λ steady. found_known {S = g.row.F-File.Denot} g.F.File.Source.honest g.F.File.Source.steady files
-    g.F.File.Source.bytes c.in-File.uri c.open-opened.result c.in_ok-found-in-File.found c.found_in.result c.in_ok-found-in-File.was
-    opened (c.open-opened.ensures.steady steady).0 (c.open-opened.ensures.unfailing steady) c.found_in.ensures.none
-    c.found_in.ensures.memory c.found_in.ensures.known))
+    c.args.self.now.droppable.left c.args.changes.now.items c.in-File.uri c.in_ok-found-in-File.found
+    (songs_settled files c.in-File.uri c.args.changes.now.items c.in_ok-found-in-File.found c.in_ok-found-in-File.ensures.of told)
+    (found_tells files c.args.self.now.walk.place c.in-File.uri c.in_ok-found-in-File.found visit.0 visit.1
+    c.in_ok-found-in-File.ensures.of told)
+    (λ steady. found_sure files c.args.self.now.walk.place c.in-File.uri c.in_ok-found-in-File.found visit.0 visit.1
+    (rw c.rules.ensures at (c.in_ok-found-in-File.ensures.sure honest steady))))
 
 pub returns-in-Folder-clause-batch : goal.returns-in-Folder-clause-batch
 returns-in-Folder-clause-batch g c = λ start batch.
     then_ok c.take_listing.result c.take_listing.ensures.droppable (λ is. rw is
-    (batch_listed c.args.self.now.walk.rules c.args.self.now.walk.place start c.args.self.now.droppable c.args.changes.now.items c.in-Folder.uri
+    (batch_listed c.args.self.now.walk.rules c.args.self.now.walk.place start c.args.self.now.droppable.left c.args.changes.now.items c.in-Folder.uri
     c.list-listing.result batch))
 
 pub returns-in-Folder-clause-read : goal.returns-in-Folder-clause-read
@@ -67,12 +60,12 @@ returns-in-Folder-clause-read g c = λ honest.
     c.take_listing.ensures.pending (under _ _ c.take_listing.result (λ steady. sure c.take_listing.result c.list-listing.result
     (c.list-listing.ensures.steady steady).0 c.take_listing.ensures.memory))))
     (λ told. rw (c.in-Folder.is, told.0)
-    (read_listed (music_of c.args.self.now.walk.rules (g.F.Folder.files c.args.folder.now)) (g.F.Folder.steady c.args.folder.now) c.args.self.now.walk.place
-    c.args.self.now.walk.pending c.take_listing.new.self.walk.pending c.args.self.now.droppable c.args.changes.now.items
-    c.in-Folder.uri c.list-listing.result c.as_str-in-Folder.ensures.form
-    (rw c.as_str-in-Folder.ensures.text at (c.list-listing.ensures.listed honest)) told.1.1 told.1.0))
+    (read_listed (music_of c.args.self.now.walk.rules c.args.self.now.droppable.known (g.F.Folder.files c.args.folder.now)) (g.F.Folder.steady c.args.folder.now) c.args.self.now.walk.place
+    c.args.self.now.walk.pending c.take_listing.new.self.walk.pending c.args.self.now.droppable.left c.args.changes.now.items
+    c.in-Folder.uri c.list-listing.result c.as_str.ensures.form
+    (rw c.as_str.ensures.text at (c.list-listing.ensures.listed honest)) told.1.1 told.1.0))
 
 pub returns-in-Nothing-clause-read : goal.returns-in-Nothing-clause-read
 returns-in-Nothing-clause-read g c = λ honest.
-    rw c.in-Nothing.is (read_none (music_of c.args.self.now.walk.rules (g.F.Folder.files c.args.folder.now)) (g.F.Folder.steady c.args.folder.now) c.args.self.now.walk.place
-    c.args.self.now.walk.pending c.args.self.now.droppable c.args.changes.now.items)
+    rw c.in-Nothing.is (read_none (music_of c.args.self.now.walk.rules c.args.self.now.droppable.known (g.F.Folder.files c.args.folder.now)) (g.F.Folder.steady c.args.folder.now) c.args.self.now.walk.place
+    c.args.self.now.walk.pending c.args.self.now.droppable.left c.args.changes.now.items)

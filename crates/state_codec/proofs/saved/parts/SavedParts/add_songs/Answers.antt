@@ -18,6 +18,7 @@ returns-in_err-add_at-clause-edit c =
     let long : length c.in_ok-uris.uris.items ≡ length c.args.rows.now = ap length uris ∙ length-uris_at songs c.args.rows.now named in
     refused_add _ _ _ _ _ _ c.in_err-add_at.field-0.0 _ named none (rw long at c.in_err-add_at.ensures.answer) (p.1 ∙ ap Err p.2)
     (ap (λ queue. record {
+      profile = c.args.self.now.profile;
       key = c.args.self.now.key;
       order = c.args.self.now.order;
       volume = c.args.self.now.volume;

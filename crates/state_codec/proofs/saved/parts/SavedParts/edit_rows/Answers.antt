@@ -13,7 +13,7 @@ use Rattle.state_codec.proofs.saved.parts.SavedParts.edit_rows.Goals as goal
 pub returns-clause-edit : goal.returns-clause-edit
 returns-clause-edit c =
     let s : SavedState = state_of c.args.self.now in
-    let none : rows_refusal c.args.changes.now s ≡ None = check_none _ _ (rw c.as_slice.ensures.changes at c.in_ok-check_rows.ensures) in
+    let none : rows_refusal c.args.changes.now s ≡ None = check_none _ _ (rw c.as_slice.ensures.changes at c.in_ok-check_changes.ensures) in
     let drops : IsPermutation (drops_of c.args.changes.now) c.new-dropped.result =
     rw (c.in_ok-dropped_by.ensures, c.as_slice-2.ensures.changes) at c.new-dropped.ensures in
     let others : IsPermutation (changed_by s.songs c.args.changes.now) c.new-changed.result =

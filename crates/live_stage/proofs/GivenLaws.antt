@@ -1,0 +1,109 @@
+-- Files that give a state are opened with it, and a history keeps the profile of its state.
+use Rattle.std.proofs.Common.{◌≡◌, inl, inr, ℕ, Bool, true, false, cond, List, [], ◌∷◌, Option, Some, None, refl, sym, ap, subst, ◌∙◌}
+use Rattle.std.specs.Option.{option_and_then}
+use Rattle.disk_model.specs.History.{Change}
+use Rattle.disk_model.specs.Images.{window, IsImage}
+use Rattle.machine_core.specs.Happening.{nothing_happens}
+use Rattle.machine_core.specs.Reports.{when_ended}
+use Rattle.machine_core.specs.Scanning.{changes_rows, ends_scan, finds, is_running, kept_changes, telling, when_found, when_scanned}
+use Rattle.machine_core.specs.State.{MachineState}
+use Rattle.play_journal.specs.Content.{Content, IsKnownLayout}
+use Rattle.play_journal.specs.Pair.{found, IsPair}
+use Rattle.play_journal.proofs.PairLaws.{pair-found}
+use Rattle.play_journal.proofs.RecordLaws.{IsBytes, bytes_fit}
+use Rattle.profile.specs.declared.profile.Profile.{Profile}
+use Rattle.song_db.specs.declared.change.RowChange.{RowChange}
+use Rattle.state_codec.specs.declared.op.Op.{Op}
+use Rattle.state_codec.specs.Applied.{after, after_all, all_applied}
+use Rattle.state_codec.specs.Layout.{profile_of}
+use Rattle.state_codec.specs.SavedState.{SavedState}
+use Rattle.state_codec.proofs.AppliedLaws.{same_profile}
+use Rattle.daemon_core.specs.declared.event.Event.{Event}
+use Rattle.daemon_core.specs.declared.event.Event.TheVariants as events
+use Rattle.daemon_core.specs.Replay.{Entry, stepped}
+use Rattle.daemon_core.specs.State.{State}
+use Rattle.daemon_core.specs.Step.{Stepped, step}
+use Rattle.daemon_core.proofs.RebuildLaws.{CommandsRebuild, step_rebuilds}
+use Rattle.live_stage.specs.Found.{given_state, found_state, is_read, brought, state_of, taken_state, AllFindNow, AllOpenNow}
+use Rattle.live_stage.specs.Transcript.{replayed}
+use Rattle.live_stage.proofs.ProfileLaws.{brought_own, profile_stays, state_profile, taken_of}
+
+-- ---- files
+
+-- a layout is read under the profile of its states
+known_is_read : (layout : ℕ) → IsKnownLayout layout → is_read (profile_of layout) layout ≡ true
+known_is_read layout (inl is) = ap (λ (n : ℕ). is_read (profile_of n) n) is
+known_is_read layout (inr (inl is)) = ap (λ (n : ℕ). is_read (profile_of n) n) is
+known_is_read layout (inr (inr is)) = ap (λ (n : ℕ). is_read (profile_of n) n) is
+
+pair_known : (x y : List ℕ) (content : Content) → IsPair x y content → IsKnownLayout content.layout
+pair_known x y content (inl first) = first.0.fits.layout
+pair_known x y content (inr second) = second.0.fits.layout
+
+given_from : (x y : List ℕ) (s : SavedState) (o : Option Content) → IsBytes x → IsBytes y → found x y ≡ o → state_of o ≡ Some s
+    → option_and_then (taken_state s.profile) o ≡ Some s
+given_from x y s None bytes_x bytes_y is stands = absurd cc
+given_from x y s (Some content) bytes_x bytes_y is stands =
+    let known = pair_known x y content (pair-found x y content bytes_x bytes_y is) in
+    let reads : is_read s.profile content.layout ≡ true =
+    ap (λ (p : Profile). is_read p content.layout) (state_profile content s stands) ∙ known_is_read content.layout known in
+    taken_of s.profile content s reads stands ∙ ap (λ (t : SavedState). Some t) (brought_own s.profile s refl)
+
+pub given_open : (x y : List ℕ) (s : SavedState) → IsBytes x → IsBytes y → given_state x y ≡ Some s → found_state s.profile x y ≡ Some s
+given_open x y s bytes_x bytes_y is = given_from x y s (found x y) bytes_x bytes_y refl is
+
+pub given_is_open : (s : SavedState) (a b : List Change) → AllFindNow (λ f. f ≡ Some s) a b → AllOpenNow s.profile (λ f. f ≡ Some s) a b
+given_is_open s a b gives x y at_x at_y =
+    given_open x y s (bytes_fit x at_x.bytes) (bytes_fit y at_y.bytes) (gives x y at_x at_y)
+
+-- ---- a history
+
+after_all_profile : (ops : List Op) (s : SavedState) → (let t : SavedState = after_all ops s in t.profile) ≡ s.profile
+after_all_profile [] s = refl
+after_all_profile (op ∷ ops) s = after_all_profile ops (after op s) ∙ same_profile op s
+
+finds_profile : (changes : List RowChange) (m : MachineState) → (let h = finds changes m in h.after.saved.profile) ≡ m.saved.profile
+finds_profile [] m = refl
+finds_profile (change ∷ changes) m = after_all_profile (let h = changes_rows (change ∷ changes) m in h.ops) m.saved
+
+found_profile : (job : ℕ) (changes : List RowChange) (m : MachineState)
+    → (let h = when_found job changes m in h.after.saved.profile) ≡ m.saved.profile
+found_profile job changes m =
+    elim (is_running job m) as (λ b. (let h = cond b (finds (telling m.saved.songs (kept_changes m.saved.profile changes)) m)
+    (nothing_happens m) in h.after.saved.profile) ≡ m.saved.profile) [
+      | true ↦ finds_profile (telling m.saved.songs (kept_changes m.saved.profile changes)) m
+      | false ↦ refl
+    ]
+
+scanned_profile : (job : ℕ) (m : MachineState) → (let h = when_scanned job m in h.after.saved.profile) ≡ m.saved.profile
+scanned_profile job m =
+    elim (is_running job m) as (λ b. (let h = cond b (ends_scan m) (nothing_happens m) in h.after.saved.profile) ≡ m.saved.profile) [
+      | true ↦ refl
+      | false ↦ refl
+    ]
+
+-- what is rebuilt by its ops keeps the profile
+by_ops : (s : State) (r : Stepped) → all_applied r.ops s.machine.saved ≡ Some r.after.machine.saved
+    → r.after.machine.saved.profile ≡ s.machine.saved.profile
+by_ops s r is = profile_stays r.ops s.machine.saved r.after.machine.saved is
+
+-- no event changes the profile
+pub step_profile : (law : CommandsRebuild) (s : State) (event : Event) (refused : Option ℕ)
+    → (let now : Stepped = step s event refused in now.after.machine.saved.profile) ≡ s.machine.saved.profile
+unfolding step
+step_profile law s (events.Connect c) refused = by_ops s (step s (events.Connect c) refused) (step_rebuilds law s (events.Connect c) refused tt).state
+step_profile law s (events.Request c request) refused = by_ops s (step s (events.Request c request) refused)
+    (step_rebuilds law s (events.Request c request) refused tt).state
+step_profile law s (events.Gone c) refused = by_ops s (step s (events.Gone c) refused) (step_rebuilds law s (events.Gone c) refused tt).state
+step_profile law s (events.Fed ticket frames) refused = refl
+step_profile law s (events.Ended ticket) refused = after_all_profile (let h = when_ended ticket s.machine in h.ops) s.machine.saved
+step_profile law s (events.Broken ticket cause) refused = refl
+step_profile law s (events.Batch job changes) refused = found_profile job changes s.machine
+step_profile law s (events.ScanDone job) refused = scanned_profile job s.machine
+
+-- nor does a history
+pub history_profile : (law : CommandsRebuild) (s : State) (history : List Entry)
+    → (let now : State = replayed s history in now.machine.saved.profile) ≡ s.machine.saved.profile
+history_profile law s [] = refl
+history_profile law s (entry ∷ earlier) =
+    step_profile law (replayed s earlier) entry.event entry.refused ∙ history_profile law s earlier
