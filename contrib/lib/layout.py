@@ -1,16 +1,22 @@
 """What an installation is made of, for contrib/install and contrib/deb: which file stands where, with which mode."""
 
+import contextlib
 import dataclasses
 import hashlib
 import json
 import os
 import re
+import subprocess
 
 CONTRIB = os.path.dirname(os.path.dirname(os.path.abspath(__file__)))
 NAME = "mpd_daemon"
 PORT = 6600
 # The program of the first words of a unit's command.
 COMMAND = re.compile(r"^ExecStart=(\S+)", re.MULTILINE)
+# The Python for which Debian's packages are.
+PYTHON = "/usr/bin/python3"
+# The line of a configuration that names the decoder's socket.
+DECODER = re.compile(r"^(# )?decoder = ", re.MULTILINE)
 
 
 @dataclasses.dataclass
@@ -46,6 +52,25 @@ def has_sound():
     return is_there("sound") and is_there(f"{NAME}_sound.service")
 
 
+def has_decoder():
+    """Whether there is what decodes other music than WAVE and FLAC, its unit, and a configuration that knows of it."""
+    return is_there("decoder/decoder") and is_there(f"{NAME}_decoder.service") and DECODER.search(text(f"{NAME}.toml")) is not None
+
+
+def lack_of_decoder():
+    """What the decoder lacks on this machine; None where nothing is missing."""
+    with contextlib.suppress(OSError):
+        if subprocess.run([PYTHON, "-c", "import av, mutagen"], capture_output=True, check=False).returncode == 0:
+            return None
+    return "python3-av and python3-mutagen (Debian's packages), by which other files than WAVE and FLAC are played"
+
+
+def decoder_files(folder):
+    """The files of the decoder, below this folder."""
+    files = [File(f"{folder}/decoder", text("decoder/decoder").encode(), 0o755, True)]
+    return files + [File(f"{folder}/{it}.py", text(f"decoder/{it}.py").encode(), is_renewed=True) for it in ("samples", "tags")]
+
+
 def command(unit, home):
     """The path of the program that a user's unit starts."""
     return COMMAND.search(unit)[1].replace("%h", home)
@@ -55,7 +80,8 @@ def configuration(settings):
     """The configuration for the units, with these settings in place of its own, and a key of its own."""
     made = text(f"{NAME}.toml")
     for key, value in {"key": os.urandom(32).hex(), **settings}.items():
-        made, count = re.subn(rf"^{key} = .*$", lambda _: f"{key} = {json.dumps(value, ensure_ascii=False)}", made, flags=re.MULTILINE)
+        line = f"{key} = {json.dumps(value, ensure_ascii=False)}"
+        made, count = re.subn(rf"^(?:# )?{key} = .*$", lambda _: line, made, flags=re.MULTILINE)
         if count != 1:
             raise ValueError(f"contrib/{NAME}.toml has {count} lines of `{key}`")
     return made
@@ -64,6 +90,8 @@ def configuration(settings):
 def for_user(home, units, program, settings):
     """The files of a user's installation, the configuration first."""
     unit = text(f"{NAME}.service")
+    if has_decoder():
+        settings = {"decoder": "decoder.socket", **settings}
     files = [
         File(f"{home}/.local/share/{NAME}/{NAME}.toml", configuration(settings).encode(), 0o600),
         File(command(unit, home), content(program), 0o755, True),
@@ -74,6 +102,10 @@ def for_user(home, units, program, settings):
         unit = text(f"{NAME}_sound.service")
         files.append(File(command(unit, home), text("sound").encode(), 0o755, True))
         files.append(File(f"{units}/{NAME}_sound.service", unit.encode()))
+    if has_decoder():
+        unit = text(f"{NAME}_decoder.service")
+        files += decoder_files(os.path.dirname(command(unit, home)))
+        files.append(File(f"{units}/{NAME}_decoder.service", unit.encode()))
     return files
 
 
@@ -82,13 +114,14 @@ class Folders:
     """Where the parts of a machine's installation stand."""
 
     programs: str
+    library: str
     units: str
     users: str
     manual: str
 
 
-BY_HAND = Folders("/usr/local/bin", "/etc/systemd/system", "/etc/sysusers.d", "/usr/local/share/man/man1")
-PACKAGED = Folders("/usr/bin", "/usr/lib/systemd/system", "/usr/lib/sysusers.d", "/usr/share/man/man1")
+BY_HAND = Folders("/usr/local/bin", f"/usr/local/lib/{NAME}", "/etc/systemd/system", "/etc/sysusers.d", "/usr/local/share/man/man1")
+PACKAGED = Folders("/usr/bin", f"/usr/lib/{NAME}", "/usr/lib/systemd/system", "/usr/lib/sysusers.d", "/usr/share/man/man1")
 
 
 def for_machine(folders, program):
@@ -96,7 +129,8 @@ def for_machine(folders, program):
 
     def unit(name):
         path = f"{folders.units}/{name}"
-        return File(path, text(f"system/{name}").replace("/usr/bin/", f"{folders.programs}/").encode())
+        told = text(f"system/{name}").replace(f"/usr/bin/{NAME}", f"{folders.programs}/{NAME}")
+        return File(path, told.replace(f"/usr/lib/{NAME}/", f"{folders.library}/").encode())
 
     files = [
         File(f"{folders.programs}/{NAME}", content(program), 0o755, True),
@@ -110,9 +144,12 @@ def for_machine(folders, program):
             File(f"{folders.manual}/{NAME}_sound.1", f".so man1/{NAME}.1\n".encode(), is_renewed=True),
             unit(f"{NAME}_sound.service"),
         ]
+    if has_decoder():
+        files += [*decoder_files(folders.library), unit(f"{NAME}_decoder.service")]
     return files
 
 
 def machine_settings(settings):
     """What a machine's configuration has in place of a user's."""
-    return {"unix": f"/run/{NAME}/socket", **settings}
+    decoder = {"decoder": f"/run/{NAME}_decoder/socket"} if has_decoder() else {}
+    return {"unix": f"/run/{NAME}/socket", **decoder, **settings}

@@ -70,6 +70,16 @@ def sum_of_sources(name):
     return whole.hexdigest()
 
 
+def commit():
+    """The checkout's commit; `unknown` where git can't tell."""
+    words = ["git", "describe", "--always", "--abbrev=12", "--exclude=*", "--dirty=.changed"]
+    with contextlib.suppress(OSError):
+        told = subprocess.run(words, cwd=ROOT, capture_output=True, text=True, check=False)
+        if told.returncode == 0:
+            return told.stdout.strip()
+    return "unknown"
+
+
 class Built:
     """A program in the folder `out`, with the sum of its sources beside it."""
 
@@ -88,9 +98,15 @@ class Built:
             os.remove(f"{self.path}.stamp")
 
     def note(self):
+        with open(f"{self.path}.build", "w", encoding="utf-8") as file:
+            file.write(f"{self.how()} build of commit {commit()}, sources {self.stamp[:16]}\n")
         with open(f"{self.path}.stamp", "w", encoding="utf-8") as file:
             file.write(self.stamp)
         return True
+
+    def how(self):
+        """Whether it was proved, or has run-time checks in place of proofs, by its folder: for `--version`."""
+        return os.path.basename(os.path.dirname(self.path))
 
 
 def end_in_order():

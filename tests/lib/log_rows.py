@@ -2,7 +2,9 @@
 its time and of an end that does."""
 
 import os
+import shutil
 import signal
+import subprocess
 import time
 
 import preload
@@ -346,6 +348,23 @@ def journal_file_missing(program, folder):
     refused(program, folder, {"output": "-"}, 2, ["a, b: no journal; `mpd_daemon create CONFIG` makes one", "journal refused: 4"])
 
 
+def version_told(program, folder):
+    """`--version` says which program it is, and what its builder left beside it, as that file's words: it can't know how it was built."""
+    os.makedirs(folder)
+    copy = shutil.copy(program, f"{folder}/mpd_daemon")
+
+    def printed():
+        ran = subprocess.run([copy, "--version"], capture_output=True, text=True, check=False)
+        return ran.returncode, ran.stdout.splitlines(), ran.stderr
+
+    first = "mpd_daemon 0.1, protocol 0.23"
+    check("alone", printed(), (0, [first], ""))
+    with open(f"{copy}.build", "w", encoding="utf-8") as file:
+        file.write("checked build of commit 1234\nmore\n")
+    told_beside = [f"{copy}.build: {it}" for it in ("checked build of commit 1234", "more")]
+    check("with a note", printed(), (0, [first, *told_beside], ""))
+
+
 def kill_where_a_folder_hangs(program, folder):
     """A scan is in a call of the system that doesn't come back: `kill` closes the clients, a line says what the end waits for, and a signal
     ends it. What was answered is kept."""
@@ -369,4 +388,4 @@ def kill_where_a_folder_hangs(program, folder):
 
 
 ROWS = [web_of_links, job_in_the_log, job_that_opens_what_changed, files_left_out, job_without_memory, full_batch_without_memory, many_unreadable]
-ROWS += [more_songs_than_fit, large_journal, journal_file_missing, kill_where_a_folder_hangs]
+ROWS += [more_songs_than_fit, large_journal, journal_file_missing, version_told, kill_where_a_folder_hangs]

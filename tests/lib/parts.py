@@ -89,6 +89,7 @@ PARTS = [
     Part("sox_tree", "sox_tree {mpd_daemon} {room}/sox", wants=("sox", "soxi")),
     Part("tags_beside_mpd", "tags_beside_mpd {mpd_daemon} {room}/tags", listens=True, wants=("mpd", "ffmpeg", "sox")),
     Part("encoders", "encoders {mpd_daemon} {room}/encoders", listens=True, wants=("flac", "ffmpeg")),
+    Part("decoder", "decoder {room}/decoder", is_counted=True, wants=("ffmpeg", "sox")),
     Part("profile", "profile {mpd_daemon}"),
     Part("believed", "believed"),
     Part("documents", "documents {mpd_daemon}", listens=True, here_alone="what is typed there packs and installs the program"),

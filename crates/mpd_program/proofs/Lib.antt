@@ -7,3 +7,4 @@ pub mod JobLaws
 pub mod LifeLaws
 pub mod ScanLaws
 pub mod ServingLaws
+pub mod WrongLines

@@ -1,11 +1,13 @@
 -- What the words of the command line ask for.
-use Rattle.std.specs.Prelude.{ℕ, List, codes, ◌&&◌, Option, Some, None, string_bytes, if◌then◌else◌}
+use Rattle.std.specs.Prelude.{ℕ, List, codes, ◌&&◌, ◌||◌, Option, Some, None, string_bytes, if◌then◌else◌}
 use Rattle.std.specs.Str.{bytes_eq}
 use Rattle.mpd_program.specs.declared.arguments.Task.{Task}
-use Rattle.mpd_program.specs.declared.arguments.Task.TheVariants.{ConsoleInMemory, Console, StockConsole, Create, Serve, Look}
+use Rattle.mpd_program.specs.declared.arguments.Task.TheVariants.{Help, Version, ConsoleInMemory, Console, StockConsole, Create, Serve, Look}
 
 -- a task, with the path of its configuration
 pub data Asked : Type 0 where
+  help : Asked
+  version : Asked
   in_memory : Asked
   console : List ℕ → Asked
   stock_console : List ℕ → Asked
@@ -14,6 +16,8 @@ pub data Asked : Type 0 where
   look : List ℕ → Asked
 
 abbrev pub task_seen : Task → Asked
+task_seen Help = help
+task_seen Version = version
 task_seen ConsoleInMemory = in_memory
 task_seen (Console path) = console (string_bytes path)
 task_seen (StockConsole path) = stock_console (string_bytes path)
@@ -23,7 +27,11 @@ task_seen (Look path) = look (string_bytes path)
 
 -- the task of the first word and at most one more
 abbrev pub task_of : List ℕ → Option (List ℕ) → Option Asked
-task_of first None = if bytes_eq first (codes "console") then Some in_memory else None
+task_of first None =
+    if bytes_eq first (codes "--help") || bytes_eq first (codes "-h") then Some help
+    else if bytes_eq first (codes "--version") then Some version
+    else if bytes_eq first (codes "console") then Some in_memory
+    else None
 task_of first (Some path) =
     if bytes_eq first (codes "console") then Some (console path)
     else if bytes_eq first (codes "create") then Some (create path)

@@ -1,5 +1,5 @@
 -- What a configuration says: a TOML table of texts, two switches and a list of formats.
-use Rattle.std.specs.Prelude.{ℕ, List, [], ◌∷◌, codes, Bool, true, false, ◌&&◌, ◌||◌, not, Option, Some, None, option_map, is_some, if◌then◌else◌, ◌+◌, ◌==◌, nat_le, suc}
+use Rattle.std.specs.Prelude.{◌≡◌, ◌⊎◌, is_none, ℕ, List, [], ◌∷◌, codes, Bool, true, false, ◌&&◌, ◌||◌, not, Option, Some, None, option_map, is_some, if◌then◌else◌, ◌+◌, ◌==◌, nat_le, suc}
 use Rattle.std.specs.Option.{option_and_then}
 use Rattle.std.specs.Result.{result_ok}
 use Rattle.std.specs.Str.{bytes_eq}
@@ -7,6 +7,8 @@ use Rattle.toml.specs.Data.{Data, string, Items, no_items, item, Members, no_mem
 use Rattle.toml.specs.Parse.{parse_document}
 use Rattle.hex.specs.Hex.{decode_sized}
 use Rattle.as_wave.specs.declared.forms.Forms.{Forms}
+use Rattle.mpd_program.specs.declared.config_key.ConfigKey.{ConfigKey}
+use Rattle.mpd_program.specs.declared.config_key.ConfigKey.TheVariants as keys
 use Rattle.profile.specs.declared.profile.Profile.{Profile}
 use Rattle.profile.specs.declared.profile.Profile.TheVariants.{Named, Wide}
 use Rattle.song_output.specs.declared.output.Form.{Form}
@@ -19,7 +21,7 @@ abbrev pub ◌>>=◌ : {A B : Type 0} → Option A → (A → Option B) → Opti
 None >>= f = None
 
 -- The paths as they stand, the key of 32 bytes, where to listen and to play, where these are said, the form of the sound, which files are
--- songs, whether a translator stands before clients, and whether the log says more.
+-- songs, what reads others, whether a translator stands before clients, and whether the log says more.
 pub record Settings : Type 0 where
   pub music : List ℕ
   pub journal_a : List ℕ
@@ -30,6 +32,7 @@ pub record Settings : Type 0 where
   pub output : Option (List ℕ)
   pub form : Form
   pub formats : Forms
+  pub decoder : Option (List ℕ)
   pub stock_clients : Bool
   pub debug : Bool
 
@@ -42,8 +45,8 @@ abbrev pub is_known : List ℕ → Bool
 is_known key =
     bytes_eq key (codes "music") || bytes_eq key (codes "journal_a") || bytes_eq key (codes "journal_b") || bytes_eq key (codes "key")
     || bytes_eq key (codes "tcp") || bytes_eq key (codes "unix") || bytes_eq key (codes "output")
-    || bytes_eq key (codes "form") || bytes_eq key (codes "formats") || bytes_eq key (codes "stock_clients")
-    || bytes_eq key (codes "debug")
+    || bytes_eq key (codes "form") || bytes_eq key (codes "formats") || bytes_eq key (codes "decoder")
+    || bytes_eq key (codes "stock_clients") || bytes_eq key (codes "debug")
 
 -- it has no key but these
 abbrev pub all_known : Members → Bool
@@ -139,6 +142,50 @@ key_of text = result_ok (decode_sized text 32)
 abbrev pub key_at : List ℕ → Members → Option (List ℕ)
 key_at key members = option_and_then key_of (text_at key members)
 
+-- a key as it stands in the text
+abbrev pub name_of : ConfigKey → List ℕ
+name_of keys.Music = codes "music"
+name_of keys.JournalA = codes "journal_a"
+name_of keys.JournalB = codes "journal_b"
+name_of keys.Key = codes "key"
+name_of keys.Tcp = codes "tcp"
+name_of keys.Unix = codes "unix"
+name_of keys.Output = codes "output"
+name_of keys.Form = codes "form"
+name_of keys.Formats = codes "formats"
+name_of keys.Decoder = codes "decoder"
+name_of keys.StockClients = codes "stock_clients"
+name_of keys.Debug = codes "debug"
+
+-- what stands at a key, or that nothing does, isn't what is wanted there
+abbrev pub is_wrong : ConfigKey → Members → Bool
+is_wrong keys.Music members = is_none (text_at (codes "music") members)
+is_wrong keys.JournalA members = is_none (text_at (codes "journal_a") members)
+is_wrong keys.JournalB members = is_none (text_at (codes "journal_b") members)
+is_wrong keys.Key members = is_none (key_at (codes "key") members)
+is_wrong keys.Tcp members = is_none (optional_text_at (codes "tcp") members)
+is_wrong keys.Unix members = is_none (optional_path_at (codes "unix") members)
+is_wrong keys.Output members = is_none (optional_text_at (codes "output") members)
+is_wrong keys.Form members = is_none (form_at (codes "form") members)
+is_wrong keys.Formats members = is_none (formats_at (codes "formats") members)
+is_wrong keys.Decoder members = is_none (optional_path_at (codes "decoder") members)
+is_wrong keys.StockClients members = is_none (switch_at (codes "stock_clients") members)
+is_wrong keys.Debug members = is_none (switch_at (codes "debug") members)
+
+-- both files of the journal have one name
+abbrev pub are_one : Option (List ℕ) → Option (List ℕ) → Bool
+are_one None b = false
+are_one (Some a) None = false
+are_one (Some a) (Some b) = bytes_eq a b
+
+abbrev pub names_one_file : Members → Bool
+names_one_file members = are_one (text_at (codes "journal_a") members) (text_at (codes "journal_b") members)
+
+-- What is told of a text that is no configuration: a key that none may have, what is wrong at one, or that both files are one.
+abbrev pub IsTold : Members → Type 0
+IsTold members =
+    (all_known members ≡ false) ⊎ ((key : ConfigKey) × (is_wrong key members ≡ true)) ⊎ (names_one_file members ≡ true)
+
 -- a table without other keys
 abbrev pub if_all_known : Members → Option Members
 if_all_known members = if all_known members then Some members else None
@@ -147,10 +194,9 @@ if_all_known members = if all_known members then Some members else None
 abbrev pub if_two_files : Settings → Option Settings
 if_two_files s = if bytes_eq s.journal_a s.journal_b then None else Some s
 
--- what the table says, if it is a configuration
-abbrev pub settings_of : Members → Option Settings
-settings_of table = do
-  members ← if_all_known table
+-- what the keys of a table say, if that is a configuration
+abbrev pub settings_in : Members → Option Settings
+settings_in members = do
   music ← text_at (codes "music") members
   journal_a ← text_at (codes "journal_a") members
   journal_b ← text_at (codes "journal_b") members
@@ -160,6 +206,7 @@ settings_of table = do
   output ← optional_text_at (codes "output") members
   form ← form_at (codes "form") members
   formats ← formats_at (codes "formats") members
+  decoder ← optional_path_at (codes "decoder") members
   stock_clients ← switch_at (codes "stock_clients") members
   debug ← switch_at (codes "debug") members
   if_two_files (record {
@@ -172,9 +219,16 @@ settings_of table = do
     output = output;
     form = form;
     formats = formats;
+    decoder = decoder;
     stock_clients = stock_clients;
     debug = debug;
   })
+
+-- what the table says, if it is a configuration
+abbrev pub settings_of : Members → Option Settings
+settings_of table = do
+  members ← if_all_known table
+  settings_in members
 
 -- what a text says, if it is a configuration
 abbrev pub configuration : List ℕ → Option Settings
@@ -190,6 +244,7 @@ pub record ServeSettings : Type 0 where
   pub output : List ℕ
   pub form : Form
   pub formats : Forms
+  pub decoder : Option (List ℕ)
   pub stock_clients : Bool
   pub debug : Bool
 
@@ -214,6 +269,7 @@ settings_to_serve s output =
       output = output;
       form = s.form;
       formats = s.formats;
+      decoder = s.decoder;
       stock_clients = s.stock_clients;
       debug = s.debug;
     })

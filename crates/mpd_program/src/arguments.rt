@@ -8,6 +8,10 @@ use std::io;
 /// What the program is asked to do. A path leads to a configuration.
 #[derive(Debug, Drop)]
 pub enum Task {
+    /// `--help` or `-h`: say which tasks there are.
+    Help,
+    /// `--version`: say which program this is.
+    Version,
     /// `console`: over two files in memory that nothing keeps.
     ConsoleInMemory,
     /// `console CONFIG`: over the journal of the configuration.
@@ -28,6 +32,8 @@ impl Task {
         ensures { option_map task_seen result ≡ task_of first.now (option_map string_bytes path) }
     {
         match path {
+            None if first == "--help" || first == "-h" => Some(Task::Help),
+            None if first == "--version" => Some(Task::Version),
             None if first == "console" => Some(Task::ConsoleInMemory),
             Some(path) if first == "console" => Some(Task::Console(path)),
             Some(path) if first == "create" => Some(Task::Create(path)),

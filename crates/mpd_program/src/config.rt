@@ -1,14 +1,15 @@
 //! The configuration: a TOML document of texts, two switches and a list of formats.
 ghost use Rattle.std.specs.Prelude.{◌≡◌, ◌≤◌, ℕ, None, Some, IfOk, OnErr, IsErrOf, IsTrue, ◌↔◌, true, option_map, string_bytes};
-ghost use Rattle.std.specs.Prelude.{count_by, length};
+ghost use Rattle.std.specs.Prelude.{count_by, is_none, length};
 ghost use Rattle.std.specs.Option.{option_and_then};
-ghost use Rattle.toml.specs.Data.{get_member};
+ghost use Rattle.toml.specs.Data.{Members, get_member};
 ghost use Rattle.toml.specs.View.{items_view, table_view, view};
-ghost use Rattle.mpd_program.specs.Configuration.{is_known, all_known, settings_of, text_at, optional_text_at, optional_path_at, key_at};
-ghost use Rattle.mpd_program.specs.Configuration.{configuration, profile_by};
+ghost use Rattle.mpd_program.specs.Configuration.{is_known, is_wrong, names_one_file, all_known, settings_of, text_at, optional_text_at, optional_path_at, key_at};
+ghost use Rattle.mpd_program.specs.Configuration.{configuration, profile_by, IsTold};
 ghost use Rattle.mpd_program.specs.Configuration.{form_at, form_of, formats_at, formats_in, is_text, switch_at};
 ghost use Rattle.mpd_program.specs.declared.config.ConfigError.TheVariants as errors;
 
+use crate::config_key::ConfigKey;
 use as_wave::Forms;
 use hex::FromHex;
 use profile::Profile;
@@ -58,6 +59,8 @@ pub struct Config {
     pub form: Form,
     /// Which files are songs beside WAVE files of 16-bit PCM: none where the text doesn't say.
     pub formats: Forms,
+    /// The socket of what reads songs of other forms: none where the text doesn't say.
+    pub decoder: Option<String>,
     /// Whether stock clients of MPD are served, by a translator and with all of MPD: not where the text doesn't say.
     pub stock_clients: bool,
     /// Whether the log has a line for each file that a job left out: not where the text doesn't say.
@@ -80,6 +83,7 @@ impl Model for Config {
       output = option_map string_bytes c.output;
       form = c.form;
       formats = c.formats;
+      decoder = option_map string_bytes c.decoder;
       stock_clients = c.stock_clients;
       debug = c.debug;
     } };
@@ -124,6 +128,7 @@ impl Config {
         let output = optional_text(alloc, table, "output")?;
         let form = form(table, "form")?;
         let formats = formats(table, "formats")?;
+        let decoder = optional_path(alloc, table, "decoder")?;
         let stock_clients = switch(table, "stock_clients")?;
         let debug = switch(table, "debug")?;
         if journal_a.as_str() == journal_b.as_str() {
@@ -139,6 +144,7 @@ impl Config {
             output,
             form,
             formats,
+            decoder,
             stock_clients,
             debug,
         })
@@ -156,8 +162,8 @@ pub(crate) fn profile_by(stock_clients: bool) -> Profile
     }
 }
 
-// Whether a configuration may have this key.
-fn is_known_key(key: &str) -> bool
+/// Whether a configuration may have this key.
+pub(crate) fn is_known_key(key: &str) -> bool
     ensures { result ≡ is_known key.now }
 {
     key == "music"
@@ -169,27 +175,65 @@ fn is_known_key(key: &str) -> bool
         || key == "output"
         || key == "form"
         || key == "formats"
+        || key == "decoder"
         || key == "stock_clients"
         || key == "debug"
 }
 
-/// Whether this text has formats, and they are none.
-pub(crate) fn has_bad_formats(alloc: Global, text: &str) -> bool {
-    match toml::table_from_str(alloc, text) {
-        Ok(table) => formats(&table, "formats").is_err(),
-        Err(_) => false,
+/// Whether what stands at a key, or that nothing does, isn't what is wanted there.
+pub(crate) fn is_wrong(table: &Table, at: ConfigKey) -> bool
+    ensures { result ≡ is_wrong at (table_view table.now) }
+{
+    match at {
+        ConfigKey::Music => str_at(table, "music").is_none(),
+        ConfigKey::JournalA => str_at(table, "journal_a").is_none(),
+        ConfigKey::JournalB => str_at(table, "journal_b").is_none(),
+        ConfigKey::Key => key(table, "key").is_err(),
+        ConfigKey::Tcp => is_no_text(table, "tcp"),
+        ConfigKey::Unix => is_no_path(table, "unix"),
+        ConfigKey::Output => is_no_text(table, "output"),
+        ConfigKey::Form => form(table, "form").is_err(),
+        ConfigKey::Formats => formats(table, "formats").is_err(),
+        ConfigKey::Decoder => is_no_path(table, "decoder"),
+        ConfigKey::StockClients => switch(table, "stock_clients").is_err(),
+        ConfigKey::Debug => switch(table, "debug").is_err(),
     }
 }
 
-/// A key of this text that no configuration may have, if it has one.
-pub(crate) fn unknown_key(alloc: Global, text: &str) -> Option<String> {
-    let table = toml::table_from_str(alloc, text).ok()?;
-    for name in table.keys() {
-        if !is_known_key(name.as_str()) {
-            return String::from_str(alloc, name.as_str()).ok();
-        }
+/// Law: of each table that is no configuration something is told: a key that none may have, one at which something is wrong, or that both
+/// files of the journal have one name.
+pub fn wrong_lines_are_told()
+    ensures { (members : Members) → settings_of members ≡ None → IsTold members }
+{}
+
+/// Whether both files of the journal have one name.
+pub(crate) fn names_one_file(table: &Table) -> bool
+    ensures { result ≡ names_one_file (table_view table.now) }
+{
+    match (str_at(table, "journal_a"), str_at(table, "journal_b")) {
+        (Some(a), Some(b)) => a == b,
+        _ => false,
     }
-    None
+}
+
+// Whether something stands at a key that may be missing, and it is no text.
+fn is_no_text(table: &Table, key: &str) -> bool
+    ensures { result ≡ is_none (optional_text_at key.now (table_view table.now)) }
+{
+    match table.get(key) {
+        Some(value) => value.as_str().is_none(),
+        None => false,
+    }
+}
+
+// Whether something stands at a key that may be missing, and it is no path, which isn't empty.
+fn is_no_path(table: &Table, key: &str) -> bool
+    ensures { result ≡ is_none (optional_path_at key.now (table_view table.now)) }
+{
+    match str_at(table, key) {
+        Some(path) => path.is_empty(),
+        None => is_no_text(table, key),
+    }
 }
 
 // Whether a configuration may have each key of the table.
@@ -354,7 +398,7 @@ fn switch(table: &Table, key: &str) -> Result<bool, ConfigError>
 
 fn key(table: &Table, key: &str) -> Result<[u8; 32], ConfigError>
     ensures ok { IfOk result (λ k. key_at key.now (table_view table.now) ≡ Some k) }
-    ensures bad { IsErrOf result ConfigError.Bad → key_at key.now (table_view table.now) ≡ None }
+    ensures bad { OnErr result (key_at key.now (table_view table.now) ≡ None) }
 {
     match str_at(table, key) {
         Some(digits) => match <[u8; 32] as FromHex>::from_hex(digits) {

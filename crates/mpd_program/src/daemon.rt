@@ -4,8 +4,11 @@ ghost use Rattle.mpd_program.specs.Daemon.{exit_of_daemon};
 
 use crate::clocked_folder::ClockedFolder;
 use crate::config::Config;
+use crate::config_key::ConfigKey;
+use crate::config_lines::ConfigText;
 use crate::console::Status;
 use crate::daemon_clock::DaemonClock;
+use crate::daemon_decoder::DaemonDecoder;
 use crate::error_lines::{ErrorLines, LoopLog, say};
 use crate::exit::Exit;
 use crate::library::rules_of;
@@ -18,7 +21,8 @@ use crate::stop_flag::StopFlag;
 use crate::stopping_folder::StoppingFolder;
 use crate::tasks::{JournalFiles, open_made_files, tell_fault, tell_migration, tell_refusal, told};
 use crate::told_listener::ToldListener;
-use as_wave::{AsWave, Forms};
+use as_wave::AsWave;
+use decoded_files::Decoded;
 use disk_model::FileDisk;
 use http_guard::{Guarded, GuardedListener, GuardedReady};
 use log::{Level, Log, Logged, warn};
@@ -61,16 +65,17 @@ impl Stop for StopFlag {
 }
 
 /// The address to listen on; a text of another form makes the configuration a bad one.
-fn address_of(rt: &HostRuntime, tcp: &Option<String>) -> Result<Option<SocketAddr>, Exit> {
+fn address_of(
+    rt: &HostRuntime,
+    tcp: &Option<String>,
+    text: &ConfigText,
+) -> Result<Option<SocketAddr>, Exit> {
     match tcp {
         None => Ok(None),
-        Some(text) => match text.as_str().parse::<SocketAddr>() {
+        Some(address) => match address.as_str().parse::<SocketAddr>() {
             Ok(address) => Ok(Some(address)),
             Err(_) => {
-                say(
-                    rt,
-                    format_args!("{text}: an address and port is wanted, as 127.0.0.1:6600"),
-                );
+                text.tell_key(rt, ConfigKey::Tcp);
                 Err(Exit::BadConfiguration)
             }
         },
@@ -187,20 +192,37 @@ fn ended(
 }
 
 /// The songs of the configuration, as the WAVE files that they stand for.
-type Songs<'a> = AsWave<StoppingFolder<Music<'a>>>;
+type Songs<'a> = Decoded<AsWave<StoppingFolder<Music<'a>>>, DaemonDecoder<'a>>;
 
-/// The songs at this path, with files of these forms, until the flag is set.
+/// The decoder of the configuration, if it has one, whose lines are written until the flag is set.
+fn decoder<'a>(
+    rt: &'a HostRuntime,
+    config: &ServeConfig,
+    stop: &StopFlag,
+) -> Result<Option<DaemonDecoder<'a>>, AllocError> {
+    match &config.decoder {
+        Some(socket) => {
+            let lines = ErrorLines::new(rt, stop.again()?);
+            Ok(Some(DaemonDecoder::new(rt, socket.as_str(), Some(lines))?))
+        }
+        None => Ok(None),
+    }
+}
+
+/// The songs of the configuration, until the flag is set.
 fn songs<'a>(
     rt: &'a HostRuntime,
-    root: &str,
-    forms: Forms,
+    config: &ServeConfig,
     stop: &StopFlag,
 ) -> Result<Songs<'a>, AllocError> {
     let lines = ErrorLines::new(rt, stop.again()?);
-    let music = Music::new(rt, root, Some(lines))?;
-    Ok(AsWave {
-        folder: StoppingFolder::new(music, stop.again()?),
-        forms,
+    let music = Music::new(rt, config.music.as_str(), Some(lines))?;
+    Ok(Decoded {
+        folder: AsWave {
+            folder: StoppingFolder::new(music, stop.again()?),
+            forms: config.formats,
+        },
+        decoder: decoder(rt, config, stop)?,
     })
 }
 
@@ -231,11 +253,10 @@ fn begin<'a>(
 ) -> Result<(DaemonClients<'a>, DaemonWorkers<'a>), Exit> {
     let (clients, wake) = listen(rt, config, address, clock)?;
     let _cleared = output.clear();
-    let (root, forms) = (config.music.as_str(), config.formats);
     let workers = Workers {
-        sources: songs(rt, root, forms, &stop)?,
-        folder: ClockedFolder::new(songs(rt, root, forms, &stop)?, clock),
-        rules: rules_of(config.profile(), forms),
+        sources: songs(rt, config, &stop)?,
+        folder: ClockedFolder::new(songs(rt, config, &stop)?, clock),
+        rules: rules_of(config.profile(), config.formats, config.decoder.is_some()),
         output: SoundOutput {
             writer: output,
             form: config.form,
@@ -282,20 +303,18 @@ fn serve_over<R: Threads + Wait + Clock + Log + Sync>(
 }
 
 /// Serves clients until one of them asks for the daemon's end, or a fault ends it. Faults are found in the order configuration, journal
-/// files, journal, listeners, threads.
+/// files, journal, listeners, threads. The text is the configuration's.
 pub fn serve<R: Threads + Wait + Clock + Log + Sync>(
     rt: &HostRuntime,
     threads: &R,
     config: Config,
+    text: &ConfigText,
 ) -> Result<(), Exit> {
     let Some(config) = ServeConfig::of(config) else {
-        say(
-            rt,
-            "serve wants an output, which is no file of the journal, and a tcp address or a unix path to listen on",
-        );
+        text.tell_unserved(rt);
         return Err(Exit::BadConfiguration);
     };
-    let address = address_of(rt, &config.tcp)?;
+    let address = address_of(rt, &config.tcp, text)?;
     let stop = StopFlag::new(rt.alloc())?;
     let output = open_output(rt, config.output.as_str(), &stop)?;
     serve_over(rt, threads, &config, address, output, stop)

@@ -2,16 +2,11 @@
 ghost use Rattle.std.specs.Prelude.{[]};
 
 use crate::error_lines::ErrorLines;
-use mpd_server::TimedLimit;
+use crate::music_lines::MusicLines;
 use song_files::{FileFolder, FileSource, FileStamp, Folder, FolderEntry, FolderFault};
 use std::alloc::{AllocError, Global};
 use std::fs::{self, File};
 use std::io;
-
-/// How many lines there are at most within a minute.
-const MOST_LINES: u32 = 100;
-
-const MINUTE: u64 = 60_000;
 
 /// The songs of the configuration, in a folder of the operating system. What can't be read is told on standard error, at the
 /// moment at which it is met.
@@ -22,9 +17,7 @@ pub struct Music<'a> {
     rt: &'a HostRuntime,
     root: String,
     files: FileFolder<'a>,
-    // None where a line may wait for its reader for ever.
-    lines: Option<ErrorLines>,
-    limit: TimedLimit,
+    lines: MusicLines<'a>,
     // What could not be listed last, unless something was opened since.
     unlisted: Option<String>,
 }
@@ -40,8 +33,7 @@ impl<'a> Music<'a> {
             rt,
             root: String::from_str(rt.alloc(), root)?,
             files: FileFolder::new(rt, String::from_str(rt.alloc(), root)?),
-            lines,
-            limit: TimedLimit::new(rt, MOST_LINES, MINUTE),
+            lines: MusicLines::new(rt, lines),
             unlisted: None,
         })
     }
@@ -69,27 +61,6 @@ impl<'a> Music<'a> {
         })
     }
 
-    // Waits until a line is taken; `false` where none is any more.
-    fn is_ready(&mut self) -> bool {
-        match &mut self.lines {
-            Some(lines) => lines.is_ready(),
-            None => true,
-        }
-    }
-
-    // Whether what can't be read has a line. Where it is one more than a minute may have, one line says that others are left out.
-    fn takes_line(&mut self) -> bool {
-        if self.limit.take(self.rt).is_some() {
-            return self.is_ready();
-        }
-        if self.limit.left_out() == 1 && self.is_ready() {
-            let _printed = eprintln!(self.rt;
-                "music: what else can't be read within this minute is not told; an update counts it"
-            );
-        }
-        false
-    }
-
     // Says what can't be read, and why. Where the system has no error of its own, a link leads upwards, or something changed.
     fn print(&self, place: &str, error: Option<io::Error>) {
         let _printed = match error {
@@ -105,7 +76,7 @@ impl<'a> Music<'a> {
     // Says what can't be listed. For want of memory nothing is said.
     fn tell_folder(&mut self, alloc: Global, path: &str) {
         self.unlisted = String::from_str(alloc, path).ok();
-        if self.takes_line() {
+        if self.lines.takes_line() {
             if let Ok(place) = self.place(alloc, path) {
                 let error = error_of_folder(self.rt, place.as_str());
                 self.print(place.as_str(), error);
@@ -124,7 +95,7 @@ impl<'a> Music<'a> {
 
     // Says what can't be opened. For want of memory nothing is said.
     fn tell_file(&mut self, alloc: Global, path: &str) {
-        if !self.is_told(path) && self.takes_line() {
+        if !self.is_told(path) && self.lines.takes_line() {
             if let Ok(place) = self.place(alloc, path) {
                 let error = error_of_file(self.rt, place.as_str());
                 self.print(place.as_str(), error);

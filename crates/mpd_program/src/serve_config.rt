@@ -28,6 +28,8 @@ pub struct ServeConfig {
     pub form: Form,
     /// Which files are songs beside WAVE files of 16-bit PCM.
     pub formats: Forms,
+    /// The socket of what reads songs of other forms.
+    pub decoder: Option<String>,
     /// Whether stock clients of MPD are served, by a translator and with all of MPD.
     pub stock_clients: bool,
     /// Whether the log has a line for each file that a job left out.
@@ -49,6 +51,7 @@ impl Model for ServeConfig {
       output = string_bytes c.output;
       form = c.form;
       formats = c.formats;
+      decoder = option_map string_bytes c.decoder;
       stock_clients = c.stock_clients;
       debug = c.debug;
     } };
@@ -79,6 +82,7 @@ impl ServeConfig {
             output,
             form,
             formats,
+            decoder,
             stock_clients,
             debug,
         } = config;
@@ -100,6 +104,7 @@ impl ServeConfig {
             output,
             form,
             formats,
+            decoder,
             stock_clients,
             debug,
         })

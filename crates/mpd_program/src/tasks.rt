@@ -3,11 +3,13 @@ ghost use Rattle.std.specs.Prelude.{◌≡◌};
 ghost use Rattle.mpd_program.specs.Lives.{refusal_of, status_of};
 
 use crate::arguments::Task;
-use crate::config::{Config, ConfigError, has_bad_formats, unknown_key};
+use crate::config::{Config, ConfigError};
+use crate::config_lines::ConfigText;
 use crate::console::{ConsoleEnd, Status, run_console};
 use crate::created::tell_created;
 use crate::daemon;
 use crate::daemon_clock::DaemonClock;
+use crate::daemon_decoder::DaemonDecoder;
 use crate::error_lines::{say, takes_line};
 use crate::exit::Exit;
 use crate::file_lock::FileLock;
@@ -15,7 +17,9 @@ use crate::journal_head::{HEAD, JournalHead};
 use crate::library::rules_of;
 use crate::look::look;
 use crate::music::Music;
+use crate::program_words::{TASKS, tell_help, tell_version};
 use as_wave::AsWave;
+use decoded_files::Decoded;
 use disk_model::{Disk, FileDisk, MemDisk};
 use live_stage::{Live, Refused};
 use log::Log;
@@ -41,10 +45,7 @@ pub fn run_command_line<R: Threads + Wait + Clock + Log + Sync>(
     let done = match Task::from_args(rt) {
         Ok(Some(task)) => run(rt, threads, task),
         Ok(None) => {
-            say(
-                rt,
-                "usage: mpd_daemon create CONFIG | console [[--stock-clients] CONFIG] | serve CONFIG | look CONFIG",
-            );
+            say(rt, format_args!("usage: {TASKS}"));
             Err(Exit::BadArguments)
         }
         Err(error) => Err(Exit::BadArguments.unless_memory(&error)),
@@ -62,57 +63,65 @@ fn run<R: Threads + Wait + Clock + Log + Sync>(
     task: Task,
 ) -> Result<(), Exit> {
     match task {
+        Task::Help => {
+            tell_help(rt);
+            Ok(())
+        }
+        Task::Version => {
+            tell_version(rt);
+            Ok(())
+        }
         Task::ConsoleInMemory => console_in_memory(rt),
-        Task::Console(path) => console(rt, read_config(rt, path.as_str())?, false),
-        Task::StockConsole(path) => stock_console(rt, read_config(rt, path.as_str())?),
-        Task::Create(path) => create(rt, &read_config(rt, path.as_str())?),
-        Task::Look(path) => look(rt, &read_config(rt, path.as_str())?),
-        Task::Serve(path) => daemon::serve(rt, threads, read_config(rt, path.as_str())?),
+        Task::Console(path) => console(rt, read_config(rt, path)?, false),
+        Task::StockConsole(path) => stock_console(rt, read_config(rt, path)?),
+        Task::Create(path) => create(rt, &read_config(rt, path)?),
+        Task::Look(path) => look(rt, &read_config(rt, path)?),
+        Task::Serve(path) => serve_config(rt, threads, path),
     }
 }
 
 /// How many bytes a configuration may have. What is longer, as a device that never ends, is none.
 const CONFIG_LIMIT: u64 = 1_048_576;
 
-/// Reads the configuration at this path.
-fn read_config(rt: &HostRuntime, path: &str) -> Result<Config, Exit> {
-    let text = match read_text(rt, path) {
+/// Reads the text of the configuration at this path.
+fn read_config_text(rt: &HostRuntime, path: String) -> Result<ConfigText, Exit> {
+    let text = match read_text(rt, path.as_str()) {
         Ok(text) => text,
-        Err(error) => return Err(told(rt, path, &error, Exit::BadConfiguration)),
+        Err(error) => return Err(told(rt, path.as_str(), &error, Exit::BadConfiguration)),
     };
     if text.len() as u64 > CONFIG_LIMIT {
         say(rt, format_args!("{path}: more than {CONFIG_LIMIT} bytes"));
         return Err(Exit::BadConfiguration);
     }
-    match Config::read(rt.alloc(), text.as_str()) {
+    Ok(ConfigText { path, text })
+}
+
+/// The configuration that this text is; where it is none, what is wrong with it is told.
+fn config_of(rt: &HostRuntime, text: &ConfigText) -> Result<Config, Exit> {
+    match Config::read(rt.alloc(), text.text.as_str()) {
         Ok(config) => Ok(config),
         Err(ConfigError::NoMemory) => Err(Exit::NO_MEMORY),
         Err(ConfigError::Bad) => {
-            tell_wanted(rt, path, text.as_str());
+            text.tell_wrong(rt);
             Err(Exit::BadConfiguration)
         }
     }
 }
 
-/// Says on standard error what a configuration is to have, which key of this one none has, and where its formats are none.
-fn tell_wanted(rt: &HostRuntime, path: &str, text: &str) {
-    if let Some(key) = unknown_key(rt.alloc(), text) {
-        say(rt, format_args!("{path}: {key:?} is an unknown key"));
-    }
-    if has_bad_formats(rt.alloc(), text) {
-        say(
-            rt,
-            format_args!(
-                "{path}: formats is to be a list of \"wave\" and perhaps \"wave-pcm\", \"flac\", each once"
-            ),
-        );
-    }
-    say(
-        rt,
-        format_args!(
-            "{path}: wanted are the texts music, journal_a, another journal_b, key (64 hexadecimal digits), perhaps tcp, unix (not empty), output, form (bare or wave), the list formats, stock_clients and debug (true or false)"
-        ),
-    );
+/// Reads the configuration at this path.
+fn read_config(rt: &HostRuntime, path: String) -> Result<Config, Exit> {
+    config_of(rt, &read_config_text(rt, path)?)
+}
+
+/// Is the daemon of the configuration at this path.
+fn serve_config<R: Threads + Wait + Clock + Log + Sync>(
+    rt: &HostRuntime,
+    threads: &R,
+    path: String,
+) -> Result<(), Exit> {
+    let text = read_config_text(rt, path)?;
+    let config = config_of(rt, &text)?;
+    daemon::serve(rt, threads, config, &text)
 }
 
 /// Says on standard error what the system refused at this path, and how the program ends.
@@ -398,6 +407,7 @@ fn console(rt: &HostRuntime, config: Config, translates: bool) -> Result<(), Exi
         journal_a,
         journal_b,
         formats: forms,
+        decoder: socket,
         ..
     } = config;
     let JournalFiles {
@@ -406,8 +416,13 @@ fn console(rt: &HostRuntime, config: Config, translates: bool) -> Result<(), Exi
         locks: _locks,
     } = open_made_files(rt, journal_a.as_str(), journal_b.as_str())?;
     let folder = Music::new(rt, music.as_str(), None)?;
-    let mut songs = AsWave { folder, forms };
-    let rules = rules_of(profile, forms);
+    let rules = rules_of(profile, forms, socket.is_some());
+    let decoder = match socket {
+        Some(socket) => Some(DaemonDecoder::new(rt, socket.as_str(), None)?),
+        None => None,
+    };
+    let folder = AsWave { folder, forms };
+    let mut songs = Decoded { folder, decoder };
     let end = if translates {
         serve_stock(rt, profile, a, b, &mut songs, rules)
     } else {

@@ -1,0 +1,4 @@
+pub mod AnswerBytes
+pub mod FolderFiles
+pub mod OpenedFiles
+pub mod PieceBytes
