@@ -266,9 +266,20 @@ def told_through(address, given, translator, draw):
 TIMES = re.compile(rb"^(uptime|db_update): [0-9]+$", re.MULTILINE)
 
 
+# The names of the tags beyond six, which a daemon without stock clients doesn't know.
+BEYOND = re.compile(rb"\b(?:%s)\b" % "|".join(it for it in TAGS if it not in SIX).encode(), re.IGNORECASE)
+
+
+def about_six(draw):
+    """A conversation about six tags: a name that bytes were taken from or put into may have become another one."""
+    while BEYOND.search(asked := conversation(draw, SIX)):
+        pass
+    return asked
+
+
 def compare(stock, plain, draw):
     """One conversation about six tags with a daemon that has stock clients, and with one that hasn't, through the translator."""
-    asked = conversation(draw, SIX)
+    asked = about_six(draw)
     found = TIMES.sub(rb"\1: 0", told(stock.path, pieces(draw, asked)))
     wanted = told_through(plain.path, pieces(draw, asked), Translator(modified=[MODIFIED_LINE]), draw)
     if found != wanted:
