@@ -12,10 +12,8 @@ from scripts import Failure
 from translator import BEGINS, END, SPELLED, TAGS, Translator, Unreadable, words_of
 
 # The commands that stand in the place of others.
-PLACED = set("""ping status setvol playlistinfo lsinfo listall listplaylists list count find search findadd searchadd searchaddpl
-playlistfind playlistsearch shuffle moveid""".split())
+PLACED = set("""ping status list count find search findadd searchadd searchaddpl playlistfind playlistsearch shuffle moveid""".split())
 FILTERED = {"list", "count", "find", "search", "findadd", "searchadd", "searchaddpl", "playlistfind", "playlistsearch"}
-VOLUMES = [[str(it)] for it in range(101)]
 # So many bytes a line of the daemon's may have, and one that it is asked; and the number of its refusal.
 MOST_ANSWER, MOST_LINE, TOO_LONG = 16_384, 8_192, 54
 # A step asks by so many lines at once.
@@ -191,8 +189,7 @@ def damaged(draw, text):
 def look_at(line):
     """A line that the client didn't send is one of those that stand in the place of others, with words as they can be read."""
     name, *given = words_or_none(line.decode("latin-1").encode()) or [""]
-    is_strange = name == "ping" and given not in ([], ["no"]) or name == "setvol" and given not in VOLUMES
-    if name not in PLACED or is_strange:
+    if name not in PLACED or name == "ping" and given not in ([], ["no"]):
         raise Failure(f"it is asked {line[:200]!r}, which nobody sent")
 
 
@@ -214,7 +211,8 @@ class Conversation:
         self.requests, self.due, self.count, self.said = Requests(), [], 0, b""
         # The same of the plain translator, where what it gives is compared.
         is_compared = self.is_honest and b"group" not in self.asked.lower()
-        self.plain, self.plain_requests, self.plain_due, self.plain_given = Translator() if is_compared else None, Requests(), [], b""
+        self.plain = Translator(is_wide=True) if is_compared else None
+        self.plain_requests, self.plain_due, self.plain_given = Requests(), [], b""
 
     def client(self):
         """What the client sends; of groups more than any client would ask for, or none."""

@@ -1,5 +1,4 @@
-"""A daemon with little memory: what it wrote under a limit of its address space it opens under the same one, and a checkpoint that finds no
-memory keeps nobody from being served."""
+"""A daemon with little memory: what it wrote under a limit of its address space it opens under the same one, and a checkpoint takes none."""
 
 import os
 import resource
@@ -12,7 +11,7 @@ from daemons import Daemon, check, limited, put_song, update
 MEMORY, LISTS = 110_000_000, 60
 # Of each list so many commands, each with a value of so many bytes.
 COMMANDS, LENGTH = 500, 4096
-# Room for what an event takes, and none for a checkpoint of all values.
+# Room for what an event takes, and none for all values at once.
 SPARE = 8_000_000
 
 
@@ -64,9 +63,8 @@ def used(process):
         return int(file.read().split()[0]) * resource.getpagesize()
 
 
-def serves_without_a_checkpoint(program, folder):
-    """A checkpoint is due and finds no memory: events are served and kept all the same, one line tells it, and it is made once there is
-    some."""
+def makes_a_checkpoint_without_memory(program, folder):
+    """A checkpoint is due where there is no memory for all that it writes: it is made piece by piece, and what is asked meanwhile is kept."""
     with with_a_song(program, folder) as daemon:
         with daemon.client() as client:
             for number in range(20):
@@ -80,11 +78,8 @@ def serves_without_a_checkpoint(program, folder):
                 for volume in range(50, 70):
                     client.do(f"setvol {volume}")
                 check("the volume", client.value("status", "volume"), "69")
-                check("the file in use", journal.in_use(), was)
-            client.do("ping")
-            check("the file in use", journal.in_use() == was, False)
-            check("records", journal.records(), 0)
+                check("the same file in use", journal.in_use() == was, False)
+                check("records", journal.records() <= 20, True)
         daemon.kill()
-        check("lines about it", sum("checkpoint: out of memory" in it for it in daemon.lines), 1)
         with daemon.start(), daemon.client() as client:
             check("the volume", client.value("status", "volume"), "69")

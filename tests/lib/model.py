@@ -128,6 +128,9 @@ def random_word(key, stream, place):
 class State:
     """What is kept. A method named as a command makes its change, and gives its lines where it has some."""
 
+    # Whether it is that of a daemon with `stock_clients`: the lines of `readings` tell it.
+    is_wide = False
+
     def __init__(self, songs, key):
         self.songs, self.key = songs, key
         self.settings = {name: values[-1 if name == "volume" else 0] for name, values in SETTINGS.items()}

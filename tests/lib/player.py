@@ -280,6 +280,7 @@ class Player(readings.Readable):
                 lines += ["audio: 8000:16:1"]
         lines += [f"updating_db: {self.job}"] if self.job is not None else []
         lines += [f"error: {self.error}"] if self.error else []
+        lines += ["partition: default", "mixrampdb: 0"] if self.is_wide else []
         return "".join(f"{it}\n" for it in lines)
 
     def order(self):

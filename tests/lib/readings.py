@@ -110,7 +110,8 @@ class Readable(model.State):
     # Playlists and stickers.
 
     def listplaylists(self):
-        return "".join(f"playlist: {it}\n" for it in model.by_bytes(self.playlists))
+        time = "Last-Modified: 1970-01-01T00:00:00Z\n" if self.is_wide else ""
+        return "".join(f"playlist: {it}\n{time}" for it in model.by_bytes(self.playlists))
 
     def listplaylist(self, name):
         return "".join(f"file: {it}\n" for it in self.listed(name))

@@ -217,8 +217,8 @@ class Call(Line):
 
 
 class Due(Call):
-    """An event before which a checkpoint is due. Where that finds no memory, the event is handled without it, and the next one makes it;
-    where the event finds none, the checkpoint stands. What is there are the bytes of both files behind the event, and behind the next."""
+    """An event before which a checkpoint is due, which takes no memory: it stands where the event finds none. What is there are the bytes of
+    both files behind the event, and behind the next."""
 
     def __init__(self, program, front, line, following):
         super().__init__(program, front, line, True)
@@ -226,8 +226,8 @@ class Due(Call):
 
     def prepare(self, place):
         self.wanted = self.run(place, [*self.front, self.line]).groups[-1]
-        before, made = (self.run(place, self.closed(it)).groups[-2:] for it in (None, self.line))
-        self.states = {"overdue": before + made, "after": made + made}
+        made = self.run(place, self.closed(self.line)).groups[-2:]
+        self.states = {"after": made + made}
 
     def looked(self, place, number):
         run, behind = super().looked(place, number)
@@ -236,7 +236,6 @@ class Due(Call):
         return run, behind + self.run(place, [*self.front, self.line, self.following, "close", *BYTES], number).groups[-2:]
 
     def refused(self):
-        yield [self.wanted[0], "overdue", *self.wanted[1:]], "overdue"
         yield ["refused 43 out of memory"], "after"
 
 

@@ -31,12 +31,9 @@ LEFT_OFF = "left off"
 # In an episode this part of the clients are stock clients, of a daemon that knows the named subset. What these ask beside what all do; what
 # takes several steps is in tests/stock.
 STOCK = (0, 0.5)
-FOREIGN = """outputs|decoders|channels|urlhandlers|listmounts|listpartitions|replay_gain_status|binarylimit 64|readcomments a.wav
-readpicture a.wav 0|albumart a.wav 0|sendmessage a b|listneighbors|password x|crossfade 0|crossfade 2|mixrampdb 0|mixrampdelay 2
-partition default|enableoutput 0|enableoutput 1|disableoutput 0|toggleoutput 7|outputset 0 a b|outputs x|getvol|playlist|status|stats
-commands|lsinfo|lsinfo /|listall d|listallinfo d/e|listall d/c.wav|listplaylists|list file|list filename base d
-tagtypes|tagtypes clear|tagtypes all|tagtypes disable Title|tagtypes enable title|tagtypes foo|list Artist
-list Genre|find Album ""|find Artist ""|search filename WAV|playlistfind date ""|playlistinfo|currentsong""".replace("\n", "|")
+FOREIGN = """status|stats|commands|lsinfo|lsinfo /|listall d|listallinfo d/e|listall d/c.wav|listplaylists|tagtypes|tagtypes clear|tagtypes all
+tagtypes disable Title|tagtypes enable title|tagtypes foo|list Artist|list Genre|find Album ""|find Artist ""|search filename WAV
+playlistfind date ""|playlistinfo|currentsong""".replace("\n", "|")
 
 
 def unlike(found, greeting, asked):

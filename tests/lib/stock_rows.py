@@ -1,7 +1,7 @@
 """What stock clients ask for beyond the daemon's own commands, and the lines that they must be told: of the table in docs/PROTOCOL.md, over
 the songs of lib/conversations.py. A text in place of lines is a refusal's code and text."""
 
-from translator import MODIFIED_LINE, TAGS
+from translator import DECODERS, MODIFIED_LINE, TAGS
 
 A = """file: a.wav|Format: 8000:16:1|Title: Alpha|Artist: One|Album: First|Date: 2001|Genre: Folk|Comment: a note|Time: 2|duration: 2.000"""
 B = "file: b.wav|Format: 8000:16:1|Time: 2|duration: 2.000"
@@ -56,7 +56,7 @@ ROWS = [
     ("replay_gain_mode off", []),
     ("replay_gain_mode album", NO_GAIN),
     ("replay_gain_mode OFF", NO_GAIN),
-    ("decoders", ["plugin: wave", "suffix: wav", "mime_type: audio/wav", "mime_type: audio/x-wav"]),
+    ("decoders", DECODERS),
     ("urlhandlers", []),
     ("channels", []),
     ("sendmessage a b", "50 nobody is subscribed to this channel"),
@@ -135,9 +135,8 @@ ROWS = [
     ("list artist \"(Album == 'First'\"", "2 bad filter"),
     ("list artist \"(foo == 'First')\"", '2 unknown tag "foo"'),
     ("list artist foo First", '2 unknown tag "foo"'),
-    # With one parenthesis more an expression would be too deep, so that songs without the tag aren't asked for.
     (f"list artist \"{'(' * 31}base ''{')' * 31}\"", ["Artist: ", "Artist: One", "Artist: Two"]),
-    (f"list artist \"{'(' * 32}base ''{')' * 32}\"", ["Artist: One", "Artist: Two"]),
+    (f"list artist \"{'(' * 32}base ''{')' * 32}\"", ["Artist: ", "Artist: One", "Artist: Two"]),
     (f"list artist \"{'(' * 33}base ''{')' * 33}\"", "2 filter too deep"),
     ("list base", '2 unknown tag "base"'),
     # The files of songs.
@@ -278,7 +277,7 @@ def refusal(request, text, index=0):
     return f"ACK [{code}@{index}] {{{request.split()[0].strip(chr(34)) if is_named else ''}}} {said}"
 
 
-# What is asked in steps, so that it can't stand in a list. Behind each the volume is 100 again.
+# What is asked in steps, so that it can't stand in a list, but `volume`. Behind each the volume is 100 again.
 STEPS = [
     ("volume -30", [], "volume: 70"),
     ("volume +7", [], "volume: 100"),

@@ -106,7 +106,7 @@ class StockStream(Stream):
 
     def __init__(self, number):
         super().__init__(number)
-        self.translator, self.text = translator.Translator(), b""
+        self.translator, self.text = translator.Translator(is_wide=True), b""
 
     def copied(self):
         other = copy.copy(self)

@@ -26,7 +26,7 @@ listplaylistinfo tagtypes""".split())
 # What stands behind the filter of a command, and how many words before it.
 TAILS = {"find": ("sort", "window"), "search": ("sort", "window")}
 TAILS |= {it: ("sort", "window", "position") for it in ("findadd", "searchadd")}
-TAILS |= {it: () for it in ("searchaddpl", "playlistfind", "playlistsearch", "count")}
+TAILS |= {it: () for it in ("searchaddpl", "playlistfind", "playlistsearch", "count", "list")}
 # Those whose pairs look for a value within a text.
 SEARCHES = {"search", "searchadd", "searchaddpl", "playlistsearch"}
 FILES = ("file", "filename")
@@ -40,11 +40,14 @@ PIECE = re.compile(rf"""{VALUE}|['"].*|\([ \t]*(?P<name>{NAME})(?:[ \t]*!=[ \t]*
 # A comparison as the daemon reads it.
 COMPARED = rf"(?i:{'|'.join(TAGS)}|any)(?:[ \t]*[=!]=[ \t]*|[ \t]+contains[ \t]+)"
 COMPARED = rf"(?:{COMPARED}|(?i:base)[ \t]*|(?i:file)[ \t]*==[ \t]*)(?:{VALUE})"
-# The commands that the daemon hasn't: how many arguments they have, and the lines that they are answered by.
+# What is told of what the daemon reads by itself.
+DECODERS = """plugin: wave|suffix: wav|suffix: wave|mime_type: audio/wav|mime_type: audio/x-wav|mime_type: audio/wave
+plugin: flac|suffix: flac|mime_type: audio/flac|mime_type: audio/x-flac""".replace("\n", "|").split("|")
+# The commands that a plain daemon hasn't: how many arguments they have, and the lines that they are answered by.
 PLAIN = {
     "outputs": (0, ["outputid: 0", "outputname: output", "plugin: raw", "outputenabled: 1"]),
     "replay_gain_status": (0, ["replay_gain_mode: off"]),
-    "decoders": (0, ["plugin: wave", "suffix: wav", "mime_type: audio/wav", "mime_type: audio/x-wav"]),
+    "decoders": (0, DECODERS),
     "urlhandlers": (0, []),
     "channels": (0, []),
     "binarylimit": (1, []),
@@ -138,46 +141,51 @@ def refused(name, text):
     return Part([b"ping no"], name, refusal=text)
 
 
-def translated(line, alone=False):
-    """The part of one command line, in a list or not."""
+def translated(line, alone=False, is_wide=False):
+    """The part of one command line, in a list or not, for a plain daemon or for one that has `stock_clients`."""
     try:
         words = words_of(line)
         same = Part([line], has_songs=words[0] in SONGS)
-        found = by_words(line, alone, words[0], words[1:])
+        found = None if is_wide else for_plain(line, alone, words[0], words[1:])
+        found = found or by_words(line, alone, words[0], words[1:])
         return found if found and max(map(len, found.natives)) <= MOST_LINE else same
     except (Unreadable, UnicodeDecodeError):
         return Part([line])  # Which the daemon refuses.
 
 
-def by_words(line, alone, name, given):
-    """None where it stays as it is."""
+def for_plain(line, alone, name, given):
+    """What a daemon with `stock_clients` has itself; None where it stays as it is."""
     if name == "volume":
         return volume(alone, given)
-    if name == "shuffle":
-        return shuffled(given) if alone else None
     if name in FOREIGN:
         return foreign(name, given)
-    if name == "tagtypes" and given:
-        return tag_types(given)
     if name == "status":
         return Part([line], name, more=lambda mask: ["partition: default", "mixrampdb: 0"])
     if name == "commands":
-        return Part([line], name, more=lambda mask: [f"command: {it}" for it in FOREIGN])
+        return commands(line)
     if name == "lsinfo" and given in ([], [""], ["/"]):
         return Part([b"lsinfo", b"listplaylists"], name, has_songs=True, told=dated)
     if name == "listplaylists":
         return Part([line], name, has_songs=True, told=dated)
     if name in ("listall", "listallinfo") and len(given) == 1 and given[0] not in ("", "/"):
         return Part([line], name, has_songs=True, told=below(given[0].encode()))
+    is_grouped = given[1:][-2:-1] == ["group"] and given[0].lower() in ALL
+    return list_of(*given) if name == "list" and given and not is_grouped else None
+
+
+def by_words(line, alone, name, given):
+    """None where it stays as it is."""
+    if name == "shuffle":
+        return shuffled(given) if alone else None
+    if name == "tagtypes" and given:
+        return tag_types(given)
     if name == "stats":
         return Part([line], name, more=lambda mask: ["uptime", "db_update"])
     if given[-2:-1] == ["group"] and name == "count":
         return grouped(alone, "count", [], given, 1)
-    if name == "list" and given:
-        if given[1:][-2:-1] == ["group"] and given[0].lower() in ALL:
-            return grouped(alone, "list", given[:1], given[1:], 31)
-        return list_of(*given)
-    if name in TAILS:
+    if name == "list" and given[1:][-2:-1] == ["group"] and given[0].lower() in ALL:
+        return grouped(alone, "list", given[:1], given[1:], 31)
+    if name in TAILS and given:
         return filtered(line, name, given)
     return None
 
@@ -214,6 +222,12 @@ def below(folder):
         return b"directory: " + path[: len(folder)] + b"\n" + line
 
     return told
+
+
+def commands(line):
+    """All by bytes."""
+    found = [f"command: {it}" for it in FOREIGN]
+    return Part([line], "commands", told=lambda line, number: found.append(line.decode()), more=lambda mask: sorted(found))
 
 
 def files_of(given):
@@ -356,7 +370,7 @@ def without_tag(name, words):
 
 def filtered(line, name, given):
     """A command with a filter in it."""
-    front = given[:1] if name == "searchaddpl" else []
+    front = given[:1] if name in ("list", "searchaddpl") else []
     found = front + filter_of(given[len(front) :], TAILS[name], name in SEARCHES)
     return Part([line if found == given else line_of(name, *found)], name, has_songs=name in SONGS)
 
@@ -450,7 +464,8 @@ class Awaited:
 class Translator:
     """A connection."""
 
-    def __init__(self, times=(0, 0), modified=()):
+    def __init__(self, times=(0, 0), modified=(), is_wide=False):
+        self.is_wide = is_wide
         self.unread, self.unheard, self.is_greeted, self.times, self.modified = b"", b"", False, times, modified
         # The lines of the list that is open, how it began, and whether the client is read no more.
         self.lines, self.begun, self.size, self.is_over = None, None, 0, False
@@ -488,9 +503,9 @@ class Translator:
             if only[0] in BEGINS:
                 self.lines, self.begun, self.size = [], only[0], 0
                 return b""
-            return ended(line) if only[0] == "noidle" else self.single(translated(line, alone=True))
+            return ended(line) if only[0] == "noidle" else self.single(translated(line, True, self.is_wide))
         if only[0] == END:
-            parts, self.lines = [translated(it) for it in self.lines], None
+            parts, self.lines = [translated(it, False, self.is_wide) for it in self.lines], None
             return self.several(parts, self.begun == BEGINS[1])
         self.lines.append(line)
         self.size += len(line)

@@ -1,4 +1,5 @@
--- The frames of ID3v2.4 in which MPD reads its tags, by the names of the Vorbis comments that tell the same.
+-- The frames of ID3v2.4 in which MPD reads its tags, by the names of the Vorbis comments that tell the same. Some have none, and are
+-- described by their names.
 use Rattle.std.specs.Prelude.{ℕ, List, [], ◌∷◌, Option, codes}
 use Rattle.std.specs.List.{find}
 use Rattle.std.specs.Str.{bytes_eq}
@@ -43,6 +44,13 @@ frame_names =
     frame (codes "MUSICBRAINZ_TRACKID") (codes "TXXX") (codes "MusicBrainz Track Id") ∷
     frame (codes "MUSICBRAINZ_RELEASETRACKID") (codes "TXXX") (codes "MusicBrainz Release Track Id") ∷
     frame (codes "MUSICBRAINZ_WORKID") (codes "TXXX") (codes "MusicBrainz Work Id") ∷
+    frame (codes "COMPOSERSORT") (codes "TXXX") (codes "COMPOSERSORT") ∷
+    frame (codes "NAME") (codes "TXXX") (codes "NAME") ∷
+    frame (codes "WORK") (codes "TXXX") (codes "WORK") ∷
+    frame (codes "MOVEMENT") (codes "TXXX") (codes "MOVEMENT") ∷
+    frame (codes "MOVEMENTNUMBER") (codes "TXXX") (codes "MOVEMENTNUMBER") ∷
+    frame (codes "ENSEMBLE") (codes "TXXX") (codes "ENSEMBLE") ∷
+    frame (codes "LOCATION") (codes "TXXX") (codes "LOCATION") ∷
     []
 
 -- the frame for the comments of a name, in upper case

@@ -40,8 +40,15 @@ abbrev pub text_for : Option (List ℕ) → CommentText → Option WrittenText
 text_for total c = option_map (text_with total c.value) (frame_named c.name)
 
 -- the frames of the comments that have one, in their order
+abbrev pub comment_texts : List CommentText → List WrittenText
+comment_texts comments = filter_map (text_for (total_in comments)) comments
+
+-- what says that the texts are Vorbis comments
+abbrev pub mark : WrittenText
+mark = record { id = codes "TXXX"; description = codes "Vorbis comments"; values = codes "FLAC" ∷ [] }
+
 abbrev pub texts_for : List CommentText → List WrittenText
-texts_for comments = filter_map (text_for (total_in comments)) comments
+texts_for comments = comment_texts comments ++ mark ∷ []
 
 -- a picture that can be told: it has a media type, and its bytes stand in the file
 abbrev pub is_cover : ℕ → PicturePlace → Bool

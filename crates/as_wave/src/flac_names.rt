@@ -46,6 +46,13 @@ const ROWS: &[FrameRow] = &[
         "MusicBrainz Release Track Id",
     ),
     FrameRow("MUSICBRAINZ_WORKID", *b"TXXX", "MusicBrainz Work Id"),
+    FrameRow("COMPOSERSORT", *b"TXXX", "COMPOSERSORT"),
+    FrameRow("NAME", *b"TXXX", "NAME"),
+    FrameRow("WORK", *b"TXXX", "WORK"),
+    FrameRow("MOVEMENT", *b"TXXX", "MOVEMENT"),
+    FrameRow("MOVEMENTNUMBER", *b"TXXX", "MOVEMENTNUMBER"),
+    FrameRow("ENSEMBLE", *b"TXXX", "ENSEMBLE"),
+    FrameRow("LOCATION", *b"TXXX", "LOCATION"),
 ];
 
 impl FrameRow {

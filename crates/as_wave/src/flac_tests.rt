@@ -32,7 +32,7 @@ const SAMPLES: &[i16] = &[
 
 /// The comments that flac was given, under their frames, and the picture.
 const TAG: &str =
-    "TIT2  Nacht und Tr\u{e4}ume; TPE1  Ann; TPE1  Bob; TRCK  3/12; TXXX MusicBrainz Album Id a-b; 3 image/png 67";
+    "TIT2  Nacht und Tr\u{e4}ume; TPE1  Ann; TPE1  Bob; TRCK  3/12; TXXX MusicBrainz Album Id a-b; TXXX Vorbis comments FLAC; 3 image/png 67";
 
 fn told<S: Source>(
     alloc: Global,

@@ -1,7 +1,7 @@
 // The text frames of Vorbis comments.
 ghost use Rattle.std.specs.Prelude.{◌≡◌, ◌++◌, string_bytes, option_copied, option_to_list, IfOk, OnOk};
 ghost use Rattle.as_wave.specs.FlacRows.{frame_of};
-ghost use Rattle.as_wave.specs.FlacTag.{is_total, total_in, has_slash, with_total, numbered, value_in, text_with, text_for, texts_for};
+ghost use Rattle.as_wave.specs.FlacTag.{is_total, total_in, has_slash, with_total, numbered, value_in, text_with, text_for, comment_texts, mark, texts_for};
 
 use crate::flac_names::{FrameRow, frame_named};
 use flac::Comment;
@@ -109,9 +109,33 @@ fn add_text(
     Ok(())
 }
 
-/// The frames of the comments that have one, in their order.
+/// What says that the texts are Vorbis comments: they are told as they stand, and some by their names.
+fn mark(alloc: Global) -> Result<TextFrame, AllocError>
+    ensures { IfOk result (λ frame. frame ≡ mark) }
+{
+    let value = String::from_str(alloc, "FLAC")?;
+    let description = String::from_str(alloc, "Vorbis comments")?;
+    let mut values = Vec::new(alloc);
+    values.push(value)?;
+    Ok(TextFrame {
+        id: *b"TXXX",
+        description,
+        values,
+    })
+}
+
+/// The frames of the comments that have one, in their order, and the mark.
 pub fn texts_for(alloc: Global, comments: &[Comment]) -> Result<Vec<TextFrame>, AllocError>
     ensures { IfOk result (λ frames. frames.items ≡ texts_for comments.now) }
+{
+    let mut frames = comment_texts(alloc, comments)?;
+    frames.push(mark(alloc)?)?;
+    Ok(frames)
+}
+
+/// The frames of the comments that have one.
+fn comment_texts(alloc: Global, comments: &[Comment]) -> Result<Vec<TextFrame>, AllocError>
+    ensures { IfOk result (λ frames. frames.items ≡ comment_texts comments.now) }
 {
     let total = total_in(comments);
     let mut frames = Vec::new(alloc);

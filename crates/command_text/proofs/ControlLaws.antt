@@ -1,5 +1,5 @@
 -- Which control line a line is, by what stands next in it.
-use Rattle.std.proofs.Common.{◌≡◌, ℕ, List, [], ◌∷◌, true, false, Option, Some, None, refl, sym, ap, ◌∙◌}
+use Rattle.std.proofs.Common.{◌≡◌, ℕ, List, [], true, false, Option, Some, None, refl, sym, ap, ◌∙◌}
 use Rattle.std.specs.Str.{is_utf8}
 use Rattle.command_text.specs.Control.{control_of_line, control_of_word, control_of_words}
 use Rattle.command_text.specs.Reading.{line_words, quoted}

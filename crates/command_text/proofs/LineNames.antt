@@ -47,11 +47,11 @@ known_refused profile place word arguments (Some name) refusal e = of_refused na
 
 in_name : (profile : Profile) (place : Place) (words : Result (List Word) Refusal) (read : NamedCommand)
     → command_in profile place words ≡ Ok read
-    → first_name words ≡ Some read.name
+    → first_name profile words ≡ Some read.name
 unfolding command_of
 in_name profile place (Err refusal) read e = cc
 in_name profile place (Ok []) read e = cc
-in_name profile place (Ok (word ∷ arguments)) read e = known_name profile place word arguments (named word) read e
+in_name profile place (Ok (word ∷ arguments)) read e = known_name profile place word arguments (named profile word) read e
 
 -- why a line has no words names no command
 names_none : (bytes : Bool) (words : Option (List Word)) (refusal : Refusal)
@@ -62,14 +62,14 @@ names_none false words refusal e = ap name_of_refusal (sym (same_err {A = List W
 
 in_refused : (profile : Profile) (place : Place) (words : Result (List Word) Refusal) (refusal : Refusal)
     → ((r : Refusal) → words ≡ Err r → name_of_refusal r ≡ None) → command_in profile place words ≡ Err refusal
-    → name_of_refusal refusal ≡ first_name words
+    → name_of_refusal refusal ≡ first_name profile words
 unfolding command_of
 in_refused profile place (Err r) refusal none e = ap name_of_refusal (sym (same_err {A = NamedCommand} r refusal e)) ∙ none r refl
 in_refused profile place (Ok []) refusal none e = ap name_of_refusal (sym (same_err {A = NamedCommand} NoCommand refusal e))
-in_refused profile place (Ok (word ∷ arguments)) refusal none e = known_refused profile place word arguments (named word) refusal e
+in_refused profile place (Ok (word ∷ arguments)) refusal none e = known_refused profile place word arguments (named profile word) refusal e
 
 pub read_name : (profile : Profile) (place : Place) (line : List ℕ) (read : NamedCommand) → line_reading profile place line ≡ Ok read
-    → name_of_line line ≡ Some read.name
+    → name_of_line profile line ≡ Some read.name
 unfolding line_reading name_of_line
 read_name profile place line read e = in_name profile place (line_words line) read e
 
@@ -78,6 +78,6 @@ unfolding line_words
 line_names_none line r e = names_none (is_utf8 line) (words_of line) r e
 
 pub refusal_name : (profile : Profile) (place : Place) (line : List ℕ) (refusal : Refusal) → line_reading profile place line ≡ Err refusal
-    → name_of_refusal refusal ≡ name_of_line line
+    → name_of_refusal refusal ≡ name_of_line profile line
 unfolding line_reading name_of_line
 refusal_name profile place line refusal e = in_refused profile place (line_words line) refusal (line_names_none line) e

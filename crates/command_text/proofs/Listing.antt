@@ -1,13 +1,14 @@
 -- The lines of the commands that are listed, name by name.
-use Rattle.std.proofs.Common.{◌≡◌, ℕ, suc, ◌+◌, ◌<◌, add-one, List, [], ◌∷◌, length, drop, get_or, if◌then◌else◌, ap, sym, ◌∙◌}
+use Rattle.std.proofs.Common.{◌≡◌, ℕ, suc, ◌+◌, ◌<◌, add-one, List, [], ◌∷◌, length, drop, get_or, if◌then◌else◌, ap, sym}
 use Rattle.std.proofs.Math.Seq.{drop-cons}
+use Rattle.profile.specs.declared.profile.Profile.{Profile}
 use Rattle.command_text.specs.AnswerNames.{command_line}
 use Rattle.command_text.specs.Names.{all_names, is_listed}
 use Rattle.command_text.specs.declared.name.CommandName.{CommandName}
 
 -- a name that isn't listed has no line
-abbrev pub listed_lines : CommandName → List ℕ
-listed_lines name = if is_listed name then command_line name else []
+abbrev pub listed_lines : Profile → CommandName → List ℕ
+listed_lines profile name = if is_listed profile name then command_line name else []
 
 -- the names that are left behind the one at a place
 pub next_name : (place : ℕ) (name : CommandName) → place < length all_names → ((d : CommandName) → name ≡ get_or all_names place d)

@@ -13,15 +13,15 @@ use Rattle.std.proofs.lemmas.List.Sorted.{searchable_from_sorted}
 use Rattle.std.proofs.lemmas.Map.Text.{is_eq-slice_cmp}
 use Rattle.std.proofs.lemmas.Slice.Eq.{bytes_eq-Decides}
 use Rattle.command_text.specs.declared.name.CommandName.{CommandName}
-use Rattle.command_text.specs.Names.{name_text, all_names, named}
+use Rattle.command_text.specs.Names.{name_text, all_names, any_named}
 use Rattle.command_text.proofs.Naming.{are_rising, is_found, is_listed, only_its_name}
 
 -- the name where the search ends
-pub found_at : (word : List ℕ) (name : CommandName) → slice_cmp nat_cmp (name_text name) word ≡ Equal → named word ≡ Some name
+pub found_at : (word : List ℕ) (name : CommandName) → slice_cmp nat_cmp (name_text name) word ≡ Equal → any_named word ≡ Some name
 found_at word name e =
     let equal : bytes_eq (name_text name) word ≡ true = sym (is_eq-slice_cmp (name_text name) word) ∙ ap is_eq e in
     let same : name_text name ≡ word = (bytes_eq-Decides (name_text name) word).0 equal in
-    ap named (sym same) ∙ is_found name
+    ap any_named (sym same) ∙ is_found name
 
 -- items whose texts rise
 by_text : {X : Type 0} (text : X → List ℕ) (l : List X) → IsSorted (slice_cmp nat_cmp) (map text l)
@@ -58,10 +58,10 @@ map_twice f g [] = refl
 map_twice f g (x ∷ l) = ap (λ t. g (f x) ∷ t) (map_twice f g l)
 
 pub none_found : {X : Type 0} (name_of : X → CommandName) (rows : List X) (word : List ℕ) (i : ℕ) → map name_of rows ≡ all_names
-    → IsBinarySearchResult (λ x. slice_cmp nat_cmp (name_text (name_of x)) word) rows (Err i) → named word ≡ None
-none_found name_of rows word i same split = decided (named word) refl
+    → IsBinarySearchResult (λ x. slice_cmp nat_cmp (name_text (name_of x)) word) rows (Err i) → any_named word ≡ None
+none_found name_of rows word i same split = decided (any_named word) refl
   where
-    decided : (found : Option CommandName) → named word ≡ found → named word ≡ None
+    decided : (found : Option CommandName) → any_named word ≡ found → any_named word ≡ None
     decided None e = e
     decided (Some name) e =
         let sorted : IsSorted (slice_cmp nat_cmp) (map (λ x. name_text (name_of x)) rows) =

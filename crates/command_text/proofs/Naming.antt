@@ -1,6 +1,6 @@
 -- Laws of the names of commands. None lists the commands: where a first case stands beside one of all others, each is checked by itself.
 use Rattle.std.proofs.Common.{◌≡◌, zero, suc, not, ◌&&◌, is_lt, map, slice_index_or, ◌+◌, ◌<◌, ◌≤◌, ℕ, List, [], ◌∷◌, length, Bool, true}
-use Rattle.std.proofs.Common.{false, cond, Some, refl, sym, subst, ◌∙◌, ap, arith, find, Contains, get_or}
+use Rattle.std.proofs.Common.{false, cond, if◌then◌else◌, Option, Some, None, refl, sym, subst, ◌∙◌, ap, arith, find, Contains, get_or}
 use Rattle.std.proofs.lemmas.List.Elements.{Contains-append_right}
 use Rattle.std.proofs.lemmas.List.{get_or-map, length-map}
 use Rattle.std.proofs.lemmas.Option.{same_Some, none-some}
@@ -10,10 +10,11 @@ use Rattle.std.specs.Cmp.Lexicographic.{slice_cmp}
 use Rattle.std.specs.Ordering.{nat_cmp}
 use Rattle.command_text.specs.declared.name.CommandName.{CommandName}
 use Rattle.command_text.specs.declared.name.CommandName.TheVariants as names
-use Rattle.command_text.specs.Names.{name_text, all_names, named, place_of}
+use Rattle.profile.specs.declared.profile.Profile.{Profile}
+use Rattle.command_text.specs.Names.{name_text, all_names, any_named, is_known, known, named, place_of}
 
-pub is_found : (name : CommandName) → named (name_text name) ≡ Some name
-unfolding named
+pub is_found : (name : CommandName) → any_named (name_text name) ≡ Some name
+unfolding any_named
 is_found names.Add = refl
 is_found other = refl
 
@@ -32,13 +33,36 @@ found_in test [] name e = absurd (none-some name e)
 found_in test (x ∷ names) name e = found_at test names x name (test x) refl e (found_in test names name)
 
 pub is_listed : (name : CommandName) → Contains all_names name
-unfolding named
+unfolding any_named
 is_listed name = (found_in (λ n. bytes_eq (name_text name) (name_text n)) all_names name (is_found name)).0
 
-pub only_its_name : (word : List ℕ) (name : CommandName) → named word ≡ Some name → name_text name ≡ word
-unfolding named
+pub only_its_name : (word : List ℕ) (name : CommandName) → any_named word ≡ Some name → name_text name ≡ word
+unfolding any_named
 only_its_name word name e =
     sym ((bytes_eq-Decides word (name_text name)).0 (found_in (λ n. bytes_eq word (name_text n)) all_names name e).1)
+
+-- a name that the profile knows
+known_is : (profile : Profile) (found : Option CommandName) (name : CommandName) → found ≡ Some name → is_known profile name ≡ true
+    → known profile found ≡ Some name
+known_is profile found name e h = rw e (rw h refl)
+
+pub is_found_known : (profile : Profile) (name : CommandName) → is_known profile name ≡ true → named profile (name_text name) ≡ Some name
+is_found_known profile name h = known_is profile (any_named (name_text name)) name (is_found name) h
+
+known_only : (profile : Profile) (found : Option CommandName) (name : CommandName) → known profile found ≡ Some name
+    → (found ≡ Some name) × (is_known profile name ≡ true)
+known_only profile None name e = absurd (none-some name e)
+known_only profile (Some other) name e = by_cases (is_known profile other) refl e where
+  by_cases : (b : Bool) → is_known profile other ≡ b → (if b then Some other else None) ≡ Some name
+      → (Some other ≡ Some name) × (is_known profile name ≡ true)
+  by_cases true h e = (e, ap (is_known profile) (sym (same_Some other name e)) ∙ h)
+  by_cases false h e = absurd (none-some name e)
+
+pub only_its_known_name : (profile : Profile) (word : List ℕ) (name : CommandName) → named profile word ≡ Some name
+    → (name_text name ≡ word) × (is_known profile name ≡ true)
+only_its_known_name profile word name e =
+    let found = known_only profile (any_named word) name e in
+    (only_its_name word name found.0, found.1)
 
 pub name_fits : (name : CommandName) → length (name_text name) ≤ 21
 name_fits names.Add = omega arith

@@ -1,5 +1,5 @@
 -- The text of a time.
-use Rattle.std.specs.Prelude.{ℕ, ◌+◌, ◌*◌, ◌/◌, ◌%◌, List, [], ◌∷◌, ◌++◌, codes}
+use Rattle.std.specs.Prelude.{ℕ, ◌+◌, ◌/◌, ◌%◌, List, [], ◌∷◌, ◌++◌, codes}
 use Rattle.std.specs.Fmt.{decimal}
 use Rattle.filter_expr.specs.Calendar.{date_of, epoch}
 use Rattle.filter_expr.specs.declared.calendar.Date.{Date}

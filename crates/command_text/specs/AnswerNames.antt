@@ -3,18 +3,26 @@ use Rattle.std.specs.Prelude.{ℕ, List, [], ◌∷◌, ◌++◌, codes, filter}
 use Rattle.std.specs.List.{concat, flat_map}
 use Rattle.idle_masks.specs.declared.subsystem.Subsystem.{Subsystem}
 use Rattle.idle_masks.specs.Subsystem.{name_of as subsystem_name}
+use Rattle.profile.specs.declared.profile.Profile.{Profile}
+use Rattle.profile.specs.declared.profile.Profile.TheVariants.{Named, Wide}
 use Rattle.song_files.specs.declared.tag.Tag.{Tag}
 use Rattle.song_files.specs.Tag.{name_of}
 use Rattle.command_text.specs.declared.name.CommandName.{CommandName}
 use Rattle.command_text.specs.Names.{all_names, is_listed, name_text}
 use Rattle.command_text.specs.Answer.{pair, number_pair}
+use Rattle.command_text.specs.AnswerDates.{time_text}
 use Rattle.command_text.specs.AnswerTimes.{whole_seconds}
 
 abbrev pub directory_line : List ℕ → List ℕ
 directory_line path = pair (codes "directory") path
 
-abbrev pub playlist_line : List ℕ → List ℕ
-playlist_line name = pair (codes "playlist") name
+-- of playlists no time is kept: the wide profile tells one that clients take for unknown
+abbrev pub list_time : Profile → List ℕ
+list_time Named = []
+list_time Wide = pair (codes "Last-Modified") (time_text 0)
+
+abbrev pub playlist_lines : Profile → List ℕ → List ℕ
+playlist_lines profile name = pair (codes "playlist") name ++ list_time profile
 
 -- `sticker: NAME=VALUE`
 abbrev pub sticker_line : List ℕ → List ℕ → List ℕ
@@ -31,8 +39,8 @@ abbrev pub command_line : CommandName → List ℕ
 command_line name = pair (codes "command") (name_text name)
 
 -- a line for each command that is listed
-abbrev pub listed_commands : List ℕ
-listed_commands = flat_map command_line (filter is_listed all_names)
+abbrev pub listed_commands : Profile → List ℕ
+listed_commands profile = flat_map command_line (filter (is_listed profile) all_names)
 
 abbrev pub changed_line : Subsystem → List ℕ
 changed_line subsystem = pair (codes "changed") (subsystem_name subsystem)

@@ -8,7 +8,7 @@ use Rattle.song_db.specs.Row.{Row}
 use Rattle.song_db.specs.Duration.{milliseconds}
 use Rattle.song_files.specs.Tag.{name_of}
 use Rattle.song_files.specs.Tags.{TagText}
-use Rattle.command_text.specs.Answer.{pair, number_pair}
+use Rattle.command_text.specs.Answer.{line, pair, number_pair}
 use Rattle.command_text.specs.AnswerDates.{time_text}
 use Rattle.command_text.specs.AnswerTimes.{whole_seconds, exact_seconds}
 
@@ -60,6 +60,10 @@ entry_lines row position entry = concat (
 -- the same as `plchangesposid` shows it
 abbrev pub place_lines : ℕ → ℕ → List ℕ
 place_lines position id = number_pair (codes "cpos") position ++ number_pair (codes "Id") id
+
+-- an entry at a position as `playlist` shows it
+abbrev pub numbered_file : ℕ → List ℕ → List ℕ
+numbered_file position uri = line (decimal position ++ (codes ":file: " ++ uri))
 
 -- what `addid` answers
 abbrev pub id_line : ℕ → List ℕ

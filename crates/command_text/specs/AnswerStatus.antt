@@ -30,9 +30,12 @@ state_text Stop = codes "stop"
 state_text Play = codes "play"
 state_text Pause = codes "pause"
 
+abbrev pub volume_line : ℕ → List ℕ
+volume_line volume = number_pair (codes "volume") volume
+
 abbrev pub setting_lines : ℕ → Options → List ℕ
 setting_lines volume options = concat (
-    number_pair (codes "volume") volume
+    volume_line volume
     ∷ pair (codes "repeat") (switch_text options.repeat)
     ∷ pair (codes "random") (switch_text options.random)
     ∷ pair (codes "single") (single_text options.single)

@@ -1,6 +1,5 @@
 -- The commands of the database and its scans.
 use Rattle.std.specs.Prelude.{List, Bool, true, false, ◌||◌, [], Option, Some, None, Result, Ok, codes, if◌then◌else◌}
-use Rattle.std.specs.Option.{option_map}
 use Rattle.std.specs.Str.{bytes_eq}
 use Rattle.song_db.specs.Uri.{is_uri}
 use Rattle.command_text.specs.declared.command.database.DatabaseCommand.{DatabaseCommand}
@@ -9,7 +8,7 @@ use Rattle.command_text.specs.declared.refusal.CommandRefusal.{CommandRefusal}
 use Rattle.command_text.specs.declared.topic.DatabaseName.{DatabaseName}
 use Rattle.command_text.specs.declared.topic.DatabaseName.TheVariants as names
 use Rattle.command_text.specs.Arguments.{text_of}
-use Rattle.command_text.specs.Counts.{◌>>=◌, Word, no_argument, optional_argument, argument, optional}
+use Rattle.command_text.specs.Counts.{◌>>=◌, Word, no_argument, optional_argument, optional}
 
 -- the place that a scan reads: nothing, the empty text or `/` for the whole, or what has the form of a URI
 unfoldable pub scanned_place : Word → Option (Option Word)

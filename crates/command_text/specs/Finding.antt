@@ -1,8 +1,9 @@
 -- The commands that find songs by a filter. Its count of words comes first; then each part from left to right.
 use Rattle.std.specs.Prelude.{ℕ, ◌+◌, ◌-◌, ◌%◌, List, [], ◌∷◌, length, take, drop, Bool, true, false, not, ◌==◌, ◌&&◌, ◌||◌, nat_le, Option}
 use Rattle.std.specs.Prelude.{Some, None, Result, Ok, Err, codes, if◌then◌else◌}
-use Rattle.std.specs.Str.{bytes_eq}
+use Rattle.std.specs.Str.{bytes_eq, str_eq_ignore_ascii_case}
 use Rattle.profile.specs.declared.profile.Profile.{Profile}
+use Rattle.profile.specs.declared.profile.Profile.TheVariants.{Named, Wide}
 use Rattle.filter_expr.specs.declared.case.Case.{Case}
 use Rattle.filter_expr.specs.declared.case.Case.TheVariants.{Exact, Folded}
 use Rattle.filter_expr.specs.declared.order.SortOrder.{SortOrder}
@@ -118,12 +119,36 @@ add_to_playlist_of profile (name ∷ words) =
     if not (has_filter_count words) then Err WrongCount
     else (playlist_name name >>= λ list. filter_argument profile words >>= λ filter. Ok (commands.AddToPlaylist list filter))
 
+-- in a tag's place of `list` the wide profile knows the songs' files by either name
+abbrev pub is_file : Profile → Word → Bool
+is_file Named name = false
+is_file Wide name = str_eq_ignore_ascii_case name (codes "file") || str_eq_ignore_ascii_case name (codes "filename")
+
+-- the files of all songs, or of those of a filter
+abbrev pub files_of : Profile → List Word → Result FindingCommand CommandRefusal
+files_of profile [] = Ok (commands.ListFiles None)
+files_of profile (word ∷ words) = filter_alone profile (word ∷ words) >>= λ filter. Ok (commands.ListFiles (Some filter))
+
+-- `list Album ARTIST`, as clients of old say it to the wide profile
+abbrev pub is_artist_alone : Profile → Word → Word → Bool
+is_artist_alone Named name word = false
+is_artist_alone Wide name word = str_eq_ignore_ascii_case name (codes "Album") && not (begins_so opening word)
+
+-- the words of the filter behind a tag of this name
+abbrev pub listed_words : Profile → Word → List Word → List Word
+listed_words profile name (word ∷ []) = if is_artist_alone profile name word then codes "Artist" ∷ word ∷ [] else word ∷ []
+listed_words profile name words = words
+
+unfoldable pub values_of : Profile → Word → List Word → Result FindingCommand CommandRefusal
+values_of profile name [] = tag_argument profile name >>= λ tag. Ok (commands.ListTag tag None)
+values_of profile name (word ∷ words) =
+    if not (has_filter_count (word ∷ words)) then Err WrongCount
+    else (tag_argument profile name >>= λ tag. filter_argument profile (word ∷ words) >>= λ filter. Ok (commands.ListTag tag (Some filter)))
+
 unfoldable pub list_of : Profile → List Word → Result FindingCommand CommandRefusal
 list_of profile [] = Err WrongCount
-list_of profile (tag ∷ []) = tag_argument profile tag >>= λ tag. Ok (commands.ListTag tag None)
-list_of profile (tag ∷ word ∷ words) =
-    if not (has_filter_count (word ∷ words)) then Err WrongCount
-    else (tag_argument profile tag >>= λ tag. filter_argument profile (word ∷ words) >>= λ filter. Ok (commands.ListTag tag (Some filter)))
+list_of profile (name ∷ words) =
+    if is_file profile name then files_of profile words else values_of profile name (listed_words profile name words)
 
 unfoldable pub finding_of : Profile → FindingName → List Word → Result FindingCommand CommandRefusal
 finding_of profile names.Count words = filter_alone profile words >>= λ filter. Ok (commands.Count filter)

@@ -14,6 +14,7 @@ pub mod Lists
 pub mod Stickers
 pub mod Playing
 pub mod Session
+pub mod Setup
 pub mod Refusals
 pub mod Reading
 pub mod Control
@@ -24,4 +25,5 @@ pub mod AnswerSongs
 pub mod AnswerStatus
 pub mod AnswerDates
 pub mod AnswerNames
+pub mod AnswerSetup
 pub mod NextWord

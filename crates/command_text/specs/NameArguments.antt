@@ -1,5 +1,5 @@
 -- The arguments that have refusals of their own: names of playlists and of stickers, tags and filters.
-use Rattle.std.specs.Prelude.{ℕ, List, Bool, ◌&&◌, Option, Some, None, Result, Ok, Err, if◌then◌else◌}
+use Rattle.std.specs.Prelude.{List, ◌&&◌, Option, Some, None, Result, Ok, Err, if◌then◌else◌}
 use Rattle.std.specs.Str.{is_utf8}
 use Rattle.profile.specs.declared.profile.Profile.{Profile}
 use Rattle.song_files.specs.declared.tag.Tag.{Tag}

@@ -5,7 +5,7 @@ use Rattle.command_text.specs.declared.words.WordText.{WordText}
 use Rattle.command_text.specs.declared.words.WordText.TheVariants.{Bare, Inside}
 use Rattle.command_text.specs.declared.words.Next.{Next}
 use Rattle.command_text.specs.declared.words.Next.TheVariants.{End, Found, Bad}
-use Rattle.command_text.specs.Words.{backslash, Standing, words_from, then_words}
+use Rattle.command_text.specs.Words.{backslash, words_from, then_words}
 use Rattle.command_text.specs.Words.Standing.{Between, Quoted, Closed}
 
 -- The bytes that the inside of quotes stands for; the flag says that a backslash went before.

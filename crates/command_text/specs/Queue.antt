@@ -81,6 +81,7 @@ keeps_many names.Move = false
 keeps_many names.MoveId = false
 keeps_many names.QueueChanges = false
 keeps_many names.QueueChangesPositions = false
+keeps_many names.QueueFiles = false
 keeps_many names.QueueId = false
 keeps_many names.QueueInfo = false
 keeps_many names.Priority = true
@@ -105,6 +106,7 @@ queue_of names.Move words = move_of words
 queue_of names.MoveId words = move_id_of words
 queue_of names.QueueChanges words = changes_since words >>= λ x. Ok (commands.Changes x.0 x.1)
 queue_of names.QueueChangesPositions words = changes_since words >>= λ x. Ok (commands.ChangesPositions x.0 x.1)
+queue_of names.QueueFiles words = no_argument commands.Files words
 queue_of names.QueueId words = shown_id words >>= λ id. Ok (commands.InfoId id)
 queue_of names.QueueInfo words = shown_range words >>= λ range. Ok (commands.Info range)
 queue_of names.Priority words = priority_of words

@@ -1,6 +1,6 @@
 -- The command that words or a line ask for, or the first refusal in the one order of refusals: bytes that are no text, bad quoting, no
 -- word, an unknown command, not allowed where it stands, the count of arguments, and the arguments from left to right.
-use Rattle.std.specs.Prelude.{◌≡◌, ℕ, List, [], ◌∷◌, Bool, true, false, not, Option, Some, None, Result, Ok, Err, if◌then◌else◌}
+use Rattle.std.specs.Prelude.{◌≡◌, ℕ, List, [], ◌∷◌, Bool, true, false, Option, Some, None, Result, Ok, Err, if◌then◌else◌}
 use Rattle.std.specs.Global.{Vec}
 use Rattle.std.specs.Str.{is_utf8}
 use Rattle.profile.specs.declared.profile.Profile.{Profile}
@@ -33,6 +33,7 @@ use Rattle.command_text.specs.Lists.{lists_of}
 use Rattle.command_text.specs.Stickers.{stickers_of}
 use Rattle.command_text.specs.Playing.{playing_of}
 use Rattle.command_text.specs.Session.{session_of}
+use Rattle.command_text.specs.Setup.{setup_of}
 
 -- the command of a topic with these arguments: their count, and then each from left to right
 unfoldable pub command_with : Profile → Topic → List Word → Result Command CommandRefusal
@@ -44,6 +45,7 @@ command_with profile (topics.Lists name) words = lists_of name words >>= λ x. O
 command_with profile topics.Stickers words = stickers_of words >>= λ x. Ok (commands.Stickers x)
 command_with profile (topics.Playing name) words = playing_of name words >>= λ x. Ok (commands.Playing x)
 command_with profile (topics.Session name) words = session_of name words >>= λ x. Ok (commands.Session x)
+command_with profile (topics.Setup name) words = setup_of name words >>= λ x. Ok (commands.Setup x)
 
 -- the end of a list stands behind a list's commands alone, and some commands stand in no list
 abbrev pub is_allowed : Place → CommandName → Result (Unit {0}) CommandRefusal
@@ -70,7 +72,7 @@ known_command profile place word arguments (Some name) = of_command name (in_pla
 -- the command of the words of a line
 unfoldable pub command_of : Profile → Place → List Word → Result NamedCommand Refusal
 command_of profile place [] = Err NoCommand
-command_of profile place (word ∷ arguments) = known_command profile place word arguments (named word)
+command_of profile place (word ∷ arguments) = known_command profile place word arguments (named profile word)
 
 abbrev pub quoted : Option (List Word) → Result (List Word) Refusal
 quoted None = Err BadQuoting
@@ -89,13 +91,13 @@ unfoldable pub line_reading : Profile → Place → List ℕ → Result NamedCom
 line_reading profile place line = command_in profile place (line_words line)
 
 -- the name of the command that a line begins with; none where the line is refused for its bytes, its quoting or its first word
-abbrev pub first_name : Result (List Word) Refusal → Option CommandName
-first_name (Err refusal) = None
-first_name (Ok []) = None
-first_name (Ok (word ∷ words)) = named word
+abbrev pub first_name : Profile → Result (List Word) Refusal → Option CommandName
+first_name profile (Err refusal) = None
+first_name profile (Ok []) = None
+first_name profile (Ok (word ∷ words)) = named profile word
 
-unfoldable pub name_of_line : List ℕ → Option CommandName
-name_of_line line = first_name (line_words line)
+unfoldable pub name_of_line : Profile → List ℕ → Option CommandName
+name_of_line profile line = first_name profile (line_words line)
 
 -- how want of memory is answered at a command, by its name, and at a line that is no command
 abbrev pub want_of_memory : Option CommandName → Refusal
@@ -118,15 +120,16 @@ takes_memory (topics.Lists name) = false
 takes_memory topics.Stickers = false
 takes_memory (topics.Playing name) = false
 takes_memory (topics.Session name) = false
+takes_memory (topics.Setup name) = false
 
 abbrev pub may_take_memory : Option CommandName → Bool
 may_take_memory None = true
 may_take_memory (Some name) = takes_memory (topic_of name)
 
 -- memory may be wanting: for the word of an unknown command, or by a command of such a topic
-abbrev pub MayWantMemory : List Word → Type 0
-MayWantMemory [] = ⊥
-MayWantMemory (word ∷ words) = may_take_memory (named word) ≡ true
+abbrev pub MayWantMemory : Profile → List Word → Type 0
+MayWantMemory profile [] = ⊥
+MayWantMemory profile (word ∷ words) = may_take_memory (named profile word) ≡ true
 
 -- the refusal of an unknown command, or no memory for a copy of its word
 abbrev pub TellsUnknown : Word → ReadError → Type 0

@@ -3,20 +3,23 @@ use Rattle.std.specs.Prelude.{ℕ, List, [], ◌++◌, Option, Some, None, codes
 use Rattle.std.specs.Fmt.{decimal}
 use Rattle.command_text.specs.declared.name.CommandName.{CommandName}
 use Rattle.command_text.specs.declared.refusal.AckCode.{AckCode}
-use Rattle.command_text.specs.declared.refusal.AckCode.TheVariants.{NotList, Argument, Unknown, NoExist, PlaylistMax, System, UpdateAlready}
-use Rattle.command_text.specs.declared.refusal.AckCode.TheVariants.{PlayerSync, Exist}
+use Rattle.command_text.specs.declared.refusal.AckCode.TheVariants.{NotList, Argument, Password, Unknown, NoExist, PlaylistMax, System}
+use Rattle.command_text.specs.declared.refusal.AckCode.TheVariants.{UpdateAlready, PlayerSync, Exist}
 use Rattle.command_text.specs.declared.refusal.CommandRefusal.{CommandRefusal}
 use Rattle.command_text.specs.declared.refusal.CommandRefusal.TheVariants as command
 use Rattle.command_text.specs.declared.refusal.Refusal.{Refusal}
 use Rattle.command_text.specs.declared.refusal.Refusal.TheVariants as line
 use Rattle.command_text.specs.declared.refusal.ReadError.{ReadError}
 use Rattle.command_text.specs.declared.refusal.ReadError.TheVariants as errors
+use Rattle.command_text.specs.declared.refusal.SetupRefusal.{SetupRefusal}
+use Rattle.command_text.specs.declared.refusal.SetupRefusal.TheVariants as setup
 use Rattle.command_text.specs.Names.{name_text}
 
 -- the number that an `ACK` line prints for a code
 abbrev pub code_number : AckCode → ℕ
 code_number NotList = 1
 code_number Argument = 2
+code_number Password = 3
 code_number Unknown = 5
 code_number NoExist = 50
 code_number PlaylistMax = 51
@@ -38,6 +41,33 @@ pub record CommandRow : Type 0 where
 -- a text that does not speak of the command
 abbrev pub row : AckCode → Option ℕ → List ℕ → CommandRow
 row code number text = record { code = code; number = number; text = λ name. text }
+
+-- what is told where the daemon isn't set up so: the code and the text
+abbrev pub setup_code_of : SetupRefusal → AckCode
+setup_code_of setup.AlwaysOn = Argument
+setup_code_of setup.IncorrectPassword = Password
+setup_code_of setup.NoCrossfade = Argument
+setup_code_of setup.NoMixramp = Argument
+setup_code_of setup.NoNeighbors = Unknown
+setup_code_of setup.NoPicture = NoExist
+setup_code_of setup.NoSuchOutput = NoExist
+setup_code_of setup.NoSuchPartition = NoExist
+setup_code_of setup.NobodySubscribed = NoExist
+setup_code_of setup.UnrecognizedGain = Argument
+setup_code_of setup.UnsupportedAttribute = Argument
+
+abbrev pub setup_text_of : SetupRefusal → List ℕ
+setup_text_of setup.AlwaysOn = codes "the only output is always on"
+setup_text_of setup.IncorrectPassword = codes "incorrect password"
+setup_text_of setup.NoCrossfade = codes "no crossfade here"
+setup_text_of setup.NoMixramp = codes "no mixramp here"
+setup_text_of setup.NoNeighbors = codes "No neighbor plugin configured"
+setup_text_of setup.NoPicture = codes "No file exists"
+setup_text_of setup.NoSuchOutput = codes "No such audio output"
+setup_text_of setup.NoSuchPartition = codes "partition does not exist"
+setup_text_of setup.NobodySubscribed = codes "nobody is subscribed to this channel"
+setup_text_of setup.UnrecognizedGain = codes "Unrecognized replay gain mode"
+setup_text_of setup.UnsupportedAttribute = codes "Unsupported attribute"
 
 abbrev pub row_of : CommandRefusal → CommandRow
 row_of command.NotAllowedInList = row Argument None (codes "not allowed in a command list")
@@ -68,6 +98,7 @@ row_of command.PlaylistsFull = row PlaylistMax (Some 29) (codes "Too many playli
 row_of command.StickersFull = row System (Some 32) (codes "Too many stickers")
 row_of command.RequestTooLarge = row System None (codes "request too large")
 row_of command.OutOfMemory = row System (Some 7) (codes "out of memory")
+row_of (command.Setup refusal) = row (setup_code_of refusal) None (setup_text_of refusal)
 
 abbrev pub command_code_of : CommandRefusal → AckCode
 command_code_of refusal = (row_of refusal).code

@@ -1,6 +1,5 @@
 -- The five forms of `sticker`; its arguments are counted from the form's word.
-use Rattle.std.specs.Prelude.{nat_le, ◌&&◌, List, [], ◌∷◌, length, Option, Some, None, Result, Ok, Err, codes, if◌then◌else◌}
-use Rattle.std.specs.Option.{option_map}
+use Rattle.std.specs.Prelude.{nat_le, ◌&&◌, List, [], ◌∷◌, length, Some, None, Result, Ok, Err, codes, if◌then◌else◌}
 use Rattle.std.specs.Str.{bytes_eq}
 use Rattle.command_text.specs.declared.command.sticker.StickersCommand.{StickersCommand}
 use Rattle.command_text.specs.declared.command.sticker.StickersCommand.TheVariants as commands

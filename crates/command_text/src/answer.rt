@@ -5,6 +5,7 @@ mod ack;
 mod dates;
 mod names;
 mod pairs;
+mod setup;
 mod songs;
 mod status;
 mod times;
@@ -16,8 +17,9 @@ pub use names::{
 };
 pub use no_memory::NoMemory;
 pub use pairs::{write_greeting, write_list_ok, write_number, write_ok, write_pair};
-pub use songs::{write_entry, write_file, write_id, write_place, write_song};
-pub use status::{CurrentSong, StatusLines, write_job, write_status};
+pub use setup::{write_setup, write_setup_status};
+pub use songs::{write_entry, write_file, write_id, write_numbered_file, write_place, write_song};
+pub use status::{CurrentSong, StatusLines, write_job, write_status, write_volume};
 
 /// No `ACK` line for want of memory has more bytes, whatever its index and its command.
 pub const WANT_OF_MEMORY_LENGTH: usize = 64;

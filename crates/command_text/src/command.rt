@@ -24,6 +24,7 @@ pub mod playing;
 pub mod queue;
 pub mod session;
 pub mod settings;
+pub mod setup;
 pub mod sticker;
 
 use database::DatabaseCommand;
@@ -33,6 +34,7 @@ use playing::PlayingCommand;
 use queue::QueueCommand;
 use session::SessionCommand;
 use settings::SettingsCommand;
+use setup::SetupCommand;
 use sticker::StickersCommand;
 
 /// A command and its arguments, by its topic, as the MPD protocol reference 0.23 describes each. Its texts are those of the line's words.
@@ -46,6 +48,7 @@ pub enum Command<'w> {
     Stickers(StickersCommand<'w>),
     Playing(PlayingCommand),
     Session(SessionCommand),
+    Setup(SetupCommand),
 }
 
 /// A command, and the name by which it was asked for.
@@ -57,7 +60,8 @@ pub struct NamedCommand<'w> {
 
 impl<'w> Command<'w> {
     /// The command that these words ask for in this place, with its name, or the first refusal: no word, an unknown command, not
-    /// allowed here, the count of arguments, the arguments from left to right. Tags and the like go by the names that the profile has.
+    /// allowed here, the count of arguments, the arguments from left to right. Commands, tags and the like go by the names that the profile
+    /// has.
     #[tactic(auto, unfolding(crate::specs::Reading::command_of))]
     pub fn read(
         alloc: Global,
@@ -67,12 +71,12 @@ impl<'w> Command<'w> {
     ) -> Result<NamedCommand<'w>, ReadError>
         ensures exact { Gives result (command_of profile place words.now) }
         // Most commands are read without memory.
-        ensures memory { result ≡ Err ReadError.NoMemory → MayWantMemory words.now }
+        ensures memory { result ≡ Err ReadError.NoMemory → MayWantMemory profile words.now }
     {
         let Some((first, arguments)) = words.split_first() else {
             return Err(ReadError::Refused(Refusal::NoCommand));
         };
-        match CommandName::named(first.bytes()) {
+        match CommandName::named(profile, first.bytes()) {
             None => Err(unknown(alloc, first.bytes())),
             Some(name) => Command::of(alloc, profile, place, name, arguments),
         }
@@ -171,5 +175,6 @@ fn with<'w>(
         Topic::Stickers => Ok(Command::Stickers(sticker::read(words)?)),
         Topic::Playing(name) => Ok(Command::Playing(playing::read(name, words)?)),
         Topic::Session(name) => Ok(Command::Session(session::read(name, words)?)),
+        Topic::Setup(name) => Ok(Command::Setup(setup::read(name, words)?)),
     }
 }

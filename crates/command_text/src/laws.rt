@@ -8,6 +8,7 @@ ghost use Rattle.std.specs.Cmp.Lexicographic.{slice_cmp};
 ghost use Rattle.std.specs.Ordering.{nat_cmp};
 ghost use Rattle.filter_expr.specs.declared.case.Case.{Case};
 ghost use Rattle.profile.specs.declared.profile.Profile.{Profile};
+ghost use Rattle.profile.specs.declared.profile.Profile.TheVariants.{Wide};
 ghost use Rattle.command_text.specs.declared.command.NamedCommand.{NamedCommand};
 ghost use Rattle.command_text.specs.declared.command.finding.FindingCommand.{FindingCommand};
 ghost use Rattle.command_text.specs.declared.name.CommandName.{CommandName};
@@ -20,7 +21,7 @@ ghost use Rattle.command_text.specs.BadFilters.{IsRefusedSo};
 ghost use Rattle.command_text.specs.Counts.{Word};
 ghost use Rattle.command_text.specs.Finding.{find_of, find_add_of};
 ghost use Rattle.command_text.specs.Search.{Parts, ArePartedSo, IsAnswer, found_by, added_by};
-ghost use Rattle.command_text.specs.Names.{name_text, all_names, named};
+ghost use Rattle.command_text.specs.Names.{name_text, all_names, is_known, named};
 ghost use Rattle.command_text.specs.Refusals.{name_of_refusal};
 ghost use Rattle.command_text.specs.Reading.{line_reading, name_of_line, want_of_memory};
 ghost use Rattle.command_text.specs.Answer.{ack};
@@ -56,20 +57,22 @@ pub fn a_bad_filter_stays_bad()
         filter_of profile words ≡ Err refusal → IsRefusedSo profile words refusal }
 {}
 
-/// Each name is listed; the command is found by its text, and by no other word.
+/// Each name is listed; where the profile knows it, the command is found by its text, and by no other word; the wide profile knows all.
 pub fn names_are_found()
     ensures rising { IsSorted (slice_cmp nat_cmp) (map name_text all_names) }
     ensures listed { (name : CommandName) → Contains all_names name }
-    ensures found { (name : CommandName) → named (name_text name) ≡ Some name }
-    ensures only { (word : List ℕ) (name : CommandName) → named word ≡ Some name → name_text name ≡ word }
+    ensures found { (profile : Profile) (name : CommandName) → is_known profile name ≡ true → named profile (name_text name) ≡ Some name }
+    ensures only { (profile : Profile) (word : List ℕ) (name : CommandName) → named profile word ≡ Some name →
+        (name_text name ≡ word) × (is_known profile name ≡ true) }
+    ensures all { (name : CommandName) → is_known Wide name ≡ true }
 {}
 
 /// Whether a line is read or refused, its command is named in the same way.
 pub fn a_line_has_one_name()
     ensures read { (profile : Profile) (place : Place) (line : List ℕ) (read : NamedCommand) →
-        line_reading profile place line ≡ Ok read → name_of_line line ≡ Some read.name }
+        line_reading profile place line ≡ Ok read → name_of_line profile line ≡ Some read.name }
     ensures refused { (profile : Profile) (place : Place) (line : List ℕ) (refusal : Refusal) →
-        line_reading profile place line ≡ Err refusal → name_of_refusal refusal ≡ name_of_line line }
+        line_reading profile place line ≡ Err refusal → name_of_refusal refusal ≡ name_of_line profile line }
 {}
 
 /// How long a line of want of memory can be, so that its room can be taken before.

@@ -26,9 +26,9 @@ pub mod words;
 pub use answer::{
     CurrentSong, NoMemory, StatusLines, WANT_OF_MEMORY_LENGTH, write_ack, write_changed,
     write_commands, write_counts, write_directory, write_entry, write_file, write_greeting,
-    write_id, write_job, write_list_ok, write_number, write_ok, write_pair, write_place,
-    write_playlist, write_song, write_statistics, write_status, write_sticker, write_tag_type,
-    write_value,
+    write_id, write_job, write_list_ok, write_number, write_numbered_file, write_ok, write_pair,
+    write_place, write_playlist, write_setup, write_setup_status, write_song, write_statistics,
+    write_status, write_sticker, write_tag_type, write_value, write_volume,
 };
 pub use argument::{number, number_to, window};
 pub use command::database::DatabaseCommand;
@@ -37,7 +37,8 @@ pub use command::lists::{ListsCommand, SaveMode};
 pub use command::playing::PlayingCommand;
 pub use command::queue::QueueCommand;
 pub use command::session::SessionCommand;
-pub use command::settings::SettingsCommand;
+pub use command::settings::{SettingsCommand, VolumeStep};
+pub use command::setup::SetupCommand;
 pub use command::sticker::{StickersCommand, ValueBound};
 pub use command::{Command, NamedCommand};
 pub use control::ControlLine;
@@ -46,7 +47,7 @@ pub use lines::{Lines, LinesRef};
 pub use name::CommandName;
 pub use place::Place;
 pub use range::{EntryIds, PositionRange, PositionRanges, Window};
-pub use refusal::{AckCode, CommandRefusal, ReadError, Refusal};
+pub use refusal::{AckCode, CommandRefusal, ReadError, Refusal, SetupRefusal};
 pub use request::{Line, Request};
 pub use text::Text;
 pub use words::{Word, WordsError};

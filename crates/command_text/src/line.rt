@@ -9,6 +9,7 @@ use crate::name::CommandName;
 use crate::refusal::{CommandRefusal, ReadError, Refusal};
 use crate::words::{self, Next, WordsError};
 use filter_expr::LineWord;
+use profile::Profile;
 use std::alloc::Global;
 
 /// The words of a line that is text, without its newline, or the first refusal: bytes that are not UTF-8, and bad quoting. What they ask
@@ -29,11 +30,11 @@ pub fn read_words(alloc: Global, line: &[u8]) -> Result<Vec<LineWord<'_>>, ReadE
     }
 }
 
-/// How want of memory at a line is answered: with the name of its command, if it is one. It takes no memory.
-pub fn want_of_memory(line: &[u8]) -> Refusal
-    ensures { result ≡ want_of_memory (name_of_line line.now) }
+/// How want of memory at a line is answered: with the name of its command, if the profile knows it. It takes no memory.
+pub fn want_of_memory(profile: Profile, line: &[u8]) -> Refusal
+    ensures { result ≡ want_of_memory (name_of_line profile line.now) }
 {
-    match name_of_line(line) {
+    match name_of_line(profile, line) {
         None => Refusal::OutOfMemory,
         Some(name) => Refusal::OfCommand(name, CommandRefusal::OutOfMemory),
     }
@@ -45,9 +46,9 @@ pub(crate) fn is_utf8(line: &[u8]) -> bool
     str::from_utf8(line).is_ok()
 }
 
-/// The name that the line begins with, where it parts into words and the first one is a name.
-fn name_of_line(line: &[u8]) -> Option<CommandName>
-    ensures { result ≡ name_of_line line.now }
+/// The name that the line begins with, where it parts into words and the first one is a name that the profile knows.
+fn name_of_line(profile: Profile, line: &[u8]) -> Option<CommandName>
+    ensures { result ≡ name_of_line profile line.now }
 {
     if !is_utf8(line) {
         return None;
@@ -57,7 +58,7 @@ fn name_of_line(line: &[u8]) -> Option<CommandName>
         Next::Bad => None,
         Next::Found(word, rest) => {
             if parts_into_words(rest) {
-                CommandName::named_by(word)
+                CommandName::named_by(profile, word)
             } else {
                 None
             }

@@ -1,10 +1,11 @@
 // The names of the commands, and what holds of each.
 ghost use Rattle.std.specs.Prelude.{◌≡◌};
-ghost use Rattle.command_text.specs.Names.{name_text, is_control, is_listed, stands_in_lists, named};
+ghost use Rattle.command_text.specs.Names.{any_named, holds, is_control, is_known, is_listed, known, name_text, named, stands_in_lists};
 ghost use Rattle.command_text.specs.NextWord.{spelled};
 
-use crate::table::{count, name_at, rows, word_of};
+use crate::table::{count, least_of, name_at, rows, word_of};
 use crate::words::WordText;
+use profile::Profile;
 
 /// The name of a command of the MPD protocol reference 0.23, or of a line that begins or ends a command list or an `idle`. The names rise
 /// by the bytes of their words.
@@ -12,6 +13,9 @@ use crate::words::WordText;
 pub enum CommandName {
     Add,
     AddId,
+    AlbumArt,
+    BinaryLimit,
+    Channels,
     Clear,
     ClearError,
     Close,
@@ -21,30 +25,45 @@ pub enum CommandName {
     Commands,
     Consume,
     Count,
+    Crossfade,
     CurrentSong,
+    Decoders,
     Delete,
     DeleteId,
+    DisableOutput,
+    EnableOutput,
     Find,
     FindAdd,
+    GetVolume,
     Idle,
     Kill,
     ListTag,
     ListAll,
     ListAllInfo,
+    ListMounts,
+    ListNeighbors,
+    ListPartitions,
     ListPlaylist,
     ListPlaylistInfo,
     ListPlaylists,
     Load,
     ListInfo,
+    MixrampDb,
+    MixrampDelay,
     Move,
     MoveId,
     Next,
     NoIdle,
     NotCommands,
+    Outputs,
+    SetOutput,
+    Partition,
+    Password,
     Pause,
     Ping,
     Play,
     PlayId,
+    QueueFiles,
     PlaylistAdd,
     PlaylistClear,
     PlaylistDelete,
@@ -59,8 +78,12 @@ pub enum CommandName {
     Priority,
     PriorityId,
     Random,
+    ReadComments,
+    ReadPicture,
     Rename,
     Repeat,
+    ReplayGainMode,
+    ReplayGainStatus,
     Rescan,
     Remove,
     Save,
@@ -70,6 +93,7 @@ pub enum CommandName {
     Seek,
     SeekCurrent,
     SeekId,
+    SendMessage,
     SetVolume,
     Shuffle,
     Single,
@@ -80,7 +104,10 @@ pub enum CommandName {
     Swap,
     SwapId,
     TagTypes,
+    ToggleOutput,
     Update,
+    UrlHandlers,
+    ChangeVolume,
 }
 
 impl CommandName {
@@ -91,11 +118,18 @@ impl CommandName {
         word_of(self)
     }
 
-    /// Whether `commands` lists the command: every one, but for the lines of command lists and `noidle`.
-    pub(crate) fn is_listed(self) -> bool
-        ensures { result ≡ is_listed self }
+    /// Whether `commands` lists the command: every one that the profile knows, but for the lines of command lists and `noidle`.
+    pub(crate) fn is_listed(self, profile: Profile) -> bool
+        ensures { result ≡ is_listed profile self }
     {
-        !self.is_control()
+        self.is_known(profile) && !self.is_control()
+    }
+
+    /// Whether the profile knows the command.
+    fn is_known(self, profile: Profile) -> bool
+        ensures { result ≡ is_known profile self }
+    {
+        holds(profile, least_of(self))
     }
 
     /// Whether it is a line that begins or ends a command list, or ends an `idle`.
@@ -126,9 +160,16 @@ impl CommandName {
         )
     }
 
-    /// The command that the word asks for.
-    pub fn named(word: &[u8]) -> Option<CommandName>
-        ensures { result ≡ named word.now }
+    /// The command that the word asks for, if the profile knows it.
+    pub fn named(profile: Profile, word: &[u8]) -> Option<CommandName>
+        ensures { result ≡ named profile word.now }
+    {
+        known(profile, CommandName::any_named(word))
+    }
+
+    /// The command that the word asks for, whether a profile knows it or not.
+    fn any_named(word: &[u8]) -> Option<CommandName>
+        ensures { result ≡ any_named word.now }
     {
         let rows = rows();
         match rows.binary_search_by(|row| row.0.text().as_bytes().cmp(word)) {
@@ -137,19 +178,26 @@ impl CommandName {
         }
     }
 
-    /// The same for a word as it stands in a line; it takes no memory.
-    pub(crate) fn named_by(word: WordText<'_>) -> Option<CommandName>
-        ensures { result ≡ named (spelled word.entry) }
+    /// The command of a word as it stands in a line, if the profile knows it; it takes no memory.
+    pub(crate) fn named_by(profile: Profile, word: WordText<'_>) -> Option<CommandName>
+        ensures { result ≡ named profile (spelled word.entry) }
+    {
+        known(profile, CommandName::any_named_by(word))
+    }
+
+    /// The same, whether a profile knows it or not.
+    fn any_named_by(word: WordText<'_>) -> Option<CommandName>
+        ensures { result ≡ any_named (spelled word.entry) }
     {
         match word {
-            WordText::Bare(text) => CommandName::named(text),
+            WordText::Bare(text) => CommandName::any_named(text),
             WordText::Inside(_) => CommandName::named_in_quotes(word),
         }
     }
 
     /// The same name by name: backslashes may spell the word.
     fn named_in_quotes(word: WordText<'_>) -> Option<CommandName>
-        ensures { result ≡ named (spelled word.entry) }
+        ensures { result ≡ any_named (spelled word.entry) }
     {
         for place in 0..count() {
             let name = name_at(place);
@@ -158,5 +206,25 @@ impl CommandName {
             }
         }
         None
+    }
+}
+
+/// A command that the profile knows.
+fn known(profile: Profile, name: Option<CommandName>) -> Option<CommandName>
+    ensures { result ≡ known profile name }
+{
+    match name {
+        Some(name) if name.is_known(profile) => Some(name),
+        _ => None,
+    }
+}
+
+/// Whether a profile knows what this one knows least.
+fn holds(profile: Profile, least: Profile) -> bool
+    ensures { result ≡ holds profile least }
+{
+    match (profile, least) {
+        (Profile::Named, Profile::Wide) => false,
+        _ => true,
     }
 }

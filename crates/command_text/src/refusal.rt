@@ -1,7 +1,7 @@
 // Why a line isn't a command, or a command isn't performed, with the protocol's codes.
 ghost use Rattle.std.specs.Prelude.{◌≡◌};
 ghost use Rattle.command_text.specs.Refusals.{code_number, code_of, command_code_of, command_number_of, name_of_refusal, number_of_error};
-ghost use Rattle.command_text.specs.Refusals.{number_of_refusal};
+ghost use Rattle.command_text.specs.Refusals.{number_of_refusal, setup_code_of, setup_text_of};
 
 use crate::name::CommandName;
 use crate::words::Word;
@@ -12,6 +12,7 @@ use thiserror::Error;
 pub enum AckCode {
     NotList = 1,
     Argument = 2,
+    Password = 3,
     Unknown = 5,
     NoExist = 50,
     PlaylistMax = 51,
@@ -27,6 +28,62 @@ impl AckCode {
         ensures { result ≡ code_number self }
     {
         self as u8
+    }
+}
+
+/// Why a command of what the daemon is set up with was refused.
+#[derive(Clone, Copy, Debug, PartialEq, Eq)]
+pub enum SetupRefusal {
+    /// The only output can't be switched off.
+    AlwaysOn,
+    IncorrectPassword,
+    NoCrossfade,
+    NoMixramp,
+    NoNeighbors,
+    NoPicture,
+    NoSuchOutput,
+    NoSuchPartition,
+    NobodySubscribed,
+    UnrecognizedGain,
+    UnsupportedAttribute,
+}
+
+impl SetupRefusal {
+    pub fn code(self) -> AckCode
+        ensures { result ≡ setup_code_of self }
+    {
+        match self {
+            SetupRefusal::IncorrectPassword => AckCode::Password,
+            SetupRefusal::NoNeighbors => AckCode::Unknown,
+            SetupRefusal::NoPicture
+            | SetupRefusal::NoSuchOutput
+            | SetupRefusal::NoSuchPartition
+            | SetupRefusal::NobodySubscribed => AckCode::NoExist,
+            SetupRefusal::AlwaysOn
+            | SetupRefusal::NoCrossfade
+            | SetupRefusal::NoMixramp
+            | SetupRefusal::UnrecognizedGain
+            | SetupRefusal::UnsupportedAttribute => AckCode::Argument,
+        }
+    }
+
+    /// What an `ACK` line says of it.
+    pub(crate) fn text(self) -> &'static str
+        ensures { result.now ≡ setup_text_of self }
+    {
+        match self {
+            SetupRefusal::AlwaysOn => "the only output is always on",
+            SetupRefusal::IncorrectPassword => "incorrect password",
+            SetupRefusal::NoCrossfade => "no crossfade here",
+            SetupRefusal::NoMixramp => "no mixramp here",
+            SetupRefusal::NoNeighbors => "No neighbor plugin configured",
+            SetupRefusal::NoPicture => "No file exists",
+            SetupRefusal::NoSuchOutput => "No such audio output",
+            SetupRefusal::NoSuchPartition => "partition does not exist",
+            SetupRefusal::NobodySubscribed => "nobody is subscribed to this channel",
+            SetupRefusal::UnrecognizedGain => "Unrecognized replay gain mode",
+            SetupRefusal::UnsupportedAttribute => "Unsupported attribute",
+        }
     }
 }
 
@@ -79,6 +136,8 @@ pub enum CommandRefusal {
     RequestTooLarge,
     /// Memory was refused while the command was performed.
     OutOfMemory,
+    /// The daemon isn't set up so.
+    Setup(SetupRefusal),
 }
 
 impl CommandRefusal {
@@ -108,11 +167,12 @@ impl CommandRefusal {
             CommandRefusal::StickersFull
             | CommandRefusal::RequestTooLarge
             | CommandRefusal::OutOfMemory => AckCode::System,
+            CommandRefusal::Setup(refusal) => refusal.code(),
         }
     }
 
     /// The number of the refusal. None for the two of command lists, for a relative place without a current song, for a job
-    /// that runs already, and for a request that is too large.
+    /// that runs already, for a request that is too large, and for what the daemon isn't set up with.
     pub fn number(&self) -> Option<u8>
         ensures { result ≡ command_number_of self.now }
     {
@@ -121,7 +181,8 @@ impl CommandRefusal {
             | CommandRefusal::NotInList
             | CommandRefusal::NoCurrentSong
             | CommandRefusal::AlreadyUpdating
-            | CommandRefusal::RequestTooLarge => None,
+            | CommandRefusal::RequestTooLarge
+            | CommandRefusal::Setup(_) => None,
             CommandRefusal::OutOfMemory => Some(7),
             CommandRefusal::NoSuchUri => Some(17),
             CommandRefusal::BadFilter => Some(19),

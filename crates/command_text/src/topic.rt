@@ -10,13 +10,16 @@ pub(crate) enum Topic {
     Lists(ListsName),
     Playing(PlayingName),
     Session(SessionName),
+    Setup(SetupName),
     Stickers,
 }
 
 #[derive(Clone, Copy)]
 pub(crate) enum SettingsName {
+    ChangeVolume,
     Close,
     Consume,
+    GetVolume,
     Kill,
     Ping,
     Random,
@@ -48,6 +51,7 @@ pub(crate) enum QueueName {
     DeleteId,
     Move,
     MoveId,
+    QueueFiles,
     QueueId,
     QueueInfo,
     QueueChanges,
@@ -109,4 +113,31 @@ pub(crate) enum SessionName {
     CommandListOkBegin,
     Idle,
     NoIdle,
+}
+
+#[derive(Clone, Copy)]
+pub(crate) enum SetupName {
+    AlbumArt,
+    BinaryLimit,
+    Channels,
+    Crossfade,
+    Decoders,
+    DisableOutput,
+    EnableOutput,
+    ListMounts,
+    ListNeighbors,
+    ListPartitions,
+    MixrampDb,
+    MixrampDelay,
+    Outputs,
+    SetOutput,
+    Partition,
+    Password,
+    ReadComments,
+    ReadPicture,
+    ReplayGainMode,
+    ReplayGainStatus,
+    SendMessage,
+    ToggleOutput,
+    UrlHandlers,
 }

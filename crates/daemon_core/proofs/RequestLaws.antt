@@ -283,7 +283,8 @@ pub record StopsIt
 
 pub stops_it : (place : Place) (between line : List ℕ) (rest : List (List ℕ)) (index : ℕ) (spent : Spent) (s : MachineState)
     (stop : Stop) (refused : Option ℕ) (ending : Ending) (looks : ℕ) (work done : Work) → IsStop (attempted place spent line s) stop →
-    CountsLooks (looked spent.looks (looks_of_line place line s)) looks (Err stop) → AnswersStop stop index line refused ending work done →
+    CountsLooks (looked spent.looks (looks_of_line place line s)) looks (Err stop)
+    → AnswersStop s.saved.profile stop index line refused ending work done →
     StopsIt place between line rest index spent s refused ending (looks_at_end refused looks) work done
 unfolding ran
 stops_it place between line rest index spent s (stops.Ends it) None ending looks work done did counted answer = record {
@@ -306,12 +307,12 @@ stops_it place between line rest index spent s stops.NoMemory None ending looks 
 stops_it place between line rest index spent s stop (Some at) ending looks work done did counted answer =
     let wants = answer.1 in
     record {
-      text = ack index (want_of_memory (name_of_line line));
+      text = ack index (want_of_memory (name_of_line s.saved.profile line));
       same = ap (λ b. cond b (wants_memory s index line)
           (follow between index (spent_behind place line s spent) s (λ n u. ran place between (Some at) (suc index) n rest u)
           (attempted place spent line s)))
           (eq-eqb at index answer.0)
-          ∙ (λ i. record (ends s max_looks (ack index (want_of_memory (name_of_line line))) (sym wants.0 i))
+          ∙ (λ i. record (ends s max_looks (ack index (want_of_memory (name_of_line s.saved.profile line))) (sym wants.0 i))
           { refused_at = Some (sym answer.0 i) });
       adds = wants.1;
       later = omega (arith, answer.0);
@@ -353,14 +354,14 @@ pub ran_stops : (place : Place) (between : List ℕ) (lines whole rest : List (L
     (refused : Option ℕ) (ending : Ending) → whole ≡ bytes ∷ rest → SoFar place between lines whole index first s before now looks changes →
     Stopped (attempted place (spent_of now.size looks) bytes s) s t now mid stop →
     CountsLooks (looked looks (looks_of_line place bytes s)) more (Err stop) → all ≡ looks_at_end refused more →
-    AnswersStop stop index bytes refused ending mid after →
+    AnswersStop t.saved.profile stop index bytes refused ending mid after →
     RunsLines place between lines first t before after (record { ending = ending; changed = changes; refused_at = refused; looks = all })
 ran_stops place between lines whole rest bytes index first s t before now mid after looks more all changes stop refused ending parts
     whole_far stopped counted is answer =
     let far : SoFar place between lines (bytes ∷ rest) index first s before now looks changes =
     subst (λ r. SoFar place between lines r index first s before now looks changes) parts whole_far in
     let it = stops_it place between bytes rest index (spent_of now.size looks) s stop refused ending more mid after stopped.why counted
-    answer in
+    (subst (λ (u : MachineState). AnswersStop u.saved.profile stop index bytes refused ending mid after) stopped.stands answer) in
     let nothing = stopped.nothing in
     let adds = it.adds in
     subst (λ u. RunsLines place between lines first u before after

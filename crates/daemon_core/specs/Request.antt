@@ -12,6 +12,7 @@ use Rattle.machine_core.specs.Meaning.{Meaning}
 use Rattle.machine_core.specs.State.{MachineState}
 use Rattle.machine_core.specs.Work.{AddsNothing, AddsOps, AddsText, HasRoom, ack_room}
 use Rattle.machine_core.specs.declared.work.Work.{Work}
+use Rattle.profile.specs.declared.profile.Profile.{Profile}
 use Rattle.state_codec.specs.Spelling.{ops_bytes}
 use Rattle.daemon_core.specs.Run.{Did, Goes, Refuses, Ends, Ran, ran, spent_of}
 use Rattle.daemon_core.specs.declared.outcome.Ending.{Ending}
@@ -81,12 +82,13 @@ AnswersIt (stops.Ends it) index ending work done = (ending ≡ it) × AddsText [
 AnswersIt (stops.Refused refusal) index ending work done = (ending ≡ Answered) × AddsText (ack index refusal) work done
 AnswersIt stops.NoMemory index ending work done = ⊥
 
-abbrev pub WantsMemory : ℕ → List ℕ → Ending → Work → Work → Type 0
-WantsMemory index line ending work done = (ending ≡ Answered) × AddsText (ack index (want_of_memory (name_of_line line))) work done
+abbrev pub WantsMemory : Profile → ℕ → List ℕ → Ending → Work → Work → Type 0
+WantsMemory profile index line ending work done =
+    (ending ≡ Answered) × AddsText (ack index (want_of_memory (name_of_line profile line))) work done
 
-abbrev pub AnswersStop : Stop → ℕ → List ℕ → Option ℕ → Ending → Work → Work → Type 0
-AnswersStop stop index line None ending work done = AnswersIt stop index ending work done
-AnswersStop stop index line (Some place) ending work done = (place ≡ index) × WantsMemory index line ending work done
+abbrev pub AnswersStop : Profile → Stop → ℕ → List ℕ → Option ℕ → Ending → Work → Work → Type 0
+AnswersStop profile stop index line None ending work done = AnswersIt stop index ending work done
+AnswersStop profile stop index line (Some place) ending work done = (place ≡ index) × WantsMemory profile index line ending work done
 
 -- the commands were run as the request means them, with memory refused where its end says, at one of them or at none
 pub record RunsLines

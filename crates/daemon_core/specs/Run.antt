@@ -119,7 +119,7 @@ ends m looks text ending =
 -- counts as all that a request may look at.
 abbrev pub wants_memory : MachineState → ℕ → List ℕ → Ran
 wants_memory m index line =
-    record (ends m max_looks (ack index (want_of_memory (name_of_line line))) Answered) { refused_at = Some index }
+    record (ends m max_looks (ack index (want_of_memory (name_of_line m.saved.profile line))) Answered) { refused_at = Some index }
 
 -- a command that went well, before the rest of the request
 abbrev pub preceded : List ℕ → Subsystems → List Op → Ran → Ran

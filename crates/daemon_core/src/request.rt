@@ -17,6 +17,7 @@ use command_text::{
 use idle_masks::{ClientId, Subsystems};
 use machine_core::{Failure, Looks, MAX_LOOKS, Machine, Work};
 use no_memory::NoMemory;
+use profile::Profile;
 use std::alloc::Global;
 
 // A request has at most so many commands.
@@ -77,9 +78,15 @@ fn ending_of(command: &Command<'_>) -> Option<Ending>
 }
 
 // Ends the answer of a request that stops at this line: its ending, and its place where memory was refused.
-fn answer_stop(index: u32, line: &[u8], stop: Stop, work: &mut Work) -> (Ending, Option<u32>)
+fn answer_stop(
+    profile: Profile,
+    index: u32,
+    line: &[u8],
+    stop: Stop,
+    work: &mut Work,
+) -> (Ending, Option<u32>)
     requires { HasRoom ack_room work.old }
-    ensures { AnswersStop stop index line.now result.1 result.0 work.old work.new }
+    ensures { AnswersStop profile stop index line.now result.1 result.0 work.old work.new }
 {
     match stop {
         Stop::Ends(ending) => return (ending, None),
@@ -90,7 +97,7 @@ fn answer_stop(index: u32, line: &[u8], stop: Stop, work: &mut Work) -> (Ending,
         }
         Stop::NoMemory => {}
     }
-    work.want_memory(index, line);
+    work.want_memory(profile, index, line);
     (Ending::Answered, Some(index))
 }
 
@@ -292,7 +299,8 @@ fn run_lines(
         match run_line(machine, alloc, place, separated, line, work, &mut looks) {
             Ok(set) => changed = changed.union(set),
             Err(stop) => {
-                let (ending, refused_at) = answer_stop(index, line, stop, work);
+                let profile = machine.saved().profile();
+                let (ending, refused_at) = answer_stop(profile, index, line, stop, work);
                 let looks = looks_at_end(refused_at, &looks);
                 return RequestEnd {
                     ending,

@@ -42,15 +42,11 @@ fn appended(journal: &mut TestJournal, body: &[u8]) -> Result<u64, JournalError>
     journal.append(body)
 }
 
-fn checkpointed(
-    journal: &mut TestJournal,
-    alloc: Global,
-    snapshot: &[u8],
-) -> Result<(), JournalError> {
+fn checkpointed(journal: &mut TestJournal, snapshot: &[u8]) -> Result<(), JournalError> {
     if journal.layout() == 3 {
-        journal.checkpoint(alloc, 3, snapshot)
+        journal.checkpoint(3, snapshot)
     } else {
-        journal.checkpoint(alloc, 2, snapshot)
+        journal.checkpoint(2, snapshot)
     }
 }
 
@@ -119,7 +115,7 @@ fn append(journal: &mut TestJournal, printer: &mut Printer, words: &str) -> Resu
 
 fn checkpoint(journal: &mut TestJournal, printer: &mut Printer, words: &str) -> Result<(), Fault> {
     let snapshot = read_bytes(printer.alloc, words)?;
-    match checkpointed(journal, printer.alloc, &snapshot) {
+    match checkpointed(journal, &snapshot) {
         Ok(()) => printer.line("done"),
         Err(error) => tell_refused(printer, error),
     }

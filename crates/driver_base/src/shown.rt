@@ -22,9 +22,6 @@ pub fn tell_numbers(printer: &mut Printer, turn: &Turn<TestDisk>) {
     if let Some(number) = receipt.number {
         printer.count("record", number);
     }
-    if turn.is_overdue() {
-        printer.line("overdue");
-    }
     if let Some(place) = turn.refused_at() {
         printer.count("no memory at", u64::from(place));
     }

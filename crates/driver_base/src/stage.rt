@@ -59,8 +59,8 @@ fn grouped(
     stage.turn_group(alloc, events)
 }
 
-fn checkpointed(stage: &mut Stage, alloc: Global) -> Result<(), LiveError> {
-    stage.checkpoint(alloc)
+fn checkpointed(stage: &mut Stage) -> Result<(), LiveError> {
+    stage.checkpoint()
 }
 
 fn ordered(stage: &Stage, alloc: Global) -> Result<Order, LiveError> {
@@ -173,7 +173,7 @@ fn group(stage: &mut Stage, desk: &mut Desk) {
 
 /// Makes a checkpoint.
 fn checkpoint(stage: &mut Stage, printer: &mut Printer) {
-    match checkpointed(stage, printer.alloc) {
+    match checkpointed(stage) {
         Ok(()) => printer.line("done"),
         Err(error) => tell_live_error(printer, error),
     }

@@ -4,11 +4,9 @@ mod Comparisons
 mod Days
 mod Enclosing
 mod Expressions
-mod Fronts
 mod Groups
 mod Keys
 mod LikeTexts
-mod Numerals
 mod Occurrence
 mod Pairs
 mod Pieces

@@ -1,5 +1,5 @@
 // A client's stream, of which nothing is read where it is none of a client of MPD.
-ghost use Rattle.std.specs.Prelude.{◌≡◌, ◌≢◌, ◌<◌, ◌||◌, [], length, true, IfErr, IsErr};
+ghost use Rattle.std.specs.Prelude.{◌≡◌, ◌≢◌, ◌⊎◌, ◌<◌, ◌||◌, [], length, false, true, IfErr, IsErr};
 ghost use Rattle.std.specs.Io.{ReadsAtMost};
 ghost use Rattle.std.specs.Io.KnownBytes.{Keeps, ReadConsumes, prepend_known};
 ghost use Rattle.std.specs.IoError.{error_kind};
@@ -70,6 +70,7 @@ impl<S: Stream> Guarded<S> {
         ensures bytes { ReadConsumes (prepend_known self.old.held.items (S.remaining self.old.stream))
             (prepend_known self.new.held.items (S.remaining self.new.stream)) result buf.new }
         ensures passage { self.new.passage ≡ Passage.Open }
+        ensures own { self.new.has_failed ≡ self.old.has_failed }
         ensures unwritten { Keeps (S.contents self.old.stream) (S.contents self.new.stream) }
         ensures fault { IfErr result (λ e. error_kind e ≢ ErrorKind.WouldBlock → error_kind e ≢ ErrorKind.Interrupted →
             S.failed self.new.stream ≡ true) }
@@ -90,6 +91,7 @@ impl<S: Stream> Guarded<S> {
         ensures bytes { ReadConsumes (prepend_known self.old.held.items (S.remaining self.old.stream))
             (prepend_known self.new.held.items (S.remaining self.new.stream)) result buf.new }
         ensures passage { self.new.passage ≡ Passage.Open }
+        ensures own { self.new.has_failed ≡ self.old.has_failed }
         ensures unwritten { Keeps (S.contents self.old.stream) (S.contents self.new.stream) }
         ensures fault { IfErr result (λ e. error_kind e ≢ ErrorKind.WouldBlock → error_kind e ≢ ErrorKind.Interrupted →
             S.failed self.new.stream ≡ true) }
@@ -106,6 +108,8 @@ impl<S: Stream> Guarded<S> {
         ensures bytes { ReadConsumes (known_behind_guard self.old.passage self.old.held.items (S.remaining self.old.stream))
             (known_behind_guard self.new.passage self.new.held.items (S.remaining self.new.stream)) result buf.new }
         ensures shut { IsKnownShutOut self.old.held.items (S.remaining self.old.stream) → IsErr result }
+        ensures own { IfErr result (λ e. self.old.has_failed ≡ false → self.new.has_failed ≡ true →
+            (error_kind e ≡ ErrorKind.OutOfMemory) ⊎ (self.new.passage ≡ Passage.Shut)) }
         ensures unwritten { Keeps (S.contents self.old.stream) (S.contents self.new.stream) }
         ensures fault { IfErr result (λ e. error_kind e ≢ ErrorKind.WouldBlock → error_kind e ≢ ErrorKind.Interrupted →
             self.new.has_failed || S.failed self.new.stream ≡ true) }
@@ -153,6 +157,9 @@ impl<S: Stream> Stream for Guarded<S> {
         ensures bytes { ReadConsumes (known_behind_guard self.old.passage self.old.held.items (S.remaining self.old.stream))
             (known_behind_guard self.new.passage self.new.held.items (S.remaining self.new.stream)) result buf.new }
         ensures shut { IsShutOut self.old.passage self.old.held.items (S.remaining self.old.stream) → 0 < length buf.old → IsErr result }
+        // It fails by itself only of a stream that is shut out, or where memory is refused.
+        ensures own { IfErr result (λ e. self.old.has_failed ≡ false → self.new.has_failed ≡ true →
+            (error_kind e ≡ ErrorKind.OutOfMemory) ⊎ (self.new.passage ≡ Passage.Shut)) }
         ensures unwritten { Keeps (S.contents self.old.stream) (S.contents self.new.stream) }
         ensures fault { IfErr result (λ e. error_kind e ≢ ErrorKind.WouldBlock → error_kind e ≢ ErrorKind.Interrupted →
             self.new.has_failed || S.failed self.new.stream ≡ true) }

@@ -186,7 +186,6 @@ pub none_staged : (D : Type 0) (begin : Begin) (s : State) → AreStaged D begin
 none_staged D begin s = record {
   transcript = λ old at numbers. tt;
   before = tt;
-  overdue = tt;
   state = refl;
   records = refl;
   profile = refl;
@@ -196,7 +195,7 @@ none_staged D begin s = record {
 module _ (D : Type 0) (begin : Begin) (s : State) (turns : List Answer) (core : State) (bodies : List (List ℕ))
     (so_far : AreStaged D begin s turns core bodies) (event : Event) (t : Answer) (after : State) (more : List (List ℕ))
     (answer : let now = step core event t.refused_at in
-    IsAnswerOf now (numbers_staged begin (length turns) bodies) begin.is_overdue core event t)
+    IsAnswerOf now (numbers_staged begin (length turns) bodies) core event t)
     (added : let now = step core event t.refused_at in AddsStep now core after bodies more) where
   abbrev whole : List Entry
   whole = history_in turns
@@ -233,7 +232,6 @@ module _ (D : Type 0) (begin : Begin) (s : State) (turns : List Answer) (core : 
   staged_on = record {
     transcript = λ old at numbers. transcript_on old [] turns t (so_far.transcript old at numbers) (is_step old at numbers);
     before = bear_on s [] turns t so_far.before (answer.state ∙ so_far.state);
-    overdue = all_on (λ (a : Answer). a.is_overdue ≡ begin.is_overdue) turns t so_far.overdue answer.overdue;
     state = added.state ∙ ap (λ (st : Stepped). st.after) same ∙ ap (replayed s) (sym (history_more_by turns t));
     records = added.put ∙ ap (λ (l : List (List ℕ)). l ++ body_of_step made) so_far.records
         ∙ ap (λ (st : Stepped). bodies_after s whole ++ body_of_step st) same

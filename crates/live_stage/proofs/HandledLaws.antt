@@ -17,14 +17,15 @@ use Rattle.live_stage.specs.declared.staging.Begin.{Begin}
 use Rattle.live_stage.specs.Answer.{Answer}
 use Rattle.live_stage.specs.Found.{AllFindNow, AllFindSince, state_of}
 use Rattle.live_stage.specs.Group.{AreParted, EndsThere, IsGroup, IsNoneOrAll, IsOfFront, RefusesFront, answer_bytes, answer_looks, are_last}
-use Rattle.live_stage.specs.Group.{asked_by, bodies_after, events_in, file_with, goes_without, group_file, group_takes, history_in, may_follow}
+use Rattle.live_stage.specs.Group.{asked_by, bodies_after, events_in, file_with, group_file, group_takes, history_in, may_follow}
 use Rattle.live_stage.specs.Group.{most_answer_bytes, most_looks, takes_more}
 use Rattle.live_stage.specs.LiveState.{LiveState}
 use Rattle.live_stage.specs.Numbers.{FileNumbers, Numbers, is_due, longest_record}
 use Rattle.live_stage.specs.Staging.{AreStaged, AreTaken, IsGroupHandled, KeepsToBounds, begin_of, file_begun, numbers_begun}
 use Rattle.live_stage.specs.Transcript.{entry_of, history_of, numbers_after, replayed}
 use Rattle.live_stage.proofs.GroupLaws.{Reply, length-history, numbers_are_after}
-use Rattle.live_stage.proofs.PhaseLaws.{stays_ready, took_same, without_is}
+use Rattle.live_stage.proofs.PhaseLaws.{group_file_of, took_same}
+use Rattle.live_stage.proofs.TurnLaws.{ready_same}
 
 -- ---- the generation of a file doesn't count
 
@@ -48,27 +49,17 @@ bounds_same : (file : FileNumbers) (g : ℕ) (bodies : List (List ℕ)) → Keep
 bounds_same file g [] kept = record { few = kept.few; short = kept.short }
 bounds_same file g (body ∷ bodies) kept = record { few = kept.few; short = kept.short }
 
-all_said : (b c : Bool) (turns : List Answer) → b ≡ c → AllByRecursion (λ (t : Answer). t.is_overdue ≡ b) turns
-    → AllByRecursion (λ (t : Answer). t.is_overdue ≡ c) turns
-all_said b c turns same all = subst (λ (d : Bool). AllByRecursion (λ (t : Answer). t.is_overdue ≡ d) turns) same all
-
 -- ---- a group that was handled
 
-module _ {D : Type 0} (is_overdue : Bool) (old : LiveState D) (begin : Begin) (is : begin ≡ begin_of old is_overdue) (events : List Event)
-    (turns : List Answer) (is_refused : Bool) (rest : List Event) (core : State) (bodies : List (List ℕ))
+module _ {D : Type 0} (old : LiveState D) (begin : Begin) (is : begin ≡ begin_of old) (events : List Event) (turns : List Answer)
+    (is_refused : Bool) (rest : List Event) (core : State) (bodies : List (List ℕ))
     (staged : AreStaged D begin old.state turns core bodies) (taken : AreTaken begin old.state events turns is_refused rest bodies)
-    (due : is_due old.file ≡ is_overdue) (some : turns ≢ []) where
-  said : AllByRecursion (λ (t : Answer). t.is_overdue ≡ is_overdue) turns
-  said = all_said begin.is_overdue is_overdue turns (ap (λ (b : Begin). b.is_overdue) is) staged.overdue
-
-  without : goes_without turns ≡ is_overdue
-  without = without_is is_overdue turns some said
-
+    (due : is_due old.file ≡ false) (some : turns ≢ []) where
   first_numbers : numbers_begun begin ≡ old.numbers
   first_numbers = ap numbers_begun is
 
   file_same : group_file old turns ≡ old.file
-  file_same = (let says = without in rw says (stays_ready is_overdue old.state.machine.saved old.file due))
+  file_same = group_file_of old turns some ∙ ready_same old.state.machine.saved old.file due
 
   takes_as_begun : (front : List Answer) → takes_more old.state (numbers_begun begin) (file_begun begin) front ≡ group_takes old turns front
   takes_as_begun front = ap (λ (b : Begin). takes_more old.state (numbers_begun b) (file_begun b) front) is
@@ -77,7 +68,7 @@ module _ {D : Type 0} (is_overdue : Bool) (old : LiveState D) (begin : Begin) (i
 
   pub handled : (new : LiveState D) → new.state ≡ core → new.numbers.event ≡ old.numbers.event + length turns
       → new.numbers.last_record ≡ old.numbers.last_record + length bodies → new.file ≡ file_with old.file bodies
-      → IsGroupHandled is_overdue old events turns is_refused rest new
+      → IsGroupHandled old events turns is_refused rest new
   handled new state event last file =
       let whole : List Entry = history_in turns in
       let numbers : ℕ → ℕ → Numbers = λ e l. record { event = e; last_record = l } in
@@ -86,8 +77,6 @@ module _ {D : Type 0} (is_overdue : Bool) (old : LiveState D) (begin : Begin) (i
         group = record {
           transcript = staged.transcript old refl (sym first_numbers);
           before = staged.before;
-          overdue = all_said is_overdue (goes_without turns) turns (sym without) said;
-          alone = λ alone. taken.alone (ap (λ (b : Begin). b.is_overdue) is ∙ sym without ∙ alone);
           state = state ∙ staged.state;
           event = event;
           numbers = ap (λ (n : ℕ). numbers n new.numbers.last_record) event
@@ -106,11 +95,9 @@ module _ {D : Type 0} (is_overdue : Bool) (old : LiveState D) (begin : Begin) (i
           refused = λ so. (some, sym (takes_as_begun turns) ∙ taken.refused so);
           full = λ so more. sym (takes_as_begun turns) ∙ taken.full so more;
         };
-        overdue = said;
         some = some;
-        bounded = λ in_time. subst KeepsToBounds (sym file) (bounds_same old.file 0 bodies
-            (subst (λ (b : Begin). KeepsToBounds (file_with (file_begun b) bodies)) is
-            (taken.bounded (ap (λ (b : Begin). b.is_overdue) is ∙ in_time))));
+        bounded = subst KeepsToBounds (sym file) (bounds_same old.file 0 bodies
+            (subst (λ (b : Begin). KeepsToBounds (file_with (file_begun b) bodies)) is taken.bounded));
       }
 
 -- ---- a group that was refused

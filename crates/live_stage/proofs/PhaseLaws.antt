@@ -22,16 +22,16 @@ use Rattle.live_stage.specs.declared.refusal.LiveError.TheVariants.{Broken, NoMe
 use Rattle.live_stage.specs.Answer.{Answer, IsNumbered, IsTurn, profile_of_step}
 use Rattle.live_stage.specs.Found.{AllFindNow, AllFindSince, state_of}
 use Rattle.live_stage.specs.Group.{AreParted, BearTheirStates, EndsThere, IsGroup, IsGroupWritten, IsNoneOrAll, IsOfFront, RefusesFront}
-use Rattle.live_stage.specs.Group.{TookEach, asked_by, bodies_after, body_of, events_in, file_with, goes_without, group_file, group_takes, history_in}
+use Rattle.live_stage.specs.Group.{TookEach, asked_by, bodies_after, body_of, events_in, file_with, group_content, group_file, group_takes, history_in, makes_checkpoint}
 use Rattle.live_stage.specs.Group.{takes_more}
 use Rattle.live_stage.specs.LiveState.{LiveState}
-use Rattle.live_stage.specs.Numbers.{FileNumbers, Numbers, is_due, longest_record, makes_checkpoint, most_bytes, most_records, next_file}
+use Rattle.live_stage.specs.Numbers.{FileNumbers, Numbers, is_due, longest_record, most_bytes, most_records, next_file}
 use Rattle.live_stage.specs.Numbers.{greatest, ready_file, recorded}
 use Rattle.live_stage.specs.Staging.{KeepsToBounds}
 use Rattle.live_stage.specs.Transcript.{IsStepOf, IsTranscript, entry_of, history_of, numbers_after, replayed}
 use Rattle.live_stage.specs.Turns.{IsReady, IsStored, MakesNoCall, StaysInFile, WritesAlone, WritesOneFile, ready_content}
 use Rattle.live_stage.proofs.GroupLaws.{Reply, body_takes}
-use Rattle.live_stage.proofs.TurnLaws.{IsOtherKept, join_pairs, one_file, one_file_written, other_join, overdue_makes_none, ready_same}
+use Rattle.live_stage.proofs.TurnLaws.{IsOtherKept, join_pairs, one_file, one_file_written, other_join, ready_same}
 
 -- ---- refusals
 
@@ -115,28 +115,31 @@ found_in_phases history in_b old ready new whole same first second run_a more_a 
 
 -- ---- the file of a group
 
--- a file at which none is due, or at which it is overdue, stays the one to which records go
-pub stays_ready : (b : Bool) (s : SavedState) (file : FileNumbers) → is_due file ≡ b → ready_file b s file ≡ file
-stays_ready false s file is = ready_same false s file is
-stays_ready true s file is = (let none = overdue_makes_none file in rw none refl)
-
 -- none is due at the file that a checkpoint lays down
-laid_undue : (b : Bool) (s : SavedState) (file : FileNumbers) → is_due file ≡ b → is_due (ready_file false s file) ≡ false
+laid_undue : (b : Bool) (s : SavedState) (file : FileNumbers) → is_due file ≡ b → is_due (ready_file s file) ≡ false
 laid_undue true s file is =
-    let made : ready_file false s file ≡ next_file s file = rw is refl in
+    let made : ready_file s file ≡ next_file s file = rw is refl in
     let laid = next_file s file in
     ap is_due made ∙ or_from _ _ (lt-leb most_records laid.records (omega arith)) (le-ltb (most_bytes laid.snapshot_len) laid.bytes (omega arith))
-laid_undue false s file is = ap is_due (ready_same false s file is) ∙ is
+laid_undue false s file is = ap is_due (ready_same s file is) ∙ is
 
--- a stage that is ready has no checkpoint due but an overdue one
-pub ready_due : {D : Type 0} (is_overdue : Bool) (old ready : LiveState D) → IsReady is_overdue old ready → is_due ready.file ≡ is_overdue
-ready_due {D} true old ready got = ap (λ (v : LiveState D). is_due v.file) (got.nothing_made (overdue_makes_none old.file)) ∙ got.was_due refl
-ready_due false old ready got = ap is_due got.file ∙ laid_undue (is_due old.file) old.state.machine.saved old.file refl
+-- a stage that is ready has no checkpoint due
+pub ready_due : {D : Type 0} (old ready : LiveState D) → IsReady old ready → is_due ready.file ≡ false
+ready_due old ready got = ap is_due got.file ∙ laid_undue (is_due old.file) old.state.machine.saved old.file refl
 
--- the first answer says what each says
-pub without_is : (b : Bool) (turns : List Answer) → turns ≢ [] → AllByRecursion (λ (t : Answer). t.is_overdue ≡ b) turns → goes_without turns ≡ b
-without_is b [] some all = absurd (some refl)
-without_is b (t ∷ turns) some all = all.0
+-- the file and the content of a group that has an answer are those that are ready
+pub group_file_of : {D : Type 0} (old : LiveState D) (turns : List Answer) → turns ≢ []
+    → group_file old turns ≡ ready_file old.state.machine.saved old.file
+group_file_of old [] some = absurd (some refl)
+group_file_of old (t ∷ turns) some = refl
+
+group_content_of : {D : Type 0} (old : LiveState D) (turns : List Answer) → turns ≢ [] → group_content old turns ≡ ready_content old
+group_content_of old [] some = absurd (some refl)
+group_content_of old (t ∷ turns) some = refl
+
+makes_of : (file : FileNumbers) (turns : List Answer) → turns ≢ [] → makes_checkpoint file turns ≡ is_due file
+makes_of file [] some = absurd (some refl)
+makes_of file (t ∷ turns) some = refl
 
 -- ---- a group that was handled is one from the start
 
@@ -168,21 +171,16 @@ took_same takes other before [] same took = tt
 took_same takes other before (t ∷ turns) same took =
     (sym (same before) ∙ took.0, took_same takes other (before ++ t ∷ []) turns same took.1)
 
-module _ {D : Type 0} (is_overdue : Bool) (old ready new : LiveState D) (got : IsReady is_overdue old ready) (turns : List Answer)
-    (some : turns ≢ []) (told : AllByRecursion (λ (t : Answer). t.is_overdue ≡ is_overdue) turns) where
+module _ {D : Type 0} (old ready new : LiveState D) (got : IsReady old ready) (turns : List Answer) (some : turns ≢ []) where
   same_file : group_file ready turns ≡ group_file old turns
   same_file =
-      let says : goes_without turns ≡ is_overdue = without_is is_overdue turns some told in
-      ap (λ (b : Bool). ready_file b ready.state.machine.saved ready.file) says
-      ∙ stays_ready is_overdue ready.state.machine.saved ready.file (ready_due is_overdue old ready got) ∙ got.file
-      ∙ ap (λ (b : Bool). ready_file b old.state.machine.saved old.file) (sym says)
+      group_file_of ready turns some ∙ ready_same ready.state.machine.saved ready.file (ready_due old ready got) ∙ got.file
+      ∙ sym (group_file_of old turns some)
 
   pub group_from : IsGroup ready turns new → IsGroup old turns new
   group_from made = record {
     transcript = transcript_from ready old [] turns got.state got.numbers made.transcript;
     before = subst (λ (s : State). BearTheirStates s [] turns) got.state made.before;
-    overdue = made.overdue;
-    alone = made.alone;
     state = made.state ∙ ap (λ (s : State). replayed s (history_in turns)) got.state;
     event = made.event ∙ ap (λ (n : Numbers). n.event + length turns) got.numbers;
     numbers = made.numbers ∙ ap (λ (s : State). numbers_after s ready.numbers (history_in turns)) got.state
@@ -206,35 +204,30 @@ module _ {D : Type 0} (is_overdue : Bool) (old ready new : LiveState D) (got : I
     full = λ is more. sym (takes_same turns) ∙ ends.full is more;
   }
 
-  pub written_from : (history : D → List Change) → ready.content ≡ ready_content is_overdue old
-      → new.content ≡ with_records ready.content (bodies_after ready.state (history_in turns)) → (is_overdue ≡ false → KeepsToBounds new.file)
+  pub written_from : (history : D → List Change) → ready.content ≡ ready_content old
+      → new.content ≡ with_records ready.content (bodies_after ready.state (history_in turns)) → KeepsToBounds new.file
       → IsStored history new → IsGroupWritten history old new turns
-  written_from history first more bounds stored =
-      let says : goes_without turns ≡ is_overdue = without_is is_overdue turns some told in
-      record {
-        says = more ∙ ap (λ (k : Content). with_records k (bodies_after ready.state (history_in turns))) first
-            ∙ ap (λ (s : State). with_records (ready_content is_overdue old) (bodies_after s (history_in turns))) got.state
-            ∙ ap (λ (b : Bool). with_records (ready_content b old) (bodies_after old.state (history_in turns))) (sym says);
-        stored = stored;
-        few = λ made. subst (λ (f : FileNumbers). f.records ≤ most_records) stored.file (bounds (sym says ∙ made)).few;
-        short = λ made.
-            subst (λ (f : FileNumbers). f.bytes ≤ most_bytes f.snapshot_len + longest_record) stored.file (bounds (sym says ∙ made)).short;
-      }
+  written_from history first more bounds stored = record {
+    says = more ∙ ap (λ (k : Content). with_records k (bodies_after ready.state (history_in turns))) first
+        ∙ ap (λ (s : State). with_records (ready_content old) (bodies_after s (history_in turns))) got.state
+        ∙ ap (λ (k : Content). with_records k (bodies_after old.state (history_in turns))) (sym (group_content_of old turns some));
+    stored = stored;
+    few = λ _. subst (λ (f : FileNumbers). f.records ≤ most_records) stored.file bounds.few;
+    short = λ _. subst (λ (f : FileNumbers). f.bytes ≤ most_bytes f.snapshot_len + longest_record) stored.file bounds.short;
+  }
 
   pub none_called_from : (bodies_after ready.state (history_in turns) ≡ [] → MakesNoCall ready new)
-      → makes_checkpoint (goes_without turns) old.file ≡ false → bodies_after old.state (history_in turns) ≡ [] → MakesNoCall old new
+      → makes_checkpoint old.file turns ≡ false → bodies_after old.state (history_in turns) ≡ [] → MakesNoCall old new
   none_called_from none made no_records =
-      let says : goes_without turns ≡ is_overdue = without_is is_overdue turns some told in
-      let same : ready ≡ old = got.nothing_made (ap (λ (b : Bool). makes_checkpoint b old.file) (sym says) ∙ made) in
+      let same : ready ≡ old = got.nothing_made (sym (makes_of old.file turns some) ∙ made) in
       subst (λ (v : LiveState D). MakesNoCall v new) same
       (none (ap (λ (s : State). bodies_after s (history_in turns)) got.state ∙ no_records))
 
-pub files_written : {D : Type 0} (is_overdue : Bool) (old ready new : LiveState D) → IsReady is_overdue old ready → (turns : List Answer)
-    → AllByRecursion (λ (t : Answer). t.is_overdue ≡ is_overdue) turns → WritesAlone is_overdue old ready → StaysInFile ready new
-    → AllByRecursion (λ (t : Answer). WritesOneFile old new (Ok t)) turns
-files_written is_overdue old ready new got [] told first stays = tt
-files_written is_overdue old ready new got (t ∷ turns) told first stays =
-    (one_file_written old ready new is_overdue t.asked got t told.0 first stays, files_written is_overdue old ready new got turns told.1 first stays)
+pub files_written : {D : Type 0} (old ready new : LiveState D) → IsReady old ready → (turns : List Answer) → WritesAlone old ready
+    → StaysInFile ready new → AllByRecursion (λ (t : Answer). WritesOneFile old new (Ok t)) turns
+files_written old ready new got [] first stays = tt
+files_written old ready new got (t ∷ turns) first stays =
+    (one_file_written old ready new t.asked got t first stays, files_written old ready new got turns first stays)
 
 -- ---- no event
 
@@ -243,12 +236,10 @@ pub no_group : {D : Type 0} (old : LiveState D) (turns : List Answer) → turns 
 no_group old turns none = subst (λ (l : List Answer). IsGroup old l old) (sym none) (record {
   transcript = tt;
   before = tt;
-  overdue = tt;
-  alone = λ _. omega arith;
   state = refl;
   event = omega arith;
   numbers = refl;
-  file = (let none = overdue_makes_none old.file in rw none refl);
+  file = refl;
   none = λ _. refl;
 })
 
@@ -281,5 +272,5 @@ one_is_a_turn old new t made =
       refused_at = one.refused_at;
       numbered = one.numbered;
       numbers = made.numbers;
-      file = made.file ∙ one_recorded (profile_of_step asked) (ready_file t.is_overdue old.state.machine.saved old.file) asked.ops;
+      file = made.file ∙ one_recorded (profile_of_step asked) (ready_file old.state.machine.saved old.file) asked.ops;
     }

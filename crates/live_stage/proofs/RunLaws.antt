@@ -23,7 +23,7 @@ use Rattle.live_stage.specs.Found.{given_state, AllFindNow, AllFindSince}
 use Rattle.live_stage.specs.Transcript.{entry_of, history_of, replayed, numbers_after, IsTranscript, broken_by, broken_after}
 use Rattle.live_stage.specs.Transcript.{FileGoesOn, AreNumbersSpent, SpendsNumbers, HasRoomFor, bytes_after}
 use Rattle.live_stage.specs.Transcript.{AreReplies, StaysBroken, first_broken, IsWhole, FindsWhole, FindsPrefix}
-use Rattle.live_stage.proofs.TurnLaws.{IsOtherKept, other_same, other_join, one_file, join_pairs, undue, undue_makes_none, ready_same}
+use Rattle.live_stage.proofs.TurnLaws.{IsOtherKept, other_same, other_join, one_file, join_pairs, undue, ready_same}
 use Rattle.live_stage.proofs.TurnLaws.{recorded_one}
 
 abbrev Reply : Type 0
@@ -149,7 +149,7 @@ turn_in_file : {D : Type 0} (honest : D → Type 0) (history : D → List Change
     → IsTurnMade honest history old new event answer → is_due old.file ≡ false → IsOtherKept old.is_in_b old new
 turn_in_file honest history old new event answer m is =
     let one = m.one_file.other_file in
-    subst (λ in_b. IsOtherKept in_b old new) (let same : writes_to_b one.0 old ≡ old.is_in_b = (rw is refl) in same) one.2
+    subst (λ in_b. IsOtherKept in_b old new) (let same : writes_to_b old ≡ old.is_in_b = (rw is refl) in same) one
 
 -- how the numbers of the file go on by a turn
 pub file_goes_on : {D : Type 0} (old new : LiveState D) (event : Event) (answer : Reply) → IfOk answer (λ t. IsTurn old event t new)
@@ -470,7 +470,7 @@ answered_few honest history first old new events answers event t usable r m fine
     let now : Stepped = step old.state event t.refused_at in
     let asked : Stepped = stepped (replayed first.state whole) (entry_of event t) in
     let after : new.file ≡ recorded (profile_of_step now) old.file now.ops =
-    m.file ∙ ap (λ (f : FileNumbers). recorded (profile_of_step now) f now.ops) (ready_same t.is_overdue old.state.machine.saved old.file is) in
+    m.file ∙ ap (λ (f : FileNumbers). recorded (profile_of_step now) f now.ops) (ready_same old.state.machine.saved old.file is) in
     let one = recorded_one (profile_of_step now) old.file now.ops in
     let same : record_bytes (profile_of_step now) now.ops ≡ record_bytes (profile_of_step asked) asked.ops =
     ap (λ (s : State). let made : Stepped = step s event t.refused_at in record_bytes (profile_of_step made) made.ops) (r.state usable) in
@@ -486,14 +486,14 @@ answered_few honest history first old new events answers event t usable r m fine
 -- memory was refused behind a checkpoint, or for it
 refused_ready : {D : Type 0} (honest : D → Type 0) (history : D → List Change) (first old new : LiveState D) (events : List Event)
     (answers : List Reply) (event : Event)
-    → old.is_broken ≡ false → IsReady false old new → IsRunSoFar honest history first old events answers
+    → old.is_broken ≡ false → IsReady old new → IsRunSoFar honest history first old events answers
     → IsTurnMade honest history old new event (Err NoMemory)
     → IsRunSoFar honest history first new (events ++ event ∷ []) (answers ++ Err NoMemory ∷ [])
 refused_ready {D} honest history first old new events answers event usable ready r m =
     let longer = sym (history_more [] events answers event (Err NoMemory) r.counted) in
     let same : HasRoomFor first (events ++ event ∷ []) (answers ++ Err NoMemory ∷ []) → new ≡ old = λ room.
     let was = r.in_file (less_room first events answers event (Err NoMemory) r.counted room) in
-    ready.nothing_made (undue_makes_none false old.file (room_undue first old events answers event (Err NoMemory) r.counted usable room was)) in
+    ready.nothing_made (room_undue first old events answers event (Err NoMemory) r.counted usable room was) in
     record {
       counted = counts_on events answers event (Err NoMemory) r.counted;
       transcript = transcript_more first [] events answers event (Err NoMemory) r.transcript tt;

@@ -20,7 +20,7 @@ use Rattle.live_stage.specs.Group.{AreParted, TookEach, answer_bytes, answer_loo
 use Rattle.live_stage.specs.Group.{may_follow, takes_more}
 use Rattle.live_stage.specs.Numbers.{FileNumbers, greatest, is_due, longest_record, most_bytes, most_records, record_bytes}
 use Rattle.live_stage.specs.Staging.{AddsStep, AreStaged, AreTaken, IsAnswerOf, KeepsToBounds, file_begun, numbers_begun, numbers_staged}
-use Rattle.live_stage.proofs.GroupLaws.{MayFollow, asked_on, body_takes, body_few, due_stays, file_bytes, file_records, file_snapshot}
+use Rattle.live_stage.proofs.GroupLaws.{MayFollow, asked_on, body_takes, body_few, file_bytes, file_records, file_snapshot}
 use Rattle.live_stage.proofs.GroupLaws.{may_follow_says, none_staged, staged_on, takes_as, took_on}
 use Rattle.live_stage.proofs.TurnLaws.{KeepsTo, keeps_to}
 
@@ -46,8 +46,7 @@ pub record IsStagedTo (D : Type 0) (begin : Begin) (s : State) (events : List Ev
   pub given : bytes ≡ min (sum_by answer_bytes turns) greatest
   pub looked : looks ≡ min (sum_by answer_looks turns) greatest
   pub ended : has_ended ≡ list_any (λ a. a.ended) turns
-  pub alone : begin.is_overdue ≡ true → length turns ≤ 1
-  pub bounded : begin.is_overdue ≡ false → KeepsToBounds (file_with (file_begun begin) bodies)
+  pub bounded : KeepsToBounds (file_with (file_begun begin) bodies)
   pub counted : begin.event + length turns ≤ greatest
   pub numbered : begin.last_record + length bodies ≤ greatest
 
@@ -83,11 +82,11 @@ pub record BeginsWell (begin : Begin) : Type 0 where
   pub event : begin.event < greatest
   pub last : begin.last_record < greatest
   pub bytes : begin.bytes ≤ greatest
-  pub due : is_due (file_begun begin) ≡ begin.is_overdue
+  pub due : is_due (file_begun begin) ≡ false
 
 pub begins_with : (begin : Begin)
     → (begin.event < 2 ^ 64 - 1) × (begin.last_record < 2 ^ 64 - 1) × (begin.bytes < 2 ^ 64)
-    → is_due (file_begun begin) ≡ begin.is_overdue → BeginsWell begin
+    → is_due (file_begun begin) ≡ false → BeginsWell begin
 begins_with begin numbers due =
     let fits = numbers.2 in
     record { event = numbers.0; last = numbers.1; bytes = omega (arith, fits); due = due }
@@ -101,8 +100,7 @@ none_of_all D begin s events left well is = record {
   given = omega arith;
   looked = omega arith;
   ended = refl;
-  alone = λ overdue. omega arith;
-  bounded = λ not_overdue. undue_bounded (file_begun begin) (well.due ∙ not_overdue);
+  bounded = undue_bounded (file_begun begin) well.due;
   counted = (let fits = well.event in omega (arith, fits));
   numbered = (let fits = well.last in omega (arith, fits));
 }
@@ -116,15 +114,11 @@ none_yet D begin s left turns bodies well none no_bodies =
 
 -- what it takes that another event is taken
 pub record HasPlace (begin : Begin) (turns : List Answer) (bodies : List (List ℕ)) (has_ended : Bool) : Type 0 where
-  pub undue : begin.is_overdue ≡ false → is_due (file_with (file_begun begin) bodies) ≡ false
-  pub first : begin.is_overdue ≡ true → turns ≡ []
+  pub undue : is_due (file_with (file_begun begin) bodies) ≡ false
   pub event : begin.event + length turns < greatest
   pub last : begin.last_record + length bodies < greatest
   pub short : records_len bodies ≤ longest_record
   pub on : has_ended ≡ false
-
-both_ways : {A : Type 0} (b : Bool) → b ≡ true → b ≡ false → A
-both_ways b is is_not = absurd cc
 
 place : (D : Type 0) (begin : Begin) (s : State) (events : List Event) (turns : List Answer) (core : State) (bodies : List (List ℕ))
     (left : List Event) (bytes looks : ℕ) (has_ended : Bool) → BeginsWell begin
@@ -133,8 +127,7 @@ place : (D : Type 0) (begin : Begin) (s : State) (events : List Event) (turns : 
 place D begin s events [] core bodies left bytes looks has_ended well so_far takes =
     let none : bodies ≡ [] = so_far.staged.records in
     record {
-      undue = λ is. ap (λ (l : List (List ℕ)). is_due (file_with (file_begun begin) l)) none ∙ well.due ∙ is;
-      first = λ is. refl;
+      undue = ap (λ (l : List (List ℕ)). is_due (file_with (file_begun begin) l)) none ∙ well.due;
       event = (let fits = well.event in omega (arith, fits));
       last = (let fits = well.last in omega (arith, fits, ap (λ (l : List (List ℕ)). length l) none));
       short = omega (arith, ap records_len none);
@@ -147,9 +140,7 @@ place D begin s events (t ∷ turns) core bodies left bytes looks has_ended well
     let event = says.event in
     let last = says.last in
     record {
-      undue = λ is. says.undue;
-      first = λ is. both_ways (is_due (file_with (file_begun begin) bodies))
-          (due_stays (file_begun begin) bodies well.bytes (well.due ∙ is)) says.undue;
+      undue = says.undue;
       event = omega (arith, so_far.counted, event);
       last = omega (arith, so_far.numbered, last);
       short = says.short;
@@ -232,7 +223,7 @@ pub stage_on : (D : Type 0) (begin : Begin) (s : State) (events : List Event) (t
     → (says : Bool) → IsAsked begin turns bodies bytes looks has_ended says → says ≡ true
     → (less : List Event) (event : Event) (t : Answer) (after : State) (more : List (List ℕ)) (given looked : ℕ) → left ≡ less ++ event ∷ []
     → (let now = step core event t.refused_at in
-    IsAnswerOf now (numbers_staged begin (length turns) bodies) begin.is_overdue core event t)
+    IsAnswerOf now (numbers_staged begin (length turns) bodies) core event t)
     → (let now = step core event t.refused_at in AddsStep now core after bodies more) → given ≡ min (bytes + min (answer_bytes t) greatest) greatest
     → looked ≡ min (looks + answer_looks t) greatest
     → IsStagedTo D begin s events (turns ++ t ∷ []) after more less given looked t.ended
@@ -252,9 +243,8 @@ stage_on D begin s events turns core bodies left bytes looks has_ended well so_f
           ∙ ap (λ (n : ℕ). min n greatest) (omega (arith, sum_by-append answer_looks turns (t ∷ [])));
       ended = sym (list_any-append (λ (a : Answer). a.ended) turns (t ∷ [])
           ∙ ap (λ (b : Bool). b || (t.ended || false)) (sym so_far.ended ∙ free.on) ∙ or_none t.ended);
-      alone = λ overdue. omega (arith, length-append turns (t ∷ []), ap (λ (l : List Answer). length l) (free.first overdue));
-      bounded = λ in_time. subst (λ (l : List (List ℕ)). KeepsToBounds (file_with file l)) (sym added.put)
-          (one_bounded (profile_of_step made) file bodies made.ops well.bytes (free.undue in_time) added.short);
+      bounded = subst (λ (l : List (List ℕ)). KeepsToBounds (file_with file l)) (sym added.put)
+          (one_bounded (profile_of_step made) file bodies made.ops well.bytes free.undue added.short);
       counted = (let event = free.event in omega (arith, event, length-append turns (t ∷ [])));
       numbered = (let last = free.last in omega (
         arith,
@@ -276,7 +266,6 @@ ends_empty D begin s events turns core bodies left bytes looks has_ended so_far 
   took = so_far.took;
   refused = λ is. absurd cc;
   full = λ is some. absurd (some (ap (λ (l : List Event). reverse l) none));
-  alone = so_far.alone;
   bounded = so_far.bounded;
   counted = so_far.counted;
   numbered = so_far.numbered;
@@ -292,7 +281,6 @@ ends_full D begin s events turns core bodies left bytes looks has_ended so_far s
   took = so_far.took;
   refused = λ is. absurd cc;
   full = λ is rest. stops_so D begin s events turns core bodies left bytes looks has_ended so_far says asked fails;
-  alone = so_far.alone;
   bounded = so_far.bounded;
   counted = so_far.counted;
   numbered = so_far.numbered;
@@ -313,7 +301,6 @@ ends_refused D begin s events turns core bodies left bytes looks has_ended so_fa
   took = so_far.took;
   refused = λ is_so. takes_so D begin s events turns core bodies left bytes looks has_ended so_far says asked holds;
   full = λ is_not. absurd cc;
-  alone = so_far.alone;
   bounded = so_far.bounded;
   counted = so_far.counted;
   numbered = so_far.numbered;

@@ -33,7 +33,7 @@ use Rattle.live_stage.specs.declared.refusal.StartError.TheVariants.{NotEmpty, N
 use Rattle.live_stage.specs.Decoding.{GivesState}
 use Rattle.live_stage.specs.Numbers.{Numbers, numbers_found}
 use Rattle.live_stage.specs.declared.refusal.LiveError.TheVariants as turns
-use Rattle.live_stage.specs.Errors.{IsCause, start_error, checkpoint_error}
+use Rattle.live_stage.specs.Errors.{IsCause, start_error}
 use Rattle.live_stage.specs.Found.{after_record, records_reading, stored_reading, content_reading, state_of, found_state, FindsAsBefore}
 use Rattle.live_stage.specs.Found.{brought, is_read, taken_state, AllOpenNow, AllOpenSince, KeepsFoundState}
 use Rattle.live_stage.proofs.ProfileLaws.{taken_none}
@@ -267,48 +267,23 @@ numbers_are content base count is_base is_count small =
 
 -- ---- a checkpoint
 
-only_fault : (e : JournalError) → IsRefusalOfCheckpoint e → (e ≡ journal.TooLong → ⊥) → (e ≡ journal.NumbersSpent → ⊥)
-    → checkpoint_error e ≡ turns.Broken → e ≡ journal.DiskFault
-only_fault journal.NotEmpty one short next is = elim one [ ]
-only_fault journal.NoJournal one short next is = elim one [ ]
-only_fault (journal.Damaged offset) one short next is = elim one [ ]
-only_fault journal.DiskFault one short next is = refl
-only_fault journal.NoMemory one short next is = cc
-only_fault journal.TooLong one short next is = absurd (short refl)
-only_fault journal.NumbersSpent one short next is = absurd (next refl)
-only_fault journal.OldLayout one short next is = elim one [ ]
+only_fault : (e : JournalError) → IsRefusalOfCheckpoint e → (e ≡ journal.TooLong → ⊥) → (e ≡ journal.NumbersSpent → ⊥) → e ≡ journal.DiskFault
+only_fault journal.NotEmpty one short next = elim one [ ]
+only_fault journal.NoJournal one short next = elim one [ ]
+only_fault (journal.Damaged offset) one short next = elim one [ ]
+only_fault journal.DiskFault one short next = refl
+only_fault journal.NoMemory one short next = elim one [ ]
+only_fault journal.TooLong one short next = absurd (short refl)
+only_fault journal.NumbersSpent one short next = absurd (next refl)
+only_fault journal.OldLayout one short next = elim one [ ]
 
 -- a checkpoint that was not made for want of a disk
 pub checkpoint_fault : {D : Type 0} (old new : JournalState D) (e : JournalError) (snapshot : List ℕ) (s : SavedState)
     → snapshot ≡ saved_bytes s → IsSavedState s → old.is_spent ≡ false → (old.generation ≡ 2 ^ 64 - 1 → ⊥) → IsRefusalOfCheckpoint e
     → RefusesInOrder {T = Unit {0}} old new 4294967295 (length snapshot) old.generation (Err e)
-    → checkpoint_error e ≡ turns.Broken → e ≡ journal.DiskFault
-checkpoint_fault old new e snapshot s spelled good usable next one refuses is =
+    → e ≡ journal.DiskFault
+checkpoint_fault old new e snapshot s spelled good usable next one refuses =
     let short : length (saved_bytes s) ≤ longest_snapshot s.profile = snapshot_len s good in
     let fits : length snapshot ≤ 4294967295 = omega (arith, short, ap length spelled, within_length s.profile) in
     only_fault e one (λ t. let too = (refuses.too_long usable).0 (ap Err t) in omega (arith, too, fits))
-    (λ t. next ((refuses.numbers_spent usable fits).0 (ap Err t))) is
-
--- A checkpoint is never refused for numbers, and for want of memory only where the journal met no fault.
-pub not_spent : (e : JournalError) → checkpoint_error e ≡ turns.NumbersSpent → ⊥
-not_spent journal.NotEmpty is = cc
-not_spent journal.NoJournal is = cc
-not_spent (journal.Damaged offset) is = cc
-not_spent journal.DiskFault is = cc
-not_spent journal.NoMemory is = cc
-not_spent journal.TooLong is = cc
-not_spent journal.NumbersSpent is = cc
-not_spent journal.OldLayout is = cc
-
-pub for_memory : (e : JournalError) → checkpoint_error e ≡ turns.NoMemory → e ≡ journal.DiskFault → ⊥
-for_memory journal.NotEmpty is fault = cc
-for_memory journal.NoJournal is fault = cc
-for_memory (journal.Damaged offset) is fault = cc
-for_memory journal.DiskFault is fault = cc
-for_memory journal.NoMemory is fault = cc
-for_memory journal.TooLong is fault = cc
-for_memory journal.NumbersSpent is fault = cc
-for_memory journal.OldLayout is fault = cc
-
-pub fault_is : {T : Type 0} (e f : JournalError) → (let r : Result T JournalError = Err e in r ≡ Err f) → e ≡ f
-fault_is e f is = cc
+    (λ t. next ((refuses.numbers_spent usable fits).0 (ap Err t)))

@@ -3,7 +3,7 @@ use Rattle.std.proofs.Common.{◌≡◌, ◌⊎◌, inl, inr, ℕ, ◌+◌, ◌<
 use Rattle.std.proofs.Common.{Option, Some}
 use Rattle.std.proofs.Common.{Result, Ok, Err, refl, sym, ap, subst, ◌∙◌, arith}
 use Rattle.std.specs.Prelude.{MatchBool}
-use Rattle.std.proofs.lemmas.Bool.{lt-leb, le-ltb, leb-false, ltb-false, or_from, or_parts, and_left, and_right}
+use Rattle.std.proofs.lemmas.Bool.{lt-leb, le-ltb, leb-false, ltb-false, or_from, or_parts}
 use Rattle.std.proofs.lemmas.List.{nil_from_length}
 use Rattle.disk_model.specs.History.{Change}
 use Rattle.disk_model.specs.Moments.{LeftSince, Continues}
@@ -24,7 +24,7 @@ use Rattle.live_stage.specs.declared.refusal.LiveError.{LiveError}
 use Rattle.live_stage.specs.Answer.{Answer, IsBeforeOrAfter, IsHandled, IsTurn, IsTurnOf, HasNoOps, profile_of_step}
 use Rattle.live_stage.specs.Found.{AllFindNow, AllFindSince}
 use Rattle.live_stage.specs.LiveState.{LiveState}
-use Rattle.live_stage.specs.Numbers.{Numbers, FileNumbers, is_due, makes_checkpoint, most_records, most_bytes, longest_record, next_file}
+use Rattle.live_stage.specs.Numbers.{Numbers, FileNumbers, is_due, most_records, most_bytes, longest_record, next_file}
 use Rattle.live_stage.specs.Numbers.{first_file, first_numbers, greatest, ready_file, record_bytes, recorded, file_found, snapshot_size}
 use Rattle.live_stage.specs.Turns.{IsReady, IsStill, IsStored, IsWritten, StaysInFile, MakesNoCall, WritesAlone, WritesOneFile}
 use Rattle.live_stage.specs.Turns.{ready_content, recorded_content, writes_to_b}
@@ -50,15 +50,8 @@ keeps_to file is =
       short = ltb-false (most_bytes file.snapshot_len) file.bytes both.1;
     }
 
--- where none is due, and where it is overdue, none is made
-pub undue_makes_none : (is_overdue : Bool) (file : FileNumbers) → is_due file ≡ false → makes_checkpoint is_overdue file ≡ false
-undue_makes_none is_overdue file is = and_left _ _ is
-
-pub overdue_makes_none : (file : FileNumbers) → makes_checkpoint true file ≡ false
-overdue_makes_none file = and_right _ _ refl
-
-pub ready_same : (is_overdue : Bool) (s : SavedState) (file : FileNumbers) → is_due file ≡ false → ready_file is_overdue s file ≡ file
-ready_same is_overdue s file is = rw is refl
+pub ready_same : (s : SavedState) (file : FileNumbers) → is_due file ≡ false → ready_file s file ≡ file
+ready_same s file is = rw is refl
 
 -- ---- records
 
@@ -156,9 +149,9 @@ pub record IsBounded (file : FileNumbers) : Type 0 where
   pub short : file.bytes ≤ most_bytes file.snapshot_len + longest_record
 
 pub bounded : (b : Bool) (p : Profile) (s : SavedState) (file after : FileNumbers) (ops : List Op) → is_due file ≡ b
-    → after ≡ recorded p (ready_file false s file) ops → record_bytes p ops ≤ longest_record → IsBounded after
+    → after ≡ recorded p (ready_file s file) ops → record_bytes p ops ≤ longest_record → IsBounded after
 bounded true p s file after ops is made small =
-    let ready : ready_file false s file ≡ next_file s file = rw is refl in
+    let ready : ready_file s file ≡ next_file s file = rw is refl in
     let is_after : after ≡ recorded p (next_file s file) ops = made ∙ ap (λ (f : FileNumbers). recorded p f ops) ready in
     let one = recorded_one p (next_file s file) ops in
     subst IsBounded (sym is_after) (record {
@@ -166,7 +159,7 @@ bounded true p s file after ops is made small =
       short = omega (arith, one.short, small);
     })
 bounded false p s file after ops is made small =
-    let is_after : after ≡ recorded p file ops = made ∙ ap (λ (f : FileNumbers). recorded p f ops) (ready_same false s file is) in
+    let is_after : after ≡ recorded p file ops = made ∙ ap (λ (f : FileNumbers). recorded p f ops) (ready_same s file is) in
     let one = recorded_one p file ops in
     let kept = keeps_to file is in
     subst IsBounded (sym is_after) (record {
@@ -297,101 +290,82 @@ error_is e f is = cc
 -- ---- a turn, of its two phases
 
 -- what the files say behind an answer
-written_by : {D : Type 0} (history : D → List Change) (is_overdue said : Bool) (old ready new : LiveState D) (p : Profile) (ops : List Op)
-    → new.state.machine.saved.profile ≡ p
-    → said ≡ is_overdue → ready.content ≡ ready_content is_overdue old → new.content ≡ recorded_content p ready.content ops
-    → new.file ≡ recorded p (ready_file said old.state.machine.saved old.file) ops → record_bytes p ops ≤ longest_record
-    → IsStored history new → IsWritten history said old new ops
-written_by history is_overdue said old ready new p ops own same first more file small stored =
-    let bounds : said ≡ false → IsBounded new.file = λ made.
-    bounded (is_due old.file) p old.state.machine.saved old.file new.file ops refl
-    (file ∙ ap (λ (b : Bool). recorded p (ready_file b old.state.machine.saved old.file) ops) made) small in
+written_by : {D : Type 0} (history : D → List Change) (old ready new : LiveState D) (p : Profile) (ops : List Op)
+    → new.state.machine.saved.profile ≡ p → ready.content ≡ ready_content old → new.content ≡ recorded_content p ready.content ops
+    → new.file ≡ recorded p (ready_file old.state.machine.saved old.file) ops → record_bytes p ops ≤ longest_record
+    → IsStored history new → IsWritten history old new ops
+written_by history old ready new p ops own first more file small stored =
+    let bounds : IsBounded new.file = bounded (is_due old.file) p old.state.machine.saved old.file new.file ops refl file small in
     record {
       says = more ∙ ap (λ (k : Content). recorded_content p k ops) first
-          ∙ ap (λ (b : Bool). recorded_content p (ready_content b old) ops) (sym same)
-          ∙ ap (λ (q : Profile). recorded_content q (ready_content said old) ops) (sym own);
+          ∙ ap (λ (q : Profile). recorded_content q (ready_content old) ops) (sym own);
       stored = stored;
-      few = λ made. subst (λ (f : FileNumbers). f.records ≤ most_records) stored.file (bounds made).few;
-      short = λ made.
-          subst (λ (f : FileNumbers). f.bytes ≤ most_bytes f.snapshot_len + longest_record) stored.file (bounds made).short;
+      few = subst (λ (f : FileNumbers). f.records ≤ most_records) stored.file bounds.few;
+      short = subst (λ (f : FileNumbers). f.bytes ≤ most_bytes f.snapshot_len + longest_record) stored.file bounds.short;
     }
 
-module _ {D : Type 0} (old ready new : LiveState D) (is_overdue : Bool) (event : Event) (got : IsReady is_overdue old ready) where
-  pub turn_made : (t : Answer) → t.is_overdue ≡ is_overdue → IsHandled ready event t new → IsTurn old event t new
-  turn_made t said made =
+module _ {D : Type 0} (old ready new : LiveState D) (event : Event) (got : IsReady old ready) where
+  pub turn_made : (t : Answer) → IsHandled ready event t new → IsTurn old event t new
+  turn_made t made =
       let asked : State → Stepped = λ (s : State). step s event t.refused_at in
-      let file : ready.file ≡ ready_file t.is_overdue old.state.machine.saved old.file =
-      got.file ∙ ap (λ (b : Bool). ready_file b old.state.machine.saved old.file) (sym said) in
-      subst (λ (s : State). IsTurnOf (asked s) old.numbers (ready_file t.is_overdue old.state.machine.saved old.file) t new) got.state
-      (subst (λ (n : Numbers). IsTurnOf (asked ready.state) n (ready_file t.is_overdue old.state.machine.saved old.file) t new) got.numbers
-      (subst (λ (f : FileNumbers). IsTurnOf (asked ready.state) ready.numbers f t new) file made))
+      let file : FileNumbers = ready_file old.state.machine.saved old.file in
+      subst (λ (s : State). IsTurnOf (asked s) old.numbers file t new) got.state
+      (subst (λ (n : Numbers). IsTurnOf (asked ready.state) n file t new) got.numbers
+      (subst (λ (f : FileNumbers). IsTurnOf (asked ready.state) ready.numbers f t new) got.file made))
 
-  pub written : (history : D → List Change) (t : Answer) → t.is_overdue ≡ is_overdue → IsHandled ready event t new
-      → ready.content ≡ ready_content is_overdue old
+  pub written : (history : D → List Change) (t : Answer) → IsHandled ready event t new → ready.content ≡ ready_content old
       → (let now : Stepped = step ready.state event t.refused_at in new.content ≡ recorded_content (profile_of_step now) ready.content now.ops)
       → (let now : Stepped = step ready.state event t.refused_at in record_bytes (profile_of_step now) now.ops ≤ longest_record)
-      → IsStored history new → (let now : Stepped = step old.state event t.refused_at in IsWritten history t.is_overdue old new now.ops)
-  written history t said made first more small stored =
+      → IsStored history new → (let now : Stepped = step old.state event t.refused_at in IsWritten history old new now.ops)
+  written history t made first more small stored =
       let asked : State → Stepped = λ (s : State). step s event t.refused_at in
       let same : asked ready.state ≡ asked old.state = ap asked got.state in
-      let turn = turn_made t said made in
-      written_by history is_overdue t.is_overdue old ready new (profile_of_step (asked old.state))
+      let turn = turn_made t made in
+      written_by history old ready new (profile_of_step (asked old.state))
       (let now : Stepped = asked old.state in now.ops)
-      (ap (λ (s : State). s.machine.saved.profile) turn.state) said first
+      (ap (λ (s : State). s.machine.saved.profile) turn.state) first
       (more ∙ ap (λ (st : Stepped). recorded_content (profile_of_step st) ready.content st.ops) same) turn.file
       (subst (λ (st : Stepped). record_bytes (profile_of_step st) st.ops ≤ longest_record) same small) stored
 
-  pub none_called : (t : Answer) → t.is_overdue ≡ is_overdue → (HasNoOps ready event t → MakesNoCall ready new)
-      → makes_checkpoint t.is_overdue old.file ≡ false → HasNoOps old event t → MakesNoCall old new
-  none_called t said none made no_ops =
-      let same : ready ≡ old = got.nothing_made (ap (λ (b : Bool). makes_checkpoint b old.file) (sym said) ∙ made) in
+  pub none_called : (t : Answer) → (HasNoOps ready event t → MakesNoCall ready new) → is_due old.file ≡ false → HasNoOps old event t
+      → MakesNoCall old new
+  none_called t none undue no_ops =
+      let same : ready ≡ old = got.nothing_made undue in
       subst (λ (v : LiveState D). MakesNoCall v new) same (none (subst (λ (v : LiveState D). HasNoOps v event t) (sym same) no_ops))
 
-  pub one_file_written : (t : Answer) → t.is_overdue ≡ is_overdue → WritesAlone is_overdue old ready → StaysInFile ready new
-      → WritesOneFile old new (Ok t)
-  one_file_written t said first stays = record {
-    in_use = stays.same_file ∙ got.in_b ∙ ap (λ (b : Bool). writes_to_b b old) (sym said);
-    same_file = λ is. stays.same_file ∙ ap (λ (v : LiveState D). v.is_in_b) (got.nothing_made (undue_makes_none is_overdue old.file is));
-    other_file = (
-      is_overdue,
-      said,
-      other_join (writes_to_b is_overdue old) old ready new first
-          (subst (λ (in_b : Bool). IsOtherKept in_b ready new) got.in_b stays.other_file),
-    );
-    was_due = λ over. got.was_due (sym said ∙ over);
+  both_alone : WritesAlone old ready → StaysInFile ready new → WritesAlone old new
+  both_alone first stays = other_join (writes_to_b old) old ready new first
+      (subst (λ (in_b : Bool). IsOtherKept in_b ready new) got.in_b stays.other_file)
+
+  pub one_file_written : (t : Answer) → WritesAlone old ready → StaysInFile ready new → WritesOneFile old new (Ok t)
+  one_file_written t first stays = record {
+    in_use = stays.same_file ∙ got.in_b;
+    same_file = λ is. stays.same_file ∙ ap (λ (v : LiveState D). v.is_in_b) (got.nothing_made is);
+    other_file = both_alone first stays;
   }
 
-  pub one_file_refused : (e : LiveError) → WritesAlone is_overdue old ready → StaysInFile ready new → WritesOneFile old new (Err e)
+  pub one_file_refused : (e : LiveError) → WritesAlone old ready → StaysInFile ready new → WritesOneFile old new (Err e)
   one_file_refused e first stays = record {
     in_use = tt;
-    same_file = λ is. stays.same_file ∙ ap (λ (v : LiveState D). v.is_in_b) (got.nothing_made (undue_makes_none is_overdue old.file is));
-    other_file = (
-      is_overdue,
-      tt,
-      other_join (writes_to_b is_overdue old) old ready new first
-          (subst (λ (in_b : Bool). IsOtherKept in_b ready new) got.in_b stays.other_file),
-    );
-    was_due = tt;
+    same_file = λ is. stays.same_file ∙ ap (λ (v : LiveState D). v.is_in_b) (got.nothing_made is);
+    other_file = both_alone first stays;
   }
 
 pub one_file_still : {D : Type 0} (v : LiveState D) (e : LiveError) → WritesOneFile v v (Err e)
 one_file_still v e = record {
   in_use = tt;
   same_file = λ is. refl;
-  other_file = (false, tt, other_same (writes_to_b false v) v);
-  was_due = tt;
+  other_file = other_same (writes_to_b v) v;
 }
 
 -- the checkpoint that was due met a fault
-pub one_file_failed : {D : Type 0} (old new : LiveState D) (e : LiveError) → (is_due old.file ≡ false → ⊥) → WritesAlone false old new
+pub one_file_failed : {D : Type 0} (old new : LiveState D) (e : LiveError) → (is_due old.file ≡ false → ⊥) → WritesAlone old new
     → WritesOneFile old new (Err e)
 one_file_failed old new e due first = record {
   in_use = tt;
   same_file = λ is. absurd (due is);
-  other_file = (false, tt, first);
-  was_due = tt;
+  other_file = first;
 }
 
-pub still_on : {D : Type 0} (is_overdue : Bool) (old ready new : LiveState D) → IsReady is_overdue old ready → new ≡ ready → IsStill old new
-still_on true old ready new got same = inl (same ∙ got.nothing_made (overdue_makes_none old.file))
-still_on {D} false old ready new got same = inr (subst (λ (v : LiveState D). IsReady false old v) (sym same) got)
+pub still_on : {D : Type 0} (old ready new : LiveState D) → IsReady old ready → new ≡ ready → IsStill old new
+still_on {D} old ready new got same = inr (subst (λ (v : LiveState D). IsReady old v) (sym same) got)

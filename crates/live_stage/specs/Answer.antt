@@ -11,8 +11,7 @@ use Rattle.live_stage.specs.declared.turn.Receipt.{Receipt}
 use Rattle.live_stage.specs.LiveState.{LiveState}
 use Rattle.live_stage.specs.Numbers.{Numbers, FileNumbers, next_numbers, record_number, ready_file, recorded}
 
--- What is given out for an event, its number, its receipt, whether the checkpoint that was due before it found no memory, and, for
--- contracts alone, the event and the state before it.
+-- What is given out for an event, its number, its receipt, and, for contracts alone, the event and the state before it.
 pub record Answer : Type 0 where
   pub outputs : List Output
   pub closes : List ℕ
@@ -20,7 +19,6 @@ pub record Answer : Type 0 where
   pub refused_at : Option ℕ
   pub event : ℕ
   pub receipt : Receipt
-  pub is_overdue : Bool
   pub asked : Event
   pub before : State
 
@@ -57,7 +55,7 @@ IsHandled before event t after = IsTurnOf (step before.state event t.refused_at)
 -- a turn is the step of its event, and its record goes to the file that is ready for it
 abbrev pub IsTurn : {D : Type 0} → LiveState D → Event → Answer → LiveState D → Type 0
 IsTurn before event t after = IsTurnOf (step before.state event t.refused_at) before.numbers
-    (ready_file t.is_overdue before.state.machine.saved before.file) t after
+    (ready_file before.state.machine.saved before.file) t after
 
 -- a restart finds the saved state from before an event, or from after it, where memory was refused at this place
 abbrev pub IsBeforeOrAfter : State → Event → Option ℕ → Option SavedState → Type 0

@@ -46,12 +46,12 @@ IsRefusalOfOpen NumbersSpent = Unit {0}
 IsRefusalOfOpen Broken = Unit {0}
 
 -- What bringing a journal to the layout that is written is refused with: its layout is another one and its generation has no next
--- one, memory is wanting, or a disk fails.
+-- one, or a disk fails.
 abbrev pub IsRefusalOfMigration : {D : Type 0} → Profile → JournalState D → StartError → Type 0
 IsRefusalOfMigration profile journal NotEmpty = ⊥
 IsRefusalOfMigration profile journal NoJournal = ⊥
 IsRefusalOfMigration profile journal (Damaged offset) = ⊥
-IsRefusalOfMigration profile journal NoMemory = Unit {0}
+IsRefusalOfMigration profile journal NoMemory = ⊥
 IsRefusalOfMigration profile journal NumbersSpent = (journal.layout ≢ written_layout profile) × (journal.generation ≡ greatest)
 IsRefusalOfMigration profile journal Broken = Unit {0}
 
@@ -100,20 +100,3 @@ start_error journal.NoMemory = NoMemory
 start_error journal.TooLong = Broken
 start_error journal.NumbersSpent = Broken
 start_error journal.OldLayout = Broken
-
--- why a journal is not brought to the layout that is written, whose checkpoint was refused
-abbrev pub migration_error : LiveError → StartError
-migration_error turns.Broken = Broken
-migration_error turns.NoMemory = NoMemory
-migration_error turns.NumbersSpent = NumbersSpent
-
--- why a checkpoint is refused that the journal refused; but for these two, none comes
-abbrev pub checkpoint_error : JournalError → LiveError
-checkpoint_error journal.NotEmpty = turns.Broken
-checkpoint_error journal.NoJournal = turns.Broken
-checkpoint_error (journal.Damaged offset) = turns.Broken
-checkpoint_error journal.DiskFault = turns.Broken
-checkpoint_error journal.NoMemory = turns.NoMemory
-checkpoint_error journal.TooLong = turns.Broken
-checkpoint_error journal.NumbersSpent = turns.Broken
-checkpoint_error journal.OldLayout = turns.Broken

@@ -1,7 +1,7 @@
 -- Events that are handled as a group, whose records reach the disk together.
 use Rattle.std.specs.Prelude.{◌≡◌, ◌≢◌, ◌⊎◌, ◌≤◌, ℕ, ◌+◌, ◌==◌, List, [], ◌∷◌, ◌++◌, length, map, min, sum_by}
 use Rattle.std.specs.Prelude.{Bool, true, false, not, ◌&&◌, ◌||◌}
-use Rattle.std.specs.Prelude.{Option, Some, Result, Ok, Err, nat_le}
+use Rattle.std.specs.Prelude.{Option, Some, Result, Ok, Err, nat_le, if◌then◌else◌}
 use Rattle.std.specs.List.{AllByRecursion, list_any}
 use Rattle.disk_model.specs.History.{Change}
 use Rattle.play_journal.specs.Content.{Content, with_records}
@@ -20,9 +20,9 @@ use Rattle.live_stage.specs.declared.refusal.LiveError.{LiveError}
 use Rattle.live_stage.specs.declared.refusal.LiveError.TheVariants.{Broken}
 use Rattle.live_stage.specs.Answer.{Answer, profile_of_step}
 use Rattle.live_stage.specs.LiveState.{LiveState}
-use Rattle.live_stage.specs.Numbers.{Numbers, FileNumbers, greatest, is_due, longest_record, most_bytes, most_records, ready_file}
+use Rattle.live_stage.specs.Numbers.{Numbers, FileNumbers, greatest, is_due, longest_record, most_bytes, most_records, next_file}
 use Rattle.live_stage.specs.Transcript.{entry_of, history_of, replayed, numbers_after, IsTranscript}
-use Rattle.live_stage.specs.Turns.{IsStored, ready_content}
+use Rattle.live_stage.specs.Turns.{IsStored, as_snapshot}
 
 -- ---- answers
 
@@ -39,10 +39,11 @@ abbrev pub BearTheirStates : State → List Entry → List Answer → Type 0
 BearTheirStates s earlier [] = Unit {0}
 BearTheirStates s earlier (t ∷ turns) = (t.before ≡ replayed s earlier) × BearTheirStates s (entry_of t.asked t ∷ earlier) turns
 
--- Whether no checkpoint was made before a group, even where one was due: its first answer says that it is overdue, or there is none.
-abbrev pub goes_without : List Answer → Bool
-goes_without [] = true
-goes_without (t ∷ turns) = t.is_overdue
+-- Whether a checkpoint is made before the events that these answers are of, where the file has these numbers: one is due, and there are
+-- answers.
+abbrev pub makes_checkpoint : FileNumbers → List Answer → Bool
+makes_checkpoint file [] = false
+makes_checkpoint file (t ∷ turns) = is_due file
 
 -- ---- records
 
@@ -115,7 +116,11 @@ TookEach takes before (t ∷ turns) = (takes before ≡ true) × TookEach takes 
 
 -- the file to which the records of these answers went
 abbrev pub group_file : {D : Type 0} → LiveState D → List Answer → FileNumbers
-group_file old turns = ready_file (goes_without turns) old.state.machine.saved old.file
+group_file old turns = if makes_checkpoint old.file turns then next_file old.state.machine.saved old.file else old.file
+
+-- what the files say when the records of these answers are written
+abbrev pub group_content : {D : Type 0} → LiveState D → List Answer → Content
+group_content old turns = if makes_checkpoint old.file turns then as_snapshot old else old.content
 
 -- whether a group of this stage takes another event behind these answers
 abbrev pub group_takes : {D : Type 0} → LiveState D → List Answer → List Answer → Bool
@@ -144,13 +149,10 @@ pub record RefusesFront {D : Type 0} (old : LiveState D) (events : List Event) (
 -- ---- what a group is
 
 -- The answers are those of the steps of one history, in order, each of its own event and with the state before it. Behind them the stage
--- has counted these events and has the state after them, and their records stand in the file that was ready. Where the checkpoint is
--- overdue, there is one answer.
+-- has counted these events and has the state after them, and their records stand in the file that was ready.
 pub record IsGroup {D : Type 0} (old : LiveState D) (turns : List Answer) (new : LiveState D) : Type 0 where
   pub transcript : IsTranscript old [] (asked_by turns) (map Ok turns)
   pub before : BearTheirStates old.state [] turns
-  pub overdue : AllByRecursion (λ t. t.is_overdue ≡ goes_without turns) turns
-  pub alone : goes_without turns ≡ true → length turns ≤ 1
   pub state : new.state ≡ replayed old.state (history_in turns)
   pub event : new.numbers.event ≡ old.numbers.event + length turns
   pub numbers : new.numbers ≡ numbers_after old.state old.numbers (history_in turns)
@@ -172,13 +174,13 @@ events_in (entry ∷ earlier) = events_in earlier ++ entry.event ∷ []
 abbrev pub IsOfFront : List Entry → List Event → List Event → Type 0
 IsOfFront whole events rest = (more : List Event) × (events ≡ events_in whole ++ more ++ rest)
 
--- From its `Ok` on whatever a crash leaves says the records of all its events, behind the snapshot that was due, if one was. Unless that is
--- overdue, there are at most so many records, and they take no more bytes than the bound and one record.
+-- From its `Ok` on whatever a crash leaves says the records of all its events, behind the snapshot that was due, if one was. Where it has
+-- answers, there are at most so many records, and they take no more bytes than the bound and one record.
 pub record IsGroupWritten {D : Type 0} (history : D → List Change) (old new : LiveState D) (turns : List Answer) : Type 0 where
-  pub says : new.content ≡ with_records (ready_content (goes_without turns) old) (bodies_after old.state (history_in turns))
+  pub says : new.content ≡ with_records (group_content old turns) (bodies_after old.state (history_in turns))
   pub stored : IsStored history new
-  pub few : goes_without turns ≡ false → length new.content.records ≤ most_records
-  pub short : goes_without turns ≡ false
+  pub few : turns ≢ [] → length new.content.records ≤ most_records
+  pub short : turns ≢ []
       → records_len new.content.records ≤ most_bytes (length new.content.snapshot) + longest_record
 
 -- what a refused group is refused with, as a turn would be

@@ -1,5 +1,5 @@
 -- The numbers by which a stage counts, and which can be spent.
-use Rattle.std.specs.Prelude.{◌≡◌, ◌⊎◌, ℕ, ◌+◌, ◌-◌, ◌^◌, min, max, Bool, true, not, ◌&&◌, ◌||◌, List, [], ◌∷◌, length}
+use Rattle.std.specs.Prelude.{◌≡◌, ◌⊎◌, ℕ, ◌+◌, ◌-◌, ◌^◌, min, max, Bool, true, ◌||◌, List, [], ◌∷◌, length}
 use Rattle.std.specs.Prelude.{Option, Some, None, nat_le, nat_lt, if◌then◌else◌}
 use Rattle.profile.specs.declared.profile.Profile.{Profile}
 use Rattle.state_codec.specs.declared.op.Op.{Op}
@@ -7,6 +7,7 @@ use Rattle.state_codec.specs.SavedState.{SavedState}
 use Rattle.state_codec.specs.Spelling.{body_bytes, saved_bytes}
 use Rattle.play_journal.specs.Content.{Content, last_record}
 use Rattle.play_journal.specs.File.{longest_body, records_len}
+use Rattle.play_journal.specs.Pieces.{most_pieces}
 
 -- How many events there were since the stage was made or opened, and the number of the last record in file and snapshot.
 pub record Numbers : Type 0 where
@@ -32,6 +33,10 @@ first_numbers = record { event = 0; last_record = 0 }
 -- the length of a state's snapshot
 abbrev pub snapshot_size : SavedState → ℕ
 snapshot_size s = length (saved_bytes s)
+
+-- how many calls of its disk a checkpoint of this state makes at most: eight, and one for each piece of its snapshot
+abbrev pub checkpoint_calls : SavedState → ℕ
+checkpoint_calls s = 8 + most_pieces (snapshot_size s)
 
 abbrev pub first_file : SavedState → FileNumbers
 first_file s = record { generation = 1; snapshot_len = snapshot_size s; records = 0; bytes = 0 }
@@ -71,21 +76,17 @@ most_bytes snapshot_len = max 4194304 snapshot_len
 abbrev pub longest_record : ℕ
 longest_record = 5 + longest_body
 
--- whether the next turn makes a checkpoint first, if it finds memory
+-- whether the next turn makes a checkpoint first
 abbrev pub is_due : FileNumbers → Bool
 is_due file = nat_le most_records file.records || nat_lt (most_bytes file.snapshot_len) file.bytes
-
--- whether a turn makes a checkpoint first: one is due, and isn't overdue for want of memory
-abbrev pub makes_checkpoint : Bool → FileNumbers → Bool
-makes_checkpoint is_overdue file = is_due file && not is_overdue
 
 -- those of the file that a checkpoint of this state lays down
 abbrev pub next_file : SavedState → FileNumbers → FileNumbers
 next_file s file = record { generation = file.generation + 1; snapshot_len = snapshot_size s; records = 0; bytes = 0 }
 
 -- those of the file to which a turn's record goes, before which the state is this
-abbrev pub ready_file : Bool → SavedState → FileNumbers → FileNumbers
-ready_file is_overdue s file = if makes_checkpoint is_overdue file then next_file s file else file
+abbrev pub ready_file : SavedState → FileNumbers → FileNumbers
+ready_file s file = if is_due file then next_file s file else file
 
 -- how many bytes the record of these ops takes, if there are any: its gate, its length and its body
 abbrev pub record_bytes : Profile → List Op → ℕ

@@ -35,15 +35,14 @@ abbrev pub numbers_begun : Begin → Numbers
 numbers_begun begin = record { event = begin.event; last_record = begin.last_record }
 
 -- what a group of a stage begins with
-abbrev pub begin_of : {D : Type 0} → LiveState D → Bool → Begin
-begin_of old is_overdue =
+abbrev pub begin_of : {D : Type 0} → LiveState D → Begin
+begin_of old =
     record {
       event = old.numbers.event;
       last_record = old.numbers.last_record;
       snapshot_len = old.file.snapshot_len;
       records = old.file.records;
       bytes = old.file.bytes;
-      is_overdue = is_overdue;
     }
 
 -- the numbers behind so many events with these records
@@ -51,10 +50,9 @@ abbrev pub numbers_staged : Begin → ℕ → List (List ℕ) → Numbers
 numbers_staged begin many bodies = record { event = begin.event + many; last_record = begin.last_record + length bodies }
 
 -- the answer to an event, by its step
-pub record IsAnswerOf (st : Stepped) (before : Numbers) (is_overdue : Bool) (s : State) (event : Event) (t : Answer) : Type 0 where
+pub record IsAnswerOf (st : Stepped) (before : Numbers) (s : State) (event : Event) (t : Answer) : Type 0 where
   pub asked : t.asked ≡ event
   pub state : t.before ≡ s
-  pub overdue : t.is_overdue ≡ is_overdue
   pub outputs : t.outputs ≡ st.outputs
   pub closes : t.closes ≡ st.closes
   pub ended : t.ended ≡ st.ended
@@ -78,7 +76,6 @@ pub record AreStaged (D : Type 0) (begin : Begin) (s : State) (turns : List Answ
   pub transcript : (old : LiveState D) → old.state ≡ s → old.numbers ≡ numbers_begun begin
       → IsTranscript old [] (asked_by turns) (map Ok turns)
   pub before : BearTheirStates s [] turns
-  pub overdue : AllByRecursion (λ t. t.is_overdue ≡ begin.is_overdue) turns
   pub state : after ≡ replayed s (history_in turns)
   pub records : bodies ≡ bodies_after s (history_in turns)
   pub profile : after.machine.saved.profile ≡ s.machine.saved.profile
@@ -97,8 +94,7 @@ pub record AreTaken (begin : Begin) (s : State) (events : List Event) (turns : L
   pub took : TookEach (takes_more s (numbers_begun begin) (file_begun begin)) [] turns
   pub refused : is_refused ≡ true → takes_more s (numbers_begun begin) (file_begun begin) turns ≡ true
   pub full : is_refused ≡ false → rest ≢ [] → takes_more s (numbers_begun begin) (file_begun begin) turns ≡ false
-  pub alone : begin.is_overdue ≡ true → length turns ≤ 1
-  pub bounded : begin.is_overdue ≡ false → KeepsToBounds (file_with (file_begun begin) bodies)
+  pub bounded : KeepsToBounds (file_with (file_begun begin) bodies)
   pub counted : begin.event + length turns ≤ greatest
   pub numbered : begin.last_record + length bodies ≤ greatest
 
@@ -118,14 +114,13 @@ pub record HasRecordedAll {D : Type 0} (old new : JournalState D) (bodies : List
 
 -- ---- a group
 
--- A group was handled before which no checkpoint was due, or it was overdue.
-pub record IsGroupHandled {D : Type 0} (is_overdue : Bool) (old : LiveState D) (events : List Event) (turns : List Answer)
+-- A group was handled before which no checkpoint was due.
+pub record IsGroupHandled {D : Type 0} (old : LiveState D) (events : List Event) (turns : List Answer)
     (is_refused : Bool) (rest : List Event) (new : LiveState D) : Type 0 where
   pub group : IsGroup old turns new
   pub ends : EndsThere old events turns is_refused rest
-  pub overdue : AllByRecursion (λ t. t.is_overdue ≡ is_overdue) turns
   pub some : turns ≢ []
-  pub bounded : is_overdue ≡ false → KeepsToBounds new.file
+  pub bounded : KeepsToBounds new.file
 
 -- While a group is handled a restart finds the state from before it or the one behind its last event, with one history throughout, which is
 -- that of the answers. Then it finds the state of a stage that isn't broken, and the files say the records of all events.

@@ -84,9 +84,9 @@ broken_after was (answer ∷ answers) = broken_after (broken_by was answer) answ
 -- that was due may stand or not; after a disk fault nothing is said.
 abbrev pub FileGoesOn : State → Event → FileNumbers → Result Answer LiveError → FileNumbers → Type 0
 FileGoesOn s event file (Ok t) next =
-    let now = step s event t.refused_at in next ≡ recorded (profile_of_step now) (ready_file t.is_overdue s.machine.saved file) now.ops
+    let now = step s event t.refused_at in next ≡ recorded (profile_of_step now) (ready_file s.machine.saved file) now.ops
 FileGoesOn s event file (Err Broken) next = Unit {0}
-FileGoesOn s event file (Err NoMemory) next = (next ≡ file) ⊎ (next ≡ ready_file false s.machine.saved file)
+FileGoesOn s event file (Err NoMemory) next = (next ≡ file) ⊎ (next ≡ ready_file s.machine.saved file)
 FileGoesOn s event file (Err NumbersSpent) next = next ≡ file
 
 -- the numbers are spent, where the run began so, this history of it went before, and the file has these

@@ -19,7 +19,7 @@ use Rattle.live_stage.specs.declared.refusal.LiveError.TheVariants.{Broken, NoMe
 use Rattle.live_stage.specs.Answer.{Answer}
 use Rattle.live_stage.specs.Found.{state_of}
 use Rattle.live_stage.specs.LiveState.{LiveState}
-use Rattle.live_stage.specs.Numbers.{AreSpent, greatest, is_due, makes_checkpoint, most_records, most_bytes, longest_record, next_file}
+use Rattle.live_stage.specs.Numbers.{AreSpent, greatest, is_due, most_records, most_bytes, longest_record, next_file}
 use Rattle.live_stage.specs.Numbers.{ready_file, file_found, numbers_found}
 
 -- a stage that begins with what was kept, and had no event yet
@@ -85,18 +85,12 @@ pub record HoldsSnapshot {D : Type 0} (history : D → List Change) (old new : L
   pub says : new.content ≡ as_snapshot old
   pub kept : AllPairsNow (λ f. f ≡ Some new.content) (history new.a) (history new.b)
 
--- A journal that was asked for a checkpoint with a next generation refuses it for want of memory, and then nothing was done, or by a disk
--- fault, and then it is spent.
-pub record RefusesSnapshot {D T : Type 0} (old new : JournalState D) (result : Result T LiveError) : Type 0 where
-  pub never : result ≢ Err NumbersSpent
-  pub no_memory : result ≡ Err NoMemory → new ≡ old
-  pub spends : result ≡ Err Broken → new.is_spent ≡ true
-
 -- A stage that was broken refuses a checkpoint; then a generation that is spent is refused. A disk fault breaks the stage, any other
--- refusal leaves it as it was.
+-- refusal leaves it as it was. Memory never wants.
 pub record RefusesCheckpoint {D T : Type 0} (old new : LiveState D) (result : Result T LiveError) : Type 0 where
   pub broken : old.is_broken ≡ true → (result ≡ Err Broken) × (new ≡ old)
   pub numbers_spent : old.is_broken ≡ false → ((result ≡ Err NumbersSpent) ↔ (old.file.generation ≡ greatest))
+  pub no_memory : result ≢ Err NoMemory
   pub breaks : result ≡ Err Broken → new.is_broken ≡ true
   pub stays : OnErr result (result ≢ Err Broken → new ≡ old)
   pub not_counted : new.numbers.event ≡ old.numbers.event
@@ -104,49 +98,45 @@ pub record RefusesCheckpoint {D T : Type 0} (old new : LiveState D) (result : Re
 -- ---- turns
 
 -- whether a turn writes to file b: it is in use, or the other one is and a checkpoint is made
-abbrev pub writes_to_b : {D : Type 0} → Bool → LiveState D → Bool
-writes_to_b is_overdue live = if makes_checkpoint is_overdue live.file then not live.is_in_b else live.is_in_b
+abbrev pub writes_to_b : {D : Type 0} → LiveState D → Bool
+writes_to_b live = if is_due live.file then not live.is_in_b else live.is_in_b
 
 -- what the files say when a turn's record is written
-abbrev pub ready_content : {D : Type 0} → Bool → LiveState D → Content
-ready_content is_overdue live =
-    if makes_checkpoint is_overdue live.file then as_snapshot live else live.content
+abbrev pub ready_content : {D : Type 0} → LiveState D → Content
+ready_content live = if is_due live.file then as_snapshot live else live.content
 
 -- the same with the record of these ops, if there are any
 abbrev pub recorded_content : Profile → Content → List Op → Content
 recorded_content profile content [] = content
 recorded_content profile content (op ∷ ops) = with_record content (body_bytes profile (op ∷ ops))
 
--- What a turn does before it handles its event: it makes the checkpoint that is due, if one is; where that finds no memory, nothing is
--- done, and it is overdue.
-pub record IsReady {D : Type 0} (is_overdue : Bool) (old ready : LiveState D) : Type 0 where
+-- What a turn does before it handles its event: it makes the checkpoint that is due, if one is.
+pub record IsReady {D : Type 0} (old ready : LiveState D) : Type 0 where
   pub state : ready.state ≡ old.state
   pub numbers : ready.numbers ≡ old.numbers
-  pub file : ready.file ≡ ready_file is_overdue old.state.machine.saved old.file
-  pub in_b : ready.is_in_b ≡ writes_to_b is_overdue old
+  pub file : ready.file ≡ ready_file old.state.machine.saved old.file
+  pub in_b : ready.is_in_b ≡ writes_to_b old
   pub usable : ready.is_broken ≡ false
-  pub nothing_made : makes_checkpoint is_overdue old.file ≡ false → ready ≡ old
-  pub was_due : is_overdue ≡ true → is_due old.file ≡ true
+  pub nothing_made : is_due old.file ≡ false → ready ≡ old
 
 -- nothing was done, or the checkpoint that was due
 abbrev pub IsStill : {D : Type 0} → LiveState D → LiveState D → Type 0
-IsStill old new = (new ≡ old) ⊎ IsReady false old new
+IsStill old new = (new ≡ old) ⊎ IsReady old new
 
 -- records go to the same file as before, and the other file isn't touched
 pub record StaysInFile {D : Type 0} (old new : LiveState D) : Type 0 where
   pub same_file : new.is_in_b ≡ old.is_in_b
   pub other_file : MatchBool old.is_in_b (new.a ≡ old.a) (new.b ≡ old.b)
 
--- a turn, or what it does before its event, writes to one file alone, by whether its checkpoint is overdue
-abbrev pub WritesAlone : {D : Type 0} → Bool → LiveState D → LiveState D → Type 0
-WritesAlone is_overdue old new = MatchBool (writes_to_b is_overdue old) (new.a ≡ old.a) (new.b ≡ old.b)
+-- a turn, or what it does before its event, writes to one file alone, by whether a checkpoint is due
+abbrev pub WritesAlone : {D : Type 0} → LiveState D → LiveState D → Type 0
+WritesAlone old new = MatchBool (writes_to_b old) (new.a ≡ old.a) (new.b ≡ old.b)
 
--- A turn writes to one file alone, to which records go once it has answered. Its checkpoint is overdue only where one was due.
+-- A turn writes to one file alone, to which records go once it has answered.
 pub record WritesOneFile {D : Type 0} (old new : LiveState D) (result : Result Answer LiveError) : Type 0 where
-  pub in_use : IfOk result (λ t. new.is_in_b ≡ writes_to_b t.is_overdue old)
+  pub in_use : IfOk result (λ t. new.is_in_b ≡ writes_to_b old)
   pub same_file : is_due old.file ≡ false → new.is_in_b ≡ old.is_in_b
-  pub other_file : (is_overdue : Bool) × IfOk result (λ t. t.is_overdue ≡ is_overdue) × WritesAlone is_overdue old new
-  pub was_due : IfOk result (λ t. t.is_overdue ≡ true → is_due old.file ≡ true)
+  pub other_file : WritesAlone old new
 
 -- `Broken` is told only where one of the two disks has failed, or the stage was broken, and any other answer only where neither has.
 pub record TellsFaults {D T : Type 0} (honest : D → Type 0) (faults : D → ℕ) (old new : LiveState D) (result : Result T LiveError)
@@ -159,13 +149,13 @@ pub record MakesNoCall {D : Type 0} (old new : LiveState D) : Type 0 where
   pub same_a : new.a ≡ old.a
   pub same_b : new.b ≡ old.b
 
--- From its `Ok` on whatever a crash leaves says the record of its ops, behind the snapshot that was due, if one was. Unless that is overdue,
--- there are at most so many records, and they take no more bytes than the bound and one record.
-pub record IsWritten {D : Type 0} (history : D → List Change) (is_overdue : Bool) (old new : LiveState D) (ops : List Op) : Type 0 where
-  pub says : new.content ≡ recorded_content new.state.machine.saved.profile (ready_content is_overdue old) ops
+-- From its `Ok` on whatever a crash leaves says the record of its ops, behind the snapshot that was due, if one was. There are at most so
+-- many records, and they take no more bytes than the bound and one record.
+pub record IsWritten {D : Type 0} (history : D → List Change) (old new : LiveState D) (ops : List Op) : Type 0 where
+  pub says : new.content ≡ recorded_content new.state.machine.saved.profile (ready_content old) ops
   pub stored : IsStored history new
-  pub few : is_overdue ≡ false → length new.content.records ≤ most_records
-  pub short : is_overdue ≡ false → records_len new.content.records ≤ most_bytes (length new.content.snapshot) + longest_record
+  pub few : length new.content.records ≤ most_records
+  pub short : records_len new.content.records ≤ most_bytes (length new.content.snapshot) + longest_record
 
 -- A disk fault breaks a stage, any other refusal leaves it as it was, and no refused event is counted.
 pub record LeavesAsIs {D T : Type 0} (old new : LiveState D) (result : Result T LiveError) : Type 0 where

@@ -60,7 +60,7 @@ pub record HasRecorded {D : Type 0} (profile : Profile) (old new : JournalState 
   pub file : file_of new ≡ recorded profile (file_of old) ops
   pub usable : new.is_spent ≡ false
 
--- a record is refused by a disk fault alone, which spends the journal
+-- a record, or a snapshot, is refused by a disk fault alone, which spends the journal
 pub record RefusesRecording {D T : Type 0} (new : JournalState D) (result : Result T LiveError) : Type 0 where
   pub only_a_fault : IfErr result (λ e. e ≡ Broken)
   pub spends : OnErr result (new.is_spent ≡ true)

@@ -11,14 +11,14 @@ ghost use Rattle.daemon_core.specs.State.{start};
 ghost use Rattle.daemon_core.specs.Step.{step};
 ghost use Rattle.live_stage.specs.Answer.{IsTurn, IsHandled, IsBeforeOrAfter, HasNoOps};
 ghost use Rattle.live_stage.specs.Errors.{IsRefusalOfCreate, IsRefusalOfOpen, IsCause, start_error};
-ghost use Rattle.live_stage.specs.Numbers.{first_numbers, first_file, greatest, is_due, makes_checkpoint, AreCountsSpent, AreSpent};
+ghost use Rattle.live_stage.specs.Numbers.{first_numbers, first_file, greatest, is_due, checkpoint_calls, AreCountsSpent, AreSpent};
 ghost use Rattle.live_stage.specs.Turns.{IsBegun, IsOver, IsStored, IsCheckpointed, IsCheckpointing, HoldsSnapshot, RefusesCheckpoint};
 ghost use Rattle.live_stage.specs.Turns.{CallsAtMost, IsReady, IsWritten, StaysInFile, WritesOneFile, MakesNoCall, LeavesAsIs};
 ghost use Rattle.live_stage.specs.Turns.{TellsFaults, RefusesInOrder, WritesAlone, ready_content};
 ghost use Rattle.live_stage.specs.Writing.{KeepsEvent};
 ghost use Rattle.live_stage.specs.Found.{found_state, AllFindNow, AllFindSince, AllOpenNow, KeepsFoundState};
 
-use crate::checkpointing::write_snapshot;
+use crate::checkpointing::{Snapshotted, write_snapshot};
 use crate::due::is_due_at;
 use crate::recording::{LONGEST_BODY, record_ops};
 use crate::turn::Turn;
@@ -28,7 +28,7 @@ use disk_model::Disk;
 use opening::{refused_over, state_in};
 use play_journal::{Group, Journal, JournalError};
 use profile::Profile;
-use state_codec::{Saved, layout_number, put_saved};
+use state_codec::{Saved, layout_number};
 use std::alloc::Global;
 use std::marker::Model;
 use std::snapshot::Snapshot;
@@ -121,11 +121,11 @@ impl<D: Disk> Live<D> {
             });
         }
         let saved = Saved::fresh(alloc, profile, key);
-        let (room, group, snapshot) = match rooms_for(alloc, &saved) {
+        let (room, group) = match room_for(alloc) {
             Ok(rooms) => rooms,
             Err(error) => return Err(Refused { error, a, b }),
         };
-        match Journal::create(alloc, a, b, layout_number(profile), &snapshot) {
+        match Journal::create(alloc, a, b, layout_number(profile), Snapshotted::of(&saved)) {
             Ok(journal) => Ok(Live {
                 core: Core::new(alloc, saved),
                 journal,
@@ -192,8 +192,7 @@ impl<D: Disk> Live<D> {
 
     /// Handles one event. If it changes what is saved, that is one record, and it is on the disk when the answer is given
     /// out; any other event makes no call of a disk. Where 4,096 or more records stand behind the snapshot, or more bytes of them than
-    /// 4 MiB and than the snapshot has, a checkpoint is made first, whatever the event. Where that finds no memory, the event is
-    /// handled without it, the answer says so, and the next turn tries it again.
+    /// 4 MiB and than the snapshot has, a checkpoint is made first, whatever the event; it takes no memory.
     ///
     /// It refuses in the order `Broken` (from before), `NumbersSpent`, `NoMemory`, `Broken` (by a disk fault now). After the
     /// last the event may be kept or not: open the files again. A checkpoint that was made stands after `NoMemory`.
@@ -213,10 +212,10 @@ impl<D: Disk> Live<D> {
         ensures kept { D.honest self.old.a → D.honest self.old.b → self.new.is_broken ≡ false
             → AllFindNow (λ f. f ≡ Some self.new.state.machine.saved) (D.history self.new.a) (D.history self.new.b) }
 
-        // The files then say the record of the event's ops, and no more records than the bounds allow, unless the checkpoint is overdue.
+        // The files then say the record of the event's ops, and no more records than the bounds allow.
         ensures stored { D.honest self.old.a → D.honest self.old.b → IfOk result (λ t.
-            let now = step self.old.state event t.refused_at in IsWritten D.history t.is_overdue self.old self.new now.ops) }
-        ensures no_call { IfOk result (λ t. makes_checkpoint t.is_overdue self.old.file ≡ false
+            let now = step self.old.state event t.refused_at in IsWritten D.history self.old self.new now.ops) }
+        ensures no_call { IfOk result (λ t. is_due self.old.file ≡ false
             → HasNoOps self.old event t → MakesNoCall self.old self.new) }
         ensures file { WritesOneFile self.old self.new result }
 
@@ -230,8 +229,8 @@ impl<D: Disk> Live<D> {
         if self.are_numbers_spent() {
             return Err(LiveError::NumbersSpent);
         }
-        let is_overdue = self.make_ready(alloc)?;
-        let turn = self.handle(alloc, event, is_overdue)?;
+        self.make_ready()?;
+        let turn = self.handle(alloc, event)?;
         // As long as it isn't broken, the files say what is stored, and the stage's numbers are theirs.
         let _broken = self.is_broken();
         Ok(turn)
@@ -240,9 +239,9 @@ impl<D: Disk> Live<D> {
     /// Makes a new snapshot: the state, in the file that isn't in use, to which records go from then on. The file from before
     /// isn't touched.
     ///
-    /// It refuses in the order `Broken` (from before), `NumbersSpent` (the last generation is 2^64 - 1), `NoMemory`, `Broken` (by a
-    /// disk fault now). After the last the snapshot may be there or not: open the files again.
-    pub fn checkpoint(&mut self, alloc: Global) -> Result<(), LiveError>
+    /// It takes no memory, and refuses in the order `Broken` (from before), `NumbersSpent` (the last generation is 2^64 - 1), `Broken` (by
+    /// a disk fault now). After the last the snapshot may be there or not: open the files again.
+    pub fn checkpoint(&mut self) -> Result<(), LiveError>
         // Stopped at any moment, the files give what they gave before, or the new snapshot without records, which they give from
         // `Ok` on. A restart finds the same state throughout.
         ensures any_moment { D.honest self.old.a → D.honest self.old.b → self.old.is_broken ≡ false
@@ -256,10 +255,11 @@ impl<D: Disk> Live<D> {
         ensures refuses { RefusesCheckpoint self.old self.new result }
         ensures fault { TellsFaults D.honest D.faults self.old self.new result }
 
-        // The file that was in use isn't touched, and the other by nine calls of its disk at most.
+        // The file that was in use isn't touched, and the other by eight calls of its disk and one for each piece at most.
         ensures old_file { MatchBool self.old.is_in_b (self.new.b ≡ self.old.b) (self.new.a ≡ self.old.a) }
-        ensures calls { D.honest self.old.a → D.honest self.old.b → OnOk result (CallsAtMost 9 (D.history self.old.a)
-            (D.history self.old.b) (D.history self.new.a) (D.history self.new.b)) }
+        ensures calls { D.honest self.old.a → D.honest self.old.b → OnOk result
+            (CallsAtMost (checkpoint_calls self.old.state.machine.saved)
+            (D.history self.old.a) (D.history self.old.b) (D.history self.new.a) (D.history self.new.b)) }
         ensures later { AreLater D.honest D.history D.faults self.old.a self.old.b self.new.a self.new.b }
     {
         if self.journal.is_spent() {
@@ -268,7 +268,7 @@ impl<D: Disk> Live<D> {
         if self.journal.generation() == u64::MAX {
             return Err(LiveError::NumbersSpent);
         }
-        write_snapshot(alloc, &mut self.journal, self.core.as_saved())?;
+        write_snapshot(&mut self.journal, self.core.as_saved())?;
         Ok(())
     }
 
@@ -283,19 +283,18 @@ impl<D: Disk> Live<D> {
         )
     }
 
-    // Makes the checkpoint that is due, if one is, and says whether it is overdue, since it found no memory.
-    fn make_ready(&mut self, alloc: Global) -> Result<bool, LiveError>
+    // Makes the checkpoint that is due, if one is.
+    fn make_ready(&mut self) -> Result<(), LiveError>
         requires usable { self.old.is_broken ≡ false }
         requires generation { is_due self.old.file ≡ true → self.old.file.generation ≢ greatest }
-        ensures ready { IfOk result (λ is_overdue. IsReady is_overdue self.old self.new) }
+        ensures ready { OnOk result (IsReady self.old self.new) }
         ensures content { D.honest self.old.a → D.honest self.old.b
-            → IfOk result (λ is_overdue. self.new.content ≡ ready_content is_overdue self.old) }
+            → OnOk result (self.new.content ≡ ready_content self.old) }
         ensures same_state { D.honest self.old.a → D.honest self.old.b
             → AllFindSince (λ f. f ≡ Some self.old.state.machine.saved)
             (D.history self.new.a) (length (D.history self.old.a)) (D.history self.new.b) (length (D.history self.old.b)) }
         ensures undue { is_due self.old.file ≡ false → IsOk result }
-        ensures other_file { MatchResult result (λ is_overdue. WritesAlone is_overdue self.old self.new)
-            (λ e. WritesAlone false self.old self.new) }
+        ensures other_file { WritesAlone self.old self.new }
         ensures refuses { IfErr result (λ e. (e ≡ LiveError.Broken) × (self.new.is_broken ≡ true)) }
         ensures not_counted { self.new.numbers.event ≡ self.old.numbers.event }
         ensures fault { TellsFaults D.honest D.faults self.old self.new result }
@@ -304,26 +303,17 @@ impl<D: Disk> Live<D> {
         // As long as it isn't broken, the files give its state.
         let _broken = self.is_broken();
         if !self.is_checkpoint_due() {
-            return Ok(false);
+            return Ok(());
         }
-        match self.checkpoint(alloc) {
-            Ok(()) => Ok(false),
-            Err(LiveError::NoMemory) => Ok(true),
-            Err(error) => Err(error),
-        }
+        self.checkpoint()
     }
 
-    // Handles one event, by a record in the file that is in use. Its answer says whether the checkpoint is overdue.
-    fn handle(
-        &mut self,
-        alloc: Global,
-        event: Event,
-        is_overdue: bool,
-    ) -> Result<Turn<D>, LiveError>
+    // Handles one event, by a record in the file that is in use.
+    fn handle(&mut self, alloc: Global, event: Event) -> Result<Turn<D>, LiveError>
         requires usable { self.old.is_broken ≡ false }
         requires numbers { AreCountsSpent self.old.numbers → ⊥ }
         ensures step { IfOk result (λ t. IsHandled self.old event t self.new) }
-        ensures carries { IfOk result (λ t. (t.asked ≡ event) × (t.before ≡ self.old.state) × (t.is_overdue ≡ is_overdue)) }
+        ensures carries { IfOk result (λ t. (t.asked ≡ event) × (t.before ≡ self.old.state)) }
         ensures any_moment { D.honest self.old.a → D.honest self.old.b → KeepsEvent D.history self.old self.new event result }
         ensures no_call { IfOk result (λ t. HasNoOps self.old event t → MakesNoCall self.old self.new) }
         ensures file { StaysInFile self.old self.new }
@@ -342,7 +332,7 @@ impl<D: Disk> Live<D> {
         let profile = self.core.as_saved().profile();
         let number = record_ops(&mut self.journal, &mut self.room, profile, &outcome.ops)?;
         self.event += 1;
-        Ok(Turn::new(outcome, self.event, number, is_overdue, asked, before))
+        Ok(Turn::new(outcome, self.event, number, asked, before))
     }
 
     /// How many events there were since the stage was made or opened.
@@ -412,19 +402,6 @@ fn room_for(alloc: Global) -> Result<(Vec<u8>, Group), StartError>
 {
     match (Vec::with_capacity(alloc, LONGEST_BODY), Group::new(alloc)) {
         (Ok(room), Ok(group)) => Ok((room, group)),
-        _ => Err(StartError::NoMemory),
-    }
-}
-
-// The same, and the snapshot of a state.
-fn rooms_for(alloc: Global, saved: &Saved) -> Result<(Vec<u8>, Group, Vec<u8>), StartError>
-    ensures room { IfOk result (λ rooms. LONGEST_BODY ≤ vec_capacity rooms.0) }
-    ensures snapshot { IfOk result (λ rooms. rooms.2.items ≡ saved_bytes saved.now) }
-    ensures in_range { OnOk result (IsSavedState saved.now) }
-    ensures no_memory { IfErr result (λ e. e ≡ StartError.NoMemory) }
-{
-    match (room_for(alloc), put_saved(alloc, saved)) {
-        (Ok((room, group)), Ok(snapshot)) => Ok((room, group, snapshot)),
         _ => Err(StartError::NoMemory),
     }
 }

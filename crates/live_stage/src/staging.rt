@@ -1,5 +1,5 @@
 // The events of a group, one after the other: each is stepped in memory, and its record waits among those of the group.
-ghost use Rattle.std.specs.Prelude.{◌≡◌, ◌≤◌, ◌<◌, ◌+◌, ◌-◌, ◌++◌, ◌^◌, ◌==◌, ◌||◌, [], length, reverse, min, sum_by};
+ghost use Rattle.std.specs.Prelude.{◌≡◌, ◌≤◌, ◌<◌, ◌+◌, ◌-◌, ◌++◌, ◌^◌, ◌==◌, ◌||◌, false, [], length, reverse, min, sum_by};
 ghost use Rattle.std.specs.Prelude.{IfOk, OnErr, vec_capacity};
 ghost use Rattle.std.specs.List.{AllByRecursion};
 ghost use Rattle.play_journal.specs.File.{longest_body, records_len};
@@ -28,7 +28,7 @@ const LONGEST_RECORD: u64 = 2_097_157;
 /// Behind more bytes of answers than these, 1 MiB, no event of a group is taken.
 const MOST_ANSWER_BYTES: u64 = 1_048_576;
 
-/// What a group began with: the numbers of the last event and the last record, those of the file, and whether a checkpoint is overdue.
+/// What a group began with: the numbers of the last event and the last record, and those of the file.
 #[derive(Clone, Copy)]
 pub(crate) struct Begin {
     pub(crate) event: u64,
@@ -36,7 +36,6 @@ pub(crate) struct Begin {
     pub(crate) snapshot_len: u64,
     pub(crate) records: u64,
     pub(crate) bytes: u64,
-    pub(crate) is_overdue: bool,
 }
 
 // Puts the record of an event's ops behind the others of the group, and answers its number; where there are none, there is no record.
@@ -83,7 +82,7 @@ fn stage_one<D>(
     requires fits { records_len group.old ≤ longest_record }
     requires numbers { (begin.event + many < 2 ^ 64 - 1) × (begin.last_record + length group.old < 2 ^ 64 - 1) }
     ensures answer { IfOk result (λ r. let now = step core.old event r.0.refused_at in
-        IsAnswerOf now (numbers_staged begin many group.old) begin.is_overdue core.old event r.0) }
+        IsAnswerOf now (numbers_staged begin many group.old) core.old event r.0) }
     ensures added { IfOk result (λ r. let now = step core.old event r.0.refused_at in
         AddsStep now core.old core.new group.old group.new) }
     ensures looks { IfOk result (λ r. r.1 ≡ answer_looks r.0) }
@@ -97,7 +96,7 @@ fn stage_one<D>(
     let number = stage_ops(group, room, profile, &outcome.ops, begin.last_record);
     let event = begin.event + many + 1;
     let looks = outcome.looks;
-    let turn = Turn::new(outcome, event, number, begin.is_overdue, asked, before);
+    let turn = Turn::new(outcome, event, number, asked, before);
     Ok((turn, looks))
 }
 
@@ -168,7 +167,7 @@ pub(crate) fn stage_events<D>(
     requires none_yet { turns.old.items ≡ [] }
     requires places { length left.old.items ≤ vec_capacity turns.old }
     requires numbers { (begin.event < 2 ^ 64 - 1) × (begin.last_record < 2 ^ 64 - 1) × (begin.bytes < 2 ^ 64) }
-    requires due { is_due (file_begun begin) ≡ begin.is_overdue }
+    requires due { is_due (file_begun begin) ≡ false }
     ensures staged { AreStaged D begin core.old turns.new.items core.new group.new }
     ensures taken { AreTaken begin core.old (reverse left.old.items) turns.new.items result (reverse left.new.items) group.new }
     ensures capacity { vec_capacity room.new ≡ vec_capacity room.old }

@@ -25,7 +25,7 @@ pub struct Turn<D> {
     refused_at: Option<u32>,
     event: u64,
     receipt: Receipt,
-    is_overdue: bool,
+    looks: u64,
     asked: Snapshot<Event>,
     before: Snapshot<Core>,
     stage: PhantomData<D>,
@@ -48,7 +48,6 @@ impl<D> Model for Turn<D> {
       refused_at = t.refused_at;
       event = t.event;
       receipt = t.receipt;
-      is_overdue = t.is_overdue;
       asked = t.asked.value;
       before = t.before.value;
     } };
@@ -56,23 +55,25 @@ impl<D> Model for Turn<D> {
     ghost use Rattle.std.specs.Prelude.{◌≡◌};
     ghost use Rattle.daemon_core.specs.Step.{step};
 
-    ghost invariant = { λ t. let now = step t.before.value t.asked.value t.refused_at in t.outputs.items ≡ now.outputs };
+    ghost invariant = { λ t. let now = step t.before.value t.asked.value t.refused_at in
+        (t.outputs.items ≡ now.outputs) × (t.looks ≡ now.looks) };
 }
 
 impl<D> Turn<D> {
     ghost use Rattle.std.specs.Prelude.{◌≡◌};
     ghost use Rattle.daemon_core.specs.Step.{step};
     ghost use Rattle.live_stage.specs.Answer.{IsOfItsEvent};
+    ghost use Rattle.live_stage.specs.Group.{answer_looks};
 
     pub(crate) fn new(
         outcome: Outcome,
         event: u64,
         number: Option<u64>,
-        is_overdue: bool,
         asked: Snapshot<Event>,
         before: Snapshot<Core>,
     ) -> Self
-        requires { let now = step before.value asked.value outcome.refused_at in outcome.outputs.items ≡ now.outputs }
+        requires outputs { let now = step before.value asked.value outcome.refused_at in outcome.outputs.items ≡ now.outputs }
+        requires looks { let now = step before.value asked.value outcome.refused_at in outcome.looks ≡ now.looks }
         ensures { result ≡ record {
           outputs = outcome.outputs.items;
           closes = outcome.closes.items;
@@ -80,7 +81,6 @@ impl<D> Turn<D> {
           refused_at = outcome.refused_at;
           event = event;
           receipt = record { event = event; number = number };
-          is_overdue = is_overdue;
           asked = asked.value;
           before = before.value;
         } }
@@ -90,7 +90,7 @@ impl<D> Turn<D> {
             closes,
             ops: _,
             refused_at,
-            looks: _,
+            looks,
             ended,
         } = outcome;
         Turn {
@@ -100,7 +100,7 @@ impl<D> Turn<D> {
             refused_at,
             event,
             receipt: Receipt { event, number },
-            is_overdue,
+            looks,
             asked,
             before,
             stage: PhantomData,
@@ -150,11 +150,11 @@ impl<D> Turn<D> {
         self.receipt
     }
 
-    /// Whether the checkpoint that was due before the event found no memory. It is due still: the next turn tries it again.
-    pub fn is_overdue(&self) -> bool
-        ensures { result ≡ self.now.is_overdue }
+    /// How much the event looked at, as docs/PROTOCOL.md counts it; all that a request may where memory was refused.
+    pub fn looks(&self) -> u64
+        ensures { result ≡ answer_looks self.now }
     {
-        self.is_overdue
+        self.looks
     }
 
     /// The outputs, to be handed over.

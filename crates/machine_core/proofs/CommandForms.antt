@@ -2,6 +2,7 @@
 -- refused. So a law of all commands is proved of the forms alone; a command that is added is found to have one, or has its line here.
 use Rattle.std.proofs.Common.{◌≡◌, ℕ, Bool, true, false, not, suc, List, [], Option, Some, None, Result, Ok, Err, refl, arith}
 use Rattle.std.specs.Prelude.{nat_lt, if◌then◌else◌}
+use Rattle.command_text.specs.AnswerSetup.{setup_lines}
 use Rattle.command_text.specs.declared.command.Command.{Command}
 use Rattle.command_text.specs.declared.command.Command.TheVariants as topics
 use Rattle.command_text.specs.declared.command.database.DatabaseCommand.{DatabaseCommand}
@@ -212,3 +213,4 @@ module _ (Q : MachineState → Meaning → Type 0) (of : OfForms Q) where
   command_so (topics.Stickers command) m = stickers_so command m
   command_so (topics.Playing command) m = playing_so command m
   command_so (topics.Session command) m = says_so [] m
+  command_so (topics.Setup command) m = says_so (setup_lines command) m

@@ -1,26 +1,39 @@
 -- Where a text lies in memory is nothing to what is found by it.
-use Rattle.std.proofs.Common.{◌≡◌, ℕ, Bool, true, false, ◌&&◌, ◌||◌, List, []}
-use Rattle.std.proofs.Common.{Option, Some, None, map, refl, ap, codes, Bor}
+use Rattle.std.proofs.Common.{◌≡◌, ℕ, Bool, true, false, ◌&&◌, ◌||◌, List, [], ◌++◌}
+use Rattle.std.proofs.Common.{Option, Some, None, Ok, Err, map, refl, ap, codes, Bor}
 use Rattle.std.proofs.lemmas.List.Elements.{filter_agree}
+use Rattle.std.specs.Prelude.{if◌then◌else◌}
 use Rattle.std.specs.Str.{bytes_eq}
+use Rattle.command_text.specs.declared.refusal.CommandRefusal.TheVariants.{NoSuchUri}
+use Rattle.profile.specs.declared.profile.Profile.{Profile}
+use Rattle.profile.specs.declared.profile.Profile.TheVariants.{Named, Wide}
 use Rattle.song_db.specs.Place.{is_under, place_of}
-use Rattle.song_db.specs.Row.{Row}
+use Rattle.song_db.specs.Query.{is_folder}
 use Rattle.song_db.specs.declared.place.Place.{Place}
+use Rattle.song_db.specs.declared.place.Place.TheVariants.{At}
+use Rattle.state_codec.specs.SavedState.{SavedState}
 use Rattle.stickers.specs.Find.{is_found, uri_and_value, passes, passing, found_in}
 use Rattle.stickers.specs.Sticker.{Sticker}
 use Rattle.stickers.specs.declared.find.ValueTest.{ValueTest}
-use Rattle.machine_core.specs.Database.{folder_info}
+use Rattle.stored_lists.specs.Lists.{Stored}
+use Rattle.machine_core.specs.Database.{content_lines, folder_info, root_lists}
 use Rattle.machine_core.specs.Lent.{lent}
 use Rattle.machine_core.specs.State.{MachineState}
 use Rattle.machine_core.specs.Stickers.{found_below}
 
-pub same_folder_info : (path : Bor (List ℕ)) (songs : List Row)
-    → folder_info songs (place_of (lent path.now)) ≡ folder_info songs (place_of path)
-same_folder_info path songs = by_cases (bytes_eq path.now [] || bytes_eq path.now (codes "/")) refl where
+same_lists : (profile : Profile) (lists : Stored) (a b : Bor (List ℕ)) → root_lists profile lists (At a) ≡ root_lists profile lists (At b)
+same_lists Named lists a b = refl
+same_lists Wide lists a b = refl
+
+pub same_folder_info : (path : Bor (List ℕ)) (s : SavedState)
+    → folder_info s (place_of (lent path.now)) ≡ folder_info s (place_of path)
+same_folder_info path s = by_cases (bytes_eq path.now [] || bytes_eq path.now (codes "/")) refl where
   by_cases : (b : Bool) → (bytes_eq path.now [] || bytes_eq path.now (codes "/")) ≡ b
-      → folder_info songs (place_of (lent path.now)) ≡ folder_info songs (place_of path)
+      → folder_info s (place_of (lent path.now)) ≡ folder_info s (place_of path)
   by_cases true is = rw is
-  by_cases false is = rw is
+  by_cases false is =
+      rw is (ap (λ (lists : List ℕ). if is_folder s.songs (At path) then Ok (content_lines s.songs (At path) ++ lists) else Err NoSuchUri)
+      (same_lists s.profile s.lists (lent path.now) path))
 
 pub same_below : (path : Bor (List ℕ)) (name : List ℕ) (test : ValueTest) (m : MachineState)
     → found_below (place_of (lent path.now)) name test m ≡ found_below (place_of path) name test m

@@ -1,8 +1,9 @@
 -- What `status` shows goes by values, wherever they lie in memory.
-use Rattle.std.proofs.Common.{◌≡◌, [], ◌∷◌, Option, Some, None, refl, codes}
+use Rattle.std.proofs.Common.{◌≡◌, [], ◌∷◌, ◌++◌, Option, Some, None, refl, codes}
 use Rattle.std.specs.List.{concat}
 use Rattle.std.specs.Option.{option_map, option_copied}
 use Rattle.command_text.specs.Answer.{pair, number_pair}
+use Rattle.command_text.specs.AnswerSetup.{setup_status}
 use Rattle.command_text.specs.AnswerStatus.{setting_lines, state_text, current_lines, next_lines}
 use Rattle.command_text.specs.AnswerStatus.{played_lines, playing_lines, job_lines, error_lines}
 use Rattle.command_text.specs.AnswerStatus.{status_lines}
@@ -48,6 +49,6 @@ module _ (s t : StatusLines) (volume : s.volume ≡ t.volume) (options : s.optio
       ∷ error_lines (error i)
       ∷ [])
 
-pub status_means : (m : MachineState) → settings_meaning Status m ≡ says (status_lines (status_of m)) m
+pub status_means : (m : MachineState) → settings_meaning Status m ≡ says (status_lines (status_of m) ++ setup_status m.saved.profile) m
 unfolding settings_meaning
 status_means m = refl

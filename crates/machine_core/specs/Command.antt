@@ -10,6 +10,7 @@ use Rattle.machine_core.specs.Meaning.{Meant, says}
 use Rattle.machine_core.specs.Playing.{playing_meaning}
 use Rattle.machine_core.specs.Queue.{queue_meaning}
 use Rattle.machine_core.specs.Settings.{settings_meaning}
+use Rattle.machine_core.specs.Setup.{setup_meaning}
 use Rattle.machine_core.specs.State.{MachineState}
 use Rattle.machine_core.specs.Stickers.{stickers_meaning}
 
@@ -23,3 +24,4 @@ meaning (commands.Lists command) m = lists_meaning command m
 meaning (commands.Stickers command) m = stickers_meaning command m
 meaning (commands.Playing command) m = playing_meaning command m
 meaning (commands.Session command) m = says [] m
+meaning (commands.Setup command) m = setup_meaning command m

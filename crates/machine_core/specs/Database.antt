@@ -9,16 +9,22 @@ use Rattle.command_text.specs.declared.command.database.DatabaseCommand.TheVaria
 use Rattle.command_text.specs.declared.refusal.CommandRefusal.{CommandRefusal}
 use Rattle.command_text.specs.declared.refusal.CommandRefusal.TheVariants.{AlreadyUpdating, NoSuchUri}
 use Rattle.profile.specs.Profile.{tags_of}
+use Rattle.profile.specs.declared.profile.Profile.{Profile}
+use Rattle.profile.specs.declared.profile.Profile.TheVariants.{Wide}
 use Rattle.song_db.specs.Duration.{total_of}
 use Rattle.song_db.specs.Place.{place_of}
 use Rattle.song_db.specs.Query.{is_folder, folders_in, songs_in, values_of}
 use Rattle.song_db.specs.Row.{Row, row_at}
 use Rattle.song_db.specs.Walk.{Item, FolderAt, SongOf, walk_of}
 use Rattle.song_db.specs.declared.place.Place.{Place}
+use Rattle.song_db.specs.declared.place.Place.TheVariants.{Root, At}
+use Rattle.state_codec.specs.SavedState.{SavedState}
 use Rattle.state_codec.specs.Steps.{◌>>=◌}
 use Rattle.song_files.specs.TagSet.{tags_in}
+use Rattle.stored_lists.specs.Lists.{Stored}
 use Rattle.song_files.specs.declared.tag.Tag.TheVariants.{Artist, Album}
 use Rattle.machine_core.specs.Lent.{lent}
+use Rattle.machine_core.specs.Lists.{name_lines}
 use Rattle.machine_core.specs.Meaning.{Meant, must, says, answers, begins}
 use Rattle.machine_core.specs.State.{MachineState}
 use Rattle.machine_core.specs.declared.answer_database.Detail.{Detail}
@@ -29,13 +35,19 @@ use Rattle.machine_core.specs.declared.job.Job.{Job}
 abbrev pub content_lines : List Row → Place → List ℕ
 content_lines songs place = flat_map directory_line (folders_in songs place) ++ flat_map song_lines (songs_in songs place)
 
-abbrev pub folder_info : List Row → Place → Result (List ℕ) CommandRefusal
-folder_info songs place = if is_folder songs place then Ok (content_lines songs place) else Err NoSuchUri
+-- the playlists, which the wide profile tells behind what stands right in the root
+abbrev pub root_lists : Profile → Stored → Place → List ℕ
+root_lists Wide lists Root = name_lines Wide lists
+root_lists profile lists place = []
+
+abbrev pub folder_info : SavedState → Place → Result (List ℕ) CommandRefusal
+folder_info s place =
+    if is_folder s.songs place then Ok (content_lines s.songs place ++ root_lists s.profile s.lists place) else Err NoSuchUri
 
 -- the song of a path goes before the folder of that path
-abbrev pub info_at : List Row → List ℕ → Option Row → Result (List ℕ) CommandRefusal
-info_at songs path (Some row) = Ok (song_lines row)
-info_at songs path None = folder_info songs (place_of (lent path))
+abbrev pub info_at : SavedState → List ℕ → Option Row → Result (List ℕ) CommandRefusal
+info_at s path (Some row) = Ok (song_lines row)
+info_at s path None = folder_info s (place_of (lent path))
 
 -- a song by its path alone, or by all that is known of it
 abbrev pub detail_lines : Detail → Row → List ℕ
@@ -46,18 +58,25 @@ abbrev pub item_lines : Detail → Item → List ℕ
 item_lines detail (FolderAt path) = directory_line path
 item_lines detail (SongOf row) = detail_lines detail row
 
+-- the folder itself, which the wide profile tells first, unless it is the root
+abbrev pub folder_line : Profile → Place → List ℕ
+folder_line Wide (At folder) = directory_line folder.now
+folder_line profile place = []
+
 -- all folders and songs below a place, together by the bytes of their paths
-abbrev pub all_below : Detail → List Row → Place → Result (List ℕ) CommandRefusal
-all_below detail songs place = if is_folder songs place then Ok (flat_map (item_lines detail) (walk_of songs place)) else Err NoSuchUri
+abbrev pub all_below : Detail → SavedState → Place → Result (List ℕ) CommandRefusal
+all_below detail s place =
+    if is_folder s.songs place then Ok (folder_line s.profile place ++ flat_map (item_lines detail) (walk_of s.songs place))
+    else Err NoSuchUri
 
 -- the song of a path goes before the folder of that path
-abbrev pub all_at : Detail → List Row → List ℕ → Option Row → Result (List ℕ) CommandRefusal
-all_at detail songs path (Some row) = Ok (detail_lines detail row)
-all_at detail songs path None = all_below detail songs (place_of (lent path))
+abbrev pub all_at : Detail → SavedState → List ℕ → Option Row → Result (List ℕ) CommandRefusal
+all_at detail s path (Some row) = Ok (detail_lines detail row)
+all_at detail s path None = all_below detail s (place_of (lent path))
 
 abbrev pub listing : Detail → Option (List ℕ) → MachineState → Meant
 listing detail path m =
-    let named = unwrap_or path [] in answers (all_at detail m.saved.songs named (row_at m.saved.songs named)) m
+    let named = unwrap_or path [] in answers (all_at detail m.saved named (row_at m.saved.songs named)) m
 
 -- how many artists and albums the songs have, each counted once, how many songs there are, and how long they play
 abbrev pub statistics : List Row → List ℕ
@@ -81,11 +100,11 @@ begins_job place all m = do
   begins (begun (next_job m.job.number) place all) (job_line (next_job m.job.number)) m
 
 unfoldable pub database_meaning : DatabaseCommand → MachineState → Meant
-database_meaning commands.Commands m = says listed_commands m
+database_meaning commands.Commands m = says (listed_commands m.saved.profile) m
 database_meaning (commands.ListAll path) m = listing Paths path m
 database_meaning (commands.ListAllInfo path) m = listing Songs path m
 database_meaning (commands.ListInfo path) m =
-    let named = unwrap_or path [] in answers (info_at m.saved.songs named (row_at m.saved.songs named)) m
+    let named = unwrap_or path [] in answers (info_at m.saved named (row_at m.saved.songs named)) m
 database_meaning commands.NotCommands m = says [] m
 database_meaning commands.Stats m = says (statistics m.saved.songs) m
 database_meaning (commands.Rescan place) m = begins_job place true m

@@ -1,6 +1,6 @@
 -- The lines of the queue's entries, as several commands show them.
 use Rattle.std.specs.Prelude.{ℕ, List, [], Option, Some, None, slice_get}
-use Rattle.command_text.specs.AnswerSongs.{entry_lines, place_lines}
+use Rattle.command_text.specs.AnswerSongs.{entry_lines, numbered_file, place_lines}
 use Rattle.play_queue.specs.declared.entry.Entry.{Entry}
 use Rattle.song_db.specs.Row.{Row, row_at}
 use Rattle.state_codec.specs.SavedState.{SavedState}
@@ -24,6 +24,14 @@ position_info s position = found_info s.songs position (slice_get s.queue.entrie
 abbrev pub shown_info : SavedState → Option ℕ → List ℕ
 shown_info s None = []
 shown_info s (Some position) = position_info s position
+
+-- its file alone, numbered
+abbrev pub found_file : ℕ → Option Entry → List ℕ
+found_file position None = []
+found_file position (Some entry) = numbered_file position entry.uri
+
+abbrev pub file_info : List Entry → ℕ → List ℕ
+file_info entries position = found_file position (slice_get entries position)
 
 -- the same by position and id alone
 abbrev pub found_place : ℕ → Option Entry → List ℕ

@@ -4,7 +4,7 @@ use Rattle.std.specs.Prelude.{Result, OnOk, OnErr, vec_capacity, if◌then◌els
 use Rattle.std.specs.Global.{Vec}
 use Rattle.std.specs.List.{filter_map}
 use Rattle.command_text.specs.AnswerNames.{count_lines, value_line}
-use Rattle.command_text.specs.AnswerSongs.{song_lines, entry_lines}
+use Rattle.command_text.specs.AnswerSongs.{file_line, song_lines, entry_lines}
 use Rattle.command_text.specs.declared.command.finding.FindingCommand.{FindingCommand}
 use Rattle.command_text.specs.declared.command.finding.FindingCommand.TheVariants as commands
 use Rattle.command_text.specs.declared.command.finding.Search.{Search}
@@ -17,6 +17,8 @@ use Rattle.filter_expr.specs.declared.case.Case.{Case}
 use Rattle.filter_expr.specs.declared.case.Case.TheVariants.{Exact, Folded}
 use Rattle.filter_expr.specs.declared.order.SortOrder.{SortOrder}
 use Rattle.play_queue.specs.declared.entry.Entry.{Entry}
+use Rattle.profile.specs.declared.profile.Profile.{Profile}
+use Rattle.profile.specs.declared.profile.Profile.TheVariants.{Wide}
 use Rattle.song_db.specs.Duration.{total_of}
 use Rattle.song_db.specs.Query.{distinct_of, number_at}
 use Rattle.song_db.specs.Row.{Row, row_at}
@@ -57,9 +59,18 @@ abbrev pub chosen : Option Tree → List Row → List Row
 chosen None rows = rows
 chosen (Some tree) rows = matching Exact tree rows
 
--- the values of a tag: of a song without it those of the tag that stands in for it, if one does
-abbrev pub told_values : List Row → Tag → List (List ℕ)
-told_values rows tag = distinct_of (flat_map (λ row. texts_of row.tags (told_tag row.tags tag)) rows)
+-- in the wide profile what is without a text has the empty one
+abbrev pub or_empty : Profile → List (List ℕ) → List (List ℕ)
+or_empty Wide [] = [] ∷ []
+or_empty profile texts = texts
+
+-- what a song tells of a tag: without a text of it, those of the tag that stands in for it, if one does
+abbrev pub told_texts : Profile → Tag → Row → List (List ℕ)
+told_texts profile tag row = or_empty profile (texts_of row.tags (told_tag row.tags tag))
+
+-- the values of a tag
+abbrev pub told_values : Profile → List Row → Tag → List (List ℕ)
+told_values profile rows tag = distinct_of (flat_map (told_texts profile tag) rows)
 
 abbrev pub value_lines : Tag → List (List ℕ) → List ℕ
 value_lines tag values = flat_map (value_line tag) values
@@ -84,7 +95,9 @@ finding_meaning (commands.Count tree) m =
     let found = matching Exact tree m.saved.songs in says (count_lines (length found) (total_of found)) m
 finding_meaning (commands.Find search) m = says (flat_map song_lines (found search m.saved.songs)) m
 finding_meaning (commands.InQueue case tree) m = says (entries_found case tree m.saved.songs 0 m.saved.queue.entries) m
-finding_meaning (commands.ListTag tag tree) m = says (value_lines tag (told_values (chosen tree m.saved.songs) tag)) m
+finding_meaning (commands.ListFiles tree) m = says (flat_map (λ row. file_line row.uri) (chosen tree m.saved.songs)) m
+finding_meaning (commands.ListTag tag tree) m =
+    says (value_lines tag (told_values m.saved.profile (chosen tree m.saved.songs) tag)) m
 
 -- a part of a list: so many are passed over, up to an end, which is counted from the first
 abbrev pub part_of : {X : Type 0} → Part → List X → List X

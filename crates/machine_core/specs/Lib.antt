@@ -16,6 +16,7 @@ pub mod Lists
 pub mod Stickers
 pub mod Entries
 pub mod Playing
+pub mod Setup
 pub mod Command
 pub mod Memory
 pub mod Changed

@@ -2,7 +2,7 @@
 use Rattle.std.specs.Prelude.{ℕ, List, [], length, Option, Some, None, Result, Ok, Err, slice_range, if◌then◌else◌}
 use Rattle.std.specs.List.{flat_map}
 use Rattle.std.specs.Option.{ok_or}
-use Rattle.command_text.specs.AnswerNames.{playlist_line}
+use Rattle.command_text.specs.AnswerNames.{playlist_lines}
 use Rattle.command_text.specs.AnswerSongs.{file_line, song_lines}
 use Rattle.command_text.specs.declared.command.lists.ListsCommand.{ListsCommand}
 use Rattle.command_text.specs.declared.command.lists.ListsCommand.TheVariants as commands
@@ -11,6 +11,7 @@ use Rattle.command_text.specs.declared.range.PositionRange.{PositionRange}
 use Rattle.command_text.specs.declared.refusal.CommandRefusal.{CommandRefusal}
 use Rattle.command_text.specs.declared.refusal.CommandRefusal.TheVariants.{BadPlaylistName, NoSuchPlaylist, NoCurrentSong}
 use Rattle.play_queue.specs.declared.target.Target.{Target}
+use Rattle.profile.specs.declared.profile.Profile.{Profile}
 use Rattle.song_db.specs.Row.{Row, row_at}
 use Rattle.state_codec.specs.OpsLists.{uris_of}
 use Rattle.state_codec.specs.Replacing.{replace_ops, replaces_nothing}
@@ -38,8 +39,8 @@ songs_named lists name = do
   ok_or (songs_of lists good) NoSuchPlaylist
 
 -- the names, by their bytes
-abbrev pub name_lines : Stored → List ℕ
-name_lines lists = flat_map playlist_line (names_of lists)
+abbrev pub name_lines : Profile → Stored → List ℕ
+name_lines profile lists = flat_map (playlist_lines profile) (names_of lists)
 
 -- a song's lines, or its URI alone where the song is gone
 abbrev pub lines_or_uri : List ℕ → Option Row → List ℕ
@@ -89,7 +90,7 @@ lists_meaning (commands.Load name range to) m = do
 lists_meaning (commands.Move name from to) m = do
   good ← list_name name
   edits (Lists (Move good from to)) [] m
-lists_meaning commands.Names m = says (name_lines m.saved.lists) m
+lists_meaning commands.Names m = says (name_lines m.saved.profile m.saved.lists) m
 lists_meaning (commands.Remove name) m = do
   good ← list_name name
   edits (Lists (Drop good)) [] m

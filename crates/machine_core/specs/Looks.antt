@@ -92,6 +92,7 @@ finding_looks (finding.AddToPlaylist name tree) m = 10 * song_looks Folded tree 
 finding_looks (finding.Count tree) m = 10 * song_looks Exact tree 1 m.saved.songs
 finding_looks (finding.Find search) m = search_looks search m
 finding_looks (finding.InQueue case tree) m = 10 * ((tests_of tree + 1) * queue_length m)
+finding_looks (finding.ListFiles tree) m = values_looks tree m
 finding_looks (finding.ListTag tag tree) m = values_looks tree m
 
 -- the songs of a playlist, if there is one of this name
@@ -136,3 +137,4 @@ looks_of (commands.Lists command) m = lists_looks command m
 looks_of (commands.Stickers command) m = stickers_looks command m
 looks_of (commands.Playing command) m = choice_looks m
 looks_of (commands.Session command) m = 0
+looks_of (commands.Setup command) m = 0

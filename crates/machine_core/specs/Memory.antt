@@ -10,6 +10,8 @@ use Rattle.command_text.specs.declared.command.queue.QueueCommand.{QueueCommand}
 use Rattle.command_text.specs.declared.command.queue.QueueCommand.TheVariants as queue
 use Rattle.command_text.specs.declared.command.settings.SettingsCommand.{SettingsCommand}
 use Rattle.command_text.specs.declared.command.settings.SettingsCommand.TheVariants as settings
+use Rattle.command_text.specs.declared.command.setup.SetupCommand.{SetupCommand}
+use Rattle.command_text.specs.declared.command.setup.SetupCommand.TheVariants as setup
 use Rattle.machine_core.specs.Meaning.{Meant}
 use Rattle.machine_core.specs.Queue.{queue_meaning}
 use Rattle.machine_core.specs.Settings.{settings_meaning}
@@ -24,8 +26,9 @@ abbrev pub grows : Meant → Bool
 grows (Ok x) = has_any x.text || has_any x.ops
 grows (Err refusal) = false
 
--- an option and the volume take memory where they are set to another value; `status` takes it for its lines
+-- an option and the volume take memory where they are set to another value; `status` and `getvol` take it for their lines
 abbrev pub settings_take_memory : SettingsCommand → MachineState → Bool
+settings_take_memory settings.GetVolume m = true
 settings_take_memory settings.Status m = true
 settings_take_memory command m = grows (settings_meaning command m)
 
@@ -55,6 +58,10 @@ playing_takes_memory (playing.Pause switch) = false
 playing_takes_memory playing.Stop = false
 playing_takes_memory command = true
 
+abbrev pub setup_takes_memory : SetupCommand → Bool
+setup_takes_memory setup.Nothing = false
+setup_takes_memory command = true
+
 -- Want of memory is answered at no other command.
 abbrev pub takes_memory : Command → MachineState → Bool
 takes_memory (commands.Settings command) m = settings_take_memory command m
@@ -65,3 +72,4 @@ takes_memory (commands.Lists command) m = true
 takes_memory (commands.Stickers command) m = true
 takes_memory (commands.Playing command) m = playing_takes_memory command
 takes_memory (commands.Session command) m = false
+takes_memory (commands.Setup command) m = setup_takes_memory command

@@ -18,7 +18,7 @@ use Rattle.state_codec.specs.Steps.{◌>>=◌}
 use Rattle.state_codec.specs.declared.op.Op.TheVariants.{Queue}
 use Rattle.state_codec.specs.declared.op.queue_op.QueueOp.TheVariants.{Delete, Move, Swap, Shuffle, Prio}
 use Rattle.machine_core.specs.Adding.{adds, can_count, place_among}
-use Rattle.machine_core.specs.Entries.{place_info, position_info}
+use Rattle.machine_core.specs.Entries.{file_info, place_info, position_info}
 use Rattle.machine_core.specs.Meaning.{Meant, must, says, edits}
 use Rattle.machine_core.specs.Named.{numbers_named}
 use Rattle.machine_core.specs.Spans.{count_of, holds, positions_in, span_in, span_or_all, spans_in, whole}
@@ -94,6 +94,7 @@ queue_meaning (commands.Delete range) m = do
 queue_meaning (commands.DeleteId id) m = do
   at ← place_of_id id m
   edits (Queue (Delete at (at + 1))) [] m
+queue_meaning commands.Files m = says (flat_map (file_info m.saved.queue.entries) (positions_in (whole (queue_length m)))) m
 queue_meaning (commands.Info range) m = do
   span ← span_or_all range (queue_length m)
   says (flat_map (position_info m.saved) (positions_in span)) m

@@ -1,13 +1,14 @@
 // The lines of the commands of the database, one after the other.
-ghost use Rattle.std.specs.Prelude.{[], flat_map, if◌then◌else◌};
+ghost use Rattle.std.specs.Prelude.{[], ◌++◌, flat_map, if◌then◌else◌};
 ghost use Rattle.command_text.specs.Answer.{Adds};
 ghost use Rattle.command_text.specs.AnswerNames.{tag_type_line};
 ghost use Rattle.song_db.specs.Walk.{item_of};
 ghost use Rattle.song_files.specs.TagSet.{has_tag, tags_in};
-ghost use Rattle.machine_core.specs.Database.{detail_lines, item_lines};
+ghost use Rattle.machine_core.specs.Database.{detail_lines, folder_line, item_lines};
 
 use command_text::{NoMemory, write_directory, write_file, write_song, write_tag_type};
-use song_db::{Listed, SongRow, Walk};
+use profile::Profile;
+use song_db::{Listed, Place, SongRow, Walk};
 use song_files::{TAG_COUNT, Tag, TagSet};
 
 /// How much is told of a song.
@@ -60,11 +61,38 @@ fn write_item(out: &mut Vec<u8>, item: Listed<'_>, detail: Detail) -> Result<(),
 }
 
 // Adds what a walk comes upon, as it walks.
-pub(crate) fn write_walk(out: &mut Vec<u8>, walk: Walk<'_>, detail: Detail) -> Result<(), NoMemory>
+fn write_walk(out: &mut Vec<u8>, walk: Walk<'_>, detail: Detail) -> Result<(), NoMemory>
     ensures { Adds (flat_map (item_lines detail) walk.entry) result out.old out.new }
 {
     for item in walk {
         write_item(out, item, detail)?;
     }
     Ok(())
+}
+
+// Adds the line of a folder itself, where the profile tells it.
+fn write_folder(out: &mut Vec<u8>, profile: Profile, place: Place<'_>) -> Result<(), NoMemory>
+    ensures { Adds (folder_line profile place.entry) result out.old out.new }
+{
+    match profile {
+        Profile::Named => Ok(()),
+        Profile::Wide => match place {
+            Place::Root => Ok(()),
+            Place::At(folder) => write_directory(out, folder),
+        },
+    }
+}
+
+// Adds a place and all that is below it.
+pub(crate) fn write_below(
+    out: &mut Vec<u8>,
+    profile: Profile,
+    place: Place<'_>,
+    walk: Walk<'_>,
+    detail: Detail,
+) -> Result<(), NoMemory>
+    ensures { Adds (folder_line profile place.entry ++ flat_map (item_lines detail) walk.entry) result out.old out.new }
+{
+    write_folder(out, profile, place)?;
+    write_walk(out, walk, detail)
 }

@@ -2,11 +2,11 @@
 ghost use Rattle.std.specs.Prelude.{◌≡◌};
 ghost use Rattle.std.specs.List.{flat_map};
 ghost use Rattle.command_text.specs.Answer.{Adds};
-ghost use Rattle.machine_core.specs.Entries.{place_info, position_info};
+ghost use Rattle.machine_core.specs.Entries.{file_info, place_info, position_info};
 ghost use Rattle.machine_core.specs.Spans.{positions_in};
 
 use crate::span::Span;
-use command_text::{NoMemory, write_entry, write_place};
+use command_text::{NoMemory, write_entry, write_numbered_file, write_place};
 use play_queue::Entries;
 use state_codec::Saved;
 
@@ -71,6 +71,26 @@ pub(crate) fn write_places(
 {
     for position in positions {
         write_place_at(out, entries, *position)?;
+    }
+    Ok(())
+}
+
+// Adds the file of the entry at a position, if one stands there.
+fn write_file_at(out: &mut Vec<u8>, entries: &Entries, position: usize) -> Result<(), NoMemory>
+    ensures { Adds (file_info entries.now position) result out.old out.new }
+{
+    match entries.get(position) {
+        Some(entry) => write_numbered_file(out, position, entry.uri.as_str()),
+        None => Ok(()),
+    }
+}
+
+// Adds the files of the entries at the positions of a span, numbered.
+pub(crate) fn write_files(out: &mut Vec<u8>, entries: &Entries, span: Span) -> Result<(), NoMemory>
+    ensures { Adds (flat_map (file_info entries.now) (positions_in span)) result out.old out.new }
+{
+    for position in span.start..span.end {
+        write_file_at(out, entries, position as usize)?;
     }
     Ok(())
 }

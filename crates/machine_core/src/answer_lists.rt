@@ -3,18 +3,24 @@ ghost use Rattle.std.specs.Prelude.{map};
 ghost use Rattle.std.specs.List.{flat_map};
 ghost use Rattle.command_text.specs.Answer.{Adds};
 ghost use Rattle.command_text.specs.AnswerSongs.{file_line};
+ghost use Rattle.machine_core.specs.Database.{root_lists};
 ghost use Rattle.machine_core.specs.Lists.{name_lines, song_info};
 
 use command_text::{NoMemory, write_file, write_playlist, write_song};
-use song_db::{SongDb, Uri};
+use profile::Profile;
+use song_db::{Place, SongDb, Uri};
 use stored_lists::Lists;
 
 // Adds the names of the playlists.
-pub(crate) fn write_list_names(out: &mut Vec<u8>, lists: &Lists) -> Result<(), NoMemory>
-    ensures { Adds (name_lines lists.now) result out.old out.new }
+pub(crate) fn write_list_names(
+    out: &mut Vec<u8>,
+    profile: Profile,
+    lists: &Lists,
+) -> Result<(), NoMemory>
+    ensures { Adds (name_lines profile lists.now) result out.old out.new }
 {
     for name in lists.names() {
-        write_playlist(out, name)?;
+        write_playlist(out, profile, name)?;
     }
     Ok(())
 }
@@ -41,6 +47,24 @@ pub(crate) fn write_song_infos(
         write_song_info(out, database, uri.as_str())?;
     }
     Ok(())
+}
+
+// Adds the names of the playlists behind the root, where the profile tells them there.
+pub(crate) fn write_root_lists(
+    out: &mut Vec<u8>,
+    profile: Profile,
+    lists: &Lists,
+    place: Place<'_>,
+) -> Result<(), NoMemory>
+    ensures { Adds (root_lists profile lists.now place.entry) result out.old out.new }
+{
+    match profile {
+        Profile::Named => Ok(()),
+        Profile::Wide => match place {
+            Place::Root => write_list_names(out, profile, lists),
+            Place::At(_) => Ok(()),
+        },
+    }
 }
 
 fn write_song_info(out: &mut Vec<u8>, database: &SongDb, uri: &str) -> Result<(), NoMemory>

@@ -20,6 +20,7 @@ mod playing;
 mod queue;
 mod saving;
 mod settings;
+mod setup;
 mod status;
 mod sticker;
 
@@ -71,6 +72,7 @@ impl Machine {
             Command::Stickers(command) => self.perform_stickers(alloc, command, work),
             Command::Playing(command) => self.perform_playing(alloc, command, work),
             Command::Session(_) => Ok(()),
+            Command::Setup(command) => self.perform_setup(command, work),
         }
     }
 }

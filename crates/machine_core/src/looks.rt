@@ -94,6 +94,7 @@ impl Machine {
             Command::Stickers(command) => self.stickers_looks(command),
             Command::Playing(_) => self.choice_looks(),
             Command::Session(_) => 0,
+            Command::Setup(_) => 0,
         }
     }
 
@@ -208,6 +209,7 @@ impl Machine {
             FindingCommand::InQueue(_, filter) => {
                 10 * ((u64::from(filter.tests()) + 1) * self.entry_count())
             }
+            FindingCommand::ListFiles(filter) => self.values_looks(filter.as_ref()),
             FindingCommand::ListTag(_, filter) => self.values_looks(filter.as_ref()),
         }
     }

@@ -220,11 +220,11 @@ impl Work {
     }
 
     /// Ends the answer by the `ACK` line of want of memory at this command, for which there is room.
-    pub fn want_memory(&mut self, index: u32, line: &[u8])
+    pub fn want_memory(&mut self, profile: Profile, index: u32, line: &[u8])
         requires { HasRoom ack_room self.old }
-        ensures { AddsText (ack index (want_of_memory (name_of_line line.now))) self.old self.new }
+        ensures { AddsText (ack index (want_of_memory (name_of_line profile line.now))) self.old self.new }
     {
-        let refusal = want_of_memory(line);
+        let refusal = want_of_memory(profile, line);
         match write_ack(&mut self.text, index, &refusal) {
             Ok(()) => {}
             Err(_) => unreachable!(),

@@ -217,6 +217,16 @@ module _ {S : Type 0} (remaining contents : S → Option (List ℕ)) where
     unrefused = refl;
   })
 
+  pub moves_put_off : (a b : Client S) → b ≡ record a { has_more = true } → Moves remaining contents [] [] a b
+  moves_put_off a b is = subst (Moves remaining contents [] [] a) (sym is) (record {
+    same = refl;
+    grows = grows_by_none (given contents a) (given contents a) (keeps_itself (given contents a));
+    taken = consumes_nothing (remaining a.stream) (remaining a.stream) (keeps_itself (remaining a.stream));
+    left = inr refl;
+    closing = λ h. (refl, h);
+    unrefused = refl;
+  })
+
   -- nothing was read or written of its stream
   pub moves_watched : (a : Client S) (stream : S) (more : Bool) → IsUntouched remaining contents a.stream stream
       → Moves remaining contents [] [] a (record a { stream = stream; has_more = more })

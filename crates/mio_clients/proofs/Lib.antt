@@ -11,3 +11,5 @@ pub mod NumberLaws
 pub mod WaitingLaws
 pub mod TurnLaws
 pub mod GroupLaws
+pub mod RoundLaws
+pub mod OverLaws

@@ -1,7 +1,11 @@
 -- A turn of the loop, part by part.
-use Rattle.std.proofs.Common.{◌≡◌, ◌≢◌, ℕ, ◌+◌, ◌<◌, ◌==◌, List, [], ◌∷◌, ◌++◌, Option, Some, Bool, true, false}
-use Rattle.std.proofs.Common.{refl, sym, subst, ◌∙◌, ap, append_assoc, arith, inl, inr, length, zero}
+use Rattle.std.proofs.Common.{◌≡◌, ◌≢◌, ℕ, ◌+◌, ◌<◌, ◌==◌, List, [], ◌∷◌, ◌++◌, Option, Some, None, Bool, true, false}
+use Rattle.std.proofs.Common.{refl, sym, subst, ◌∙◌, ap, append_assoc, arith, inl, inr, length, zero, suc, min, drop, ◌-◌, ◌≤◌}
+use Rattle.std.specs.Prelude.{IsTrue}
 use Rattle.std.proofs.lemmas.List.{append-nil}
+use Rattle.std.proofs.lemmas.List.Sums.{sum_by-append}
+use Rattle.std.proofs.Math.Seq.{drop-append_seam}
+use Rattle.live_stage.specs.Numbers.{greatest}
 use Rattle.std.proofs.lemmas.Bool.{eqb-true, eqb-false}
 use Rattle.slab.specs.Slab.{Slab, get}
 use Rattle.command_text.specs.declared.request.Request.{Request}
@@ -19,10 +23,11 @@ use Rattle.mio_clients.specs.declared.turning.Kept.TheVariants as kept
 use Rattle.mio_clients.specs.Events.{asked_by_event, asked_in}
 use Rattle.mio_clients.specs.Connections.{ConnectionsState, IsVacant, IsAlone}
 use Rattle.mio_clients.specs.Later.{AllGoOn, IsLater, Loses, no_bytes, no_requests, bytes_for}
-use Rattle.mio_clients.specs.Leaving.{AllLeave, IsLeft, AllFollow, IsFollowed}
+use Rattle.std.specs.List.{AllByRecursion}
+use Rattle.mio_clients.specs.Leaving.{AllLeave, IsLeft, AllFollow, IsFollowed, IsForgotten}
 use Rattle.mio_clients.specs.Waiting.{QuietBehind}
 use Rattle.stage_workers.specs.declared.refusal.StageError.{StageError}
-use Rattle.mio_clients.specs.Parts.{bytes_in, bytes_of, requests_in, request_of, asked_of, served_count, refuses, RefusesLast, Serves, IsKeptOf, IsKeptAs, bytes_to, bytes_to_all, sent_by, sent_by_all, sent_by_served}
+use Rattle.mio_clients.specs.Parts.{bytes_in, bytes_of, requests_in, request_of, asked_of, served_count, refuses, RefusesLast, Serves, looks_in, looks_of, IsWithin, IsKeptOf, IsKeptAs, bytes_to, bytes_to_all, sent_by, sent_by_all, sent_by_served}
 use Rattle.mio_clients.proofs.LeavingLaws.{all_of, leaves_from, leaves_lost}
 use Rattle.mio_clients.proofs.FollowLaws.{all_itself, all_twice, all_then_none, all_same, all_still, later_then}
 
@@ -435,6 +440,24 @@ module _ {S : Type 0} (remaining contents : S → Option (List ℕ)) where
       (ended_later z d [] d.left e.places sent served later, ended_leave z d [] d.left e.places sent served d.left leave) in
       subst (λ (t : ConnectionsState S). IsLater remaining contents sent served z t × AllLeave remaining contents sent served z t t.gone) (sym ends) both
 
+  all_both : (P Q R : Client S → Type 0) (xs : List (Client S)) → ((x : Client S) → P x → Q x → R x) → AllByRecursion P xs
+      → AllByRecursion Q xs → AllByRecursion R xs
+  all_both P Q R [] f p q = tt
+  all_both P Q R (x ∷ xs) f p q = (f x p.0 q.0, all_both P Q R xs f p.1 q.1)
+
+  -- of those that were let go of nothing is left, where all of that was let go of in the end
+  pub closed_turn : (z c d e : ConnectionsState S) (sent : ℕ → List ℕ) (served : ℕ → List Request)
+      → d ≡ record c { events = d.events; room = d.room } → AllByRecursion (λ last. IsForgotten last.id d) c.left
+      → e ≡ record d { left = []; places = e.places; gone = d.left } → AllLeave remaining contents sent served z e e.gone
+      → AllByRecursion (λ last. asked_in last.id e.events ≡ []) e.gone
+  closed_turn z c d e sent served same forgotten ends leave =
+      let those : c.left ≡ e.gone = sym (ap (λ (t : ConnectionsState S). t.gone) ends ∙ ap (λ (t : ConnectionsState S). t.left) same) in
+      all_both (λ last. IsLeft remaining contents (sent last.id) (served last.id) z e last) (λ last. IsForgotten last.id d)
+      (λ last. asked_in last.id e.events ≡ []) e.gone
+      (λ x l h. ap (λ (t : ConnectionsState S). asked_in x.id t.events) ends
+      ∙ h (λ key client there. l.vacant key client (ap (λ (t : ConnectionsState S). get t.clients key) ends ∙ there))) leave.each
+      (subst (λ (l : List (Client S)). AllByRecursion (λ last. IsForgotten last.id d) l) those forgotten)
+
   module _ {D : Type 0} where
     pub serves_as : (g h : Bool) (a b : ConnectionsState S) (ps qs : List (Part D)) (x y : PassState) → g ≡ h
         → Serves remaining contents g a b ps qs x y → Serves remaining contents h a b ps qs x y
@@ -463,3 +486,34 @@ module _ {S : Type 0} (remaining contents : S → Option (List ℕ)) where
         → Serves remaining contents false a b ps qs x y → refuses qs ≡ false → QuietBehind zero b.events
     whole_told a b ps qs x y none s quiet =
         absurd (cc (s.told refl, ap refuses (whole_is false a b ps qs x y none s), quiet))
+
+-- ---- how much a turn looks at
+
+module _ {D : Type 0} where
+  -- with what the parts that were added looked at
+  pub looks_more : (ps qs added rest : List (Part D)) (looks looked more from : ℕ) → qs ≡ ps ++ added → from ≡ length ps → rest ≡ drop from qs
+      → looks ≡ min (looks_in ps) greatest → looked ≡ min (looks_in rest) greatest → more ≡ min (looks + looked) greatest
+      → more ≡ min (looks_in qs) greatest
+  looks_more ps qs added rest looks looked more from is front behind before now sum =
+      let these : rest ≡ added =
+      behind ∙ (ap (λ (n : ℕ). drop n qs) front ∙ (ap (λ (l : List (Part D)). drop (length ps) l) is ∙ drop-append_seam ps added)) in
+      let whole = ap looks_in is ∙ sum_by-append looks_of ps added in
+      let last = ap looks_in these in
+      omega (arith, whole, last, before, now, sum)
+
+  -- of what was collected nothing is added
+  pub looks_same : (ps qs : List (Part D)) (outbox : List (List Output)) → qs ≡ ps ++ Collected outbox ∷ [] → looks_in qs ≡ looks_in ps
+  looks_same ps qs outbox is = (let whole = ap looks_in is ∙ sum_by-append looks_of ps (Collected outbox ∷ []) in omega (arith, whole))
+
+within_counted : (bound : Option ℕ) (looks total : ℕ) → looks ≤ total → IsWithin bound total → IsWithin bound looks
+within_counted None looks total less h = tt
+within_counted (Some most) looks total less h = omega (arith, less, h)
+
+-- all is served where so much was looked at, and there is a bound or none
+pub quiet_within : (left looks total : ℕ) (bound : Option ℕ) (more : Bool) (es : List ClientEvent)
+    → ((0 < left) × IsWithin bound looks → IsTrue more) → more ≡ false → looks ≡ min total greatest → IsWithin bound total
+    → QuietBehind left es → QuietBehind zero es
+quiet_within zero looks total bound more es goes ends counted within h = h
+quiet_within (suc n) looks total bound more es goes ends counted within h =
+    let yes : IsTrue more = goes (omega arith, within_counted bound looks total (omega (arith, counted)) within) in
+    absurd (cc (yes, ends))

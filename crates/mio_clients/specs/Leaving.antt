@@ -1,5 +1,5 @@
 -- What clients that are let go of were given, and what of their requests is served.
-use Rattle.std.specs.Prelude.{◌≡◌, ◌⊎◌, ℕ, ◌<◌, ◌≤◌, List, [], ◌∷◌, ◌++◌, Option, Some, true, IsSomeAnd}
+use Rattle.std.specs.Prelude.{◌≡◌, ◌⊎◌, ℕ, ◌<◌, ◌≤◌, List, [], ◌∷◌, ◌++◌, length, get_or, Option, Some, true, IsSomeAnd}
 use Rattle.std.specs.List.{concat, AllByRecursion}
 use Rattle.std.specs.Io.KnownBytes.{Keeps, Consumes, append_known}
 use Rattle.slab.specs.Slab.{get}
@@ -64,6 +64,14 @@ pub record AllLeave {S : Type 0} (remaining contents : S → Option (List ℕ)) 
       → IsSomeAnd (get new.clients key) (λ now. now.id ≡ client.id) ⊎ IsAmong client.id gone
   pub absent : (c : ℕ) → IsVacant old c → IsVacant new c → (IsAmong c gone → ⊥)
       → (unserved : List Request) × (served c ++ (asked_in c new.events ++ unserved) ≡ asked_in c old.events)
+
+-- who has this number is connected, or nothing that it asked for waits
+abbrev pub IsForgotten : {S : Type 0} → ℕ → ConnectionsState S → Type 0
+IsForgotten c connections = IsVacant connections c → asked_in c connections.events ≡ []
+
+-- at this place of these clients there is one of this number
+abbrev pub IsLeftAt : {S : Type 0} → ℕ → ℕ → List (Client S) → Type 0
+IsLeftAt {S} place id left = (place < length left) × ((d : Client S) → let there = get_or left place d in there.id ≡ id)
 
 -- Clients go on or are let go of; none has connected.
 pub record AllFollow {S : Type 0} (remaining contents : S → Option (List ℕ)) (sent : ℕ → List ℕ) (served : ℕ → List Request)

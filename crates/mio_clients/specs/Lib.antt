@@ -9,3 +9,4 @@ pub mod Refusal
 pub mod Parts
 pub mod Waiting
 pub mod Grouping
+pub mod Rounds

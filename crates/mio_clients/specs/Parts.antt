@@ -1,5 +1,5 @@
 -- What the parts of a turn of the loop carry.
-use Rattle.std.specs.Prelude.{◌≡◌, ◌≢◌, ℕ, ◌+◌, ◌≤◌, ◌==◌, List, [], ◌∷◌, ◌++◌, Bool, true, false, Option, if◌then◌else◌}
+use Rattle.std.specs.Prelude.{◌≡◌, ◌≢◌, ℕ, ◌+◌, ◌≤◌, ◌==◌, sum_by, List, [], ◌∷◌, ◌++◌, Bool, true, false, Option, None, Some, if◌then◌else◌}
 use Rattle.command_text.specs.declared.request.Request.{Request}
 use Rattle.daemon_core.specs.declared.event.Event.{Event}
 use Rattle.daemon_core.specs.declared.event.Event.TheVariants as stage_events
@@ -14,6 +14,7 @@ use Rattle.mio_clients.specs.declared.event.ClientEvent.{ClientEvent}
 use Rattle.mio_clients.specs.declared.event.ClientEvent.TheVariants as events
 use Rattle.mio_clients.specs.declared.turning.Kept.{Kept}
 use Rattle.mio_clients.specs.declared.turning.Kept.TheVariants as kept
+use Rattle.live_stage.specs.Group.{answer_looks}
 use Rattle.mio_clients.specs.Events.{asked_in, asked_by_event, AsksNothing}
 use Rattle.mio_clients.specs.Connections.{ConnectionsState, IsVacant}
 use Rattle.mio_clients.specs.Later.{no_bytes, no_requests}
@@ -91,6 +92,21 @@ refuses [] = false
 refuses (Served served ∷ parts) = refuses parts
 refuses (Collected outbox ∷ parts) = refuses parts
 refuses (Refused error ∷ parts) = true
+
+-- how much the event of a part looked at
+abbrev pub looks_of : {D : Type 0} → Part D → ℕ
+looks_of (Served served) = answer_looks served.turn
+looks_of (Collected outbox) = 0
+looks_of (Refused error) = 0
+
+-- how much the events of parts looked at in all
+abbrev pub looks_in : {D : Type 0} → List (Part D) → ℕ
+looks_in parts = sum_by looks_of parts
+
+-- so much was looked at, and there is a bound or none: no more than that
+abbrev pub IsWithin : Option ℕ → ℕ → Type 0
+IsWithin None looks = Unit {0}
+IsWithin (Some most) looks = looks ≤ most
 
 -- where no part refuses, no request is left among these events
 abbrev pub IsServedAll : {D : Type 0} → List (Part D) → List ClientEvent → Type 0

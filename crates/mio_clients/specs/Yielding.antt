@@ -1,6 +1,6 @@
 -- Which client gives way to another, and how clients are accepted.
 use Rattle.std.specs.Prelude.{◌≡◌, ◌≢◌, ◌⊎◌, ℕ, ◌+◌, ◌^◌, ◌-◌, ◌<◌, ◌≤◌, List, [], ◌∷◌, length, Option, None, Some, Result, Ok, Err}
-use Rattle.std.specs.Prelude.{Bool, true, false, ◌||◌, nat_lt, if◌then◌else◌}
+use Rattle.std.specs.Prelude.{Bool, true, false, not, ◌||◌, ◌&&◌, ◌==◌, nat_lt, if◌then◌else◌, MatchOption}
 use Rattle.std.specs.Io.KnownBytes.{Keeps}
 use Rattle.slab.specs.Slab.{get}
 use Rattle.mio_clients.specs.declared.client.Client.{Client}
@@ -66,6 +66,14 @@ keeps_for client = if client.was_served then yield_after else yield_unserved_aft
 -- whether a client waits in idle, was not sent all that it was given, or has a request that waits to be served
 abbrev pub is_busy : {S : Type 0} → List ClientEvent → Client S → Bool
 is_busy events client = client.is_waiting || nat_lt 0 (length client.session.queued) || has_request_of client.id events
+
+-- whether a client is over: it is to be closed, was sent all that it was given, and no request of it waits
+abbrev pub is_over : {S : Type 0} → List ClientEvent → Client S → Bool
+is_over events client = client.is_closing && (length client.session.queued == 0) && not (has_request_of client.id events)
+
+-- the client at this key is let go of only if it is over
+abbrev pub OnlyIfOver : {S : Type 0} → ℕ → ConnectionsState S → ConnectionsState S → Type 0
+OnlyIfOver key old new = MatchOption (get old.clients key) (new ≡ old) (λ client. is_over old.events client ≡ false → new ≡ old)
 
 -- when something last came of a client or was given to it, where one that is busy is active now
 abbrev pub active_until : {S : Type 0} → ConnectionsState S → Client S → ℕ

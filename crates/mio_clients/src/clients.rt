@@ -1,14 +1,16 @@
 // The clients of the daemon: who is accepted, read and written, and what of it is told.
-ghost use Rattle.std.specs.Prelude.{◌≡◌, ◌⊎◌, ◌+◌, ◌<◌, ◌≤◌, ℕ, ◌∷◌, [], List, length, OnSome, IfOk};
+ghost use Rattle.std.specs.Prelude.{◌≡◌, ◌⊎◌, ◌+◌, ◌<◌, ◌≤◌, ℕ, ◌∷◌, [], List, length, true, OnSome, IfOk};
 ghost use Rattle.std.specs.Prelude.{◌↔◌, IfErr, IsErrOf, IsTrue, IfSome, MatchOption};
 ghost use Rattle.slab.specs.Slab.{get, slab_len};
 ghost use Rattle.mio_clients.specs.Events.{asked_by_event, asked_in};
 ghost use Rattle.mio_clients.specs.Grouping.{group_len, group_limit};
+ghost use Rattle.mio_clients.specs.Rounds.{IsDealt};
 ghost use Rattle.mio_clients.specs.Waiting.{StaysQuiet};
 ghost use Rattle.mio_clients.specs.Connections.{ConnectionsState, IsFull, IsVacant};
 ghost use Rattle.mio_clients.specs.Later.{no_bytes, no_requests, bytes_for, IsFault, Loses};
-ghost use Rattle.mio_clients.specs.Leaving.{AllFollow, IsFollowed};
-ghost use Rattle.mio_clients.specs.Yielding.{AcceptsAll, Arrival, ComesTo, NowWaits, TellsOf, has_refused, was_refused};
+ghost use Rattle.std.specs.List.{AllByRecursion};
+ghost use Rattle.mio_clients.specs.Leaving.{AllFollow, IsFollowed, IsForgotten};
+ghost use Rattle.mio_clients.specs.Yielding.{AcceptsAll, Arrival, ComesTo, NowWaits, OnlyIfOver, TellsOf, has_refused, was_refused};
 
 use crate::client::{Reading, Writing};
 use crate::connections::Connections;
@@ -17,7 +19,7 @@ use crate::listener::Listener;
 use crate::ready::{Ready, Token};
 use crate::refusal::ClientsError;
 use crate::stream::Stream;
-use crate::{CALL_LIMIT, CLIENT_LIMIT, READ_SIZE};
+use crate::{CALL_LIMIT, CLIENT_LIMIT, GROUP_LIMIT, READ_SIZE};
 use std::alloc::{AllocError, Global};
 use std::io::ErrorKind;
 use std::marker::Model;
@@ -56,6 +58,15 @@ impl Admission {
     }
 }
 
+// How many requests are served together at most, where so many were, and of those so many looked at so much.
+fn most_of_a_group(most: usize, bound: u64, served: usize, looks: u64) -> usize
+    ensures { (1 ≤ result) × (result ≤ group_limit) }
+{
+    let alike = bound.saturating_mul(served as u64) / looks.max(1);
+    let twice = most.saturating_mul(2);
+    (alike.min(twice as u64) as usize).clamp(1, GROUP_LIMIT)
+}
+
 /// The clients of the daemon, on one thread: each is accepted, read and written without waiting for it.
 #[derive(Drop)]
 pub struct Clients<S, L, P> {
@@ -65,6 +76,8 @@ pub struct Clients<S, L, P> {
     buffer: Vec<u8>,
     // There may be more clients to be accepted without a new readiness.
     is_accepting: bool,
+    // How many requests are served together at most, by how much the last ones looked at.
+    group_most: usize,
 }
 
 impl<S, L, P> Model for Clients<S, L, P> {
@@ -88,6 +101,7 @@ impl<S: Stream, L: Listener<S>, P: Ready<S>> Clients<S, L, P> {
             ready,
             buffer: vec![in alloc; 0u8; READ_SIZE]?,
             is_accepting: true,
+            group_most: GROUP_LIMIT,
         })
     }
 
@@ -269,15 +283,15 @@ impl<S: Stream, L: Listener<S>, P: Ready<S>> Clients<S, L, P> {
         ClientsError::NetFault(id)
     }
 
-    // Gathers what clients did of which the wait has told.
-    pub(crate) fn gather(&mut self, alloc: Global)
+    // Gathers what clients did of which the wait has told. Where turns are bounded, those of which a request waits are not read.
+    pub(crate) fn gather(&mut self, alloc: Global, is_bounded: bool)
         ensures later { IsFollowed S.remaining S.contents no_bytes no_requests self.old self.new }
     {
         for _token in 0..CALL_LIMIT {
             let Some(token) = self.ready.next() else {
                 break;
             };
-            self.take_token(alloc, token);
+            self.take_token(alloc, token, is_bounded);
         }
         if self.is_accepting {
             self.make_places();
@@ -299,6 +313,7 @@ impl<S: Stream, L: Listener<S>, P: Ready<S>> Clients<S, L, P> {
 
     // Lets go of a client that is to be closed, was sent all, and asked for nothing that waits.
     fn drop_over(&mut self, key: usize)
+        ensures over { OnlyIfOver key self.old self.new }
         ensures later { AllFollow S.remaining S.contents no_bytes no_requests self.old self.new }
     {
         if self.connections.is_over(key) {
@@ -307,22 +322,40 @@ impl<S: Stream, L: Listener<S>, P: Ready<S>> Clients<S, L, P> {
     }
 
     // Takes up what is ready.
-    fn take_token(&mut self, alloc: Global, token: Token)
+    fn take_token(&mut self, alloc: Global, token: Token, is_bounded: bool)
         ensures later { AllFollow S.remaining S.contents no_bytes no_requests self.old self.new }
     {
         match token {
-            Token::Client(key) => self.visit(alloc, key),
+            Token::Client(key) => self.visit(alloc, key, is_bounded),
             Token::Listener => self.is_accepting = true,
             Token::Woken => {}
         }
     }
 
     // Writes to a client that is ready, and reads of it.
-    fn visit(&mut self, alloc: Global, key: usize)
+    fn visit(&mut self, alloc: Global, key: usize, is_bounded: bool)
         ensures later { AllFollow S.remaining S.contents no_bytes no_requests self.old self.new }
     {
         let _written = self.write_ready(key);
-        let _read = self.read_ready(alloc, key);
+        self.read_or_put_off(alloc, key, is_bounded);
+    }
+
+    // Reads of a client, unless that is put off.
+    fn read_or_put_off(&mut self, alloc: Global, key: usize, is_bounded: bool)
+        ensures later { AllFollow S.remaining S.contents no_bytes no_requests self.old self.new }
+    {
+        if self.is_put_off(key, is_bounded) {
+            self.connections.put_off(key);
+        } else {
+            let _read = self.read_ready(alloc, key);
+        }
+    }
+
+    // Whether reading of the client at a key is put off: where turns are bounded, as long as a request of it waits.
+    fn is_put_off(&self, key: usize, is_bounded: bool) -> bool
+        ensures { result ≡ true → is_bounded ≡ true }
+    {
+        is_bounded && self.connections.is_asking(key)
     }
 
     // Sends what is queued for each client, and lets go of those that are to be closed, were sent all, and asked for nothing that waits.
@@ -375,11 +408,59 @@ impl<S: Stream, L: Listener<S>, P: Ready<S>> Clients<S, L, P> {
         self.connections.event_count()
     }
 
-    // How many events are served together next.
-    pub(crate) fn group_len(&self) -> usize
-        ensures { result ≡ group_len group_limit self.now.events }
+    // Has the first request of each client served before a second one of any other.
+    pub(crate) fn deal(&mut self, alloc: Global)
+        ensures same { self.new ≡ record self.old { events = self.new.events; room = self.new.room } }
+        ensures dealt { IsDealt self.old.events self.new.events ⊎ (self.new.events ≡ self.old.events) }
     {
-        self.connections.group_len()
+        self.connections.deal(alloc);
+    }
+
+    // How many events are served together next.
+    pub(crate) fn group_len(&self, is_bounded: bool) -> usize
+        ensures { (n : ℕ) × (n ≤ group_limit) × (result ≡ group_len n self.now.events) }
+    {
+        self.connections.group_len(self.most_together(is_bounded))
+    }
+
+    // How many events are served together at most.
+    fn most_together(&self, is_bounded: bool) -> usize
+        ensures { result ≤ group_limit }
+    {
+        if is_bounded {
+            self.group_most.clamp(1, GROUP_LIMIT)
+        } else {
+            GROUP_LIMIT
+        }
+    }
+
+    // Whether requests were left by the turn before, where turns are bounded.
+    pub(crate) fn has_left(&self, is_bounded: bool) -> bool
+        ensures { result ≡ true → is_bounded ≡ true }
+    {
+        is_bounded && self.event_count() > 0
+    }
+
+    // So many requests were served that looked at so much. Where turns are bounded, no more of the next ones are served together than look
+    // at as much as a turn does, if they are alike, and at most twice as many.
+    pub(crate) fn bound_group(&mut self, bound: Option<u64>, served: usize, looks: u64)
+        ensures { self.new ≡ self.old }
+    {
+        if let Some(most) = bound {
+            self.group_most = most_of_a_group(self.group_most, most, served, looks);
+        }
+    }
+
+    // Lets go of what those asked for that were let go of, where turns are bounded: their answers would reach nobody.
+    pub(crate) fn forget_left(&mut self, is_bounded: bool)
+        ensures later { AllFollow S.remaining S.contents no_bytes no_requests self.old self.new }
+        ensures same { self.new ≡ record self.old { events = self.new.events; room = self.new.room } }
+        ensures forgotten { is_bounded ≡ true → AllByRecursion (λ last. IsForgotten last.id self.new) self.old.left }
+        ensures quiet { StaysQuiet self.old.events self.new.events }
+    {
+        if is_bounded {
+            self.connections.forget_left();
+        }
     }
 
     // Takes the first event that waits.

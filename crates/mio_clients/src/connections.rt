@@ -1,15 +1,17 @@
 // Who is connected, under which key and number, and what they did and was not served yet.
-ghost use Rattle.std.specs.Prelude.{◌≡◌, ◌≢◌, ◌↔◌, ◌+◌, ◌-◌, ◌^◌, ◌<◌, ◌≤◌, ℕ, ◌∷◌, [], length, Some, IsSome, IsTrue, MatchOption};
+ghost use Rattle.std.specs.Prelude.{◌≡◌, ◌≢◌, ◌⊎◌, ◌↔◌, ◌+◌, ◌-◌, ◌^◌, ◌<◌, ◌≤◌, ℕ, ◌∷◌, [], length, Some, IsSome, IsTrue, MatchOption};
 ghost use Rattle.std.specs.Prelude.{false, true, IfOk, IfSome, OnOk, OnSome};
 ghost use Rattle.slab.specs.Slab.{get, slab_len};
 ghost use Rattle.mio_clients.specs.Connections.{ConnectionsState, IsVacant, IsAt, IsAlone, IsAdmitted, IsFull, IsFailedAt, client_limit};
-ghost use Rattle.mio_clients.specs.Events.{asked_by_event, without};
-ghost use Rattle.mio_clients.specs.Grouping.{group_len, group_limit};
+ghost use Rattle.mio_clients.specs.Events.{asked_by_event, asked_in, has_request_of, without};
+ghost use Rattle.mio_clients.specs.Grouping.{group_len};
+ghost use Rattle.mio_clients.specs.Rounds.{IsDealt};
 ghost use Rattle.mio_clients.specs.Waiting.{StaysQuiet};
 ghost use Rattle.mio_clients.specs.Later.{no_bytes, no_requests, bytes_for, Loses};
-ghost use Rattle.mio_clients.specs.Leaving.{AllFollow, IsFollowed};
+ghost use Rattle.std.specs.List.{AllByRecursion};
+ghost use Rattle.mio_clients.specs.Leaving.{AllFollow, IsFollowed, IsForgotten, IsLeftAt};
 ghost use Rattle.mio_clients.specs.Yielding.{IsFound, IsFoundBelow, IsHeardAt, MayYield, NowWaits, WasGiven};
-ghost use Rattle.mio_clients.specs.Yielding.{active_until, is_busy, keeps_until};
+ghost use Rattle.mio_clients.specs.Yielding.{active_until, is_busy, is_over, keeps_until};
 
 use crate::CLIENT_LIMIT;
 use crate::client::{Client, Reading, Writing};
@@ -17,7 +19,7 @@ use crate::event::ClientEvent;
 use crate::queue::EventQueue;
 use crate::ready::Ready;
 use crate::slots::{
-    drop_slot, queue_slot, read_slot, release_slot, wait_slot, watch_slot, write_slot,
+    drop_slot, put_off_slot, queue_slot, read_slot, release_slot, wait_slot, watch_slot, write_slot,
 };
 use crate::stream::Stream;
 use slab::Slab;
@@ -247,7 +249,9 @@ impl<S: Stream> Connections<S> {
     }
 
     /// Whether the client at a key is to be closed, was sent all that is queued for it, and no request of it waits.
-    pub(crate) fn is_over(&self, key: usize) -> bool {
+    pub(crate) fn is_over(&self, key: usize) -> bool
+        ensures { MatchOption (get self.now.clients key) (result ≡ false) (λ client. result ≡ is_over self.now.events client) }
+    {
         match self.clients.get(key) {
             Some(client) => {
                 client.is_closing
@@ -368,6 +372,24 @@ impl<S: Stream> Connections<S> {
         write_slot(&mut self.clients, key)
     }
 
+    /// Whether a request of the client at a key waits.
+    pub(crate) fn is_asking(&self, key: usize) -> bool
+        ensures { MatchOption (get self.now.clients key) (result ≡ false) (λ client. result ≡ has_request_of client.id self.now.events) }
+    {
+        match self.clients.get(key) {
+            Some(client) => self.queue.has_request_of(client.id),
+            None => false,
+        }
+    }
+
+    /// Puts off what is to be read of the client at a key.
+    pub(crate) fn put_off(&mut self, key: usize)
+        ensures later { AllFollow S.remaining S.contents no_bytes no_requests self.old self.new }
+        ensures events { self.new.events ≡ self.old.events }
+    {
+        put_off_slot(&mut self.clients, key);
+    }
+
     /// Reads of the client at a key what is there, unless something is queued for it or it is to be closed, and gathers its requests.
     /// Where memory is refused, it is let go of.
     pub(crate) fn read_at(
@@ -431,6 +453,54 @@ impl<S: Stream> Connections<S> {
         self.queue.forget(id);
     }
 
+    /// Lets go of the requests that wait of those that were let go of.
+    pub(crate) fn forget_left(&mut self)
+        ensures later { AllFollow S.remaining S.contents no_bytes no_requests self.old self.new }
+        ensures same { self.new ≡ record self.old { events = self.new.events; room = self.new.room } }
+        ensures forgotten { AllByRecursion (λ last. IsForgotten last.id self.new) self.old.left }
+        ensures quiet { StaysQuiet self.old.events self.new.events }
+    {
+        let mut left = self.left_count();
+        while left > 0 {
+            left -= 1;
+            let Some(id) = self.left_id(left) else {
+                return;
+            };
+            self.forget_gone(id);
+        }
+    }
+
+    // How many were let go of.
+    fn left_count(&self) -> usize
+        ensures { result ≡ length self.now.left }
+    {
+        self.left.len()
+    }
+
+    // The number of one of those that were let go of.
+    fn left_id(&self, place: usize) -> Option<u64>
+        ensures { MatchOption result (length self.now.left ≤ place) (λ id. IsLeftAt place id self.now.left) }
+    {
+        match self.left.get(place) {
+            Some(client) => Some(client.id),
+            None => None,
+        }
+    }
+
+    // Lets go of the requests of the client of this number that wait, if it isn't there any more.
+    fn forget_gone(&mut self, id: u64)
+        ensures later { AllFollow S.remaining S.contents no_bytes no_requests self.old self.new }
+        ensures same { self.new ≡ record self.old { events = self.new.events; room = self.new.room } }
+        ensures forgotten { IsForgotten id self.new }
+        ensures others { (c : ℕ) → asked_in c self.old.events ≡ [] → asked_in c self.new.events ≡ [] }
+        ensures quiet { StaysQuiet self.old.events self.new.events }
+    {
+        match self.find(id) {
+            Some(_) => {}
+            None => self.forget(id),
+        }
+    }
+
     /// A request of the client of this number is served: it waits until it is given something.
     pub(crate) fn await_answer(&mut self, id: u64)
         ensures waits { NowWaits id self.old self.new }
@@ -447,11 +517,19 @@ impl<S: Stream> Connections<S> {
         self.queue.is_next(id)
     }
 
-    /// How many events are served together next.
-    pub(crate) fn group_len(&self) -> usize
-        ensures { result ≡ group_len group_limit self.now.events }
+    /// Puts the first request of each client in front of the others.
+    pub(crate) fn deal(&mut self, alloc: Global)
+        ensures same { self.new ≡ record self.old { events = self.new.events; room = self.new.room } }
+        ensures dealt { IsDealt self.old.events self.new.events ⊎ (self.new.events ≡ self.old.events) }
     {
-        self.queue.group_len()
+        self.queue.deal(alloc);
+    }
+
+    /// How many events are served together next, at most so many.
+    pub(crate) fn group_len(&self, most: usize) -> usize
+        ensures { result ≡ group_len most self.now.events }
+    {
+        self.queue.group_len(most)
     }
 
     /// Takes the first event that waits.

@@ -109,7 +109,7 @@ impl<S: Stream, L: Listener<S>, P: Ready<S>> Clients<S, L, P> {
         room: GroupRoom,
         count: usize,
     ) -> (Option<usize>, Pass<C, Q, T>)
-        requires count { (count ≡ group_len group_limit self.old.events) × (0 < count) }
+        requires count { ((n : ℕ) × (count ≡ group_len n self.old.events)) × (0 < count) }
         requires parts { vec_len parts.old + count < vec_capacity parts.old }
         requires empty { (room.events.items ≡ []) × (room.clients.items ≡ []) }
         requires room { (count ≤ vec_capacity room.events) × (count ≤ vec_capacity room.clients) }
@@ -167,7 +167,7 @@ impl<S: Stream, L: Listener<S>, P: Ready<S>> Clients<S, L, P> {
         clients: &mut Vec<u64>,
         askers: &mut Vec<Option<u64>>,
     )
-        requires count { (count ≡ group_len group_limit self.old.events) × (0 < count) }
+        requires count { ((n : ℕ) × (count ≡ group_len n self.old.events)) × (0 < count) }
         requires empty { (events.old.items ≡ []) × (clients.old.items ≡ []) }
         requires room { (count ≤ vec_capacity events.old) × (count ≤ vec_capacity clients.old) }
         requires askers { (askers.old.items ≡ []) × (count ≤ vec_capacity askers.old) }

@@ -37,6 +37,9 @@ const CALL_LIMIT: u32 = 65_536;
 /// How many events are served together, at most.
 const GROUP_LIMIT: usize = 64;
 
+/// How much a turn of the loop should look at, as docs/PROTOCOL.md counts it, before it serves no further group: a tenth of a second.
+pub const TURN_LOOKS: u64 = 2_000_000;
+
 /// For how many milliseconds a client keeps its place in silence: an hour.
 pub const YIELD_AFTER: u64 = 3_600_000;
 

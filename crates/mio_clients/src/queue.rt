@@ -1,9 +1,10 @@
 // Events that wait to be served.
-ghost use Rattle.std.specs.Prelude.{◌≡◌, ◌+◌, ◌-◌, ◌<◌, ◌≤◌, ◌∷◌, ◌++◌, [], length, IfSome, MatchOption, OnOk, OnErr};
+ghost use Rattle.std.specs.Prelude.{◌≡◌, ◌+◌, ◌-◌, ◌<◌, ◌≤◌, ◌∷◌, ◌++◌, ◌⊎◌, [], length, IfSome, MatchOption, OnOk, OnErr};
 ghost use Rattle.mio_clients.specs.Events.{asked_by, has_request_of, is_request_of, without};
-ghost use Rattle.mio_clients.specs.Grouping.{group_len, group_limit, place_of};
+ghost use Rattle.std.specs.VecDeque.{deque_len, deque_capacity};
+ghost use Rattle.mio_clients.specs.Grouping.{group_len, place_of};
+ghost use Rattle.mio_clients.specs.Rounds.{is_due, IsDealt, IsRound};
 
-use crate::GROUP_LIMIT;
 use crate::event::ClientEvent;
 use client_session::Requests;
 use command_text::Request;
@@ -63,6 +64,31 @@ fn place_of(event: &ClientEvent) -> Place
         ClientEvent::Request(_, Request::Single(_) | Request::Noidle) => Place::Inside,
         ClientEvent::Request(_, Request::List(_) | Request::OkList(_)) => Place::Last,
         ClientEvent::Connect(_) | ClientEvent::Gone(_) => Place::Outside,
+    }
+}
+
+// Whether a request of this client is among events.
+fn has_request(events: &VecDeque<ClientEvent>, client: u64) -> bool
+    ensures { result ≡ has_request_of client events.now.items }
+{
+    let mut place = 0;
+    while let Some(event) = events.get(place) {
+        if is_request_of(event, client) {
+            return true;
+        }
+        place += 1;
+    }
+    false
+}
+
+// Whether an event belongs to a round that has these: a connect, or a request of a client of which it has none.
+fn is_due(event: &ClientEvent, round: &VecDeque<ClientEvent>) -> bool
+    ensures { result ≡ is_due round.now.items event.now }
+{
+    match event {
+        ClientEvent::Connect(_) => true,
+        ClientEvent::Request(client, _) => !has_request(round, *client),
+        ClientEvent::Gone(_) => false,
     }
 }
 
@@ -176,22 +202,64 @@ impl EventQueue {
     pub(crate) fn has_request_of(&self, client: u64) -> bool
         ensures { result ≡ has_request_of client self.now.events }
     {
-        let mut place = 0;
-        while let Some(event) = self.events.get(place) {
-            if is_request_of(event, client) {
-                return true;
-            }
-            place += 1;
-        }
-        false
+        has_request(&self.events, client)
     }
 
-    /// How many events are served together next: the requests that stand first, at most `GROUP_LIMIT`, up to a command list.
-    pub(crate) fn group_len(&self) -> usize
-        ensures len { result ≡ group_len group_limit self.now.events }
+    /// Puts the first request of each client in front of the others, in the order of these, and with them the connects. Where there is no
+    /// memory for that, all stays as it is.
+    pub(crate) fn deal(&mut self, alloc: Global)
+        ensures dealt { IsDealt self.old.events self.new.events ⊎ (self.new.events ≡ self.old.events) }
+        ensures spare { self.new.spare ≡ self.old.spare }
+        ensures room { self.new.room ≡ self.old.room }
+    {
+        let mut round = VecDeque::new(alloc);
+        if round.reserve(self.events.len()).is_err() {
+            return;
+        }
+        self.take_round(&mut round);
+        self.put_in_front(&mut round);
+    }
+
+    // Takes the first request of each client, and the connects. Each other event is put to the end.
+    fn take_round(&mut self, round: &mut VecDeque<ClientEvent>)
+        requires empty { round.old.items ≡ [] }
+        requires room { deque_len round.old + length self.old.events ≤ deque_capacity round.old }
+        ensures taken { IsRound self.old.events round.new.items self.new.events }
+        ensures spare { self.new.spare ≡ self.old.spare }
+        ensures room { self.new.room ≡ self.old.room + deque_len round.new }
+    {
+        let mut left = self.events.len();
+        while left > 0 {
+            left -= 1;
+            let Some(event) = self.events.pop_front() else {
+                return;
+            };
+            if is_due(&event, round) {
+                round.push_back_reserved(event);
+            } else {
+                self.events.push_back_reserved(event);
+            }
+        }
+    }
+
+    // Puts these events in front of the others.
+    fn put_in_front(&mut self, round: &mut VecDeque<ClientEvent>)
+        requires room { self.old.spare + deque_len round.old ≤ self.old.room }
+        ensures events { self.new.events ≡ round.old.items ++ self.old.events }
+        ensures spare { self.new.spare ≡ self.old.spare }
+        ensures room { self.old.room ≡ self.new.room + deque_len round.old }
+    {
+        while let Some(last) = round.pop_back() {
+            self.events.push_front_reserved(last);
+        }
+    }
+
+    /// How many events are served together next: the requests that stand first, at most so many, up to a command list.
+    pub(crate) fn group_len(&self, most: usize) -> usize
+        ensures len { result ≡ group_len most self.now.events }
     {
         let mut count = 0;
-        while count < GROUP_LIMIT {
+        while count < most {
             let Some(event) = self.events.get(count) else {
                 return count;
             };

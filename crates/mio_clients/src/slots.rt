@@ -68,6 +68,17 @@ pub(crate) fn read_slot<S: Stream>(
     }
 }
 
+// There is more to be read of the client at this key, which is put off.
+#[tactic(auto, using(crate::proofs::ConnectionLaws::len_with_value))]
+pub(crate) fn put_off_slot<S: Stream>(clients: &mut Slab<Client<S>>, key: usize)
+    ensures elsewhere { IsSameElsewhere key clients.old clients.new }
+    ensures moved { IsMovedAt (λ x y. y ≡ record x { has_more = true }) key clients.old clients.new }
+{
+    if let Some(client) = clients.get_mut(key) {
+        client.has_more = true;
+    }
+}
+
 // Queues bytes for the client at this key. Where that is refused, it is not to be used any more.
 #[tactic(auto, using(crate::proofs::ConnectionLaws::len_with_value))]
 pub(crate) fn queue_slot<S: Stream>(

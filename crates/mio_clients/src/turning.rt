@@ -1,14 +1,18 @@
 // One turn of the loop: what clients did is gathered and served, and what they are given is sent.
-ghost use Rattle.std.specs.Prelude.{◌≡◌, ◌+◌, ◌<◌, ◌≤◌, ℕ, [], zero, false, true, is_some, vec_len, vec_capacity, IfOk, IfErr, IfSome};
+ghost use Rattle.std.specs.Prelude.{◌≡◌, ◌⊎◌, ◌+◌, ◌<◌, ◌≤◌, ℕ, [], zero, min, Option, Some};
+ghost use Rattle.std.specs.Prelude.{None, false, true, is_some, vec_len, vec_capacity, IfOk, IfErr, IfSome, ◌↔◌, IsTrue};
 ghost use Rattle.slab.specs.Slab.{slab_len};
-ghost use Rattle.mio_clients.specs.Events.{asked_by_event};
+ghost use Rattle.live_stage.specs.Numbers.{greatest};
+ghost use Rattle.std.specs.List.{AllByRecursion};
+ghost use Rattle.mio_clients.specs.Events.{asked_by_event, asked_in};
 ghost use Rattle.mio_clients.specs.Grouping.{TakesMany};
 ghost use Rattle.mio_clients.specs.Waiting.{QuietBehind, StaysQuiet, TakesFirst};
 ghost use Rattle.mio_clients.specs.Later.{no_bytes, no_requests, IsLater};
 ghost use Rattle.mio_clients.specs.Leaving.{AllFollow, AllLeave};
 ghost use Rattle.mio_clients.specs.Parts.{bytes_in, requests_in, served_count, refuses, RefusesLast, IsServedAll};
 ghost use Rattle.mio_clients.specs.Parts.{sent_by, sent_by_all, sent_by_served, asked_of, IsKeptOf, IsKeptAs, KeepsNoRequest, Serves};
-ghost use Rattle.mio_clients.specs.Parts.{stage_event_of, goes_on_with};
+ghost use Rattle.mio_clients.specs.Parts.{looks_in, looks_of, stage_event_of, goes_on_with, IsWithin};
+ghost use Rattle.mio_clients.specs.Rounds.{IsDealt};
 ghost use Rattle.mio_clients.specs.Yielding.{NowWaits};
 
 use crate::clients::{Clients, Sending};
@@ -24,6 +28,37 @@ use stage_workers::{Outbox, Outputs, Pass, Served, SharedStage, StageError};
 use std::alloc::Global;
 use std::sync::Wait;
 use std::sync::ledger::Ledger;
+
+// How much the event of a part looked at.
+fn looks_of<D>(part: &Part<D>) -> u64
+    ensures { result ≡ looks_of part.now }
+{
+    match part {
+        Part::Served(served) => served.turn.looks(),
+        Part::Collected(_) | Part::Refused(_) => 0,
+    }
+}
+
+// How much the events of these parts looked at, counted up to 2^64 - 1.
+fn looks_in<D>(parts: &[Part<D>]) -> u64
+    ensures { result ≡ min (looks_in parts.now) greatest }
+{
+    let mut looks: u64 = 0;
+    for part in parts {
+        looks = looks.saturating_add(looks_of(part));
+    }
+    looks
+}
+
+// Whether a turn in which so many events are left goes on where it looked at so much.
+fn serves_more(left: usize, looks: u64, bound: Option<u64>) -> bool
+    ensures { IsTrue result ↔ ((0 < left) × IsWithin bound looks) }
+{
+    match bound {
+        None => left > 0,
+        Some(most) => left > 0 && looks <= most,
+    }
+}
 
 // What can be done about an event that was refused.
 #[derive(Drop)]
@@ -80,16 +115,60 @@ impl<S: Stream, L: Listener<S>, P: Ready<S>> Clients<S, L, P> {
         ensures all { IfOk result (λ r. IsServedAll r.0.items self.new.events) }
         ensures err { IfErr result (λ e. (e.0 ≡ StageError.NoMemory) × (e.1 ≡ pass) × (self.new ≡ self.old)) }
     {
+        self.turn_within(rt, alloc, stage, pass, None)
+    }
+
+    /// The same, where a turn may be bounded: behind the group or the request by which it has looked at more than `bound`, as
+    /// docs/PROTOCOL.md counts it, no further one is served before the next turn.
+    ///
+    /// Then the first request of each client is served before a second one of any other, a client is not read of which a request waits, and
+    /// what one asked for that was let go of is not served any more.
+    pub fn turn_within<R: Wait, D: Disk, C: Ledger, Q: Ledger, T: Ledger>(
+        &mut self,
+        rt: &R,
+        alloc: Global,
+        stage: &SharedStage<D, C, Q, T>,
+        pass: Pass<C, Q, T>,
+        bound: Option<u64>,
+    ) -> Result<(Vec<Part<D>>, Pass<C, Q, T>), (StageError, Pass<C, Q, T>)>
+        ensures later { IfOk result (λ r. IsLater S.remaining S.contents (bytes_in r.0.items) (requests_in r.0.items) self.old self.new) }
+        ensures left { IfOk result (λ r. AllLeave S.remaining S.contents (bytes_in r.0.items) (requests_in r.0.items)
+            self.old self.new self.new.gone) }
+        ensures share { IfOk result (λ r. (r.1.kind ≡ pass.kind) × (r.1.share ≡ pass.share + served_count r.0.items)) }
+        ensures seen { IfOk result (λ r. pass.seen ≤ r.1.seen) }
+        ensures refused { IfOk result (λ r. RefusesLast r.0.items) }
+        // Where nothing is refused, and no more was looked at than that, no request stays gathered.
+        ensures all { IfOk result (λ r. IsWithin bound (looks_in r.0.items) → IsServedAll r.0.items self.new.events) }
+        // Of those that were let go of no request stays, where turns are bounded.
+        ensures closed { IfOk result (λ r. is_some bound ≡ true →
+            AllByRecursion (λ last. asked_in last.id self.new.events ≡ []) self.new.gone) }
+        ensures err { IfErr result (λ e. (e.0 ≡ StageError.NoMemory) × (e.1 ≡ pass) × (self.new ≡ self.old)) }
+    {
         let mut parts = Vec::new(alloc);
         if parts.reserve(1).is_err() {
             return Err((StageError::NoMemory, pass));
         }
+        let is_bounded = bound.is_some();
         self.begin_turn();
-        self.gather(alloc);
-        let pass = self.serve_all(rt, alloc, stage, pass, &mut parts);
+        let is_left = self.has_left(is_bounded);
+        self.gather(alloc, is_bounded);
+        self.take_turns(alloc, is_left);
+        let pass = self.serve_all(rt, alloc, stage, pass, &mut parts, bound);
         self.send_all();
+        self.forget_left(is_bounded);
         self.close_left();
         Ok((parts, pass))
+    }
+
+    // Where requests were left by the turn before, the first of each client is served before a second one of any other.
+    fn take_turns(&mut self, alloc: Global, is_left: bool)
+        ensures later { AllFollow S.remaining S.contents no_bytes no_requests self.old self.new }
+        ensures dealt { is_left ≡ true → IsDealt self.old.events self.new.events ⊎ (self.new.events ≡ self.old.events) }
+        ensures same { is_left ≡ false → self.new ≡ self.old }
+    {
+        if is_left {
+            self.deal(alloc);
+        }
     }
 
     // Serves what was gathered, and then collects.
@@ -100,6 +179,7 @@ impl<S: Stream, L: Listener<S>, P: Ready<S>> Clients<S, L, P> {
         stage: &SharedStage<D, C, Q, T>,
         pass: Pass<C, Q, T>,
         parts: &mut Vec<Part<D>>,
+        bound: Option<u64>,
     ) -> Pass<C, Q, T>
         requires empty { parts.old.items ≡ [] }
         requires room { vec_len parts.old < vec_capacity parts.old }
@@ -107,9 +187,9 @@ impl<S: Stream, L: Listener<S>, P: Ready<S>> Clients<S, L, P> {
         ensures share { (result.kind ≡ pass.kind) × (result.share ≡ pass.share + served_count parts.new.items) }
         ensures seen { pass.seen ≤ result.seen }
         ensures refused { RefusesLast parts.new.items }
-        ensures quiet { refuses parts.new.items ≡ false → QuietBehind zero self.new.events }
+        ensures quiet { refuses parts.new.items ≡ false → IsWithin bound (looks_in parts.new.items) → QuietBehind zero self.new.events }
     {
-        let (goes_on, pass) = self.serve_each(rt, alloc, stage, pass, parts);
+        let (goes_on, pass) = self.serve_each(rt, alloc, stage, pass, parts, bound);
         if goes_on {
             let outbox = stage.collect(rt, alloc);
             self.give_outbox(&outbox, Sending::AtOnce);
@@ -118,7 +198,7 @@ impl<S: Stream, L: Listener<S>, P: Ready<S>> Clients<S, L, P> {
         pass
     }
 
-    // Serves the events that were gathered, in order; `false` where the turn ends.
+    // Serves the events that were gathered, in order, until they looked at more than is allowed; `false` where one is refused.
     fn serve_each<R: Wait, D: Disk, C: Ledger, Q: Ledger, T: Ledger>(
         &mut self,
         rt: &R,
@@ -126,21 +206,28 @@ impl<S: Stream, L: Listener<S>, P: Ready<S>> Clients<S, L, P> {
         stage: &SharedStage<D, C, Q, T>,
         pass: Pass<C, Q, T>,
         parts: &mut Vec<Part<D>>,
+        bound: Option<u64>,
     ) -> (bool, Pass<C, Q, T>)
         requires room { vec_len parts.old < vec_capacity parts.old }
         ensures serves { Serves S.remaining S.contents result.0 self.old self.new parts.old.items parts.new.items pass result.1 }
-        ensures quiet { result.0 ≡ true → QuietBehind zero self.new.events }
+        ensures quiet { result.0 ≡ true → IsWithin bound (looks_in parts.new.items) → QuietBehind zero self.new.events }
         ensures room { result.0 ≡ true → vec_len parts.new < vec_capacity parts.new }
     {
         let mut pass = pass;
         let mut left = self.event_count();
-        while left > 0 {
-            let (served, passed) = self.serve_some(rt, alloc, stage, pass, parts);
+        let mut looks = looks_in(parts.as_slice());
+        'left: while serves_more(left, looks, bound) {
+            let from = parts.len();
+            let (served, passed) = self.serve_some(rt, alloc, stage, pass, parts, bound.is_some());
             let Some(count) = served else {
                 return (false, passed);
             };
             pass = passed;
             left = left.saturating_sub(count);
+            let (_, added) = parts.as_slice().split_at(from);
+            let looked = looks_in(added);
+            looks = looks.saturating_add(looked);
+            self.bound_group(bound, count, looked);
         }
         (true, pass)
     }
@@ -154,6 +241,7 @@ impl<S: Stream, L: Listener<S>, P: Ready<S>> Clients<S, L, P> {
         stage: &SharedStage<D, C, Q, T>,
         pass: Pass<C, Q, T>,
         parts: &mut Vec<Part<D>>,
+        is_bounded: bool,
     ) -> (Option<usize>, Pass<C, Q, T>)
         requires room { vec_len parts.old < vec_capacity parts.old }
         ensures serves { Serves S.remaining S.contents (is_some result.0) self.old self.new parts.old.items parts.new.items pass result.1 }
@@ -161,7 +249,7 @@ impl<S: Stream, L: Listener<S>, P: Ready<S>> Clients<S, L, P> {
         ensures quiet { IfSome result.0 (λ n. TakesMany n self.old.events self.new.events) }
         ensures room { IfSome result.0 (λ _. vec_len parts.new < vec_capacity parts.new) }
     {
-        let count = self.group_len();
+        let count = self.group_len(is_bounded);
         if count > 1 {
             if let Some(room) = GroupRoom::new(alloc, count, parts) {
                 return self.serve_group(rt, alloc, stage, pass, parts, room, count);

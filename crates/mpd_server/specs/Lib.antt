@@ -1,3 +1,4 @@
 pub mod Ends
 pub mod Lines
 pub mod Openings
+pub mod Turns

@@ -13,6 +13,7 @@ use disk_model::Disk;
 use live_stage::{Live, Receipt};
 use log::{Log, warn};
 use mio_clients::{Clients, Listener, Ready, Stream};
+use profile::Profile;
 use song_db::ScanOrder;
 use song_files::Folder;
 use song_output::{OpenGate, SoundOutput};
@@ -222,7 +223,7 @@ fn work<
     passes: Passes<C, P, S>,
     clients: &'a mut Clients<T, L, Y>,
     (tools, signals, ends): (Tools<F, G, W>, &'a Signals<H, K>, &'a Ends),
-    (jobs, orders): (Jobs, Receiver<ScanOrder>),
+    (profile, jobs, orders): (Profile, Jobs, Receiver<ScanOrder>),
 ) -> Worked<C, P, S, F, G, W>
 where
     F::File: Send,
@@ -256,7 +257,7 @@ where
             let player = start_player(scope, rt, alloc, stage, wake, player, sources, output);
             let scan = start_scan(scope, rt, alloc, stage, wake, scan, folder, orders);
             let (turns, mine) = if player.is_some() && scan.is_some() {
-                run_loop(rt, alloc, stage, mine, clients, jobs)
+                run_loop(rt, alloc, profile, stage, mine, clients, jobs)
             } else {
                 // A scan's thread ends where nobody is left who could send it an order.
                 drop(jobs);
@@ -322,13 +323,14 @@ where
             return (life, Some(tools));
         }
     };
+    let profile = live.profile();
     let stage = SharedStage::<D, C, P, S>::new(alloc, live, blanks);
     let mut status = ServeStatus::NoThread;
     let mut is_ended = false;
     let mut back = (None, None);
     if let Ok(passes) = Passes::of(rt, &stage) {
         let ends = Ends::none();
-        let jobs = (Jobs::new(sender, signals.rules), orders);
+        let jobs = (profile, Jobs::new(sender, signals.rules), orders);
         let tools = (tools, signals, &ends);
         let worked = work(rt, alloc, &stage, passes, clients, tools, jobs);
         is_ended = worked.turns.is_ended;

@@ -1,11 +1,16 @@
 // The loop, in the thread that began the daemon.
-ghost use Rattle.std.specs.Prelude.{◌≡◌};
+ghost use Rattle.std.specs.Prelude.{◌≡◌, [], IfOk};
+ghost use Rattle.std.specs.List.{AllByRecursion};
+ghost use Rattle.mio_clients.specs.Events.{asked_in};
+ghost use Rattle.mio_clients.specs.Parts.{looks_in, IsServedAll, IsWithin};
+ghost use Rattle.mpd_server.specs.Turns.{turn_bound};
 
 use crate::jobs::Jobs;
 use disk_model::Disk;
 use live_stage::Receipt;
 use log::{Log, info, warn};
-use mio_clients::{Clients, Listener, Part, Ready, Stream};
+use mio_clients::{Clients, Listener, Part, Ready, Stream, TURN_LOOKS};
+use profile::Profile;
 use stage_workers::{Pass, SharedStage, StageError};
 use std::alloc::Global;
 use std::sync::Wait;
@@ -20,8 +25,6 @@ pub(crate) struct Turns {
     pub(crate) is_ended: bool,
     // A disk has failed.
     is_faulted: bool,
-    // A checkpoint was due at the last event, and found no memory.
-    is_overdue: bool,
 }
 
 impl Turns {
@@ -30,7 +33,6 @@ impl Turns {
             receipt: None,
             is_ended: false,
             is_faulted: false,
-            is_overdue: false,
         }
     }
 
@@ -46,7 +48,6 @@ impl Turns {
                 Part::Served(served) => {
                     self.receipt = Some(served.turn.receipt());
                     self.look_for_end(rt, served.turn.ended());
-                    self.look_for_checkpoint(rt, served.turn.is_overdue());
                 }
                 Part::Collected(_) => {}
                 Part::Refused(error) => self.refused(rt, *error),
@@ -62,14 +63,6 @@ impl Turns {
         }
     }
 
-    // That checkpoints find no memory is told once, until one is made.
-    fn look_for_checkpoint<R: Log>(&mut self, rt: &R, is_overdue: bool) {
-        if is_overdue && !self.is_overdue {
-            warn!(rt; "checkpoint: out of memory; until there is enough, the journal grows with each change");
-        }
-        self.is_overdue = is_overdue;
-    }
-
     // An event was refused: for want of memory it is served by a later turn, else the loop ends. A disk fault is told later.
     fn refused<R: Log>(&mut self, rt: &R, error: StageError) {
         match error {
@@ -81,6 +74,45 @@ impl Turns {
             }
         }
     }
+}
+
+// How much a turn looks at before it ends: under the first profile it serves all that was gathered.
+fn turn_bound(profile: Profile) -> Option<u64>
+    ensures { result ≡ turn_bound profile }
+{
+    match profile {
+        Profile::Named => None,
+        Profile::Wide => Some(TURN_LOOKS),
+    }
+}
+
+// The parts of a turn and the pass, or why nothing was done.
+type Turned<D, C, P, S> = Result<(Vec<Part<D>>, Pass<C, P, S>), (StageError, Pass<C, P, S>)>;
+
+// One turn, by the bound of a profile.
+fn turn_under<
+    D: Disk,
+    C: Ledger,
+    P: Ledger,
+    S: Ledger,
+    T: Stream,
+    L: Listener<T>,
+    Y: Ready<T>,
+    R: Wait,
+>(
+    rt: &R,
+    alloc: Global,
+    profile: Profile,
+    stage: &SharedStage<D, C, P, S>,
+    pass: Pass<C, P, S>,
+    clients: &mut Clients<T, L, Y>,
+) -> Turned<D, C, P, S>
+    ensures all { IfOk result (λ r. IsWithin (turn_bound profile) (looks_in r.0.items) → IsServedAll r.0.items clients.new.events) }
+    // Under the wide profile no request stays of those that were let go of.
+    ensures closed { IfOk result (λ r. profile ≡ Profile.Wide →
+        AllByRecursion (λ last. asked_in last.id clients.new.events ≡ []) clients.new.gone) }
+{
+    clients.turn_within(rt, alloc, stage, pass, turn_bound(profile))
 }
 
 /// Serves clients until one of them ends the daemon, or an event is refused by anything but want of memory. It hands the pass back.
@@ -96,6 +128,7 @@ pub(crate) fn run_loop<
 >(
     rt: &R,
     alloc: Global,
+    profile: Profile,
     stage: &SharedStage<D, C, P, S>,
     pass: Pass<C, P, S>,
     clients: &mut Clients<T, L, Y>,
@@ -104,7 +137,7 @@ pub(crate) fn run_loop<
     let mut pass = pass;
     let mut turns = Turns::none();
     for _ in rt.forever() {
-        match clients.turn_of_loop(rt, alloc, stage, pass) {
+        match turn_under(rt, alloc, profile, stage, pass, clients) {
             Ok((parts, back)) => {
                 pass = back;
                 turns.take(rt, &parts);

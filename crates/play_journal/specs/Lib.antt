@@ -9,6 +9,7 @@ pub mod Laws
 pub mod Laying
 pub mod Opening
 pub mod Pair
+pub mod Pieces
 pub mod Reading
 pub mod Room
 pub mod Steps

@@ -7,10 +7,10 @@ ghost use Rattle.play_journal.specs.File.{open_gate, head};
 ghost use Rattle.play_journal.specs.Room.{room};
 ghost use Rattle.play_journal.specs.Steps.{IsLaidFirst, IsRefusalOverEmpty, AreUntouched};
 
-use crate::JournalError;
-use crate::laying::{head_bytes, lay_down};
+use crate::laying::{Head, lay_down};
 use crate::opening::record_room;
 use crate::reading::HEAD_LEN;
+use crate::{JournalError, Pieces};
 use disk_model::Disk;
 use std::alloc::Global;
 
@@ -18,30 +18,37 @@ use std::alloc::Global;
 pub(crate) const LONGEST_SNAPSHOT: usize = 0xffff_ffff;
 
 // Makes the file in use, and the buffer for one record. The answer has the offset of the closing gate.
-pub(crate) fn fresh_journal<D: Disk>(
+pub(crate) fn fresh_journal<D: Disk, P: Pieces>(
     alloc: Global,
     a: &mut D,
     b: &mut D,
     layout: u32,
-    snapshot: &[u8],
+    snapshot: P,
 ) -> Result<(Vec<u8>, u64), JournalError>
     ensures laid { OnOk result (IsLaidFirst D.honest D.history D.content a.old b.old a.new b.new
-        (open_gate ∷ head layout 1 0 (length snapshot.now) ++ snapshot.now ++ 0 ∷ [])) }
+        (open_gate ∷ head layout 1 0 (length (P.left snapshot)) ++ P.left snapshot ++ 0 ∷ [])) }
     ensures room { IfOk result (λ r. room ≤ vec_capacity r.0) }
-    ensures end { IfOk result (λ r. r.1 ≡ 32 + length snapshot.now) }
-    ensures too_long { (result ≡ Err JournalError.TooLong) ↔ (4294967295 < length snapshot.now) }
+    ensures end { IfOk result (λ r. r.1 ≡ 32 + length (P.left snapshot)) }
+    ensures too_long { (result ≡ Err JournalError.TooLong) ↔ (4294967295 < length (P.left snapshot)) }
     ensures later { AreLater D.honest D.history D.faults a.old b.old a.new b.new }
     ensures fault { D.honest a.old → D.honest b.old → result ≡ Err JournalError.DiskFault → HasFailed D.faults a.old b.old a.new b.new }
     ensures nothing_else { IfErr result IsRefusalOverEmpty }
     ensures stays { IfErr result (λ e. e ≢ JournalError.DiskFault → AreUntouched a.old b.old a.new b.new) }
     ensures met_none { OnOk result (SameFaults D.faults a.old b.old a.new b.new) }
 {
-    if snapshot.len() > LONGEST_SNAPSHOT {
+    let mut snapshot = snapshot;
+    let len = snapshot.len();
+    if len > LONGEST_SNAPSHOT {
         return Err(JournalError::TooLong);
     }
-    let buffer = record_room(alloc)?;
-    let head = head_bytes(alloc, layout, 1, 0, snapshot.len())?;
+    let mut buffer = record_room(alloc)?;
+    let says = Head {
+        layout,
+        generation: 1,
+        base: 0,
+        size: len as u32,
+    };
     b.sync()?;
-    lay_down(a, &head, snapshot)?;
-    Ok((buffer, (HEAD_LEN + snapshot.len()) as u64))
+    lay_down(a, &mut buffer, says, &mut snapshot)?;
+    Ok((buffer, (HEAD_LEN + len) as u64))
 }

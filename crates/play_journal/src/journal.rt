@@ -11,15 +11,16 @@ ghost use Rattle.play_journal.specs.FileRead.{content_read};
 ghost use Rattle.play_journal.specs.JournalState.{at_place, content_in, IsKept};
 ghost use Rattle.play_journal.specs.Opening.{IsCause};
 ghost use Rattle.play_journal.specs.Pair.{reading, AllPairsNow, AllPairsSince, KeepsFound};
+ghost use Rattle.play_journal.specs.Pieces.{most_pieces};
 ghost use Rattle.play_journal.specs.Room.{room};
 ghost use Rattle.play_journal.specs.Steps.{IsReady, HasNumbersOf};
 
 use crate::appending::{RECORD_HEAD, append_at, put_record};
 use crate::creating::{LONGEST_SNAPSHOT, fresh_journal};
-use crate::laying::{head_bytes, lay_down};
+use crate::laying::{Head, lay_down};
 use crate::opening::{Opened, open_files};
 use crate::reading::{FileRead, HEAD_LEN, LONGEST_BODY, is_written};
-use crate::{JournalError, Refused, Stored};
+use crate::{JournalError, Pieces, Refused, Stored};
 use disk_model::Disk;
 use std::alloc::Global;
 use std::marker::Model;
@@ -78,24 +79,24 @@ impl<D: Disk> Journal<D> {
     ///
     /// It refuses in the order `NotEmpty`, `TooLong`, `NoMemory`, `DiskFault`. A crash inside the call may leave files that
     /// are neither empty nor a journal.
-    pub fn create(
+    pub fn create<P: Pieces>(
         alloc: Global,
         a: D,
         b: D,
         layout: u32,
-        snapshot: &[u8],
+        snapshot: P,
     ) -> Result<Journal<D>, Refused<D>>
         requires written { IsWrittenLayout layout }
 
         // From `Ok` on the files give the snapshot without records: file a is in use, and file b is empty.
-        ensures kept { D.honest a → D.honest b → IfOk result (λ j. Holds D.history j (fresh layout snapshot.now)) }
-        ensures new { IfOk result (λ j. IsNew D.faults a b j layout (length snapshot.now)) }
+        ensures kept { D.honest a → D.honest b → IfOk result (λ j. Holds D.history j (fresh layout (P.left snapshot))) }
+        ensures new { IfOk result (λ j. IsNew D.faults a b j layout (length (P.left snapshot))) }
         ensures empty { D.honest a → D.honest b → IfOk result (λ j. D.content j.b ≡ []) }
 
         ensures not_empty { D.honest a → D.honest b
             → (IsErrAnd result (λ e. e.error ≡ JournalError.NotEmpty) ↔ ((D.content a ≢ []) ⊎ (D.content b ≢ []))) }
         ensures too_long { D.honest a → D.honest b → D.content a ≡ [] → D.content b ≡ []
-            → (IsErrAnd result (λ e. e.error ≡ JournalError.TooLong) ↔ (4294967295 < length snapshot.now)) }
+            → (IsErrAnd result (λ e. e.error ≡ JournalError.TooLong) ↔ (4294967295 < length (P.left snapshot))) }
         ensures fault { D.honest a → D.honest b
             → IfErr result (λ e. e.error ≡ JournalError.DiskFault → HasFailed D.faults a b e.a e.b) }
         ensures nothing_else { IfErr result (λ e. IsRefusalOfCreate e.error) }
@@ -106,6 +107,7 @@ impl<D: Disk> Journal<D> {
             (λ e. AreLater D.honest D.history D.faults a b e.a e.b) }
     {
         let (mut a, mut b) = (a, b);
+        let len = snapshot.len();
         if !a.is_empty() || !b.is_empty() {
             return Err(Refused {
                 error: JournalError::NotEmpty,
@@ -122,7 +124,7 @@ impl<D: Disk> Journal<D> {
                 layout,
                 generation: 1,
                 base: 0,
-                snapshot_len: snapshot.len() as u64,
+                snapshot_len: len as u64,
                 count: 0,
                 bytes: 0,
                 buffer,
@@ -229,64 +231,61 @@ impl<D: Disk> Journal<D> {
     /// Makes a new snapshot: it is laid down in the other file in layout 2 or 3, to which records go from then on. The file from before
     /// isn't touched. A snapshot is at most 4,294,967,295 bytes long.
     ///
-    /// It refuses in the order `DiskFault` (spent), `TooLong`, `NumbersSpent` (the last generation is 2^64 - 1), `NoMemory`,
+    /// It takes no memory, and refuses in the order `DiskFault` (spent), `TooLong`, `NumbersSpent` (the last generation is 2^64 - 1),
     /// `DiskFault` (now). After the last the journal is spent, and the snapshot may be there or not: open the files again.
-    pub fn checkpoint(
-        &mut self,
-        alloc: Global,
-        layout: u32,
-        snapshot: &[u8],
-    ) -> Result<(), JournalError>
+    pub fn checkpoint<P: Pieces>(&mut self, layout: u32, snapshot: P) -> Result<(), JournalError>
         requires written { IsWrittenLayout layout }
 
         // Stopped at any moment, the files give what they gave before, or the new snapshot without records, which they give from
         // `Ok` on.
         ensures any_moment { D.honest self.old.a → D.honest self.old.b → self.old.is_spent ≡ false
-            → AllPairsSince (IsOldOrNew self.old.content layout snapshot.now)
+            → AllPairsSince (IsOldOrNew self.old.content layout (P.left snapshot))
             (D.history self.new.a) (length (D.history self.old.a)) (D.history self.new.b) (length (D.history self.old.b)) }
         ensures kept { D.honest self.old.a → D.honest self.old.b
-            → OnOk result (Holds D.history self.new (with_snapshot self.old.content layout snapshot.now)) }
-        ensures next { OnOk result (IsNextGeneration D.faults self.old self.new layout (length snapshot.now)) }
+            → OnOk result (Holds D.history self.new (with_snapshot self.old.content layout (P.left snapshot))) }
+        ensures next { OnOk result (IsNextGeneration D.faults self.old self.new layout (length (P.left snapshot))) }
 
-        ensures refuses { RefusesInOrder self.old self.new 4294967295 (length snapshot.now) self.old.generation result }
+        ensures refuses { RefusesInOrder self.old self.new 4294967295 (length (P.left snapshot)) self.old.generation result }
         ensures nothing_else { IfErr result IsRefusalOfCheckpoint }
         ensures fault { D.honest self.old.a → D.honest self.old.b → self.old.is_spent ≡ false → result ≡ Err JournalError.DiskFault
             → HasFailed D.faults self.old.a self.old.b self.new.a self.new.b }
 
-        // The file that was in use isn't touched, and the other by nine calls of its disk at most.
+        // The file that was in use isn't touched, and the other by eight calls of its disk and one for each piece at most.
         ensures calls { D.honest self.old.a → D.honest self.old.b → OnOk result (length (D.history self.new.a) + length
             (D.history self.new.b)
-            ≤ length (D.history self.old.a) + length (D.history self.old.b) + 9) }
+            ≤ length (D.history self.old.a) + length (D.history self.old.b)
+            + (8 + most_pieces (length (P.left snapshot)))) }
         ensures old_file { MatchBool self.old.is_in_b (self.new.b ≡ self.old.b) (self.new.a ≡ self.old.a) }
         ensures later { AreLater D.honest D.history D.faults self.old.a self.old.b self.new.a self.new.b }
     {
         if self.spent {
             return Err(JournalError::DiskFault);
         }
-        if snapshot.len() > LONGEST_SNAPSHOT {
+        let mut snapshot = snapshot;
+        let len = snapshot.len();
+        if len > LONGEST_SNAPSHOT {
             return Err(JournalError::TooLong);
         }
         if self.generation == u64::MAX {
             return Err(JournalError::NumbersSpent);
         }
-        let head = head_bytes(
-            alloc,
+        let says = Head {
             layout,
-            self.generation + 1,
-            self.base + self.count,
-            snapshot.len(),
-        )?;
-        if let Err(error) = lay_down(&mut self.there, &head, snapshot) {
+            generation: self.generation + 1,
+            base: self.base + self.count,
+            size: len as u32,
+        };
+        if let Err(error) = lay_down(&mut self.there, &mut self.buffer, says, &mut snapshot) {
             self.spent = true;
             return Err(error);
         }
         mem::swap(&mut self.here, &mut self.there);
         self.swapped = !self.swapped;
-        self.end = (HEAD_LEN + snapshot.len()) as u64;
+        self.end = (HEAD_LEN + len) as u64;
         self.layout = layout;
         self.generation += 1;
         self.base += self.count;
-        self.snapshot_len = snapshot.len() as u64;
+        self.snapshot_len = len as u64;
         self.count = 0;
         self.bytes = 0;
         Ok(())

@@ -8,11 +8,13 @@ mod journal;
 pub mod laws;
 mod laying;
 mod opening;
+mod pieces;
 mod reading;
 mod refusal;
 mod stored;
 
 pub use group::{GROUP_LEN, Group};
 pub use journal::Journal;
+pub use pieces::{LONGEST_PIECE, Pieces};
 pub use refusal::{JournalError, Refused};
 pub use stored::Stored;

@@ -5,12 +5,21 @@ use Rattle.std.specs.List.{list_any}
 use Rattle.std.specs.Str.{bytes_eq}
 use Rattle.song_db.specs.declared.rules.Endings.{Endings}
 
--- those of the files that a decoder beside the daemon reads, in small letters
+-- those of files whose sound is, as a rule, plain or packed without loss, in small letters
+abbrev pub lossless_endings : List (List ℕ)
+lossless_endings =
+    codes ".aif" ∷ codes ".aifc" ∷ codes ".aiff" ∷ codes ".ape" ∷ codes ".au" ∷ codes ".caf" ∷ codes ".dff" ∷ codes ".dsf"
+    ∷ codes ".tak" ∷ codes ".tta" ∷ codes ".wv" ∷ []
+
+-- those of sound that is coded with loss, and of what may have either
+abbrev pub coded_endings : List (List ℕ)
+coded_endings =
+    codes ".aac" ∷ codes ".asf" ∷ codes ".m4a" ∷ codes ".m4b" ∷ codes ".mka" ∷ codes ".mp2" ∷ codes ".mp3" ∷ codes ".mp4"
+    ∷ codes ".mpc" ∷ codes ".oga" ∷ codes ".ogg" ∷ codes ".opus" ∷ codes ".spx" ∷ codes ".wma" ∷ []
+
+-- those of the files that a decoder beside the daemon reads
 abbrev pub decoded_endings : List (List ℕ)
-decoded_endings =
-    codes ".aac" ∷ codes ".aif" ∷ codes ".aiff" ∷ codes ".ape" ∷ codes ".dff" ∷ codes ".dsf" ∷ codes ".m4a" ∷ codes ".m4b"
-    ∷ codes ".mka" ∷ codes ".mp2" ∷ codes ".mp3" ∷ codes ".mpc" ∷ codes ".oga" ∷ codes ".ogg" ∷ codes ".opus" ∷ codes ".spx"
-    ∷ codes ".tta" ∷ codes ".wma" ∷ codes ".wv" ∷ []
+decoded_endings = lossless_endings ++ coded_endings
 
 -- the endings in small letters
 abbrev pub endings_of : Endings → List (List ℕ)

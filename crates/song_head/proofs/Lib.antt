@@ -1,2 +1,7 @@
+mod Bracketed
+mod Ends
+mod Fitting
+mod Fronts
+mod Numerals
 mod RowList
 mod Texts

@@ -1,113 +1,81 @@
 -- The texts of tags, one after another.
-use Rattle.std.proofs.Common.{◌≡◌, ℕ, zero, suc, ◌+◌, ◌<◌, ◌≤◌, Bool, true, false, ◌&&◌, List, [], ◌∷◌, ◌++◌, length, take, drop, get_or}
+use Rattle.std.proofs.Common.{◌≡◌, ℕ, zero, suc, ◌+◌, ◌-◌, ◌<◌, ◌≤◌, nat_le, Bool, true, false, ◌&&◌, List, [], ◌∷◌, ◌++◌, length, take, drop, get_or}
 use Rattle.std.proofs.Common.{nat_lt, Some, None, refl, sym, ap, ◌∙◌, append_assoc, arith}
-use denote.Ref.{Bor}
-use Rattle.std.specs.Prelude.{Option, IfSome, IsTrue, filter, option_copied}
+use Rattle.std.specs.Prelude.{filter, slice_get}
 use Rattle.std.specs.List.{All, flat_map}
-use Rattle.std.specs.Option.{option_map_or}
 use Rattle.std.proofs.lemmas.Bool.Decides.{nat_tests}
-use Rattle.std.proofs.lemmas.List.{append-nil, at_drop_more, at_drop_all, length-take, length_push, take_all}
-use Rattle.std.proofs.lemmas.List.Elements.{All-get_or, All-head, All-nil, All-push, All-tail, All-take, All-weaker, filter-append}
-use Rattle.std.proofs.lemmas.Option.{same_Some}
+use Rattle.std.proofs.lemmas.Option.{get_or_from_slice_get, slice_get_within}
+use Rattle.std.proofs.lemmas.List.{append-nil, at_drop_more, at_drop_all, drop_all, drop_more, get_or-take, length-take, length_push, take_all, take_more}
+use Rattle.std.proofs.lemmas.List.Elements.{All-get_or, All-nil, All-push, All-take, All-weaker, filter-append}
 use Rattle.id3_tags.specs.Texts.{FrameText}
 use Rattle.song_files.specs.Limits.{MAX_TAGS}
-use Rattle.song_files.specs.Tag.{all_tags, is_tag, number_of, tag_at}
+use Rattle.song_files.specs.Tag.{all_tags, number_of, tag_at}
 use Rattle.song_files.specs.TagSet.{has_tag}
-use Rattle.song_files.specs.Tags.{TagText, added, first_text, with_text}
+use Rattle.song_files.specs.Tags.{AreTags, TagText, added, with_text}
 use Rattle.song_files.specs.Text.{is_tag_text}
 use Rattle.song_files.specs.declared.tag.Tag.{Tag}
 use Rattle.song_files.specs.declared.tag.TheConstants.{TAG_COUNT}
 use Rattle.song_files.proofs.TagNumbers.{all_long, take_tag}
 use Rattle.song_files.proofs.TagTexts.{with_text-last}
 use Rattle.song_head.specs.Added.{with_texts}
-use Rattle.song_head.specs.FrameTags.{frame_tag}
-use Rattle.song_head.specs.SongReading.{tells, texts_told, kept, own_or_told, tagged, texts_of_tags, song_texts}
+use Rattle.song_head.specs.FrameValues.{told_by, texts_told}
+use Rattle.song_head.specs.SongReading.{fitting, own_or_told, tagged, texts_of_tags}
+use Rattle.song_head.specs.declared.manner.Manner.{Manner}
+use Rattle.song_head.specs.declared.manner.Manner.TheVariants.{First}
 use Rattle.song_head.specs.declared.rules.ReadingRules.{ReadingRules}
-
--- ---- the first text of a tag is good where all are
-
-first_step : (t : TagText) (tags : List TagText) (tag : Tag) (text : List ℕ) (b : Bool) → is_tag t.tag tag ≡ b → is_tag_text t.text ≡ true
-    → (first_text tags tag ≡ Some text → is_tag_text text ≡ true) → first_text (t ∷ tags) tag ≡ Some text → is_tag_text text ≡ true
-first_step t tags tag text true own good rest is =
-    let same : t.text ≡ text = same_Some t.text text (rw own at is) in
-    rw (← same) good
-first_step t tags tag text false other good rest is = rest (rw other at is)
-
-first_good : (tags : List TagText) (tag : Tag) (text : List ℕ) → All (λ (t : TagText). is_tag_text t.text ≡ true) tags
-    → first_text tags tag ≡ Some text → is_tag_text text ≡ true
-first_good [] tag text good is = absurd (cc)
-first_good (t ∷ tags) tag text good is =
-    first_step t tags tag text (is_tag t.tag tag) refl (All-head (λ (t : TagText). is_tag_text t.text ≡ true) t tags good)
-    (λ later. first_good tags tag text (All-tail (λ (t : TagText). is_tag_text t.text ≡ true) t tags good) later) is
-
-pub own_good : (tags : List TagText) (tag : Tag) (found : Option (Bor (List ℕ))) → All (λ (t : TagText). is_tag_text t.text ≡ true) tags
-    → option_copied found ≡ first_text tags tag → IfSome found (λ text. IsTrue (is_tag_text text.now))
-own_good tags tag None good is = tt
-own_good tags tag (Some text) good is = first_good tags tag text.now good (sym is)
 
 -- ---- the texts that frames tell of a tag
 
-second_true : (a b : Bool) → (a && b) ≡ true → b ≡ true
-second_true true b h = h
-second_true false b h = absurd (cc)
+told_more : (manner : Manner) (frames : List FrameText) (i : ℕ) (d : FrameText) (tag : Tag) → i < length frames
+    → texts_told manner (drop i frames) tag ≡ told_by manner tag (get_or frames i d) ++ texts_told manner (drop (i + 1) frames) tag
+told_more manner frames i d tag within = at_drop_more (λ l. texts_told manner l tag) frames i d within
 
-good_of : (frame : FrameText) (tag : Tag) (own : Option Tag)
-    → option_map_or (λ own. is_tag own tag && is_tag_text frame.value) own false ≡ true → is_tag_text frame.value ≡ true
-good_of frame tag None told = absurd (cc)
-good_of frame tag (Some own) told = second_true (is_tag own tag) (is_tag_text frame.value) told
+pub with_more : (tags : List TagText) (tag : Tag) (texts more : List (List ℕ))
+    → with_texts tags tag (texts ++ more) ≡ with_texts (with_texts tags tag texts) tag more
+with_more tags tag [] more = refl
+with_more tags tag (text ∷ texts) more = with_more (added tags tag text) tag texts more
 
-pub text_is_good : (frame : FrameText) (tag : Tag) → tells tag frame ≡ true → is_tag_text frame.value ≡ true
-text_is_good frame tag told = good_of frame tag (frame_tag frame.id frame.description) told
+-- what one frame more tells is added
+pub frame_added : (tags after : List TagText) (tag : Tag) (manner : Manner) (frames : List FrameText) (i : ℕ) (d : FrameText)
+    (all : List TagText) → i < length frames → after ≡ with_texts tags tag (told_by manner tag (get_or frames i d))
+    → with_texts tags tag (texts_told manner (drop i frames) tag) ≡ all
+    → with_texts after tag (texts_told manner (drop (i + 1) frames) tag) ≡ all
+frame_added tags after tag manner frames i d all within is so_far =
+    ap (λ (l : List TagText). with_texts l tag (texts_told manner (drop (i + 1) frames) tag)) is
+    ∙ sym (with_more tags tag (told_by manner tag (get_or frames i d)) (texts_told manner (drop (i + 1) frames) tag))
+    ∙ sym (ap (with_texts tags tag) (told_more manner frames i d tag within)) ∙ so_far
 
-told_more : (frames : List FrameText) (i : ℕ) (d : FrameText) (tag : Tag) → i < length frames
-    → texts_told (drop i frames) tag ≡ texts_told (get_or frames i d ∷ drop (i + 1) frames) tag
-told_more frames i d tag within = at_drop_more (λ l. texts_told l tag) frames i d within
+pub all_told : (tags : List TagText) (tag : Tag) (manner : Manner) (frames : List FrameText) (i : ℕ) (all : List TagText)
+    → length frames ≤ i → with_texts tags tag (texts_told manner (drop i frames) tag) ≡ all → tags ≡ all
+all_told tags tag manner frames i all past so_far =
+    sym (ap (with_texts tags tag) (at_drop_all (λ l. texts_told manner l tag) frames i past)) ∙ so_far
 
-pub told_here : (frames : List FrameText) (i : ℕ) (d : FrameText) (tag : Tag) → i < length frames → tells tag (get_or frames i d) ≡ true
-    → texts_told (drop i frames) tag ≡ (get_or frames i d).value ∷ texts_told (drop (i + 1) frames) tag
-told_here frames i d tag within told = told_more frames i d tag within ∙ rw told refl
+-- ---- the first of them
 
-pub told_not : (frames : List FrameText) (i : ℕ) (d : FrameText) (tag : Tag) → i < length frames → tells tag (get_or frames i d) ≡ false
-    → texts_told (drop i frames) tag ≡ texts_told (drop (i + 1) frames) tag
-told_not frames i d tag within untold = told_more frames i d tag within ∙ rw untold refl
+-- a frame that tells nothing of it
+pub none_here : (tags after : List TagText) (tag : Tag) (frames : List FrameText) (i : ℕ) (d : FrameText) (all : List TagText)
+    → i < length frames → told_by First tag (get_or frames i d) ≡ [] → after ≡ tags
+    → with_texts tags tag (take 1 (texts_told First (drop i frames) tag)) ≡ all
+    → with_texts after tag (take 1 (texts_told First (drop (i + 1) frames) tag)) ≡ all
+none_here tags after tag frames i d all within none is so_far =
+    let same : texts_told First (drop i frames) tag ≡ texts_told First (drop (i + 1) frames) tag =
+    told_more First frames i d tag within ∙ ap (λ (l : List (List ℕ)). l ++ texts_told First (drop (i + 1) frames) tag) none in
+    ap (λ (l : List TagText). with_texts l tag (take 1 (texts_told First (drop (i + 1) frames) tag))) is
+    ∙ sym (ap (λ (l : List (List ℕ)). with_texts tags tag (take 1 l)) same) ∙ so_far
 
--- a text is added, the only one
-pub last_added : (tags : List TagText) (tag : Tag) (several : Bool) (frames : List FrameText) (i : ℕ) (d : FrameText) (all : List TagText)
-    → i < length frames → tells tag (get_or frames i d) ≡ true → several ≡ false
-    → with_texts tags tag (kept several (texts_told (drop i frames) tag)) ≡ all → added tags tag (get_or frames i d).value ≡ all
-last_added tags tag several frames i d all within told one so_far =
-    let here : kept several (texts_told (drop i frames) tag) ≡ (get_or frames i d).value ∷ [] =
-    rw (one, told_here frames i d tag within told) refl in
-    sym (ap (with_texts tags tag) here) ∙ so_far
+-- and one that does
+pub first_here : (tags : List TagText) (tag : Tag) (frames : List FrameText) (i : ℕ) (d : FrameText) (text : List ℕ) (all : List TagText)
+    → i < length frames → told_by First tag (get_or frames i d) ≡ text ∷ []
+    → with_texts tags tag (take 1 (texts_told First (drop i frames) tag)) ≡ all → with_texts tags tag (text ∷ []) ≡ all
+first_here tags tag frames i d text all within one so_far =
+    let here : texts_told First (drop i frames) tag ≡ text ∷ texts_told First (drop (i + 1) frames) tag =
+    told_more First frames i d tag within ∙ ap (λ (l : List (List ℕ)). l ++ texts_told First (drop (i + 1) frames) tag) one in
+    sym (ap (λ (l : List (List ℕ)). with_texts tags tag (take 1 l)) here) ∙ so_far
 
--- and one of several
-pub one_added : (tags : List TagText) (tag : Tag) (several : Bool) (frames : List FrameText) (i : ℕ) (d : FrameText) (all : List TagText)
-    → i < length frames → tells tag (get_or frames i d) ≡ true → several ≡ true
-    → with_texts tags tag (kept several (texts_told (drop i frames) tag)) ≡ all
-    → with_texts (added tags tag (get_or frames i d).value) tag (kept several (texts_told (drop (i + 1) frames) tag)) ≡ all
-one_added tags tag several frames i d all within told more so_far =
-    let here : kept several (texts_told (drop i frames) tag) ≡ (get_or frames i d).value ∷ texts_told (drop (i + 1) frames) tag =
-    rw (more, told_here frames i d tag within told) refl in
-    let rest : kept several (texts_told (drop (i + 1) frames) tag) ≡ texts_told (drop (i + 1) frames) tag = rw more refl in
-    ap (with_texts (added tags tag (get_or frames i d).value) tag) rest ∙ sym (ap (with_texts tags tag) here) ∙ so_far
-
--- a frame of another tag
-pub passed : (tags : List TagText) (tag : Tag) (several : Bool) (frames : List FrameText) (i : ℕ) (d : FrameText) (all : List TagText)
-    → i < length frames → tells tag (get_or frames i d) ≡ false
-    → with_texts tags tag (kept several (texts_told (drop i frames) tag)) ≡ all
-    → with_texts tags tag (kept several (texts_told (drop (i + 1) frames) tag)) ≡ all
-passed tags tag several frames i d all within untold so_far =
-    sym (ap (λ texts. with_texts tags tag (kept several texts)) (told_not frames i d tag within untold)) ∙ so_far
-
-none_kept : (several : Bool) → kept several [] ≡ []
-none_kept true = refl
-none_kept false = refl
-
-pub no_more : (tags : List TagText) (tag : Tag) (several : Bool) (frames : List FrameText) (i : ℕ) (all : List TagText)
-    → length frames ≤ i → with_texts tags tag (kept several (texts_told (drop i frames) tag)) ≡ all → tags ≡ all
-no_more tags tag several frames i all past so_far =
-    let none : texts_told (drop i frames) tag ≡ [] = at_drop_all (λ l. texts_told l tag) frames i past in
-    sym (ap (λ texts. with_texts tags tag (kept several texts)) none ∙ ap (with_texts tags tag) (none_kept several)) ∙ so_far
+pub none_told : (tags : List TagText) (tag : Tag) (frames : List FrameText) (i : ℕ) (all : List TagText)
+    → length frames ≤ i → with_texts tags tag (take 1 (texts_told First (drop i frames) tag)) ≡ all → tags ≡ all
+none_told tags tag frames i all past so_far =
+    sym (ap (λ (l : List (List ℕ)). with_texts tags tag (take 1 l)) (at_drop_all (λ l. texts_told First l tag) frames i past)) ∙ so_far
 
 -- ---- the texts of one tag more
 
@@ -174,48 +142,48 @@ all_up tags tag [] up few = up
 all_up tags tag (text ∷ texts) up few = all_up (added tags tag text) tag texts (up_more tags tag text up few) (few_more tags tag text up few)
 
 -- the texts of the tags whose numbers are below n
-pub record SoFar (rules : ReadingRules) (own : List TagText) (frames : List FrameText) (n : ℕ) (tags : List TagText) : Type 0 where
-  pub texts : tags ≡ take MAX_TAGS (texts_of_tags rules.several own frames (filter (has_tag rules.tags) (take n all_tags)))
+pub record SoFar (rules : ReadingRules) (manner : Manner) (own : List TagText) (frames : List FrameText) (n : ℕ) (tags : List TagText) : Type 0 where
+  pub texts : tags ≡ take MAX_TAGS (texts_of_tags manner own frames (filter (has_tag rules.tags) (take n all_tags)))
   pub below : All (λ (t : TagText). number_of t.tag < n) tags
 
-pub none_yet : (rules : ReadingRules) (own : List TagText) (frames : List FrameText) → SoFar rules own frames 0 []
-none_yet rules own frames = record { texts = refl; below = All-nil (λ (t : TagText). number_of t.tag < 0) }
+pub none_yet : (rules : ReadingRules) (manner : Manner) (own : List TagText) (frames : List FrameText) → SoFar rules manner own frames 0 []
+none_yet rules manner own frames = record { texts = refl; below = All-nil (λ (t : TagText). number_of t.tag < 0) }
 
 flat_append : {X Y : Type 0} (f : X → List Y) (xs ys : List X) → flat_map f (xs ++ ys) ≡ flat_map f xs ++ flat_map f ys
 flat_append f [] ys = refl
 flat_append f (x ∷ xs) ys = ap (λ l. f x ++ l) (flat_append f xs ys) ∙ sym (append_assoc (f x) (flat_map f xs) (flat_map f ys))
 
-more_of : (rules : ReadingRules) (own : List TagText) (frames : List FrameText) (n : ℕ) (tag : Tag) → tag_at n ≡ Some tag
-    → texts_of_tags rules.several own frames (filter (has_tag rules.tags) (take (n + 1) all_tags))
-    ≡ texts_of_tags rules.several own frames (filter (has_tag rules.tags) (take n all_tags))
-    ++ texts_of_tags rules.several own frames (filter (has_tag rules.tags) (tag ∷ []))
-more_of rules own frames n tag is =
-    ap (λ (l : List Tag). texts_of_tags rules.several own frames (filter (has_tag rules.tags) l)) (take_tag n tag is)
-    ∙ ap (texts_of_tags rules.several own frames) (filter-append (has_tag rules.tags) (take n all_tags) (tag ∷ []))
-    ∙ flat_append (λ tag. tagged tag (own_or_told rules.several own frames tag)) (filter (has_tag rules.tags) (take n all_tags))
+more_of : (rules : ReadingRules) (manner : Manner) (own : List TagText) (frames : List FrameText) (n : ℕ) (tag : Tag) → tag_at n ≡ Some tag
+    → texts_of_tags manner own frames (filter (has_tag rules.tags) (take (n + 1) all_tags))
+    ≡ texts_of_tags manner own frames (filter (has_tag rules.tags) (take n all_tags))
+    ++ texts_of_tags manner own frames (filter (has_tag rules.tags) (tag ∷ []))
+more_of rules manner own frames n tag is =
+    ap (λ (l : List Tag). texts_of_tags manner own frames (filter (has_tag rules.tags) l)) (take_tag n tag is)
+    ∙ ap (texts_of_tags manner own frames) (filter-append (has_tag rules.tags) (take n all_tags) (tag ∷ []))
+    ∙ flat_append (λ tag. tagged tag (own_or_told manner own frames tag)) (filter (has_tag rules.tags) (take n all_tags))
     (filter (has_tag rules.tags) (tag ∷ []))
 
 -- a tag that isn't wanted
-pub not_wanted : (rules : ReadingRules) (own : List TagText) (frames : List FrameText) (n : ℕ) (tags : List TagText) (tag : Tag)
-    → tag_at n ≡ Some tag → has_tag rules.tags tag ≡ false → SoFar rules own frames n tags → SoFar rules own frames (n + 1) tags
-not_wanted rules own frames n tags tag is out so =
-    let before : List TagText = texts_of_tags rules.several own frames (filter (has_tag rules.tags) (take n all_tags)) in
-    let none : texts_of_tags rules.several own frames (filter (has_tag rules.tags) (tag ∷ [])) ≡ [] = rw out refl in
+pub not_wanted : (rules : ReadingRules) (manner : Manner) (own : List TagText) (frames : List FrameText) (n : ℕ) (tags : List TagText) (tag : Tag)
+    → tag_at n ≡ Some tag → has_tag rules.tags tag ≡ false → SoFar rules manner own frames n tags → SoFar rules manner own frames (n + 1) tags
+not_wanted rules manner own frames n tags tag is out so =
+    let before : List TagText = texts_of_tags manner own frames (filter (has_tag rules.tags) (take n all_tags)) in
+    let none : texts_of_tags manner own frames (filter (has_tag rules.tags) (tag ∷ [])) ≡ [] = rw out refl in
     record {
-      texts = so.texts ∙ sym (ap (take MAX_TAGS) (more_of rules own frames n tag is ∙ ap (λ (l : List TagText). before ++ l) none
+      texts = so.texts ∙ sym (ap (take MAX_TAGS) (more_of rules manner own frames n tag is ∙ ap (λ (l : List TagText). before ++ l) none
           ∙ append-nil before));
       below = All-weaker (λ (t : TagText). number_of t.tag < n) (λ (t : TagText). number_of t.tag < n + 1) (λ t less. omega arith) tags
           so.below;
     }
 
 -- and one that is
-pub one_wanted : (rules : ReadingRules) (own : List TagText) (frames : List FrameText) (n : ℕ) (tags : List TagText) (tag : Tag)
-    → tag_at n ≡ Some tag → number_of tag ≡ n → has_tag rules.tags tag ≡ true → SoFar rules own frames n tags
-    → SoFar rules own frames (n + 1) (with_texts tags tag (own_or_told rules.several own frames tag))
-one_wanted rules own frames n tags tag is number among so =
-    let before : List TagText = texts_of_tags rules.several own frames (filter (has_tag rules.tags) (take n all_tags)) in
-    let texts : List (List ℕ) = own_or_told rules.several own frames tag in
-    let one : texts_of_tags rules.several own frames (filter (has_tag rules.tags) (tag ∷ [])) ≡ tagged tag texts =
+pub one_wanted : (rules : ReadingRules) (manner : Manner) (own : List TagText) (frames : List FrameText) (n : ℕ) (tags : List TagText) (tag : Tag)
+    → tag_at n ≡ Some tag → number_of tag ≡ n → has_tag rules.tags tag ≡ true → SoFar rules manner own frames n tags
+    → SoFar rules manner own frames (n + 1) (with_texts tags tag (own_or_told manner own frames tag))
+one_wanted rules manner own frames n tags tag is number among so =
+    let before : List TagText = texts_of_tags manner own frames (filter (has_tag rules.tags) (take n all_tags)) in
+    let texts : List (List ℕ) = own_or_told manner own frames tag in
+    let one : texts_of_tags manner own frames (filter (has_tag rules.tags) (tag ∷ [])) ≡ tagged tag texts =
     rw among (append-nil (tagged tag texts)) in
     let few : length tags ≤ MAX_TAGS = rw so.texts (omega (arith, length-take MAX_TAGS before)) in
     let up : UpTo (number_of tag) tags = All-weaker (λ (t : TagText). number_of t.tag < n) (λ (t : TagText). number_of t.tag ≤ number_of tag)
@@ -224,14 +192,87 @@ one_wanted rules own frames n tags tag is number among so =
       texts = all_added tags tag texts up few
           ∙ ap (λ (l : List TagText). take MAX_TAGS (l ++ tagged tag texts)) so.texts
           ∙ take_twice MAX_TAGS before (tagged tag texts)
-          ∙ sym (ap (take MAX_TAGS) (more_of rules own frames n tag is ∙ ap (λ (l : List TagText). before ++ l) one));
+          ∙ sym (ap (take MAX_TAGS) (more_of rules manner own frames n tag is ∙ ap (λ (l : List TagText). before ++ l) one));
       below = All-weaker (λ (t : TagText). number_of t.tag ≤ number_of tag) (λ (t : TagText). number_of t.tag < n + 1)
           (λ t less. omega (arith, number)) (with_texts tags tag texts) (all_up tags tag texts up few);
     }
 
 -- of all tags
-pub whole : (rules : ReadingRules) (own : List TagText) (frames : List FrameText) (n : ℕ) (tags : List TagText) → TAG_COUNT ≤ n
-    → SoFar rules own frames n tags → tags ≡ song_texts rules own frames
-whole rules own frames n tags past so =
-    so.texts ∙ ap (λ (l : List Tag). take MAX_TAGS (texts_of_tags rules.several own frames (filter (has_tag rules.tags) l)))
+pub whole : (rules : ReadingRules) (manner : Manner) (own : List TagText) (frames : List FrameText) (n : ℕ) (tags : List TagText) → TAG_COUNT ≤ n
+    → SoFar rules manner own frames n tags → tags ≡ take MAX_TAGS (texts_of_tags manner own frames (filter (has_tag rules.tags) all_tags))
+whole rules manner own frames n tags past so =
+    so.texts ∙ ap (λ (l : List Tag). take MAX_TAGS (texts_of_tags manner own frames (filter (has_tag rules.tags) l)))
     (take_all n all_tags (omega (arith, all_long)))
+
+-- ---- the first texts of others
+
+-- one more of them is added behind those before it
+pub front_more : (tags : List TagText) (i : ℕ) (tag : Tag) (text : List ℕ) → AreTags tags
+    → slice_get tags i ≡ Some (record { tag = tag; text = text }) → added (take i tags) tag text ≡ take (i + 1) tags
+front_more tags i tag text good is =
+    rw room (with_text-last (take i tags) tag text below ∙ sym (take_more tags i t within ∙ ap (λ x. take i tags ++ x ∷ []) here))
+  where
+    t : TagText
+    t = record { tag = tag; text = text }
+
+    within : i < length tags
+    within = slice_get_within tags i t is
+
+    here : get_or tags i t ≡ t
+    here = get_or_from_slice_get tags i t t is
+
+    room : nat_lt (length (take i tags)) MAX_TAGS ≡ true
+    room = let less : length (take i tags) < MAX_TAGS = omega (arith, length-take i tags, within, good.few) in grind (arith, nat_tests)
+
+    below : (k : ℕ) (d : TagText) → k < length (take i tags) → number_of (get_or (take i tags) k d).tag ≤ number_of tag
+    below k d under =
+        let low : k < i = omega (arith, length-take i tags) in
+        let at : get_or (take i tags) k d ≡ get_or tags k d = get_or-take i tags k d low in
+        let last : get_or tags i d ≡ t = get_or_from_slice_get tags i t d is in
+        let rises : number_of (get_or tags k d).tag ≤ number_of (get_or tags i d).tag = good.ordered k i d (omega arith) within in
+        rw at (rw last at rises)
+
+pub good_at : (tags : List TagText) (i : ℕ) (tag : Tag) (text : List ℕ) → AreTags tags
+    → slice_get tags i ≡ Some (record { tag = tag; text = text }) → is_tag_text text ≡ true
+good_at tags i tag text good is =
+    let t : TagText = record { tag = tag; text = text } in
+    let good_there = All-get_or (λ (t : TagText). is_tag_text t.text ≡ true) tags i t (slice_get_within tags i t is) good.texts in
+    rw (get_or_from_slice_get tags i t t is) at good_there
+
+-- ---- the texts that fit
+
+fits_more : (left : ℕ) (t : TagText) (tags : List TagText) → 3 + length t.text ≤ left
+    → fitting left (t ∷ tags) ≡ t ∷ fitting (left - (3 + length t.text)) tags
+fits_more left t tags room = let fits : nat_le (3 + length t.text) left ≡ true = grind (arith, nat_tests) in rw fits refl
+
+fits_no_more : (left : ℕ) (t : TagText) (tags : List TagText) → left < 3 + length t.text → fitting left (t ∷ tags) ≡ []
+fits_no_more left t tags past = let not : nat_le (3 + length t.text) left ≡ false = grind (arith, nat_tests) in rw not refl
+
+-- one text more fits
+pub one_fits : (tags : List TagText) (i left : ℕ) (t : TagText) (all : List TagText) → i < length tags → slice_get tags i ≡ Some t
+    → 3 + length t.text ≤ left → take i tags ++ fitting left (drop i tags) ≡ all
+    → take (i + 1) tags ++ fitting (left - (3 + length t.text)) (drop (i + 1) tags) ≡ all
+one_fits tags i left t all within is room so_far =
+    let here : get_or tags i t ≡ t = get_or_from_slice_get tags i t t is in
+    let rest : fitting left (drop i tags) ≡ t ∷ fitting (left - (3 + length t.text)) (drop (i + 1) tags) =
+    ap (fitting left) (drop_more tags i t within ∙ ap (λ x. x ∷ drop (i + 1) tags) here) ∙ fits_more left t (drop (i + 1) tags) room in
+    ap (λ (l : List TagText). l ++ fitting (left - (3 + length t.text)) (drop (i + 1) tags)) (take_more tags i t within
+    ∙ ap (λ x. take i tags ++ x ∷ []) here)
+    ∙ append_assoc (take i tags) (t ∷ []) (fitting (left - (3 + length t.text)) (drop (i + 1) tags))
+    ∙ ap (λ (l : List TagText). take i tags ++ l) (sym rest) ∙ so_far
+
+-- and one doesn't
+pub no_more_fit : (tags : List TagText) (i left : ℕ) (t : TagText) (all : List TagText) → i < length tags → slice_get tags i ≡ Some t
+    → left < 3 + length t.text → take i tags ++ fitting left (drop i tags) ≡ all → take i tags ≡ all
+no_more_fit tags i left t all within is past so_far =
+    let here : get_or tags i t ≡ t = get_or_from_slice_get tags i t t is in
+    let rest : fitting left (drop i tags) ≡ [] =
+    ap (fitting left) (drop_more tags i t within ∙ ap (λ x. x ∷ drop (i + 1) tags) here) ∙ fits_no_more left t (drop (i + 1) tags) past in
+    sym (ap (λ (l : List TagText). take i tags ++ l) rest ∙ append-nil (take i tags)) ∙ so_far
+
+pub all_fit : (tags : List TagText) (i left : ℕ) (all : List TagText) → length tags ≤ i → take i tags ++ fitting left (drop i tags) ≡ all
+    → take (length tags) tags ≡ all
+all_fit tags i left all past so_far =
+    let none : fitting left (drop i tags) ≡ [] = ap (fitting left) (drop_all i tags past) in
+    take_all (length tags) tags (omega arith) ∙ sym (take_all i tags past)
+    ∙ sym (ap (λ (l : List TagText). take i tags ++ l) none ∙ append-nil (take i tags)) ∙ so_far

@@ -59,6 +59,18 @@ described_frames =
     described (codes "TXXX") (codes "MusicBrainz Work Id") tag.MusicBrainzWorkId ∷
     []
 
+-- the comments of FLAC files for which no frame stands, by their names
+unfoldable pub comments : List Described
+comments =
+    described (codes "TXXX") (codes "COMPOSERSORT") tag.ComposerSort ∷
+    described (codes "TXXX") (codes "NAME") tag.Name ∷
+    described (codes "TXXX") (codes "WORK") tag.Work ∷
+    described (codes "TXXX") (codes "MOVEMENT") tag.Movement ∷
+    described (codes "TXXX") (codes "MOVEMENTNUMBER") tag.MovementNumber ∷
+    described (codes "TXXX") (codes "ENSEMBLE") tag.Ensemble ∷
+    described (codes "TXXX") (codes "LOCATION") tag.Location ∷
+    []
+
 abbrev pub has_id : List ℕ → Frame → Bool
 has_id id f = bytes_eq f.id id
 
@@ -74,3 +86,7 @@ tag_by_description id description = option_map (λ (f : Described). f.tag) (find
 -- the tag that a frame with this id and description tells
 unfoldable pub frame_tag : List ℕ → List ℕ → Option Tag
 frame_tag id description = option_or (tag_by_id id) (tag_by_description id description)
+
+-- the tag of a comment that is told by its name
+abbrev pub comment_tag : List ℕ → List ℕ → Option Tag
+comment_tag id description = option_map (λ (f : Described). f.tag) (find (is_described id description) comments)

@@ -1,6 +1,6 @@
 // The tags that frames of ID3v2 tell.
 ghost use Rattle.std.specs.Prelude.{◌≡◌};
-ghost use Rattle.song_head.specs.FrameTags.{frames, described_frames, has_id, is_described, tag_by_id, tag_by_description, frame_tag};
+ghost use Rattle.song_head.specs.FrameTags.{frames, described_frames, has_id, is_described, tag_by_id, tag_by_description, comments, comment_tag, frame_tag};
 ghost use Rattle.song_head.specs.Rows.{frame_of, frames_of, described_of, all_described};
 
 use song_files::Tag;
@@ -56,6 +56,17 @@ const DESCRIBED: &[DescribedRow] = &[
     DescribedRow(*b"TXXX", "MusicBrainz Work Id", Tag::MusicBrainzWorkId),
 ];
 
+// The comments of FLAC files for which no frame stands.
+const COMMENTS: &[DescribedRow] = &[
+    DescribedRow(*b"TXXX", "COMPOSERSORT", Tag::ComposerSort),
+    DescribedRow(*b"TXXX", "NAME", Tag::Name),
+    DescribedRow(*b"TXXX", "WORK", Tag::Work),
+    DescribedRow(*b"TXXX", "MOVEMENT", Tag::Movement),
+    DescribedRow(*b"TXXX", "MOVEMENTNUMBER", Tag::MovementNumber),
+    DescribedRow(*b"TXXX", "ENSEMBLE", Tag::Ensemble),
+    DescribedRow(*b"TXXX", "LOCATION", Tag::Location),
+];
+
 impl FrameRow {
     fn has_id(&self, id: [u8; 4]) -> bool
         ensures { result ≡ has_id id (frame_of self.now) }
@@ -84,6 +95,12 @@ fn described_rows() -> &'static [DescribedRow]
     DESCRIBED
 }
 
+fn comment_rows() -> &'static [DescribedRow]
+    ensures { all_described result.now ≡ comments }
+{
+    COMMENTS
+}
+
 fn tag_by_id(id: [u8; 4]) -> Option<Tag>
     ensures { result ≡ tag_by_id id }
 {
@@ -99,6 +116,18 @@ fn tag_by_description(id: [u8; 4], description: &str) -> Option<Tag>
     ensures { result ≡ tag_by_description id description.now }
 {
     for row in described_rows() {
+        if row.is_described(id, description) {
+            return Some(row.2);
+        }
+    }
+    None
+}
+
+// The tag of a comment of a FLAC file for which no frame stands, and that is told by its name.
+pub(crate) fn comment_tag(id: [u8; 4], description: &str) -> Option<Tag>
+    ensures { result ≡ comment_tag id description.now }
+{
+    for row in comment_rows() {
         if row.is_described(id, description) {
             return Some(row.2);
         }

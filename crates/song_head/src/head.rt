@@ -5,14 +5,27 @@ ghost use Rattle.song_files.specs.Source.{Grows, Keeps};
 ghost use Rattle.wave_pcm.specs.Pcm.{HasFrames};
 ghost use Rattle.wave_pcm.specs.Reading.{IsVerdict};
 ghost use Rattle.wave_pcm.specs.WaveError.{Fails};
-ghost use Rattle.song_head.specs.SongReading.{song_reading, with_id3};
+ghost use Rattle.song_head.specs.SongReading.{song_reading, with_id3, with_own};
 
+use crate::manner::{Manner, manner_of};
 use crate::merged::song_texts;
 use crate::rules::ReadingRules;
 use id3_tags::{TagError, read_tag};
 use song_files::Source;
 use std::alloc::Global;
 use wave_pcm::{ChunkPlace, WaveError, WaveInfo, read_head, read_head_with_id3};
+
+// The head without an ID3v2 tag, where several texts are told with those of INFO as they are told.
+fn with_own(alloc: Global, rules: ReadingRules, info: WaveInfo) -> Result<WaveInfo, WaveError>
+    ensures head { IfOk result (λ head. head ≡ with_own rules info) }
+    ensures only { IfErr result (λ e. e ≡ WaveError.NoMemory) }
+{
+    if !rules.several {
+        return Ok(info);
+    }
+    let tags = song_texts(alloc, rules, Manner::First, &info.tags, &[])?;
+    Ok(WaveInfo { tags, ..info })
+}
 
 // The head with what the ID3v2 tag at a place tells; where none stands there, the head as it is.
 fn read_id3<S: Source>(
@@ -31,13 +44,15 @@ fn read_id3<S: Source>(
 {
     match read_tag(alloc, source, place.first, place.first + place.len) {
         Ok(tag) => {
-            let tags = song_texts(alloc, rules, &info.tags, tag.texts.as_slice())?;
+            let frames = tag.texts.as_slice();
+            let manner = manner_of(rules.several, tag.version, frames);
+            let tags = song_texts(alloc, rules, manner, &info.tags, frames)?;
             Ok(WaveInfo { tags, ..info })
         }
         Err(TagError::NoMemory) => Err(WaveError::NoMemory),
         Err(TagError::ReadFault) => Err(WaveError::ReadFault),
-        Err(TagError::NotTag) => Ok(info),
-        Err(TagError::Unwritable) => Ok(info),
+        Err(TagError::NotTag) => with_own(alloc, rules, info),
+        Err(TagError::Unwritable) => with_own(alloc, rules, info),
     }
 }
 
@@ -58,7 +73,7 @@ fn read_both<S: Source>(
     let head = read_head_with_id3(alloc, source, rules.tags)?;
     match head.id3 {
         Some(place) => read_id3(alloc, source, rules, head.info, place),
-        None => Ok(head.info),
+        None => with_own(alloc, rules, head.info),
     }
 }
 

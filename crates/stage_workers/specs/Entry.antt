@@ -10,7 +10,7 @@ use Rattle.daemon_core.specs.Step.{step}
 use Rattle.live_stage.specs.Answer.{Answer, IsTurn, IsBeforeOrAfter, HasNoOps}
 use Rattle.live_stage.specs.Found.{AllFindSince}
 use Rattle.live_stage.specs.LiveState.{LiveState}
-use Rattle.live_stage.specs.Numbers.{AreSpent, makes_checkpoint}
+use Rattle.live_stage.specs.Numbers.{AreSpent, is_due}
 use Rattle.live_stage.specs.Turns.{IsStill, IsWritten, MakesNoCall}
 use Rattle.stage_workers.specs.declared.refusal.StageError.{StageError}
 use Rattle.stage_workers.specs.declared.refusal.StageError.TheVariants.{Broken, NoMemory, Rewound, NumbersSpent}
@@ -40,8 +40,8 @@ pub record IsOneTurn {D : Type 0} (honest : D → Type 0) (history : D → List 
   pub last : t.event ≡ new.numbers.event
   pub any_moment : honest old.a → honest old.b → FindsBeforeOrAfter history old new event t.refused_at
   pub written : honest old.a → honest old.b
-      → (let now = step old.state event t.refused_at in IsWritten history t.is_overdue old new now.ops)
-  pub no_call : makes_checkpoint t.is_overdue old.file ≡ false → HasNoOps old event t → MakesNoCall old new
+      → (let now = step old.state event t.refused_at in IsWritten history old new now.ops)
+  pub no_call : is_due old.file ≡ false → HasNoOps old event t → MakesNoCall old new
 
 -- Either the answer is handed over, with all that was in the outbox, or its outputs are added there.
 abbrev pub IsHandedOver : {D : Type 0} → Way → Answer → List (List Output) → List (List Output) → Option (Served D) → Type 0

@@ -6,9 +6,8 @@ use Rattle.daemon_core.specs.declared.outcome.Output.{Output}
 use Rattle.daemon_core.specs.Replay.{Entry}
 use Rattle.live_stage.specs.Answer.{Answer}
 use Rattle.live_stage.specs.Found.{AllFindSince}
-use Rattle.live_stage.specs.Group.{IsGroup, IsGroupWritten, IsNoneOrAll, bodies_after, goes_without, history_in}
+use Rattle.live_stage.specs.Group.{IsGroup, IsGroupWritten, IsNoneOrAll, bodies_after, history_in, makes_checkpoint}
 use Rattle.live_stage.specs.LiveState.{LiveState}
-use Rattle.live_stage.specs.Numbers.{makes_checkpoint}
 use Rattle.live_stage.specs.Turns.{MakesNoCall}
 use Rattle.stage_workers.specs.declared.refusal.StageError.{StageError}
 use Rattle.stage_workers.specs.declared.refusal.StageError.TheVariants.{Broken}
@@ -37,7 +36,7 @@ pub record IsOneGroup {D : Type 0} (honest : D → Type 0) (history : D → List
     : Type 0 where
   pub group : IsGroup old turns new
   pub written : honest old.a → honest old.b → IsGroupWritten history old new turns
-  pub no_call : makes_checkpoint (goes_without turns) old.file ≡ false → bodies_after old.state (history_in turns) ≡ []
+  pub no_call : makes_checkpoint old.file turns ≡ false → bodies_after old.state (history_in turns) ≡ []
       → MakesNoCall old new
 
 -- A group went in: its answers are handed over behind all that was in the outbox.

@@ -223,7 +223,7 @@ pub end_len : (profile : Profile) (bytes : List ℕ) → length (sealed profile 
 end_len Named bytes = omega arith
 end_len Wide bytes = omega (arith, sealed_len Wide (bytes ++ byte_bytes 0), length-append bytes (byte_bytes 0))
 
-rows_len : (profile : Profile) (rows : List Row) → AllByRecursion IsSavedRow rows → AllByRecursion (λ row. IsTrue (is_kept_by profile row)) rows
+pub rows_len : (profile : Profile) (rows : List Row) → AllByRecursion IsSavedRow rows → AllByRecursion (λ row. IsTrue (is_kept_by profile row)) rows
     → AllByRecursion (λ row. length (row_bytes profile row) ≤ longest_row profile) rows
 rows_len profile [] good kept = tt
 rows_len profile (row ∷ rows) good kept = (row_len profile row (good.0, kept.0), rows_len profile rows good.1 kept.1)

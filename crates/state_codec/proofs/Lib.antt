@@ -19,6 +19,7 @@ pub mod StickersLaws
 pub mod SavedLaws
 pub mod LengthLaws
 pub mod SnapshotLaws
+pub mod PieceLaws
 pub mod RoomLaws
 pub mod ApplyLaws
 pub mod AppliedLaws

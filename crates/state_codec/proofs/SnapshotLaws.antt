@@ -54,7 +54,7 @@ lists_bound lists within =
 
 -- ---- stickers
 
-short_sticker : (s : Sticker) → IsSticker s → IsShortSticker s
+pub short_sticker : (s : Sticker) → IsSticker s → IsShortSticker s
 short_sticker s good =
     let parts = both_true (not (eqb (length s.name) 0)) _ good.good_name in
     let name : length s.name ≤ 256 = leb-true _ _ (both_true (leb (length s.name) 256) _ parts.1).0 in
@@ -88,7 +88,7 @@ pub one_song_more : (song : List ℕ × Values) (songs : Songs)
 one_song_more song songs =
     ap length (song_first song songs) ∙ length-append (flat_map sticker_bytes (in_song song)) (flat_map sticker_bytes (flat songs))
 
-both_parts : {A : Type 0} (P : A → Type 0) (xs ys : List A) → AllByRecursion P (xs ++ ys) → AllByRecursion P xs × AllByRecursion P ys
+pub both_parts : {A : Type 0} (P : A → Type 0) (xs ys : List A) → AllByRecursion P (xs ++ ys) → AllByRecursion P xs × AllByRecursion P ys
 both_parts P [] ys all = (tt, all)
 both_parts P (x ∷ xs) ys all = let rest = both_parts P xs ys all.1 in ((all.0, rest.0), rest.1)
 

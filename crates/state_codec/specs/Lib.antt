@@ -33,5 +33,6 @@ pub mod Spelling
 pub mod Answers
 pub mod Appended
 pub mod Longest
+pub mod Pieces
 pub mod Body
 pub mod Laws

@@ -1,5 +1,5 @@
 // The checksum of a record's body and of a snapshot: CRC-32C (RFC 3720, section 12.1), a byte at a time.
-ghost use Rattle.std.specs.Prelude.{◌≡◌, ◌<◌};
+ghost use Rattle.std.specs.Prelude.{◌≡◌, ◌<◌, fold};
 ghost use Rattle.state_codec.specs.Checksum.{with_bit, with_bits, with_byte, checksum_of, IsTable};
 
 // Castagnoli's polynomial, its bits from low to high.
@@ -55,14 +55,21 @@ fn row_of(table: &[u32; 256], number: u8) -> u32
     table[usize::from(number)]
 }
 
+/// The sum behind bytes, where it has come so far in front of them.
+pub(crate) fn with_bytes(start: u32, bytes: &[u8]) -> u32
+    ensures { result ≡ fold with_byte start bytes.now }
+{
+    let table = table();
+    let mut sum = start;
+    for &byte in bytes {
+        sum = with_byte(&table, sum, byte);
+    }
+    sum
+}
+
 /// The checksum of bytes.
 pub(crate) fn checksum_of(bytes: &[u8]) -> u32
     ensures { result ≡ checksum_of bytes.now }
 {
-    let table = table();
-    let mut sum = u32::MAX;
-    for &byte in bytes {
-        sum = with_byte(&table, sum, byte);
-    }
-    sum ^ u32::MAX
+    with_bytes(u32::MAX, bytes) ^ u32::MAX
 }

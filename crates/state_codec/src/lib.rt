@@ -6,6 +6,7 @@ mod fields;
 pub mod laws;
 mod layout;
 pub mod op;
+mod pieces;
 mod reading;
 pub mod refusal;
 pub mod saved;
@@ -14,6 +15,7 @@ mod writing;
 
 pub use layout::layout_number;
 pub use op::{Changes, ListOp, Op, OpRanges, QueueOp, RowNumbers, Setting, StickerOp, Text};
+pub use pieces::SavedPieces;
 pub use reading::{take_ops, take_saved};
 pub use refusal::{ApplyError, BodyError, CodecError, OpRefusal};
 pub use saved::{Saved, SavedParts, dropped_by, row_behind};

@@ -22,7 +22,11 @@ mod rows;
 mod saved;
 mod sums;
 
-pub(crate) use rows::texts_len;
+pub(crate) use bytes::{put_byte, put_text, put_u32};
+pub(crate) use lengths::saved_len;
+pub(crate) use ops::{put_uri, uri_len};
+pub(crate) use rows::{put_row, texts_len};
+pub(crate) use saved::{put_entry, put_head, put_sticker, row_number};
 
 /// Appends the spelling of an op under a profile. It takes no memory: it is refused where the spare room is less than
 /// `spelled_len` of the op, and then changes nothing.

@@ -23,7 +23,7 @@ single_goes_on : (line : List ℕ) (t : changes.Translation) → is_plain false 
 single_goes_on line Same plain = record { native = refl; passing = (refl, tt); masks = refl; steps = refl }
 single_goes_on line Songs plain = record { native = refl; passing = (refl, tt); masks = refl; steps = refl }
 single_goes_on line (Changed change) plain = absurd (false≢true plain)
-single_goes_on line (Other natives change) plain = absurd (false≢true plain)
+single_goes_on line (Other native change) plain = absurd (false≢true plain)
 single_goes_on line (Stepped first steps) plain = absurd (false≢true plain)
 
 -- a list all of whose commands are the daemon's own

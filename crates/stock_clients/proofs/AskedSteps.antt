@@ -4,11 +4,10 @@ use Rattle.std.specs.Prelude.{if◌then◌else◌}
 use Rattle.command_text.specs.declared.request.Request.{Request}
 use Rattle.command_text.specs.declared.request.Request.TheVariants as requests
 use Rattle.stock_requests.specs.Translation.{translation}
-use Rattle.stock_requests.specs.declared.change.Change.{Change}
 use Rattle.stock_requests.specs.declared.change.Translation as changes
 use Rattle.stock_requests.specs.declared.change.Translation.TheVariants.{Same, Songs, Changed, Other, Stepped}
 use Rattle.stock_requests.specs.declared.steps.Steps.{Steps}
-use Rattle.stock_clients.specs.Asked.{all_plain, asked_all, asked_as_it_is, asked_before, asked_in_parts, asked_list, asked_natives, asked_of}
+use Rattle.stock_clients.specs.Asked.{all_plain, asked_all, asked_as_it_is, asked_before, asked_in_parts, asked_list, asked_of}
 use Rattle.stock_clients.specs.Asked.{asked_single, Asked}
 
 -- a request that is asked step by step leaves those behind it
@@ -36,15 +35,11 @@ list_has_none masks separated lines = by_plain (all_plain masks lines)
 abbrev AtMostOne : Asked → Type 0
 AtMostOne now = length now.awaited ≤ 1
 
-natives_await : (first : List ℕ) (second : Option (List ℕ)) (change : Change) (masks : Bool) → AtMostOne (asked_natives first second change masks)
-natives_await first None change masks = omega arith
-natives_await first (Some second) change masks = omega arith
-
 single_awaits : (masks : Bool) (line : List ℕ) (t : changes.Translation) → AtMostOne (asked_single masks line t)
 single_awaits masks line Same = omega arith
 single_awaits masks line Songs = omega arith
 single_awaits masks line (Changed change) = omega arith
-single_awaits masks line (Other natives change) = natives_await natives.first natives.second change _
+single_awaits masks line (Other native change) = omega arith
 single_awaits masks line (Stepped first steps) = omega arith
 
 list_awaits : (masks separated : Bool) (lines : List (List ℕ)) → AtMostOne (asked_list masks separated lines)

@@ -12,10 +12,6 @@ pub behind_three : (out a b c x y z : List ℕ) → x ≡ out ++ a → y ≡ x +
 behind_three out a b c x y z p q r =
     behind_two out a (b ++ c) x z p (behind_two x b c y z q r)
 
-pub behind_four : (out a b c d x y z w : List ℕ) → x ≡ out ++ a → y ≡ x ++ b → z ≡ y ++ c → w ≡ z ++ d
-    → w ≡ out ++ (a ++ (b ++ (c ++ d)))
-behind_four out a b c d x y z w p q r s = behind_two out a (b ++ (c ++ d)) x w p (behind_three x b c d y z w q r s)
-
 -- what is asked at once, as a line or as a list
 pub one_line : (lines : List (List ℕ)) → length lines ≡ 1 → flat_map ended lines ≡ lines_text lines
 one_line [] e = absurd (omega (arith, e))

@@ -58,7 +58,7 @@ first_counts : (first : Awaited) (rest : List Awaited) (hearing : Hearing) (line
     → Counts (length rest + 1) (heard_first first rest hearing line)
 first_counts awaits.Passing rest h line = answer_counts h rest (answered_passing h.shown line (kind_of line))
 first_counts awaits.Songs rest h line = answer_counts h rest (answered_songs h.shown line (kind_of line))
-first_counts (awaits.One change told) rest h line = answer_counts h rest (answered_one change told h.times h.shown line (kind_of line))
+first_counts (awaits.One change) rest h line = answer_counts h rest (answered_one change h.times h.shown line (kind_of line))
 first_counts (awaits.Several several) rest h line = answer_counts h rest (answered_several several h.times h.shown line (kind_of line))
 first_counts awaits.Step rest h line = steps_count h rest line h.steps
 

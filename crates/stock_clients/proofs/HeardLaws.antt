@@ -8,7 +8,7 @@ use Rattle.client_session.proofs.Newlines.{searched_at, searched_none}
 use Rattle.client_session.specs.Lines.{newline, ended, HasNoNewline}
 use Rattle.stock_clients.specs.Heard.{answered_passing, answered_songs, answered_one, answered_several, answered, done_one, ended_part, part_end}
 use Rattle.stock_clients.specs.Heard.{gone_on, heard, heard_answer, heard_by, heard_first, heard_so, heard_step, heard_steps, hear_byte, hear_bytes}
-use Rattle.stock_clients.specs.Heard.{hear_line, shown_behind, told_at_end, told_then, waiting, Heard, Hears}
+use Rattle.stock_clients.specs.Heard.{hear_line, shown_behind, told_at_end, waiting, Heard, Hears}
 use Rattle.stock_requests.specs.declared.steps.Steps.{Steps}
 use Rattle.stock_clients.specs.declared.next.Next.{Next}
 use Rattle.stock_clients.specs.declared.next.Next.TheVariants.{Stays}
@@ -108,10 +108,10 @@ over_at kind (inl ok) awaits.Passing rest h line e = ap (λ k. waiting (answered
 over_at kind (inr ack) awaits.Passing rest h line e = ap (λ k. waiting (answered_passing h.shown line k).left rest) (e ∙ ack)
 over_at kind (inl ok) awaits.Songs rest h line e = ap (λ k. waiting (answered_songs h.shown line k).left rest) (e ∙ ok)
 over_at kind (inr ack) awaits.Songs rest h line e = ap (λ k. waiting (answered_songs h.shown line k).left rest) (e ∙ ack)
-over_at kind (inl ok) (awaits.One change told) rest h line e =
-    ap (λ k. waiting (answered_one change told h.times h.shown line k).left rest) (e ∙ ok)
-over_at kind (inr ack) (awaits.One change told) rest h line e =
-    ap (λ k. waiting (answered_one change told h.times h.shown line k).left rest) (e ∙ ack)
+over_at kind (inl ok) (awaits.One change) rest h line e =
+    ap (λ k. waiting (answered_one change h.times h.shown line k).left rest) (e ∙ ok)
+over_at kind (inr ack) (awaits.One change) rest h line e =
+    ap (λ k. waiting (answered_one change h.times h.shown line k).left rest) (e ∙ ack)
 over_at kind (inl ok) (awaits.Several several) rest h line e =
     ap (λ k. waiting (answered_several several h.times h.shown line k).left rest) (e ∙ ok)
 over_at kind (inr ack) (awaits.Several several) rest h line e =
@@ -124,13 +124,7 @@ part_left : (several : Several) (times : DaemonTimes) (shown : TagSet) (line : L
 part_left several times shown line [] = (awaits.Several several, refl)
 part_left several times shown line (parts.Same ∷ rest) = (awaits.Several (done_one several rest), refl)
 part_left several times shown line (parts.Songs ∷ rest) = (awaits.Several (done_one several rest), refl)
-part_left several times shown line (parts.Changed needs_two change ∷ rest) = by_first (needs_two && not several.has_first)
-  where
-    by_first : (b : Bool) → (a : Awaited) × ((cond b (answered (Some (awaits.Several (record several { has_first = true }))) shown [])
-        (answered (Some (awaits.Several (done_one several rest))) (shown_behind change.ending shown)
-        (told_at_end change.ending shown times ++ part_end several.separated))).left ≡ Some a)
-    by_first true = (awaits.Several (record several { has_first = true }), refl)
-    by_first false = (awaits.Several (done_one several rest), refl)
+part_left several times shown line (parts.Changed change ∷ rest) = (awaits.Several (done_one several rest), refl)
 
 -- a line that is no end leaves something of the request
 steps_left_at : (hearing : Hearing) (rest : List Awaited) (line : List ℕ) (kind : LineKind) → kind_of line ≡ kind → kind ≢ kinds.Ok
@@ -158,15 +152,15 @@ left_by awaits.Songs rest h line kinds.ListOk e no_ok no_ack =
     (awaits.Songs, ap (λ k. waiting (answered_songs h.shown line k).left rest) e)
 left_by awaits.Songs rest h line kinds.Told e no_ok no_ack =
     (awaits.Songs, ap (λ k. waiting (answered_songs h.shown line k).left rest) e)
-left_by (awaits.One change told) rest h line kinds.ListOk e no_ok no_ack =
-    (awaits.One change told, ap (λ k. waiting (answered_one change told h.times h.shown line k).left rest) e)
-left_by (awaits.One change told) rest h line kinds.Told e no_ok no_ack =
-    (awaits.One change (told_then told line), ap (λ k. waiting (answered_one change told h.times h.shown line k).left rest) e)
+left_by (awaits.One change) rest h line kinds.ListOk e no_ok no_ack =
+    (awaits.One change, ap (λ k. waiting (answered_one change h.times h.shown line k).left rest) e)
+left_by (awaits.One change) rest h line kinds.Told e no_ok no_ack =
+    (awaits.One change, ap (λ k. waiting (answered_one change h.times h.shown line k).left rest) e)
 left_by (awaits.Several several) rest h line kinds.ListOk e no_ok no_ack =
     let part = part_left several h.times h.shown line several.parts in
     (part.0, ap (λ k. waiting (answered_several several h.times h.shown line k).left rest) e ∙ ap (λ left. waiting left rest) part.1)
 left_by (awaits.Several several) rest h line kinds.Told e no_ok no_ack = (
-  awaits.Several (record several { told = told_then several.told line }),
+  awaits.Several several,
   ap (λ k. waiting (answered_several several h.times h.shown line k).left rest) e,
 )
 left_by awaits.Step rest h line kinds.ListOk e no_ok no_ack = steps_left_at h rest line kinds.ListOk e no_ok no_ack h.steps

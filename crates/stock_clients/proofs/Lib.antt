@@ -5,4 +5,3 @@ pub mod HeardLaws
 pub mod PieceLaws
 pub mod AskedSteps
 pub mod CountLaws
-pub mod FolderLaws

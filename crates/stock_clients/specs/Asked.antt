@@ -1,6 +1,6 @@
 -- What becomes of a request of the client.
-use Rattle.std.specs.Prelude.{◌≡◌, ℕ, Bool, true, false, ◌&&◌, ◌||◌, not, is_some, List, [], ◌∷◌, ◌++◌, length, map, codes}
-use Rattle.std.specs.Prelude.{option_to_list, Option, Some, None, if◌then◌else◌}
+use Rattle.std.specs.Prelude.{◌≡◌, ℕ, Bool, true, false, ◌&&◌, ◌||◌, not, List, [], ◌∷◌, ◌++◌, length, map, codes}
+use Rattle.std.specs.Prelude.{Option, Some, None, if◌then◌else◌}
 use Rattle.std.specs.List.{flat_map}
 use Rattle.command_text.specs.declared.request.Request.{Request}
 use Rattle.command_text.specs.declared.request.Request.TheVariants as requests
@@ -8,9 +8,8 @@ use Rattle.client_session.specs.Lines.{ended}
 use Rattle.stock_requests.specs.Translation.{translation}
 use Rattle.stock_requests.specs.declared.change.Translation.{Translation}
 use Rattle.stock_requests.specs.declared.change.Translation.TheVariants.{Same, Songs, Changed, Other, Stepped}
-use Rattle.stock_requests.specs.declared.change.Change.{Change}
 use Rattle.stock_requests.specs.declared.change.Ending.{Ending}
-use Rattle.stock_requests.specs.declared.change.Ending.TheVariants.{Nothing, Text, Times, Masks}
+use Rattle.stock_requests.specs.declared.change.Ending.TheVariants.{Nothing, Times, Masks}
 use Rattle.stock_requests.specs.declared.steps.Steps.{Steps}
 use Rattle.stock_clients.specs.declared.asking.Noticed.{Noticed}
 use Rattle.stock_clients.specs.declared.awaited.Awaited.{Awaited}
@@ -18,26 +17,25 @@ use Rattle.stock_clients.specs.declared.awaited.Awaited.TheVariants as awaits
 use Rattle.stock_clients.specs.declared.parts.Part.{Part}
 use Rattle.stock_clients.specs.declared.parts.Part.TheVariants as parts
 
--- the lines that stand in the place of a command
-abbrev pub native_lines : List ℕ → Translation → List (List ℕ)
-native_lines line Same = line ∷ []
-native_lines line Songs = line ∷ []
-native_lines line (Changed change) = line ∷ []
-native_lines line (Other natives change) = natives.first ∷ option_to_list natives.second
-native_lines line (Stepped first steps) = first ∷ []
+-- the line that stands in the place of a command
+abbrev pub native_line : List ℕ → Translation → List ℕ
+native_line line Same = line
+native_line line Songs = line
+native_line line (Changed change) = line
+native_line line (Other native change) = native
+native_line line (Stepped first steps) = first
 
 -- what becomes of the part of the answer to a command of a list
 abbrev pub part_of : Translation → Part
 part_of Same = parts.Same
 part_of Songs = parts.Songs
-part_of (Changed change) = parts.Changed false change
-part_of (Other natives change) = parts.Changed (is_some natives.second) change
+part_of (Changed change) = parts.Changed change
+part_of (Other native change) = parts.Changed change
 part_of (Stepped first steps) = parts.Same
 
 -- whether the client asks for other tags
 abbrev pub is_mask : Ending → Bool
 is_mask Nothing = false
-is_mask (Text text) = false
 is_mask Times = false
 is_mask (Masks change) = true
 
@@ -45,7 +43,7 @@ abbrev pub changes_mask : Translation → Bool
 changes_mask Same = false
 changes_mask Songs = false
 changes_mask (Changed change) = is_mask change.ending
-changes_mask (Other natives change) = is_mask change.ending
+changes_mask (Other native change) = is_mask change.ending
 changes_mask (Stepped first steps) = false
 
 -- whether command and answer pass as they are; so those that tell songs, for a client that has never asked for other tags
@@ -53,7 +51,7 @@ abbrev pub is_plain : Bool → Translation → Bool
 is_plain masks Same = true
 is_plain masks Songs = not masks
 is_plain masks (Changed change) = false
-is_plain masks (Other natives change) = false
+is_plain masks (Other native change) = false
 is_plain masks (Stepped first steps) = false
 
 abbrev pub all_plain : Bool → List (List ℕ) → Bool
@@ -66,7 +64,7 @@ any_mask (line ∷ lines) = changes_mask (translation false line) || any_mask li
 
 -- the lines that stand in the place of commands of a list, and what becomes of their answers
 abbrev pub lines_of_list : List (List ℕ) → List (List ℕ)
-lines_of_list lines = flat_map (λ line. native_lines line (translation false line)) lines
+lines_of_list lines = map (λ line. native_line line (translation false line)) lines
 
 abbrev pub parts_of_list : List (List ℕ) → List Part
 parts_of_list lines = map (λ line. part_of (translation false line)) lines
@@ -82,7 +80,7 @@ list_text separated lines = ended (begin_text separated) ++ (flat_map ended line
 -- commands of which so many were sent, none of them answered yet
 abbrev pub several : Bool → ℕ → List Part → Awaited
 several separated count commands =
-    awaits.Several (record { separated = separated; count = count; has_first = false; told = 0; parts = commands })
+    awaits.Several (record { separated = separated; count = count; parts = commands })
 
 -- what the daemon is asked, what is awaited of it, and whether the client has asked for other tags by now
 pub record Asked : Type 0 where
@@ -101,28 +99,17 @@ abbrev pub asked_step : List ℕ → Steps → Bool → Asked
 asked_step first steps masks =
     record { native = ended first; awaited = awaits.Step ∷ []; masks = masks; steps = Some steps; later = [] }
 
--- a list of two commands, each of which is answered by `list_OK`
-abbrev pub pair_text : List ℕ → List ℕ → List ℕ
-pair_text first second = ended (begin_text true) ++ (ended first ++ (ended second ++ ended (codes "command_list_end")))
-
 -- what is asked at once: a command alone, or a list, each command of which is answered by `list_OK`
 abbrev pub lines_text : List (List ℕ) → List ℕ
 lines_text [] = list_text true []
 lines_text (line ∷ []) = ended line
 lines_text (line ∷ other ∷ lines) = list_text true (line ∷ other ∷ lines)
 
--- two commands stand in a list, so that nothing comes between them
-abbrev pub asked_natives : List ℕ → Option (List ℕ) → Change → Bool → Asked
-asked_natives first None change masks = asked (ended first) (awaits.One change 0 ∷ []) masks
-asked_natives first (Some second) change masks =
-    asked (pair_text first second) (several false 1 (parts.Changed true change ∷ []) ∷ []) masks
-
 abbrev pub asked_single : Bool → List ℕ → Translation → Asked
 asked_single masks line Same = asked (ended line) (awaits.Passing ∷ []) masks
 asked_single masks line Songs = asked (ended line) ((if masks then awaits.Songs else awaits.Passing) ∷ []) masks
-asked_single masks line (Changed change) = asked (ended line) (awaits.One change 0 ∷ []) (masks || is_mask change.ending)
-asked_single masks line (Other natives change) =
-    asked_natives natives.first natives.second change (masks || is_mask change.ending)
+asked_single masks line (Changed change) = asked (ended line) (awaits.One change ∷ []) (masks || is_mask change.ending)
+asked_single masks line (Other native change) = asked (ended native) (awaits.One change ∷ []) (masks || is_mask change.ending)
 asked_single masks line (Stepped first steps) = asked_step first steps masks
 
 -- a list of which all passes goes on as it came

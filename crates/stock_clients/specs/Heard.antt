@@ -1,18 +1,14 @@
 -- What becomes of each line of the daemon's answers.
-use Rattle.std.specs.Prelude.{◌≡◌, ℕ, ◌+◌, ◌-◌, nat_eq, nat_lt, ◌==◌, Bool, true, false, ◌&&◌, ◌||◌, List, [], ◌∷◌, ◌++◌, length}
-use Rattle.std.specs.Prelude.{take, drop, min, not, codes, Option, Some, None, if◌then◌else◌}
-use Rattle.std.specs.List.{starts_with}
-use Rattle.std.specs.Fmt.{decimal}
+use Rattle.std.specs.Prelude.{◌≡◌, ℕ, ◌-◌, ◌==◌, Bool, true, false, List, [], ◌∷◌, ◌++◌, length, codes}
+use Rattle.std.specs.Prelude.{Option, Some, None, if◌then◌else◌}
 use Rattle.client_session.specs.Lines.{newline, ended}
-use Rattle.stock_requests.specs.Listed.{told_value}
 use Rattle.stock_requests.specs.Masks.{all_in_set, after_change, is_shown}
 use Rattle.stock_requests.specs.declared.mask.TagSet.{TagSet}
-use Rattle.stock_requests.specs.Texts.{text_of}
 use Rattle.stock_requests.specs.declared.change.Change.{Change}
 use Rattle.stock_requests.specs.declared.change.LineChange.{LineChange}
-use Rattle.stock_requests.specs.declared.change.LineChange.TheVariants.{Kept, Masked, OnlyVolume, Values, Numbered, OnlyFiles, Dated, Below}
+use Rattle.stock_requests.specs.declared.change.LineChange.TheVariants.{Kept, Masked}
 use Rattle.stock_requests.specs.declared.change.Ending.{Ending}
-use Rattle.stock_requests.specs.declared.change.Ending.TheVariants.{Nothing, Text, Times, Masks}
+use Rattle.stock_requests.specs.declared.change.Ending.TheVariants.{Nothing, Times, Masks}
 use Rattle.stock_requests.specs.declared.steps.Steps.{Steps}
 use Rattle.stock_requests.specs.Steps.{after_step, step_change, step_line, step_part, After, Told}
 use Rattle.stock_clients.specs.Lines.{kind_of, list_ok_text}
@@ -30,70 +26,26 @@ use Rattle.stock_clients.specs.declared.next.Next.TheVariants.{Stays, Asks, Resu
 use Rattle.stock_clients.specs.declared.times.DaemonTimes.{DaemonTimes}
 use Rattle.stock_clients.specs.Asked.{asked_all, lines_text}
 use Rattle.command_text.specs.declared.request.Request.{Request}
-use Rattle.command_text.specs.Answer.{number_pair, pair}
+use Rattle.command_text.specs.Answer.{number_pair}
 
 -- a line of a song, where its tag is one that the client wants
 abbrev pub shown_line : TagSet → List ℕ → List ℕ
 shown_line shown line = if is_shown shown line then ended line else []
 
--- whether a line names a song
-abbrev pub is_file : List ℕ → Bool
-is_file line = starts_with nat_eq line (codes "file: ")
-
--- whether a line names a folder, or one of both
-abbrev pub is_folder : List ℕ → Bool
-is_folder line = starts_with nat_eq line (codes "directory: ")
-
-abbrev pub names_path : List ℕ → Bool
-names_path line = is_file line || is_folder line
-
--- the path that such a line has
-abbrev pub path_in : List ℕ → List ℕ
-path_in line = if is_file line then drop 6 line else drop 11 line
-
--- the folder whose path is the first so many bytes of another one; nothing where that has no more
-abbrev pub folder_before : ℕ → List ℕ → List ℕ
-folder_before size path = if nat_lt size (length path) then pair (codes "directory") (take size path) else []
-
--- the folder whose path has so many bytes, before the first song or folder in it
-abbrev pub folder_told : ℕ → ℕ → List ℕ → List ℕ
-folder_told size told line = if told == 0 && names_path line then folder_before size (path_in line) else []
-
--- what stands behind the line of a playlist: clients take the beginning of 1970 for a time that isn't known
-abbrev pub time_told : List ℕ → List ℕ
-time_told line =
-    if starts_with nat_eq line (codes "playlist: ") then pair (codes "Last-Modified") (codes "1970-01-01T00:00:00Z") else []
-
--- what is given for a line that tells something, behind so many that named a song or a folder
-abbrev pub changed_line : LineChange → TagSet → ℕ → List ℕ → List ℕ
-changed_line Kept shown told line = ended line
-changed_line Masked shown told line = shown_line shown line
-changed_line OnlyVolume shown told line = if starts_with nat_eq line (codes "volume: ") then ended line else []
-changed_line (Values tag) shown told line = told_value tag line
-changed_line Numbered shown told line = if is_file line then decimal told ++ codes ":" ++ ended line else []
-changed_line OnlyFiles shown told line = if is_file line then ended line else []
-changed_line Dated shown told line = shown_line shown line ++ time_told line
-changed_line (Below size) shown told line = folder_told size told line ++ shown_line shown line
-
--- how many such lines are counted
-abbrev pub most_told : ℕ
-most_told = 4294967295
-
--- how many lines have named a song or a folder then
-abbrev pub told_then : ℕ → List ℕ → ℕ
-told_then told line = if names_path line then min (told + 1) most_told else told
+-- what is given for a line that tells something
+abbrev pub changed_line : LineChange → TagSet → List ℕ → List ℕ
+changed_line Kept shown line = ended line
+changed_line Masked shown line = shown_line shown line
 
 -- the tags that the client wants behind an answer
 abbrev pub shown_behind : Ending → TagSet → TagSet
 shown_behind Nothing shown = shown
-shown_behind (Text text) shown = shown
 shown_behind Times shown = shown
 shown_behind (Masks change) shown = after_change change shown
 
 -- what is told before the end of an answer
 abbrev pub told_at_end : Ending → TagSet → DaemonTimes → List ℕ
 told_at_end Nothing shown times = []
-told_at_end (Text text) shown times = text_of text
 told_at_end Times shown times = number_pair (codes "uptime") times.uptime ++ number_pair (codes "db_update") times.db_update
 told_at_end (Masks change) shown times = []
 
@@ -121,13 +73,12 @@ answered_songs shown line kinds.ListOk = answered (Some awaits.Songs) shown (end
 answered_songs shown line kinds.Told = answered (Some awaits.Songs) shown (shown_line shown line)
 
 -- the line is changed; an answer's end brings what is told before it
-abbrev pub answered_one : Change → ℕ → DaemonTimes → TagSet → List ℕ → LineKind → Answered
-answered_one change told times shown line kinds.Ok =
+abbrev pub answered_one : Change → DaemonTimes → TagSet → List ℕ → LineKind → Answered
+answered_one change times shown line kinds.Ok =
     answered None (shown_behind change.ending shown) (told_at_end change.ending shown times ++ ended line)
-answered_one change told times shown line kinds.Ack = answered None shown (ended (refusal_of change 0 line))
-answered_one change told times shown line kinds.ListOk = answered (Some (awaits.One change told)) shown (ended line)
-answered_one change told times shown line kinds.Told =
-    answered (Some (awaits.One change (told_then told line))) shown (changed_line change.lines shown told line)
+answered_one change times shown line kinds.Ack = answered None shown (ended (refusal_of change 0 line))
+answered_one change times shown line kinds.ListOk = answered (Some (awaits.One change)) shown (ended line)
+answered_one change times shown line kinds.Told = answered (Some (awaits.One change)) shown (changed_line change.lines shown line)
 
 -- how many commands of the list are done
 abbrev pub done : Several → ℕ
@@ -140,19 +91,17 @@ part_end false = []
 
 -- a list of which the command at work is done
 abbrev pub done_one : Several → List Part → Several
-done_one several rest = record several { has_first = false; told = 0; parts = rest }
+done_one several rest = record several { parts = rest }
 
--- the first of two native commands, or the command at work, is done
+-- the command at work is done
 abbrev pub ended_part : Several → DaemonTimes → TagSet → List ℕ → List Part → Answered
 ended_part several times shown line [] = answered (Some (awaits.Several several)) shown (ended line)
 ended_part several times shown line (parts.Same ∷ rest) =
     answered (Some (awaits.Several (done_one several rest))) shown (part_end several.separated)
 ended_part several times shown line (parts.Songs ∷ rest) =
     answered (Some (awaits.Several (done_one several rest))) shown (part_end several.separated)
-ended_part several times shown line (parts.Changed needs_two change ∷ rest) =
-    if needs_two && not several.has_first
-    then answered (Some (awaits.Several (record several { has_first = true }))) shown []
-    else answered (Some (awaits.Several (done_one several rest))) (shown_behind change.ending shown)
+ended_part several times shown line (parts.Changed change ∷ rest) =
+    answered (Some (awaits.Several (done_one several rest))) (shown_behind change.ending shown)
     (told_at_end change.ending shown times ++ part_end several.separated)
 
 -- what is given for a line of the command at work
@@ -160,22 +109,21 @@ abbrev pub part_line : Several → TagSet → List ℕ → List Part → List �
 part_line several shown line [] = ended line
 part_line several shown line (parts.Same ∷ rest) = ended line
 part_line several shown line (parts.Songs ∷ rest) = shown_line shown line
-part_line several shown line (parts.Changed needs_two change ∷ rest) = changed_line change.lines shown several.told line
+part_line several shown line (parts.Changed change ∷ rest) = changed_line change.lines shown line
 
 -- a refusal counts the client's own commands
 abbrev pub part_refusal : Several → List ℕ → List Part → List ℕ
 part_refusal several line [] = refusal_at (done several) line
 part_refusal several line (parts.Same ∷ rest) = refusal_at (done several) line
 part_refusal several line (parts.Songs ∷ rest) = refusal_at (done several) line
-part_refusal several line (parts.Changed needs_two change ∷ rest) = refusal_of change (done several) line
+part_refusal several line (parts.Changed change ∷ rest) = refusal_of change (done several) line
 
 abbrev pub answered_several : Several → DaemonTimes → TagSet → List ℕ → LineKind → Answered
 answered_several several times shown line kinds.Ok = answered None shown (ended line)
 answered_several several times shown line kinds.Ack = answered None shown (ended (part_refusal several line several.parts))
 answered_several several times shown line kinds.ListOk = ended_part several times shown line several.parts
 answered_several several times shown line kinds.Told =
-    answered (Some (awaits.Several (record several { told = told_then several.told line }))) shown
-    (part_line several shown line several.parts)
+    answered (Some (awaits.Several several)) shown (part_line several shown line several.parts)
 
 -- the request that is answered, the tags and the bytes that were given are those
 pub record IsAnswered (answer : Answered) (found : Option Awaited) (tags : TagSet) (before after : List ℕ) : Type 0 where
@@ -253,8 +201,8 @@ heard_steps hearing rest line (Some steps) = heard_step hearing rest line (kind_
 abbrev pub heard_first : Awaited → List Awaited → Hearing → List ℕ → Heard
 heard_first awaits.Passing rest hearing line = heard_answer hearing rest (answered_passing hearing.shown line (kind_of line))
 heard_first awaits.Songs rest hearing line = heard_answer hearing rest (answered_songs hearing.shown line (kind_of line))
-heard_first (awaits.One change told) rest hearing line =
-    heard_answer hearing rest (answered_one change told hearing.times hearing.shown line (kind_of line))
+heard_first (awaits.One change) rest hearing line =
+    heard_answer hearing rest (answered_one change hearing.times hearing.shown line (kind_of line))
 heard_first (awaits.Several several) rest hearing line =
     heard_answer hearing rest (answered_several several hearing.times hearing.shown line (kind_of line))
 heard_first awaits.Step rest hearing line = heard_steps hearing rest line hearing.steps

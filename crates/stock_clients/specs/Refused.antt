@@ -1,7 +1,7 @@
 -- The line of a refusal, `ACK [CODE@INDEX] {NAME} TEXT`, as the client is told it.
 use Rattle.std.specs.Prelude.{ℕ, ◌==◌, List, [], ◌∷◌, ◌++◌, drop, codes, if◌then◌else◌}
 use Rattle.std.specs.Fmt.{decimal}
-use Rattle.stock_requests.specs.Names.{name_text}
+use Rattle.command_text.specs.Names.{name_text}
 use Rattle.stock_requests.specs.Texts.{refusal_code, refusal_text}
 use Rattle.stock_requests.specs.declared.change.Change.{Change}
 use Rattle.stock_requests.specs.declared.change.RefusalChange.{RefusalChange}
@@ -48,7 +48,7 @@ abbrev pub refusal_by : RefusalChange → Change → ℕ → List ℕ → List �
 refusal_by Named change index line =
     refusal_start (code_in line) index ++ (braces (name_text change.name) ++ text_in line)
 refusal_by (Replaced refusal) change index line =
-    refusal_start (decimal (refusal_code refusal)) index ++ (braces (name_text change.name) ++ refusal_text change.name refusal)
+    refusal_start (decimal refusal_code) index ++ (braces (name_text change.name) ++ refusal_text change.name refusal)
 
 abbrev pub refusal_of : Change → ℕ → List ℕ → List ℕ
 refusal_of change index line = refusal_by change.refusal change index line

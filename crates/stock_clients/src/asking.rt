@@ -1,11 +1,11 @@
 // Requests of the client as the daemon is asked them.
-ghost use Rattle.std.specs.Prelude.{◌≡◌, ◌++◌, false, true, None, Some, option_to_list, if◌then◌else◌, OnOk, IfOk};
+ghost use Rattle.std.specs.Prelude.{◌≡◌, ◌++◌, false, true, None, Some, if◌then◌else◌, OnOk, IfOk};
 ghost use Rattle.client_session.specs.Lines.{ended};
 ghost use Rattle.stock_requests.specs.Translation.{translation};
-ghost use Rattle.stock_clients.specs.Asked.{all_plain, any_mask, asked_as_it_is, asked_in_parts, asked_list, asked_natives, begin_text};
-ghost use Rattle.stock_clients.specs.Asked.{asked_all, asked_of, asked_single, changes_mask, is_mask, lines_text, list_text, pair_text};
+ghost use Rattle.stock_clients.specs.Asked.{all_plain, any_mask, asked_as_it_is, asked_in_parts, asked_list, begin_text};
+ghost use Rattle.stock_clients.specs.Asked.{asked_all, asked_of, asked_single, changes_mask, is_mask, lines_text, list_text};
 ghost use Rattle.stock_clients.specs.Asked.{IsAskedSo};
-ghost use Rattle.stock_clients.specs.Asked.{is_plain, lines_of_list, native_lines, part_of, parts_of_list, several, IsAsked};
+ghost use Rattle.stock_clients.specs.Asked.{is_plain, lines_of_list, native_line, part_of, parts_of_list, several, IsAsked};
 ghost use Rattle.std.specs.List.{flat_map};
 ghost use Rattle.stock_clients.specs.declared.awaited.Awaited.TheVariants as awaits;
 
@@ -15,7 +15,7 @@ use crate::parts::{Later, Part, Parts, Queue};
 use command_text::{Lines, LinesRef, Request};
 use no_memory::NoMemory;
 use std::alloc::Global;
-use stock_requests::{Change, Ending, Natives, Steps, Translation, translate};
+use stock_requests::{Ending, Steps, Translation, translate};
 
 const LIST_BEGIN: &[u8] = b"command_list_begin";
 
@@ -59,37 +59,19 @@ fn part_of(translation: &Translation) -> Part
     match translation {
         Translation::Same | Translation::Stepped(_, _) => Part::Same,
         Translation::Songs => Part::Songs,
-        Translation::Changed(change) => Part::Changed {
-            needs_two: false,
-            change: *change,
-        },
-        Translation::Other(natives, change) => Part::Changed {
-            needs_two: natives.second.is_some(),
-            change: *change,
-        },
+        Translation::Changed(change) | Translation::Other(_, change) => Part::Changed(*change),
     }
 }
 
-// Adds one native command or two.
-fn write_natives(out: &mut Vec<u8>, natives: &Natives) -> Result<(), NoMemory>
-    ensures { OnOk result (out.new.items ≡ out.old.items
-        ++ (ended natives.now.first ++ flat_map ended (option_to_list natives.now.second))) }
-{
-    write_line(out, natives.first.bytes())?;
-    match &natives.second {
-        Some(second) => write_line(out, second.bytes()),
-        None => Ok(()),
-    }
-}
-
-// Adds the lines that stand in the place of a command.
+// Adds the line that stands in the place of a command.
 fn write_native(out: &mut Vec<u8>, line: &[u8], translation: &Translation) -> Result<(), NoMemory>
-    ensures { OnOk result (out.new.items ≡ out.old.items ++ flat_map ended (native_lines line.now translation.now)) }
+    ensures { OnOk result (out.new.items ≡ out.old.items ++ ended (native_line line.now translation.now)) }
 {
     match translation {
         Translation::Same | Translation::Songs | Translation::Changed(_) => write_line(out, line),
-        Translation::Other(natives, _) => write_natives(out, natives),
-        Translation::Stepped(first, _) => write_line(out, first.bytes()),
+        Translation::Other(first, _) | Translation::Stepped(first, _) => {
+            write_line(out, first.bytes())
+        }
     }
 }
 
@@ -142,17 +124,6 @@ fn translate_lines(
     Ok(masks)
 }
 
-// Adds two native commands in a list of their own, so that nothing comes between them.
-fn write_pair(out: &mut Vec<u8>, first: &[u8], second: &[u8]) -> Result<(), NoMemory>
-    ensures { OnOk result (out.new.items ≡ out.old.items ++ pair_text first.now second.now) }
-{
-    write_line(out, list_begin(true))?;
-    write_line(out, first)?;
-    write_line(out, second)?;
-    write_line(out, LIST_END)?;
-    Ok(())
-}
-
 // Adds a list of these lines.
 fn write_list(out: &mut Vec<u8>, separated: bool, lines: LinesRef<'_>) -> Result<(), NoMemory>
     ensures { OnOk result (out.new.items ≡ out.old.items ++ list_text separated lines.entry) }
@@ -174,50 +145,6 @@ pub(crate) fn write_text(out: &mut Vec<u8>, lines: &Lines) -> Result<(), NoMemor
     write_list(out, true, lines.as_ref())
 }
 
-// Two native commands in the place of one.
-fn ask_two(
-    alloc: Global,
-    out: &mut Vec<u8>,
-    awaited: &mut Queue,
-    first: &[u8],
-    second: &[u8],
-    change: Change,
-) -> Result<(), NoMemory>
-    ensures { OnOk result (IsAsked (asked_natives first.now (Some second.now) change false) false
-        awaited.old awaited.new out.old.items out.new.items) }
-{
-    let mut parts = Parts::new(alloc);
-    parts.push(&Part::Changed {
-        needs_two: true,
-        change,
-    })?;
-    write_pair(out, first, second)?;
-    awaited.push(several(false, 1, parts))?;
-    Ok(())
-}
-
-// One native command or two.
-fn ask_natives(
-    alloc: Global,
-    out: &mut Vec<u8>,
-    awaited: &mut Queue,
-    natives: &Natives,
-    change: Change,
-) -> Result<(), NoMemory>
-    ensures { OnOk result (IsAsked (asked_natives natives.now.first natives.now.second change false) false
-        awaited.old awaited.new out.old.items out.new.items) }
-{
-    let first = natives.first.bytes();
-    match &natives.second {
-        Some(second) => ask_two(alloc, out, awaited, first, second.bytes(), change),
-        None => {
-            write_line(out, first)?;
-            awaited.push(Awaited::One { change, told: 0 })?;
-            Ok(())
-        }
-    }
-}
-
 // Commands of which none is answered yet.
 fn several(separated: bool, count: usize, parts: Parts) -> Awaited
     ensures { result ≡ several separated count parts }
@@ -225,8 +152,6 @@ fn several(separated: bool, count: usize, parts: Parts) -> Awaited
     Awaited::Several(Several {
         separated,
         count,
-        has_first: false,
-        told: 0,
         parts,
     })
 }
@@ -287,11 +212,12 @@ fn ask_single(
         }
         Translation::Changed(change) => {
             write_line(out, line)?;
-            awaited.push(Awaited::One { change, told: 0 })?;
+            awaited.push(Awaited::One(change))?;
             Ok(at_once(then))
         }
-        Translation::Other(natives, change) => {
-            ask_natives(alloc, out, awaited, &natives, change)?;
+        Translation::Other(native, change) => {
+            write_line(out, native.bytes())?;
+            awaited.push(Awaited::One(change))?;
             Ok(at_once(then))
         }
         Translation::Stepped(first, steps) => {

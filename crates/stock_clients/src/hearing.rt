@@ -3,9 +3,8 @@ ghost use Rattle.std.specs.Prelude.{◌≡◌, ◌∷◌, ◌++◌, codes, Some,
 ghost use Rattle.client_session.specs.Lines.{ended};
 ghost use Rattle.command_text.specs.Answer.{number_pair};
 ghost use Rattle.stock_clients.specs.Heard.{answered_one, answered_several, answered_passing, answered_songs, changed_line, done, ended_part};
-ghost use Rattle.stock_clients.specs.Heard.{folder_before, folder_told, is_folder, names_path, path_in, time_told};
-ghost use Rattle.stock_clients.specs.Heard.{heard, heard_end, heard_first, heard_step, heard_steps, is_file, part_end, part_line};
-ghost use Rattle.stock_clients.specs.Heard.{part_refusal, shown_behind, shown_line, told_at_end, told_then, unheard};
+ghost use Rattle.stock_clients.specs.Heard.{heard, heard_end, heard_first, heard_step, heard_steps, part_end, part_line};
+ghost use Rattle.stock_clients.specs.Heard.{part_refusal, shown_behind, shown_line, told_at_end, unheard};
 ghost use Rattle.stock_clients.specs.Heard.{waiting, IsAnswered};
 ghost use Rattle.stock_clients.specs.Lines.{kind_of};
 ghost use Rattle.stock_requests.specs.Steps.{after_step};
@@ -16,13 +15,12 @@ use crate::awaited::{Awaited, Several};
 use crate::kinds::LineKind;
 use crate::next::Next;
 use crate::parts::{Part, Queue};
-use crate::refusing::{behind_of, write_refusal_at, write_refusal_of};
+use crate::refusing::{write_refusal_at, write_refusal_of};
 use crate::times::DaemonTimes;
-use command_text::{write_number, write_pair};
-use itoa::Buffer;
+use command_text::write_number;
 use no_memory::NoMemory;
 use std::alloc::Global;
-use stock_requests::{Change, Ending, LineChange, Steps, TagSet, write_value};
+use stock_requests::{Change, Ending, LineChange, Steps, TagSet};
 
 // Adds a line with its newline.
 pub(crate) fn write_line(out: &mut Vec<u8>, line: &[u8]) -> Result<(), NoMemory>
@@ -30,68 +28,6 @@ pub(crate) fn write_line(out: &mut Vec<u8>, line: &[u8]) -> Result<(), NoMemory>
 {
     out.extend_from_slice(line)?;
     out.push(b'\n')?;
-    Ok(())
-}
-
-// Whether a line names a song.
-fn is_file(line: &[u8]) -> bool
-    ensures { result ≡ is_file line.now }
-{
-    line.starts_with(b"file: ")
-}
-
-// Whether a line names a folder.
-fn is_folder(line: &[u8]) -> bool
-    ensures { result ≡ is_folder line.now }
-{
-    line.starts_with(b"directory: ")
-}
-
-// Whether a line names a song or a folder.
-fn names_path(line: &[u8]) -> bool
-    ensures { result ≡ names_path line.now }
-{
-    is_file(line) || is_folder(line)
-}
-
-// The path that such a line has.
-fn path_in(line: &[u8]) -> &[u8]
-    ensures { result.now ≡ path_in line.now }
-{
-    if is_file(line) {
-        behind_of(6, line)
-    } else {
-        behind_of(11, line)
-    }
-}
-
-// Adds the folder whose path is the first so many bytes of another one; nothing where that has no more.
-fn write_folder_before(out: &mut Vec<u8>, size: usize, path: &[u8]) -> Result<(), NoMemory>
-    ensures { OnOk result (out.new.items ≡ out.old.items ++ folder_before size path.now) }
-{
-    if size < path.len() {
-        write_pair(out, "directory", &path[..size])?;
-    }
-    Ok(())
-}
-
-// Adds the folder whose path has so many bytes, before the first song or folder in it.
-fn write_folder(out: &mut Vec<u8>, size: usize, told: u32, line: &[u8]) -> Result<(), NoMemory>
-    ensures { OnOk result (out.new.items ≡ out.old.items ++ folder_told size told line.now) }
-{
-    if told == 0 && names_path(line) {
-        return write_folder_before(out, size, path_in(line));
-    }
-    Ok(())
-}
-
-// Adds what stands behind the line of a playlist, of whose times nothing is known.
-fn write_time(out: &mut Vec<u8>, line: &[u8]) -> Result<(), NoMemory>
-    ensures { OnOk result (out.new.items ≡ out.old.items ++ time_told line.now) }
-{
-    if line.starts_with(b"playlist: ") {
-        write_pair(out, "Last-Modified", b"1970-01-01T00:00:00Z")?;
-    }
     Ok(())
 }
 
@@ -110,45 +46,13 @@ fn write_changed(
     out: &mut Vec<u8>,
     lines: LineChange,
     shown: &TagSet,
-    told: u32,
     line: &[u8],
 ) -> Result<(), NoMemory>
-    ensures { OnOk result (out.new.items ≡ out.old.items ++ changed_line lines shown.now told line.now) }
+    ensures { OnOk result (out.new.items ≡ out.old.items ++ changed_line lines shown.now line.now) }
 {
     match lines {
         LineChange::Kept => write_line(out, line),
         LineChange::Masked => write_shown(out, shown, line),
-        LineChange::OnlyVolume if line.starts_with(b"volume: ") => write_line(out, line),
-        LineChange::OnlyVolume => Ok(()),
-        LineChange::Values(tag) => write_value(tag, out, line),
-        LineChange::Numbered if is_file(line) => {
-            let mut digits = Buffer::new();
-            out.extend_from_slice(digits.format(told).as_bytes())?;
-            out.push(b':')?;
-            write_line(out, line)
-        }
-        LineChange::Numbered => Ok(()),
-        LineChange::OnlyFiles if is_file(line) => write_line(out, line),
-        LineChange::OnlyFiles => Ok(()),
-        LineChange::Dated => {
-            write_shown(out, shown, line)?;
-            write_time(out, line)
-        }
-        LineChange::Below(size) => {
-            write_folder(out, size, told, line)?;
-            write_shown(out, shown, line)
-        }
-    }
-}
-
-// How many lines have named a song or a folder then.
-fn told_then(told: u32, line: &[u8]) -> u32
-    ensures { result ≡ told_then told line.now }
-{
-    if names_path(line) {
-        told.saturating_add(1)
-    } else {
-        told
     }
 }
 
@@ -173,7 +77,6 @@ fn end_answer(
 {
     match end {
         Ending::Nothing => {}
-        Ending::Text(text) => out.extend_from_slice(text.text().as_bytes())?,
         Ending::Times => write_times(out, times)?,
         Ending::Masks(change) => *shown = shown.changed(*change),
     }
@@ -227,11 +130,10 @@ fn answer_one(
     shown: &mut TagSet,
     times: DaemonTimes,
     change: Change,
-    told: u32,
     line: &[u8],
     kind: LineKind,
 ) -> Result<Option<Awaited>, NoMemory>
-    ensures { IfOk result (λ left. IsAnswered (answered_one change told times shown.old line.now kind)
+    ensures { IfOk result (λ left. IsAnswered (answered_one change times shown.old line.now kind)
         left shown.new out.old.items out.new.items) }
 {
     match kind {
@@ -246,17 +148,16 @@ fn answer_one(
         }
         LineKind::ListOk => {
             write_line(out, line)?;
-            Ok(Some(Awaited::One { change, told }))
+            Ok(Some(Awaited::One(change)))
         }
         LineKind::Told => {
-            write_changed(out, change.lines, shown, told, line)?;
-            let told = told_then(told, line);
-            Ok(Some(Awaited::One { change, told }))
+            write_changed(out, change.lines, shown, line)?;
+            Ok(Some(Awaited::One(change)))
         }
     }
 }
 
-// The first of two native commands, or the command at work, is done.
+// The command at work is done.
 fn end_part(
     out: &mut Vec<u8>,
     shown: &mut TagSet,
@@ -274,11 +175,7 @@ fn end_part(
             return Ok(Some(Awaited::Several(several)));
         }
         Some(Part::Same | Part::Songs) => {}
-        Some(Part::Changed { needs_two, change }) => {
-            if *needs_two && !several.has_first {
-                several.has_first = true;
-                return Ok(Some(Awaited::Several(several)));
-            }
+        Some(Part::Changed(change)) => {
             let ending = change.ending;
             end_answer(out, &ending, times, shown)?;
         }
@@ -287,8 +184,6 @@ fn end_part(
         write_line(out, b"list_OK")?;
     }
     several.parts.drop_first();
-    several.has_first = false;
-    several.told = 0;
     Ok(Some(Awaited::Several(several)))
 }
 
@@ -304,9 +199,7 @@ fn tell_part(
     match several.parts.first() {
         None | Some(Part::Same) => write_line(out, line),
         Some(Part::Songs) => write_shown(out, shown, line),
-        Some(Part::Changed { change, .. }) => {
-            write_changed(out, change.lines, shown, several.told, line)
-        }
+        Some(Part::Changed(change)) => write_changed(out, change.lines, shown, line),
     }
 }
 
@@ -317,7 +210,7 @@ fn refuse_part(out: &mut Vec<u8>, several: &Several, line: &[u8]) -> Result<(), 
     let done = several.count.saturating_sub(several.parts.len());
     match several.parts.first() {
         None | Some(Part::Same | Part::Songs) => write_refusal_at(out, done, line),
-        Some(Part::Changed { change, .. }) => write_refusal_of(out, change, done, line),
+        Some(Part::Changed(change)) => write_refusal_of(out, change, done, line),
     }
 }
 
@@ -345,8 +238,6 @@ fn answer_several(
         LineKind::ListOk => end_part(out, shown, times, several, line),
         LineKind::Told => {
             tell_part(out, shown, &several, line)?;
-            let mut several = several;
-            several.told = told_then(several.told, line);
             Ok(Some(Awaited::Several(several)))
         }
     }
@@ -522,8 +413,8 @@ impl Hearing {
                 let left = answer_songs(out, &mut self.shown, line, kind)?;
                 self.put_back(left)
             }
-            Awaited::One { change, told } => {
-                let left = answer_one(out, &mut self.shown, times, change, told, line, kind)?;
+            Awaited::One(change) => {
+                let left = answer_one(out, &mut self.shown, times, change, line, kind)?;
                 self.put_back(left)
             }
             Awaited::Several(several) => {

@@ -1,11 +1,10 @@
 //! What holds of every conversation.
-ghost use Rattle.std.specs.Prelude.{◌≡◌, ℕ, List, [], false, true, ◌∷◌, ◌++◌, length, codes};
-ghost use Rattle.command_text.specs.Answer.{pair};
+ghost use Rattle.std.specs.Prelude.{◌≡◌, ℕ, List, [], false, true, ◌∷◌, ◌++◌};
 ghost use Rattle.command_text.specs.declared.request.Request.{Request};
 ghost use Rattle.client_session.specs.Requests.{requests_of};
 ghost use Rattle.stock_clients.specs.Asked.{asked_all};
 ghost use Rattle.stock_clients.specs.Conversation.{given_for, heard_more, Talk};
-ghost use Rattle.stock_clients.specs.Heard.{folder_told, hear_bytes, Hears};
+ghost use Rattle.stock_clients.specs.Heard.{hear_bytes, Hears};
 ghost use Rattle.stock_clients.specs.Laws.{AreNative, ArePassing, IsAskedAsItIs, IsInOrder, Passes};
 ghost use Rattle.stock_clients.specs.declared.awaited.Awaited.{Awaited};
 ghost use Rattle.stock_clients.specs.declared.hearing.Hearing.{Hearing};
@@ -37,13 +36,4 @@ pub fn answers_come_in_any_pieces()
     ensures given { (now : Talk) (piece more : List ℕ)
         → given_for now (piece ++ more) ≡ given_for now piece ++ given_for (heard_more now piece) more }
     ensures left { (now : Talk) (piece more : List ℕ) → heard_more now (piece ++ more) ≡ heard_more (heard_more now piece) more }
-{}
-
-/// Before the first song or folder in a folder the folder itself is told; before a song that was asked for nothing is.
-pub fn folders_are_told_first()
-    ensures song { (folder name : List ℕ)
-        → folder_told (length folder) 0 (codes "file: " ++ (folder ++ (codes "/" ++ name))) ≡ pair (codes "directory") folder }
-    ensures folder { (folder name : List ℕ)
-        → folder_told (length folder) 0 (codes "directory: " ++ (folder ++ (codes "/" ++ name))) ≡ pair (codes "directory") folder }
-    ensures itself { (path : List ℕ) → folder_told (length path) 0 (codes "file: " ++ path) ≡ [] }
 {}

@@ -16,8 +16,8 @@ pub enum Part {
     Same,
     /// The same, but for the tags of songs that `tagtypes` has taken away.
     Songs,
-    /// Its part, of two native commands where `needs_two` says so, is changed.
-    Changed { needs_two: bool, change: Change },
+    /// Its part is changed.
+    Changed(Change),
 }
 
 /// Commands of a list, to be taken from the front.

@@ -1,13 +1,17 @@
 // The line of a refusal, as the client is told it (MPD protocol reference 0.23, "Failure responses").
 ghost use Rattle.std.specs.Prelude.{◌≡◌, ◌++◌, drop, OnOk};
 ghost use Rattle.std.specs.Fmt.{decimal};
-ghost use Rattle.stock_requests.specs.Names.{name_text};
+ghost use Rattle.command_text.specs.Names.{name_text};
 ghost use Rattle.client_session.specs.Lines.{ended};
 ghost use Rattle.stock_clients.specs.Refused.{before, behind, braces, code_in, index_part, refusal_at, refusal_of, refusal_start};
 
+use command_text::CommandName;
 use itoa::Buffer;
 use no_memory::NoMemory;
-use stock_requests::{Change, ForeignName, RefusalChange};
+use stock_requests::{Change, RefusalChange};
+
+// The code of the refusals that the daemon hasn't, that of a bad argument.
+const CODE: u8 = 2;
 
 // Adds what stands before the first such byte; all where there is none.
 fn add_before(out: &mut Vec<u8>, byte: u8, bytes: &[u8]) -> Result<(), NoMemory>
@@ -38,8 +42,8 @@ fn behind(byte: u8, bytes: &[u8]) -> &[u8]
     rest
 }
 
-/// The bytes behind so many; none where there are no more.
-pub(crate) fn behind_of(count: usize, bytes: &[u8]) -> &[u8]
+// The bytes behind so many; none where there are no more.
+fn behind_of(count: usize, bytes: &[u8]) -> &[u8]
     ensures { result.now ≡ drop count bytes.now }
 {
     &bytes[count.min(bytes.len())..]
@@ -90,7 +94,7 @@ fn add_start(out: &mut Vec<u8>, code: u8, index: usize) -> Result<(), NoMemory>
 }
 
 // Adds the name in braces.
-fn add_name(out: &mut Vec<u8>, name: ForeignName) -> Result<(), NoMemory>
+fn add_name(out: &mut Vec<u8>, name: CommandName) -> Result<(), NoMemory>
     ensures { OnOk result (out.new.items ≡ out.old.items ++ braces (name_text name)) }
 {
     add(out, b"{")?;
@@ -123,7 +127,7 @@ pub(crate) fn write_refusal_of(
             add(out, tail(behind(b'}', line)))?;
         }
         RefusalChange::Replaced(refusal) => {
-            add_start(out, refusal.code(), index)?;
+            add_start(out, CODE, index)?;
             add_name(out, change.name)?;
             let text = refusal.text(change.name);
             add(out, text.front.as_bytes())?;

@@ -6,7 +6,7 @@ use Rattle.std.specs.List.{AllByRecursion}
 use Rattle.std.proofs.lemmas.Bool.{eqb-false, leb-true}
 use Rattle.command_text.specs.Answer.{pair}
 use Rattle.command_text.specs.Counts.{Word}
-use Rattle.stock_requests.specs.declared.change.Natives.{Natives}
+use Rattle.stock_requests.specs.declared.group.Natives.{Natives}
 use Rattle.stock_requests.specs.declared.group.Asking.{Asking}
 use Rattle.stock_requests.specs.declared.group.Grouping.{Grouping}
 use Rattle.stock_requests.specs.declared.group.Level.{Level}

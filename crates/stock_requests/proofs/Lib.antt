@@ -4,7 +4,6 @@ pub mod Lines
 pub mod ReadBack
 pub mod Counting
 pub mod SetLaws
-pub mod NameLaws
 pub mod Fitting
 pub mod GroupFits
 pub mod Ends

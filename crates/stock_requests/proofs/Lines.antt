@@ -1,50 +1,47 @@
 -- What a line becomes, by the name that it begins with.
 use Rattle.std.proofs.Common.{◌≡◌, ℕ, Bool, List, [], ◌∷◌, Some, None, Result, Ok, Err, refl, sym, ap}
+use Rattle.profile.specs.declared.profile.Profile.TheVariants.{Wide}
 use Rattle.command_text.specs.declared.name.CommandName.{CommandName}
 use Rattle.command_text.specs.declared.refusal.Refusal.{Refusal}
 use Rattle.command_text.specs.Counts.{Word}
 use Rattle.command_text.specs.Reading.{first_name, line_words, name_of_line}
-use Rattle.stock_requests.specs.declared.change.Ending.TheVariants.{Text, Times}
-use Rattle.stock_requests.specs.declared.change.FixedText.{FixedText}
-use Rattle.stock_requests.specs.declared.change.LineChange.TheVariants.{Dated}
+use Rattle.stock_requests.specs.declared.change.Ending.TheVariants.{Times}
 use Rattle.stock_requests.specs.declared.change.Translation.TheVariants.{Same, Songs}
 use Rattle.stock_requests.specs.declared.native.Handling.{Handling}
-use Rattle.stock_requests.specs.declared.native.Handling.TheVariants.{Untouched, TellsSongs, Adds, AddsTimes, ListsPlaylists}
-use Rattle.stock_requests.specs.Native.{adding, by_first, changing, handling_of}
+use Rattle.stock_requests.specs.declared.native.Handling.TheVariants.{Untouched, TellsSongs, AddsTimes}
+use Rattle.stock_requests.specs.Native.{adding, by_first, handling_of}
 use Rattle.stock_requests.specs.Translation as specs
-use Rattle.stock_requests.specs.Translation.{of_name, of_unnamed, of_words, words_or_none}
+use Rattle.stock_requests.specs.Translation.{of_name, of_words, words_or_none}
 
 -- a line that begins with no name of the daemon's
-pub unnamed : (is_alone : Bool) (line : List ℕ) → name_of_line line ≡ None
-    → of_unnamed is_alone (words_or_none (line_words line)) ≡ specs.translation is_alone line
+pub unnamed : (is_alone : Bool) (line : List ℕ) → name_of_line Wide line ≡ None → Same ≡ specs.translation is_alone line
 unfolding specs.translation name_of_line
 unnamed is_alone line h = by_words (line_words line) h
   where
-    by_words : (read : Result (List Word) Refusal) → first_name read ≡ None
-        → of_unnamed is_alone (words_or_none read) ≡ of_words is_alone (words_or_none read)
+    by_words : (read : Result (List Word) Refusal) → first_name Wide read ≡ None → Same ≡ of_words is_alone (words_or_none read)
     by_words (Err refusal) h = refl
     by_words (Ok []) h = refl
-    by_words (Ok (word ∷ words)) h = sym (ap (of_name is_alone word words) h)
+    by_words (Ok (word ∷ words)) h = sym (ap (of_name is_alone words) h)
 
 -- a line that begins with one
-pub by_name : (is_alone : Bool) (line : List ℕ) (name : CommandName) → name_of_line line ≡ Some name
+pub by_name : (is_alone : Bool) (line : List ℕ) (name : CommandName) → name_of_line Wide line ≡ Some name
     → by_first is_alone (handling_of name) name (words_or_none (line_words line)) ≡ specs.translation is_alone line
 unfolding specs.translation name_of_line
 by_name is_alone line name h = by_words (line_words line) h
   where
-    by_words : (read : Result (List Word) Refusal) → first_name read ≡ Some name
+    by_words : (read : Result (List Word) Refusal) → first_name Wide read ≡ Some name
         → by_first is_alone (handling_of name) name (words_or_none read) ≡ of_words is_alone (words_or_none read)
     by_words (Err refusal) h = absurd (cc)
     by_words (Ok []) h = absurd (cc)
-    by_words (Ok (word ∷ words)) h = sym (ap (of_name is_alone word words) h)
+    by_words (Ok (word ∷ words)) h = sym (ap (of_name is_alone words) h)
 
 -- it has its name and words behind it
-pub has_words : (line : List ℕ) (name : CommandName) → name_of_line line ≡ Some name
+pub has_words : (line : List ℕ) (name : CommandName) → name_of_line Wide line ≡ Some name
     → (word : Word) × (words : List Word) × (words_or_none (line_words line) ≡ word ∷ words)
 unfolding name_of_line
 has_words line name h = by_words (line_words line) h
   where
-    by_words : (read : Result (List Word) Refusal) → first_name read ≡ Some name
+    by_words : (read : Result (List Word) Refusal) → first_name Wide read ≡ Some name
         → (word : Word) × (words : List Word) × (words_or_none read ≡ word ∷ words)
     by_words (Err refusal) h = absurd (cc)
     by_words (Ok []) h = absurd (cc)
@@ -59,18 +56,10 @@ untouched is_alone handling line name e = rw e (by_words (words_or_none (line_wo
     by_words [] = refl
     by_words (word ∷ words) = refl
 
-pub tells_songs : (is_alone : Bool) (handling : Handling) (line : List ℕ) (name : CommandName) → name_of_line line ≡ Some name
+pub tells_songs : (is_alone : Bool) (handling : Handling) (line : List ℕ) (name : CommandName) → name_of_line Wide line ≡ Some name
     → handling ≡ TellsSongs → Songs ≡ by_first is_alone handling name (words_or_none (line_words line))
 tells_songs is_alone handling line name h e = let found = has_words line name h in rw (e, found.2) refl
 
-pub adds : (is_alone : Bool) (handling : Handling) (text : FixedText) (line : List ℕ) (name : CommandName) → name_of_line line ≡ Some name
-    → handling ≡ Adds text → adding name (Text text) ≡ by_first is_alone handling name (words_or_none (line_words line))
-adds is_alone handling text line name h e = let found = has_words line name h in rw (e, found.2) refl
-
-pub adds_times : (is_alone : Bool) (handling : Handling) (line : List ℕ) (name : CommandName) → name_of_line line ≡ Some name
+pub adds_times : (is_alone : Bool) (handling : Handling) (line : List ℕ) (name : CommandName) → name_of_line Wide line ≡ Some name
     → handling ≡ AddsTimes → adding name Times ≡ by_first is_alone handling name (words_or_none (line_words line))
 adds_times is_alone handling line name h e = let found = has_words line name h in rw (e, found.2) refl
-
-pub lists_playlists : (is_alone : Bool) (handling : Handling) (line : List ℕ) (name : CommandName) → name_of_line line ≡ Some name
-    → handling ≡ ListsPlaylists → changing name Dated ≡ by_first is_alone handling name (words_or_none (line_words line))
-lists_playlists is_alone handling line name h e = let found = has_words line name h in rw (e, found.2) refl

@@ -1,6 +1,7 @@
 -- `list` and `count` with `group`: the values of the outermost tag are asked for first, and those of each tag below it within one value of
 -- each tag above it; those of the last one within several values of the tag above it at once.
-use Rattle.std.specs.Prelude.{ℕ, ◌+◌, ◌-◌, ◌/◌, nat_eq, ◌==◌, nat_le, min, max, ◌&&◌, ◌||◌, not, List, [], ◌∷◌, ◌++◌, length, drop, codes}
+use Rattle.std.specs.Prelude.{ℕ, ◌+◌, ◌-◌, ◌/◌, nat_eq, ◌==◌, nat_le, nat_lt, min, max, ◌&&◌, ◌||◌, not, List, [], ◌∷◌, ◌++◌, length}
+use Rattle.std.specs.Prelude.{drop, codes}
 use Rattle.std.specs.Prelude.{Bool, true, false, Option, Some, None, option_to_list, if◌then◌else◌}
 use Rattle.std.specs.List.{starts_with}
 use Rattle.std.specs.Str.{bytes_eq}
@@ -8,7 +9,7 @@ use Rattle.song_files.specs.Tag.{name_of}
 use Rattle.command_text.specs.Answer.{line, pair}
 use Rattle.command_text.specs.Counts.{Word}
 use Rattle.stock_requests.specs.declared.change.ForeignRefusal.TheVariants as refusals
-use Rattle.stock_requests.specs.declared.change.Natives.{Natives}
+use Rattle.stock_requests.specs.declared.group.Natives.{Natives}
 use Rattle.stock_requests.specs.declared.change.RefusalChange.{RefusalChange}
 use Rattle.stock_requests.specs.declared.change.RefusalChange.TheVariants.{Named, Replaced}
 use Rattle.stock_requests.specs.declared.group.Asking.{Asking}
@@ -134,9 +135,11 @@ told_group grouping given = record { grouping = grouping; given = given }
 abbrev pub tells_songs : List ℕ → Bool
 tells_songs text = starts_with nat_eq text (codes "songs: ") && not (bytes_eq text (codes "songs: 0"))
 
--- the value that a line tells of a tag
+-- the value that a line tells of a tag; songs without the tag, which have the empty one, are counted
 abbrev pub value_in : Tag → List ℕ → Option Word
-value_in tag text = if is_line_of (name_of tag) text then Some (drop (length (name_of tag) + 2) text) else None
+value_in tag text =
+    if is_line_of (name_of tag) text && nat_lt (length (name_of tag) + 2) (length text)
+    then Some (drop (length (name_of tag) + 2) text) else None
 
 abbrev pub counts_in : Option Tag → Bool
 counts_in None = true

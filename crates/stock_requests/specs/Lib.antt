@@ -2,16 +2,12 @@ pub mod Counted
 pub mod Expressions
 pub mod Filters
 pub mod Fits
-pub mod Foreign
 pub mod Grouped
 pub mod Groups
-pub mod Listed
 pub mod Masks
-pub mod Names
 pub mod Native
 pub mod Shuffles
 pub mod Spelling
 pub mod Steps
 pub mod Texts
 pub mod Translation
-pub mod Volumes

@@ -3,11 +3,9 @@ use Rattle.std.specs.Prelude.{ℕ, List, [], ◌∷◌, ◌++◌, ◌||◌, not,
 use Rattle.std.specs.Prelude.{if◌then◌else◌, Result, Ok, Err}
 use Rattle.std.specs.Str.{bytes_eq}
 use Rattle.song_files.specs.declared.tag.Tag.{Tag}
-use Rattle.song_files.specs.declared.tag.Tag.TheVariants as native
 use Rattle.song_files.specs.Tag.{tag_named}
 use Rattle.command_text.specs.declared.name.CommandName.{CommandName}
 use Rattle.command_text.specs.declared.name.CommandName.TheVariants as names
-use Rattle.filter_expr.specs.Parts.{begins_so, opening}
 use Rattle.command_text.specs.declared.range.Window.{Window}
 use Rattle.command_text.specs.Counts.{Word}
 use Rattle.command_text.specs.Finding.{has_filter_count}
@@ -15,53 +13,43 @@ use Rattle.command_text.specs.Names.{name_text}
 use Rattle.stock_requests.specs.declared.change.Change.{Change}
 use Rattle.stock_requests.specs.declared.change.Ending.{Ending}
 use Rattle.stock_requests.specs.declared.change.Ending.TheVariants as endings
-use Rattle.stock_requests.specs.declared.change.FixedText.TheVariants as texts
 use Rattle.stock_requests.specs.declared.change.ForeignRefusal.{ForeignRefusal}
 use Rattle.stock_requests.specs.declared.change.ForeignRefusal.TheVariants as refusals
 use Rattle.stock_requests.specs.declared.change.LineChange.{LineChange}
 use Rattle.stock_requests.specs.declared.change.LineChange.TheVariants as lines
-use Rattle.stock_requests.specs.declared.change.Natives.{Natives}
 use Rattle.stock_requests.specs.declared.change.RefusalChange.TheVariants.{Named, Replaced}
 use Rattle.stock_requests.specs.declared.change.Translation.{Translation}
 use Rattle.stock_requests.specs.declared.change.Translation.TheVariants.{Same, Songs, Changed, Other, Stepped}
 use Rattle.stock_requests.specs.declared.mask.TagSet.{TagSet}
 use Rattle.stock_requests.specs.declared.mask.MaskChange.{MaskChange}
 use Rattle.stock_requests.specs.declared.mask.MaskChange.TheVariants.{Clear, All, Enable, Disable}
-use Rattle.stock_requests.specs.declared.name.ForeignName.{ForeignName}
-use Rattle.stock_requests.specs.declared.name.ForeignName.TheVariants.{Native}
 use Rattle.stock_requests.specs.declared.native.Handling.{Handling}
-use Rattle.stock_requests.specs.declared.native.Handling.TheVariants.{Untouched, TellsSongs, Adds, AddsTimes, Filters, Searches}
-use Rattle.stock_requests.specs.declared.native.Handling.TheVariants.{AddsToPlaylist, Counts, ListsValues, ListsFolder, ListsAll}
-use Rattle.stock_requests.specs.declared.native.Handling.TheVariants.{ListsPlaylists, Masks, Shuffles}
+use Rattle.stock_requests.specs.declared.native.Handling.TheVariants.{Untouched, TellsSongs, AddsTimes, Filters, Searches}
+use Rattle.stock_requests.specs.declared.native.Handling.TheVariants.{AddsToPlaylist, Counts, ListsValues, Masks, Shuffles}
 use Rattle.stock_requests.specs.declared.steps.Steps as declared
 use Rattle.stock_requests.specs.declared.steps.Steps.TheVariants.{Group, Shuffle}
-use Rattle.stock_requests.specs.Expressions.{is_file_name}
 use Rattle.stock_requests.specs.Filters.{native_filter}
 use Rattle.stock_requests.specs.Grouped.{begun_group, is_grouped, most_ends, part_ends, Parted}
-use Rattle.stock_requests.specs.Groups.{count_line, counts_in, fits, two_natives}
-use Rattle.stock_requests.specs.Listed.{listing_natives}
+use Rattle.stock_requests.specs.Groups.{count_line, counts_in}
 use Rattle.stock_requests.specs.Masks.{empty_set, only_tag, with_tags}
 use Rattle.stock_requests.specs.Shuffles.{begun_shuffle, shuffled_range}
 use Rattle.stock_requests.specs.Spelling.{line_limit, spelled_line, spelled_words, words_eq}
 use Rattle.stock_requests.specs.Steps.{group_name}
 
 -- an answer of which these lines are told, and this behind them
-abbrev pub telling : ForeignName → LineChange → Ending → Change
+abbrev pub telling : CommandName → LineChange → Ending → Change
 telling name told ending = record { name = name; lines = told; ending = ending; refusal = Named }
 
--- one native command, and two
+-- one native command
 abbrev pub by_one : List ℕ → Change → Translation
-by_one line change = Other (record { first = line; second = None }) change
-
-abbrev pub by_two : List ℕ → List ℕ → Change → Translation
-by_two line other change = Other (record { first = line; second = Some other }) change
+by_one line change = Other line change
 
 -- answered without the daemon, at the command's place among the others
-abbrev pub answered : ForeignName → Ending → Translation
+abbrev pub answered : CommandName → Ending → Translation
 answered name ending = by_one (codes "ping") (telling name lines.Kept ending)
 
 -- refused at its place: the daemon refuses `ping` with an argument always
-abbrev pub refused : ForeignName → ForeignRefusal → Translation
+abbrev pub refused : CommandName → ForeignRefusal → Translation
 refused name refusal =
     by_one (codes "ping no") (record { name = name; lines = lines.Kept; ending = endings.Nothing; refusal = Replaced refusal })
 
@@ -84,7 +72,7 @@ unfoldable pub filtered : CommandName → Bool → Bool → Bool → List Word �
 filtered name songs sorts within front words =
     if words_eq (native_filter sorts within words) words then as_it_is songs
     else by_line (as_it_is songs) (spelled_line (name_text name) (front ++ native_filter sorts within words))
-    (telling (Native name) (songs_lines songs) endings.Nothing)
+    (telling name (songs_lines songs) endings.Nothing)
 
 -- a command that takes more than one request begins with this line, where a line may be so long
 abbrev pub by_steps : List ℕ → declared.Steps → Translation
@@ -116,88 +104,32 @@ unfoldable pub adding_to_playlist : List Word → Translation
 adding_to_playlist [] = Same
 adding_to_playlist (list ∷ words) = filtered names.SearchAddPlaylist false false true (list ∷ []) words
 
--- `list Album ARTIST`, as clients of old say it
-abbrev pub is_artist_alone : Tag → List Word → Bool
-is_artist_alone native.Album (word ∷ []) = not (begins_so opening word)
-is_artist_alone tag words = false
-
--- the words behind the tag of a `list`
-abbrev pub listing_words : Tag → List Word → List Word
-listing_words tag words = if is_artist_alone tag words then codes "Artist" ∷ words else native_filter false false words
-
--- an answer of which the values of a tag are told
-abbrev pub listing_change : Tag → Change
-listing_change tag = telling (Native names.ListTag) (lines.Values tag) endings.Nothing
-
--- native lines in a command's place, where lines may be so long; else the command goes on as it is
-abbrev pub by_natives : Natives → Change → Translation
-by_natives natives change = if fits natives then Other natives change else Same
-
--- the values of a tag within a filter of the daemon's
-abbrev pub listing_values : Tag → List Word → Translation
-listing_values tag words = if has_list_count words then by_natives (listing_natives tag words) (listing_change tag) else Same
-
-abbrev pub listing_of : Option Tag → List Word → Translation
-listing_of None words = Same
-listing_of (Some tag) words = listing_values tag (listing_words tag words)
-
 abbrev pub grouped_list_of : Tag → Result Parted ForeignRefusal → Translation
 grouped_list_of tag (Err refusal) = refused (group_name false) refusal
 grouped_list_of tag (Ok p) = grouping (Some tag) (native_filter false false p.words) (p.tags ++ tag ∷ [])
 
-abbrev pub grouped_list : Bool → Option Tag → List Word → Translation
-grouped_list is_alone None words = Same
-grouped_list false (Some tag) words = refused (group_name false) refusals.NotInList
-grouped_list true (Some tag) words = grouped_list_of tag (part_ends most_ends (only_tag tag) words)
+abbrev pub grouped_list : Bool → Tag → List Word → Translation
+grouped_list false tag words = refused (group_name false) refusals.NotInList
+grouped_list true tag words = grouped_list_of tag (part_ends most_ends (only_tag tag) words)
 
--- an answer of which the files of songs are told
-abbrev pub files_change : Change
-files_change = telling (Native names.ListTag) lines.OnlyFiles endings.Nothing
+-- the values of a tag, or the files of songs, of a filter
+abbrev pub listed : Word → List Word → Translation
+listed name words = filtered names.ListTag false false false (name ∷ []) words
 
--- The songs of a filter. They are counted first: that is refused where what `find` takes stands behind the filter.
-abbrev pub files_natives : List Word → Natives
-files_natives words = two_natives (spelled_line (codes "count") words) (spelled_line (codes "find") words)
-
--- the files of all songs, or of those of a filter
-unfoldable pub listing_files : List Word → Translation
-listing_files [] = by_one (codes "listall") files_change
-listing_files (word ∷ words) =
-    if has_filter_count (word ∷ words) then by_natives (files_natives (native_filter false false (word ∷ words))) files_change else Same
+abbrev pub grouped_by : Bool → Option Tag → Word → List Word → Translation
+grouped_by is_alone None name words = listed name words
+grouped_by is_alone (Some tag) name words = grouped_list is_alone tag words
 
 unfoldable pub listing : Bool → List Word → Translation
 listing is_alone [] = Same
 listing is_alone (name ∷ words) =
-    if is_file_name name then listing_files words
-    else (if is_grouped words then grouped_list is_alone (tag_named name) words
-    else listing_of (tag_named name) words)
-
-abbrev pub is_root : Word → Bool
-is_root place = bytes_eq place [] || bytes_eq place (codes "/")
-
--- the root's folders and songs, and the playlists behind them
-abbrev pub root : Translation
-root = by_two (codes "lsinfo") (codes "listplaylists") (telling (Native names.ListInfo) lines.Dated endings.Nothing)
-
-unfoldable pub list_info : List Word → Translation
-list_info [] = root
-list_info (place ∷ []) = if is_root place then root else Songs
-list_info (place ∷ other ∷ words) = Songs
-
--- a command that goes on as it is, of whose answer these lines are told
-abbrev pub changing : CommandName → LineChange → Translation
-changing name told = Changed (telling (Native name) told endings.Nothing)
-
--- a song, or all that is below a folder, which is told first; the root isn't
-unfoldable pub list_all : CommandName → Bool → List Word → Translation
-list_all name songs [] = as_it_is songs
-list_all name songs (place ∷ []) = if is_root place then as_it_is songs else changing name (lines.Below (length place))
-list_all name songs (place ∷ other ∷ words) = as_it_is songs
+    if is_grouped words then grouped_by is_alone (tag_named name) name words else listed name words
 
 abbrev pub masked : MaskChange → Translation
-masked change = answered (Native names.TagTypes) (endings.Masks change)
+masked change = answered names.TagTypes (endings.Masks change)
 
 abbrev pub mask_refused : ForeignRefusal → Translation
-mask_refused refusal = refused (Native names.TagTypes) refusal
+mask_refused refusal = refused names.TagTypes refusal
 
 -- a change that names no tag
 abbrev pub mask_alone : MaskChange → List Word → Translation
@@ -242,17 +174,14 @@ shuffling true words = shuffling_in words (shuffled_range words)
 
 -- how a command of the daemon is handled
 abbrev pub handling_of : CommandName → Handling
-handling_of names.Commands = Adds texts.Commands
 handling_of names.Count = Counts
 handling_of names.CurrentSong = TellsSongs
 handling_of names.Find = Filters true true
 handling_of names.FindAdd = Filters false true
 handling_of names.ListTag = ListsValues
-handling_of names.ListAll = ListsAll false
-handling_of names.ListAllInfo = ListsAll true
+handling_of names.ListAllInfo = TellsSongs
 handling_of names.ListPlaylistInfo = TellsSongs
-handling_of names.ListPlaylists = ListsPlaylists
-handling_of names.ListInfo = ListsFolder
+handling_of names.ListInfo = TellsSongs
 handling_of names.QueueFind = Filters true false
 handling_of names.QueueId = TellsSongs
 handling_of names.QueueInfo = TellsSongs
@@ -263,7 +192,6 @@ handling_of names.SearchAdd = Searches false true
 handling_of names.SearchAddPlaylist = AddsToPlaylist
 handling_of names.Shuffle = Shuffles
 handling_of names.Stats = AddsTimes
-handling_of names.Status = Adds texts.Status
 handling_of names.TagTypes = Masks
 handling_of name = Untouched
 
@@ -271,27 +199,21 @@ handling_of name = Untouched
 abbrev pub needs_words : Handling → Bool
 needs_words Untouched = false
 needs_words TellsSongs = false
-needs_words (Adds text) = false
 needs_words AddsTimes = false
-needs_words ListsPlaylists = false
 needs_words handling = true
 
 abbrev pub adding : CommandName → Ending → Translation
-adding name ending = Changed (telling (Native name) lines.Kept ending)
+adding name ending = Changed (telling name lines.Kept ending)
 
 abbrev pub by_handling : Bool → Handling → CommandName → List Word → Translation
 by_handling is_alone Untouched name words = Same
 by_handling is_alone TellsSongs name words = Songs
-by_handling is_alone (Adds text) name words = adding name (endings.Text text)
 by_handling is_alone AddsTimes name words = adding name endings.Times
 by_handling is_alone (Filters songs sorts) name words = filtered name songs sorts false [] words
 by_handling is_alone (Searches songs sorts) name words = filtered name songs sorts true [] words
 by_handling is_alone AddsToPlaylist name words = adding_to_playlist words
 by_handling is_alone Counts name words = counting is_alone words
 by_handling is_alone ListsValues name words = listing is_alone words
-by_handling is_alone ListsFolder name words = list_info words
-by_handling is_alone (ListsAll songs) name words = list_all name songs words
-by_handling is_alone ListsPlaylists name words = changing name lines.Dated
 by_handling is_alone Masks name words = tag_types words
 by_handling is_alone Shuffles name words = shuffling is_alone words
 

@@ -8,7 +8,6 @@ use Rattle.command_text.specs.Arguments.{number_of, window_of}
 use Rattle.command_text.specs.Counts.{Word}
 use Rattle.stock_requests.specs.declared.shuffle.ShuffleChange.{ShuffleChange}
 use Rattle.stock_requests.specs.Spelling.{spelled_line}
-use Rattle.stock_requests.specs.Volumes.{found_then}
 
 -- the whole queue
 abbrev pub whole_range : Window
@@ -28,6 +27,11 @@ begun_shuffle words range =
 -- the number that a line of `status` with this key tells
 unfoldable pub number_in : List ℕ → List ℕ → Option ℕ
 number_in key text = if starts_with nat_eq text key then number_of (drop (length key) text) else None
+
+-- the number that was found, where a line tells one
+abbrev pub found_then : Option ℕ → Option ℕ → Option ℕ
+found_then found None = found
+found_then found (Some number) = Some number
 
 -- the current song's place and its id; no line is told
 abbrev pub shuffle_behind : ShuffleChange → List ℕ → ShuffleChange

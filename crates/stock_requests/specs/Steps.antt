@@ -1,20 +1,16 @@
 -- A command that is asked of the daemon step by step: what is given for each line of an answer, and what is asked behind its end.
-use Rattle.std.specs.Prelude.{ℕ, List, [], ◌∷◌, Bool, true, false, Option, Some, None, if◌then◌else◌}
+use Rattle.std.specs.Prelude.{ℕ, List, [], Bool, true, false, Option}
+use Rattle.command_text.specs.declared.name.CommandName.{CommandName}
 use Rattle.command_text.specs.declared.name.CommandName.TheVariants as names
 use Rattle.stock_requests.specs.declared.change.Change.{Change}
 use Rattle.stock_requests.specs.declared.change.Ending.TheVariants as endings
 use Rattle.stock_requests.specs.declared.change.LineChange.TheVariants as lines
 use Rattle.stock_requests.specs.declared.change.RefusalChange.{RefusalChange}
 use Rattle.stock_requests.specs.declared.change.RefusalChange.TheVariants.{Named}
-use Rattle.stock_requests.specs.declared.name.ForeignCommand.TheVariants as foreign
-use Rattle.stock_requests.specs.declared.name.ForeignName.{ForeignName}
-use Rattle.stock_requests.specs.declared.name.ForeignName.TheVariants.{Native, Foreign}
 use Rattle.stock_requests.specs.declared.steps.Steps.{Steps}
-use Rattle.stock_requests.specs.declared.steps.Steps.TheVariants.{Volume, Shuffle, Group}
-use Rattle.stock_requests.specs.declared.volume.VolumeChange.{VolumeChange}
+use Rattle.stock_requests.specs.declared.steps.Steps.TheVariants.{Shuffle, Group}
 use Rattle.stock_requests.specs.Groups.{counts_in, group_after, group_line, group_part, phase_refusal, GroupAfter, ToldGroup}
 use Rattle.stock_requests.specs.Shuffles.{shuffle_behind, shuffle_natives}
-use Rattle.stock_requests.specs.Volumes.{setting, volume_behind, volume_given, volume_refusal}
 
 pub record Told : Type 0 where
   pub steps : Steps
@@ -28,13 +24,11 @@ told_of_group t = told (Group t.grouping) t.given
 
 -- a line that tells something
 abbrev pub step_line : Steps → List ℕ → Told
-step_line (Volume change) text = told (Volume (volume_behind change text)) (volume_given change text)
 step_line (Shuffle change) text = told (Shuffle (shuffle_behind change text)) []
 step_line (Group grouping) text = told_of_group (group_line grouping text)
 
 -- the end of a command's part
 abbrev pub step_part : Steps → Told
-step_part (Volume change) = told (Volume change) []
 step_part (Shuffle change) = told (Shuffle change) []
 step_part (Group grouping) = told_of_group (group_part grouping)
 
@@ -47,26 +41,20 @@ pub record After : Type 0 where
 abbrev pub after_group : GroupAfter → After
 after_group a = record { steps = Group a.grouping; given = a.given; natives = a.natives }
 
-abbrev pub volume_natives : VolumeChange → Option (List (List ℕ))
-volume_natives change = if change.is_set then None else Some (setting change.step change.found ∷ [])
-
 -- an answer's end
 abbrev pub after_step : Steps → After
-after_step (Volume change) =
-    record { steps = Volume (record change { is_set = true }); given = []; natives = volume_natives change }
 after_step (Shuffle change) =
     record { steps = Shuffle (record change { is_asked = true }); given = []; natives = shuffle_natives change }
 after_step (Group grouping) = after_group (group_after grouping)
 
 -- the names and the refusals of these commands
-abbrev pub group_name : Bool → ForeignName
-group_name true = Native names.Count
-group_name false = Native names.ListTag
+abbrev pub group_name : Bool → CommandName
+group_name true = names.Count
+group_name false = names.ListTag
 
-abbrev pub refusing : ForeignName → RefusalChange → Change
+abbrev pub refusing : CommandName → RefusalChange → Change
 refusing name refusal = record { name = name; lines = lines.Kept; ending = endings.Nothing; refusal = refusal }
 
 abbrev pub step_change : Steps → Change
-step_change (Volume change) = refusing (Foreign foreign.Volume) (volume_refusal change)
-step_change (Shuffle change) = refusing (Native names.Shuffle) Named
+step_change (Shuffle change) = refusing names.Shuffle Named
 step_change (Group grouping) = refusing (group_name (counts_in grouping.listed)) (phase_refusal grouping.phase)

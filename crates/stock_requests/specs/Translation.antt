@@ -1,6 +1,7 @@
 -- What becomes of a command's line, by its words. One that is no text, has bad quoting, no word, or a name that nobody translates goes on
 -- as it is, so that the daemon refuses it.
-use Rattle.std.specs.Prelude.{ℕ, List, [], ◌∷◌, Bool, true, Option, Some, None, Result, Ok, Err}
+use Rattle.std.specs.Prelude.{ℕ, List, [], ◌∷◌, Bool, false, Option, Some, None, Result, Ok, Err}
+use Rattle.profile.specs.declared.profile.Profile.TheVariants.{Wide}
 use Rattle.command_text.specs.declared.name.CommandName.{CommandName}
 use Rattle.command_text.specs.declared.refusal.Refusal.{Refusal}
 use Rattle.command_text.specs.Counts.{Word}
@@ -8,28 +9,15 @@ use Rattle.command_text.specs.Names.{named}
 use Rattle.command_text.specs.Reading.{line_words}
 use Rattle.stock_requests.specs.declared.change.Translation as declared
 use Rattle.stock_requests.specs.declared.change.Translation.TheVariants.{Same}
-use Rattle.stock_requests.specs.declared.name.ForeignCommand.{ForeignCommand}
-use Rattle.stock_requests.specs.Foreign.{foreign_translation}
-use Rattle.stock_requests.specs.Names.{foreign_named}
 use Rattle.stock_requests.specs.Native.{handling_of, native_translation, needs_words}
 
--- a command that the daemon doesn't have
-abbrev pub of_foreign : Bool → List Word → Option ForeignCommand → declared.Translation
-of_foreign is_alone words None = Same
-of_foreign is_alone words (Some command) = foreign_translation is_alone command words
-
-abbrev pub of_name : Bool → Word → List Word → Option CommandName → declared.Translation
-of_name is_alone name words None = of_foreign is_alone words (foreign_named name)
-of_name is_alone name words (Some command) = native_translation is_alone command words
-
--- a command whose name the daemon doesn't know
-abbrev pub of_unnamed : Bool → List Word → declared.Translation
-of_unnamed is_alone [] = Same
-of_unnamed is_alone (name ∷ words) = of_foreign is_alone words (foreign_named name)
+abbrev pub of_name : Bool → List Word → Option CommandName → declared.Translation
+of_name is_alone words None = Same
+of_name is_alone words (Some command) = native_translation is_alone command words
 
 abbrev pub of_words : Bool → List Word → declared.Translation
 of_words is_alone [] = Same
-of_words is_alone (name ∷ words) = of_name is_alone name words (named name)
+of_words is_alone (name ∷ words) = of_name is_alone words (named Wide name)
 
 -- the words of a line, none where it is refused for its bytes or its quoting
 abbrev pub words_or_none : Result (List Word) Refusal → List Word
@@ -40,7 +28,7 @@ words_or_none (Ok words) = words
 unfoldable pub translation : Bool → List ℕ → declared.Translation
 translation is_alone line = of_words is_alone (words_or_none (line_words line))
 
--- the lines that may want memory: those that begin with no command of the daemon's, or with one that is handled by its arguments
+-- the lines that may want memory: those that begin with a command that is handled by its arguments
 abbrev pub may_want_memory : Option CommandName → Bool
-may_want_memory None = true
+may_want_memory None = false
 may_want_memory (Some name) = needs_words (handling_of name)

@@ -8,7 +8,7 @@ ghost use Rattle.stock_requests.specs.Groups.{next_value, one_native, opened, ph
 ghost use Rattle.stock_requests.specs.Groups.{two_natives, value_above, value_below, value_in, values_line, with_value};
 ghost use Rattle.stock_requests.specs.Spelling.{spelled_words};
 
-use crate::change::{ForeignRefusal, Natives, RefusalChange};
+use crate::change::{ForeignRefusal, RefusalChange};
 use crate::mask::is_line_of;
 use crate::round::{Round, ask_further};
 use crate::spelling::{LINE_LIMIT, put_argument, put_escaped};
@@ -56,6 +56,13 @@ pub struct Asking {
     pub asks_missing: bool,
     /// The tag whose values are asked for, or how many songs there are.
     pub tag: Option<Tag>,
+}
+
+/// The lines that ask for it, one or two.
+#[derive(Debug, Drop)]
+pub(crate) struct Natives {
+    pub first: Line,
+    pub second: Option<Line>,
 }
 
 /// A `list` or a `count` with `group` that is at work.
@@ -269,12 +276,12 @@ fn behind(count: usize, text: &[u8]) -> &[u8]
     &text[count.min(text.len())..]
 }
 
-/// The value that a line tells of a tag.
+/// The value that a line tells of a tag, but the empty one.
 pub(crate) fn value_in(tag: Tag, text: &[u8]) -> Option<&[u8]>
     ensures { option_map (λ value. value.now) result ≡ value_in tag text.now }
 {
     let name = tag.name().as_bytes();
-    if is_line_of(name, text) {
+    if is_line_of(name, text) && name.len() + 2 < text.len() {
         Some(behind(name.len() + 2, text))
     } else {
         None

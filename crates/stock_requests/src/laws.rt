@@ -1,5 +1,5 @@
 //! Laws of the definitions that the contracts cite.
-ghost use Rattle.std.specs.Prelude.{◌≡◌, ◌≢◌, ◌<◌, ◌^◌, ◌||◌, ◌&&◌, not, ℕ, Bool, true, false, List, [], ◌∷◌, Ok, Some, None, IfSome};
+ghost use Rattle.std.specs.Prelude.{◌≡◌, ◌≢◌, ◌<◌, ◌^◌, ◌||◌, ◌&&◌, not, ℕ, Bool, true, false, List, [], ◌∷◌, Ok, Some, IfSome};
 ghost use Rattle.profile.specs.declared.profile.Profile.TheVariants.{Wide};
 ghost use Rattle.song_files.specs.declared.tag.Tag.{Tag};
 ghost use Rattle.filter_expr.specs.Grammar.{Spells};
@@ -8,17 +8,14 @@ ghost use Rattle.filter_expr.specs.Tree.Tree.{Base};
 ghost use Rattle.filter_expr.specs.Words.{filter_of};
 ghost use Rattle.command_text.specs.Counts.{Word};
 ghost use Rattle.command_text.specs.Finding.{is_expression};
-ghost use Rattle.command_text.specs.Names.{named};
 ghost use Rattle.command_text.specs.Words.{words_of};
 ghost use Rattle.stock_requests.specs.declared.mask.TagSet.{TagSet};
-ghost use Rattle.stock_requests.specs.declared.name.ForeignCommand.{ForeignCommand};
 ghost use Rattle.stock_requests.specs.declared.group.Grouping.{Grouping};
 ghost use Rattle.stock_requests.specs.Counted.{CountsLacking};
 ghost use Rattle.stock_requests.specs.Fits.{Fits, LinesFit};
 ghost use Rattle.stock_requests.specs.Grouped.{open_filter};
 ghost use Rattle.stock_requests.specs.Groups.{group_after, missing_line};
 ghost use Rattle.stock_requests.specs.Masks.{all_in_set, empty_set, has, only_tag, with_tags, without_tags};
-ghost use Rattle.stock_requests.specs.Names.{foreign_named, foreign_text};
 ghost use Rattle.stock_requests.specs.Spelling.{is_bare, spelled_line};
 ghost use Rattle.stock_requests.specs.Translation.{translation};
 
@@ -48,12 +45,6 @@ pub fn numbers_are_sets()
     ensures with { (set others : TagSet) (tag : Tag) → has (with_tags set others) tag ≡ (has set tag || has others tag) }
     ensures without { (set others : TagSet) (tag : Tag) → others.bits < 2 ^ 32
         → has (without_tags set others) tag ≡ (has set tag && not (has others tag)) }
-{}
-
-/// A command that is no native one is found by its name, and the daemon has none of this name.
-pub fn foreign_names_are_found()
-    ensures found { (command : ForeignCommand) → foreign_named (foreign_text command) ≡ Some command }
-    ensures apart { (command : ForeignCommand) → named (foreign_text command) ≡ None }
 {}
 
 /// No native line has more bytes than the daemon takes, so that none closes its client.

@@ -1,24 +1,24 @@
 // Translates a command's line.
 ghost use Rattle.std.specs.Prelude.{◌≡◌, true, Some, IfOk, OnErr};
+ghost use Rattle.profile.specs.declared.profile.Profile.TheVariants.{Wide};
 ghost use Rattle.command_text.specs.Reading.{line_words, name_of_line};
 ghost use Rattle.stock_requests.specs.Native.{by_first, needs_words};
-ghost use Rattle.stock_requests.specs.Translation.{may_want_memory, of_unnamed, translation, words_or_none};
+ghost use Rattle.stock_requests.specs.Translation.{may_want_memory, translation, words_or_none};
 
-use crate::change::{Ending, LineChange, Translation};
-use crate::foreign::foreign_translation;
-use crate::name::ForeignCommand;
-use crate::native::{Handling, adding, by_handling, changing, handling_of};
+use crate::change::{Ending, Translation};
+use crate::native::{Handling, adding, by_handling, handling_of};
 use command_text::{CommandName, ReadError, Refusal, read_words, want_of_memory};
 use filter_expr::LineWord;
 use no_memory::NoMemory;
+use profile::Profile;
 use std::alloc::{AllocError, Global};
 
 /// The command of the daemon that a line begins with, if it is one; it takes no memory. How want of memory at the line would be answered
 /// tells its name.
 fn name_of_line(line: &[u8]) -> Option<CommandName>
-    ensures { result ≡ name_of_line line.now }
+    ensures { result ≡ name_of_line Wide line.now }
 {
-    match want_of_memory(line) {
+    match want_of_memory(Profile::Wide, line) {
         Refusal::OfCommand(name, _) => Some(name),
         _ => None,
     }
@@ -33,31 +33,6 @@ fn words_of_line(alloc: Global, line: &[u8]) -> Result<Vec<LineWord<'_>>, NoMemo
         Err(ReadError::Refused(_)) => Ok(Vec::new(alloc)),
         Err(ReadError::NoMemory) => Err(NoMemory),
     }
-}
-
-/// What becomes of a line of these words, the first of which names no command of the daemon's.
-fn of_unnamed(
-    alloc: Global,
-    is_alone: bool,
-    words: &[LineWord<'_>],
-) -> Result<Translation, AllocError>
-    ensures { IfOk result (λ t. t ≡ of_unnamed is_alone words.now) }
-{
-    match words {
-        [] => Ok(Translation::Same),
-        [name, words @ ..] => match ForeignCommand::named(name.bytes()) {
-            None => Ok(Translation::Same),
-            Some(command) => foreign_translation(alloc, is_alone, command, words),
-        },
-    }
-}
-
-/// What becomes of a line that begins with no command of the daemon's.
-fn of_other(alloc: Global, is_alone: bool, line: &[u8]) -> Result<Translation, NoMemory>
-    ensures { IfOk result (λ t. t ≡ of_unnamed is_alone (words_or_none (line_words line.now))) }
-{
-    let words = words_of_line(alloc, line)?;
-    Ok(of_unnamed(alloc, is_alone, words.as_slice())?)
 }
 
 /// What becomes of a line of these words, the first of which names this command.
@@ -91,7 +66,7 @@ fn by_words(
 }
 
 /// What becomes of a line that begins with a command which is handled so.
-#[tactic(auto, using(crate::proofs::Lines::untouched, crate::proofs::Lines::tells_songs, crate::proofs::Lines::adds, crate::proofs::Lines::adds_times, crate::proofs::Lines::lists_playlists))]
+#[tactic(auto, using(crate::proofs::Lines::untouched, crate::proofs::Lines::tells_songs, crate::proofs::Lines::adds_times))]
 fn of_native(
     alloc: Global,
     is_alone: bool,
@@ -99,23 +74,19 @@ fn of_native(
     name: CommandName,
     line: &[u8],
 ) -> Result<Translation, NoMemory>
-    requires { name_of_line line.now ≡ Some name }
+    requires { name_of_line Wide line.now ≡ Some name }
     ensures exact { IfOk result (λ t. t ≡ by_first is_alone handling name (words_or_none (line_words line.now))) }
     ensures memory { OnErr result (needs_words handling ≡ true) }
 {
     match handling {
         Handling::Untouched => Ok(Translation::Same),
         Handling::TellsSongs => Ok(Translation::Songs),
-        Handling::Adds(text) => Ok(adding(name, Ending::Text(text))),
         Handling::AddsTimes => Ok(adding(name, Ending::Times)),
-        Handling::ListsPlaylists => Ok(changing(name, LineChange::Dated)),
         Handling::Filters(_, _)
         | Handling::Searches(_, _)
         | Handling::AddsToPlaylist
         | Handling::Counts
         | Handling::ListsValues
-        | Handling::ListsFolder
-        | Handling::ListsAll(_)
         | Handling::Masks
         | Handling::Shuffles => by_words(alloc, is_alone, handling, name, line),
     }
@@ -130,10 +101,10 @@ fn of_native(
 #[tactic(auto, using(crate::proofs::Lines::by_name, crate::proofs::Lines::unnamed))]
 pub fn translate(alloc: Global, line: &[u8], is_alone: bool) -> Result<Translation, NoMemory>
     ensures exact { IfOk result (λ t. t ≡ translation is_alone line.now) }
-    ensures memory { OnErr result (may_want_memory (name_of_line line.now) ≡ true) }
+    ensures memory { OnErr result (may_want_memory (name_of_line Wide line.now) ≡ true) }
 {
     match name_of_line(line) {
         Some(name) => of_native(alloc, is_alone, handling_of(name), name, line),
-        None => of_other(alloc, is_alone, line),
+        None => Ok(Translation::Same),
     }
 }

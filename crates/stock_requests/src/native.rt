@@ -1,25 +1,18 @@
 // What becomes of the daemon's own commands where MPD's do more.
-ghost use Rattle.std.specs.Prelude.{◌≡◌, ◌++◌, Some, IfOk};
+ghost use Rattle.std.specs.Prelude.{◌≡◌, ◌++◌, false, IfOk};
+ghost use Rattle.command_text.specs.declared.name.CommandName.TheVariants as names;
 ghost use Rattle.command_text.specs.Finding.{has_filter_count};
-ghost use Rattle.stock_requests.specs.Native.{adding, answered, as_it_is, by_handling, by_line, by_natives, by_one, by_two, filtered};
-ghost use Rattle.stock_requests.specs.Native.{handling_of, is_artist_alone, listing_change, listing_words, refused};
-ghost use Rattle.stock_requests.specs.Native.{adding_to_playlist, counting, has_list_count, is_root, list_info, listing};
-ghost use Rattle.stock_requests.specs.Native.{changing, files_change, files_natives, list_all, listing_files, shuffling};
-ghost use Rattle.stock_requests.specs.Native.{by_steps, grouped_count, grouped_list, grouping};
-ghost use Rattle.stock_requests.specs.Native.{listing_values, mask_of, tag_types};
-ghost use Rattle.stock_requests.specs.Native.{mask_alone, mask_refused, masked, songs_lines, telling, with_named};
+ghost use Rattle.stock_requests.specs.Native.{adding, adding_to_playlist, answered, as_it_is, by_handling, by_line, by_one, by_steps};
+ghost use Rattle.stock_requests.specs.Native.{counting, filtered, grouped_count, grouped_list, grouping, handling_of, has_list_count};
+ghost use Rattle.stock_requests.specs.Native.{listing, mask_alone, mask_of, mask_refused, masked, refused, shuffling, songs_lines};
+ghost use Rattle.stock_requests.specs.Native.{tag_types, telling, with_named};
 ghost use Rattle.stock_requests.specs.Masks.{empty_set};
 
-use crate::change::{
-    Change, Ending, FixedText, ForeignRefusal, LineChange, Natives, RefusalChange, Translation,
-};
-use crate::expression::is_file_name;
-use crate::filter::{begins_so, is_word, native_filter, with_words};
-use crate::group::{count_line, counts_in, fits, two_natives};
+use crate::change::{Change, Ending, ForeignRefusal, LineChange, RefusalChange, Translation};
+use crate::filter::{is_word, native_filter};
+use crate::group::{count_line, counts_in};
 use crate::grouped::{MOST_ENDS, begun_group, is_expression, is_grouped, part_ends};
-use crate::listed::listing_natives;
 use crate::mask::{MaskChange, TagSet};
-use crate::name::ForeignName;
 use crate::shuffle::{ShuffleChange, shuffled_range};
 use crate::spelling::{LINE_LIMIT, line_of, put_words, same_words};
 use crate::steps::{Steps, group_name};
@@ -35,8 +28,6 @@ pub(crate) enum Handling {
     Untouched,
     /// Its answer tells songs.
     TellsSongs,
-    /// These lines are told behind its own.
-    Adds(FixedText),
     /// For how long the daemon has run is told behind its lines, and when its database was last updated.
     AddsTimes,
     /// It has a filter: whether its answer tells songs, and whether an order may stand behind the filter.
@@ -46,11 +37,6 @@ pub(crate) enum Handling {
     AddsToPlaylist,
     Counts,
     ListsValues,
-    ListsFolder,
-    /// It tells what is below a folder: whether with the tags of songs.
-    ListsAll(bool),
-    /// Its answer tells playlists.
-    ListsPlaylists,
     Masks,
     /// The current song comes to the front.
     Shuffles,
@@ -61,9 +47,10 @@ pub(crate) fn handling_of(name: CommandName) -> Handling
     ensures { result ≡ handling_of name }
 {
     match name {
-        CommandName::Commands => Handling::Adds(FixedText::Commands),
         CommandName::Count => Handling::Counts,
         CommandName::CurrentSong
+        | CommandName::ListAllInfo
+        | CommandName::ListInfo
         | CommandName::ListPlaylistInfo
         | CommandName::QueueChanges
         | CommandName::QueueId
@@ -75,21 +62,16 @@ pub(crate) fn handling_of(name: CommandName) -> Handling
         CommandName::SearchAdd => Handling::Searches(false, true),
         CommandName::QueueSearch => Handling::Searches(true, false),
         CommandName::ListTag => Handling::ListsValues,
-        CommandName::ListInfo => Handling::ListsFolder,
-        CommandName::ListAll => Handling::ListsAll(false),
-        CommandName::ListAllInfo => Handling::ListsAll(true),
-        CommandName::ListPlaylists => Handling::ListsPlaylists,
         CommandName::SearchAddPlaylist => Handling::AddsToPlaylist,
         CommandName::Shuffle => Handling::Shuffles,
         CommandName::Stats => Handling::AddsTimes,
-        CommandName::Status => Handling::Adds(FixedText::Status),
         CommandName::TagTypes => Handling::Masks,
         _ => Handling::Untouched,
     }
 }
 
 /// An answer of which these lines are told, and this behind them.
-pub(crate) fn telling(name: ForeignName, lines: LineChange, ending: Ending) -> Change
+pub(crate) fn telling(name: CommandName, lines: LineChange, ending: Ending) -> Change
     ensures { result ≡ telling name lines ending }
 {
     Change {
@@ -104,33 +86,13 @@ pub(crate) fn telling(name: ForeignName, lines: LineChange, ending: Ending) -> C
 pub(crate) fn by_one(alloc: Global, line: &[u8], change: Change) -> Result<Translation, AllocError>
     ensures { IfOk result (λ t. t ≡ by_one line.now change) }
 {
-    let natives = Natives {
-        first: Line::from_bytes(alloc, line)?,
-        second: None,
-    };
-    Ok(Translation::Other(natives, change))
-}
-
-/// Two of them.
-fn by_two(
-    alloc: Global,
-    line: &[u8],
-    other: &[u8],
-    change: Change,
-) -> Result<Translation, AllocError>
-    ensures { IfOk result (λ t. t ≡ by_two line.now other.now change) }
-{
-    let natives = Natives {
-        first: Line::from_bytes(alloc, line)?,
-        second: Some(Line::from_bytes(alloc, other)?),
-    };
-    Ok(Translation::Other(natives, change))
+    Ok(Translation::Other(Line::from_bytes(alloc, line)?, change))
 }
 
 /// An answer that is made without the daemon, at the command's place among the others.
 pub(crate) fn answered(
     alloc: Global,
-    name: ForeignName,
+    name: CommandName,
     ending: Ending,
 ) -> Result<Translation, AllocError>
     ensures { IfOk result (λ t. t ≡ answered name ending) }
@@ -141,7 +103,7 @@ pub(crate) fn answered(
 /// A refusal at the command's place: the daemon refuses `ping` with an argument always.
 pub(crate) fn refused(
     alloc: Global,
-    name: ForeignName,
+    name: CommandName,
     refusal: ForeignRefusal,
 ) -> Result<Translation, AllocError>
     ensures { IfOk result (λ t. t ≡ refused name refusal) }
@@ -209,11 +171,7 @@ fn filtered(
         return Ok(as_it_is(songs));
     }
     let line = line_of(alloc, name.text(), front, new.as_slice())?;
-    let change = telling(
-        ForeignName::Native(name),
-        songs_lines(songs),
-        Ending::Nothing,
-    );
+    let change = telling(name, songs_lines(songs), Ending::Nothing);
     by_line(alloc, songs, line.as_slice(), change)
 }
 
@@ -315,69 +273,6 @@ fn has_filter_count(words: &[LineWord<'_>]) -> bool
     }
 }
 
-/// Whether they are the ARTIST of `list Album ARTIST`, as clients of old say it.
-fn is_artist_alone(tag: Tag, words: &[LineWord<'_>]) -> bool
-    ensures { result ≡ is_artist_alone tag words.now }
-{
-    match (tag, words) {
-        (Tag::Album, [word]) => !begins_so(b'(', word.bytes()),
-        _ => false,
-    }
-}
-
-/// The words behind the tag of a `list`.
-fn listing_words<'w>(
-    alloc: Global,
-    tag: Tag,
-    words: &'w [LineWord<'_>],
-) -> Result<Vec<LineWord<'w>>, AllocError>
-    ensures { IfOk result (λ new. new.items ≡ listing_words tag words.now) }
-{
-    if is_artist_alone(tag, words) {
-        let mut new = Vec::with_capacity(alloc, 2)?;
-        new.push(LineWord::from_slice(b"Artist"))?;
-        return with_words(new, words);
-    }
-    native_filter(alloc, false, false, words)
-}
-
-/// An answer of which the values of a tag are told.
-fn listing_change(tag: Tag) -> Change
-    ensures { result ≡ listing_change tag }
-{
-    telling(
-        ForeignName::Native(CommandName::ListTag),
-        LineChange::Values(tag),
-        Ending::Nothing,
-    )
-}
-
-/// Native lines in the command's place, where lines may be so long.
-fn by_natives(natives: Natives, change: Change) -> Translation
-    ensures { result ≡ by_natives natives change }
-{
-    if fits(&natives) {
-        Translation::Other(natives, change)
-    } else {
-        Translation::Same
-    }
-}
-
-/// The values of a tag within a filter of the daemon's.
-fn listing_values(
-    alloc: Global,
-    tag: Tag,
-    words: &[LineWord<'_>],
-) -> Result<Translation, AllocError>
-    ensures { IfOk result (λ t. t ≡ listing_values tag words.now) }
-{
-    if !has_list_count(words) {
-        return Ok(Translation::Same);
-    }
-    let natives = listing_natives(alloc, tag, words)?;
-    Ok(by_natives(natives, listing_change(tag)))
-}
-
 /// Whether words are as many as stand behind the tag of a `list`.
 fn has_list_count(words: &[LineWord<'_>]) -> bool
     ensures { result ≡ has_list_count words.now }
@@ -392,7 +287,7 @@ fn grouped_list(
     tag: Tag,
     words: &[LineWord<'_>],
 ) -> Result<Translation, AllocError>
-    ensures { IfOk result (λ t. t ≡ grouped_list is_alone (Some tag) words.now) }
+    ensures { IfOk result (λ t. t ≡ grouped_list is_alone tag words.now) }
 {
     if !is_alone {
         return refused(alloc, group_name(false), ForeignRefusal::NotInList);
@@ -408,40 +303,23 @@ fn grouped_list(
     }
 }
 
-/// An answer of which the files of songs are told.
-fn files_change() -> Change
-    ensures { result ≡ files_change }
+/// The values of a tag, or the files of songs, of a filter.
+fn listed(
+    alloc: Global,
+    name: &[LineWord<'_>],
+    words: &[LineWord<'_>],
+) -> Result<Translation, AllocError>
+    ensures { IfOk result (λ t. t ≡ filtered names.ListTag false false false name.now words.now) }
 {
-    telling(
-        ForeignName::Native(CommandName::ListTag),
-        LineChange::OnlyFiles,
-        Ending::Nothing,
+    filtered(
+        alloc,
+        CommandName::ListTag,
+        false,
+        false,
+        false,
+        name,
+        words,
     )
-}
-
-/// What asks for the songs of a filter. They are counted first: that is refused where what `find` takes stands behind the filter.
-fn files_natives(alloc: Global, words: &[LineWord<'_>]) -> Result<Natives, AllocError>
-    ensures { IfOk result (λ natives. natives ≡ files_natives words.now) }
-{
-    let counted = line_of(alloc, "count", &[], words)?;
-    let found = line_of(alloc, "find", &[], words)?;
-    two_natives(alloc, counted.as_slice(), found.as_slice())
-}
-
-/// The files of all songs, or of those of a filter.
-#[tactic(auto, unfolding(crate::specs::Native::listing_files))]
-fn listing_files(alloc: Global, words: &[LineWord<'_>]) -> Result<Translation, AllocError>
-    ensures { IfOk result (λ t. t ≡ listing_files words.now) }
-{
-    if words.is_empty() {
-        return by_one(alloc, b"listall", files_change());
-    }
-    if !has_filter_count(words) {
-        return Ok(Translation::Same);
-    }
-    let new = native_filter(alloc, false, false, words)?;
-    let natives = files_natives(alloc, new.as_slice())?;
-    Ok(by_natives(natives, files_change()))
 }
 
 #[tactic(auto, unfolding(crate::specs::Native::listing))]
@@ -452,63 +330,26 @@ fn listing(alloc: Global, is_alone: bool, words: &[LineWord<'_>]) -> Result<Tran
         return Ok(Translation::Same);
     }
     let (name, words) = words.split_at(1);
-    if is_file_name(name[0].bytes()) {
-        return listing_files(alloc, words);
+    if !is_grouped(words) {
+        return listed(alloc, name, words);
     }
     match Tag::named(name[0].bytes()) {
-        None => Ok(Translation::Same),
-        Some(tag) if is_grouped(words) => grouped_list(alloc, is_alone, tag, words),
-        Some(tag) => {
-            let new = listing_words(alloc, tag, words)?;
-            listing_values(alloc, tag, new.as_slice())
-        }
+        None => listed(alloc, name, words),
+        Some(tag) => grouped_list(alloc, is_alone, tag, words),
     }
-}
-
-fn is_root(place: &[u8]) -> bool
-    ensures { result ≡ is_root place.now }
-{
-    is_word(place, "") || is_word(place, "/")
-}
-
-/// The root's folders and songs, and the playlists behind them; of any other place as it is.
-#[tactic(auto, unfolding(crate::specs::Native::list_info))]
-fn list_info(alloc: Global, words: &[LineWord<'_>]) -> Result<Translation, AllocError>
-    ensures { IfOk result (λ t. t ≡ list_info words.now) }
-{
-    if words.len() > 1 || words.len() == 1 && !is_root(words[0].bytes()) {
-        return Ok(Translation::Songs);
-    }
-    let change = telling(
-        ForeignName::Native(CommandName::ListInfo),
-        LineChange::Dated,
-        Ending::Nothing,
-    );
-    by_two(alloc, b"lsinfo", b"listplaylists", change)
-}
-
-/// A song, or all that is below a folder, which is told first; the root isn't.
-#[tactic(auto, unfolding(crate::specs::Native::list_all))]
-fn list_all(name: CommandName, songs: bool, words: &[LineWord<'_>]) -> Translation
-    ensures { result ≡ list_all name songs words.now }
-{
-    if words.len() != 1 || is_root(words[0].bytes()) {
-        return as_it_is(songs);
-    }
-    changing(name, LineChange::Below(words[0].bytes().len()))
 }
 
 fn masked(alloc: Global, change: MaskChange) -> Result<Translation, AllocError>
     ensures { IfOk result (λ t. t ≡ masked change) }
 {
-    let name = ForeignName::Native(CommandName::TagTypes);
+    let name = CommandName::TagTypes;
     answered(alloc, name, Ending::Masks(change))
 }
 
 fn mask_refused(alloc: Global, refusal: ForeignRefusal) -> Result<Translation, AllocError>
     ensures { IfOk result (λ t. t ≡ mask_refused refusal) }
 {
-    refused(alloc, ForeignName::Native(CommandName::TagTypes), refusal)
+    refused(alloc, CommandName::TagTypes, refusal)
 }
 
 /// A change that names no tag.
@@ -608,33 +449,20 @@ pub(crate) fn by_handling(
     match handling {
         Handling::Untouched => Ok(Translation::Same),
         Handling::TellsSongs => Ok(Translation::Songs),
-        Handling::Adds(text) => Ok(adding(name, Ending::Text(text))),
         Handling::AddsTimes => Ok(adding(name, Ending::Times)),
         Handling::Filters(songs, sorts) => filtered(alloc, name, songs, sorts, false, &[], words),
         Handling::Searches(songs, sorts) => filtered(alloc, name, songs, sorts, true, &[], words),
         Handling::AddsToPlaylist => adding_to_playlist(alloc, words),
         Handling::Counts => counting(alloc, is_alone, words),
         Handling::ListsValues => listing(alloc, is_alone, words),
-        Handling::ListsFolder => list_info(alloc, words),
-        Handling::ListsAll(songs) => Ok(list_all(name, songs, words)),
-        Handling::ListsPlaylists => Ok(changing(name, LineChange::Dated)),
         Handling::Masks => tag_types(alloc, words),
         Handling::Shuffles => shuffling(alloc, is_alone, words),
     }
-}
-
-/// A command that goes on as it is, of whose answer these lines are told.
-pub(crate) fn changing(name: CommandName, lines: LineChange) -> Translation
-    ensures { result ≡ changing name lines }
-{
-    let name = ForeignName::Native(name);
-    Translation::Changed(telling(name, lines, Ending::Nothing))
 }
 
 /// A command that goes on as it is, behind whose lines these are told.
 pub(crate) fn adding(name: CommandName, ending: Ending) -> Translation
     ensures { result ≡ adding name ending }
 {
-    let name = ForeignName::Native(name);
     Translation::Changed(telling(name, LineChange::Kept, ending))
 }

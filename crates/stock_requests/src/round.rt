@@ -2,8 +2,7 @@
 ghost use Rattle.std.specs.Prelude.{◌≡◌, ◌++◌, [], OnOk};
 ghost use Rattle.stock_requests.specs.Groups.{further, native_lines};
 
-use crate::change::Natives;
-use crate::group::{Asking, fits, narrowed, natives_of};
+use crate::group::{Asking, Natives, fits, narrowed, natives_of};
 use crate::values::Values;
 use command_text::Lines;
 use song_files::Tag;

@@ -1,21 +1,17 @@
 // A command that is asked of the daemon step by step.
 ghost use Rattle.std.specs.Prelude.{◌≡◌, ◌++◌, IfOk, OnOk};
-ghost use Rattle.stock_requests.specs.Steps.{after_step, group_name, refusing, step_change, step_line, step_part, volume_natives};
+ghost use Rattle.stock_requests.specs.Steps.{after_step, group_name, refusing, step_change, step_line, step_part};
 
 use crate::change::{Change, Ending, LineChange, RefusalChange};
 use crate::group::Grouping;
-use crate::name::{ForeignCommand, ForeignName};
 use crate::shuffle::ShuffleChange;
-use crate::volume::VolumeChange;
 use command_text::{CommandName, Lines};
 use no_memory::NoMemory;
-use std::alloc::{AllocError, Global};
+use std::alloc::Global;
 
 /// A command that takes more than one request of the daemon, each of which depends on the answer to the one before.
 #[derive(Debug, Drop)]
 pub enum Steps {
-    /// `volume`
-    Volume(VolumeChange),
     /// `shuffle`
     Shuffle(ShuffleChange),
     /// `list` or `count` with `group`
@@ -23,7 +19,7 @@ pub enum Steps {
 }
 
 /// A change of refusals alone.
-fn refusing(name: ForeignName, refusal: RefusalChange) -> Change
+fn refusing(name: CommandName, refusal: RefusalChange) -> Change
     ensures { result ≡ refusing name refusal }
 {
     Change {
@@ -34,27 +30,14 @@ fn refusing(name: ForeignName, refusal: RefusalChange) -> Change
     }
 }
 
-pub(crate) fn group_name(counts: bool) -> ForeignName
+pub(crate) fn group_name(counts: bool) -> CommandName
     ensures { result ≡ group_name counts }
 {
-    ForeignName::Native(if counts {
+    if counts {
         CommandName::Count
     } else {
         CommandName::ListTag
-    })
-}
-
-/// What sets the volume, where that wasn't done yet.
-fn volume_natives(alloc: Global, change: &VolumeChange) -> Result<Option<Lines>, AllocError>
-    ensures { IfOk result (λ natives. natives ≡ volume_natives change.now) }
-{
-    if change.is_set {
-        return Ok(None);
     }
-    let line = change.setting(alloc)?;
-    let mut lines = Lines::new(alloc);
-    lines.push(line.as_slice())?;
-    Ok(Some(lines))
 }
 
 impl Steps {
@@ -70,7 +53,6 @@ impl Steps {
         ensures given { OnOk result (let now = step_line self.old text.now in out.new.items ≡ out.old.items ++ now.given) }
     {
         match self {
-            Steps::Volume(change) => change.take_line(out, text),
             Steps::Shuffle(change) => {
                 change.take_line(text);
                 Ok(())
@@ -85,7 +67,7 @@ impl Steps {
         ensures given { OnOk result (let now = step_part self.old in out.new.items ≡ out.old.items ++ now.given) }
     {
         match self {
-            Steps::Volume(_) | Steps::Shuffle(_) => Ok(()),
+            Steps::Shuffle(_) => Ok(()),
             Steps::Group(grouping) => grouping.end_part(alloc, out),
         }
     }
@@ -98,11 +80,6 @@ impl Steps {
         ensures natives { IfOk result (λ natives. let now = after_step self.old in natives ≡ now.natives) }
     {
         match self {
-            Steps::Volume(change) => {
-                let natives = volume_natives(alloc, change)?;
-                change.is_set = true;
-                Ok(natives)
-            }
             Steps::Shuffle(change) => {
                 let natives = change.natives(alloc)?;
                 change.is_asked = true;
@@ -117,18 +94,7 @@ impl Steps {
         ensures { result ≡ step_change self.now }
     {
         match self {
-            Steps::Volume(change) => {
-                refusing(
-                    ForeignName::Foreign(ForeignCommand::Volume),
-                    change.refusal(),
-                )
-            }
-            Steps::Shuffle(_) => {
-                refusing(
-                    ForeignName::Native(CommandName::Shuffle),
-                    RefusalChange::Named,
-                )
-            }
+            Steps::Shuffle(_) => { refusing(CommandName::Shuffle, RefusalChange::Named) }
             Steps::Group(grouping) => refusing(group_name(grouping.counts()), grouping.refusal()),
         }
     }

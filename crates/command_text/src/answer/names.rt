@@ -1,16 +1,18 @@
 //! Lines of one name or value each, and of counts.
 ghost use Rattle.std.specs.Prelude.{[], if◌then◌else◌};
 ghost use Rattle.command_text.specs.Answer.{Adds};
-ghost use Rattle.command_text.specs.AnswerNames.{directory_line, playlist_line, sticker_line, value_line, tag_type_line, command_line};
-ghost use Rattle.command_text.specs.AnswerNames.{changed_line, count_lines, database_lines, listed_commands};
+ghost use Rattle.command_text.specs.AnswerNames.{directory_line, list_time, playlist_lines, sticker_line, value_line, tag_type_line};
+ghost use Rattle.command_text.specs.AnswerNames.{changed_line, command_line, count_lines, database_lines, listed_commands};
 ghost use Rattle.command_text.specs.Names.{is_listed};
 
+use crate::answer::dates::write_time;
 use crate::answer::pairs::{append, write_number, write_pair};
 use crate::answer::times::write_whole_seconds;
 use crate::name::CommandName;
 use crate::table::{count, name_at};
 use idle_masks::Subsystem;
 use no_memory::NoMemory;
+use profile::Profile;
 use song_files::Tag;
 
 /// Adds the line `directory: PATH`.
@@ -20,11 +22,21 @@ pub fn write_directory(out: &mut Vec<u8>, path: &str) -> Result<(), NoMemory>
     write_pair(out, "directory", path.as_bytes())
 }
 
-/// Adds the line `playlist: NAME`.
-pub fn write_playlist(out: &mut Vec<u8>, name: &str) -> Result<(), NoMemory>
-    ensures { Adds (playlist_line name.now) result out.old out.new }
+/// Adds the line `playlist: NAME`, and behind it, in the wide profile, a time that clients take for an unknown one.
+pub fn write_playlist(out: &mut Vec<u8>, profile: Profile, name: &str) -> Result<(), NoMemory>
+    ensures { Adds (playlist_lines profile name.now) result out.old out.new }
 {
-    write_pair(out, "playlist", name.as_bytes())
+    write_pair(out, "playlist", name.as_bytes())?;
+    write_list_time(out, profile)
+}
+
+fn write_list_time(out: &mut Vec<u8>, profile: Profile) -> Result<(), NoMemory>
+    ensures { Adds (list_time profile) result out.old out.new }
+{
+    match profile {
+        Profile::Named => Ok(()),
+        Profile::Wide => write_time(out, "Last-Modified", 0),
+    }
 }
 
 /// Adds the line `sticker: NAME=VALUE`.
@@ -52,19 +64,19 @@ pub fn write_tag_type(out: &mut Vec<u8>, tag: Tag) -> Result<(), NoMemory>
 }
 
 /// Adds the line `command: NAME` for each command that is listed.
-pub fn write_commands(out: &mut Vec<u8>) -> Result<(), NoMemory>
-    ensures { Adds listed_commands result out.old out.new }
+pub fn write_commands(out: &mut Vec<u8>, profile: Profile) -> Result<(), NoMemory>
+    ensures { Adds (listed_commands profile) result out.old out.new }
 {
     for place in 0..count() {
-        write_listed(out, name_at(place))?;
+        write_listed(out, profile, name_at(place))?;
     }
     Ok(())
 }
 
-fn write_listed(out: &mut Vec<u8>, name: CommandName) -> Result<(), NoMemory>
-    ensures { Adds (if is_listed name then command_line name else []) result out.old out.new }
+fn write_listed(out: &mut Vec<u8>, profile: Profile, name: CommandName) -> Result<(), NoMemory>
+    ensures { Adds (if is_listed profile name then command_line name else []) result out.old out.new }
 {
-    if !name.is_listed() {
+    if !name.is_listed(profile) {
         return Ok(());
     }
     write_pair(out, "command", name.text().as_bytes())

@@ -3,7 +3,7 @@ ghost use Rattle.play_queue.specs.Shown.{shown};
 ghost use Rattle.command_text.specs.Answer.{Adds, pair};
 ghost use Rattle.command_text.specs.AnswerSongs.{file_line, modified_line, head_lines, format_text, tag_line};
 ghost use Rattle.command_text.specs.AnswerSongs.{tag_lines, song_lines, priority_line, entry_lines};
-ghost use Rattle.command_text.specs.AnswerSongs.{place_lines, id_line};
+ghost use Rattle.command_text.specs.AnswerSongs.{place_lines, id_line, numbered_file};
 
 use crate::answer::dates::write_time;
 use crate::answer::pairs::{append, write_number, write_pair, write_position_and_id};
@@ -120,6 +120,22 @@ pub fn write_place(out: &mut Vec<u8>, position: usize, id: u32) -> Result<(), No
     ensures { Adds (place_lines position id) result out.old out.new }
 {
     write_position_and_id(out, "cpos", position, "Id", id)
+}
+
+/// Adds the line `N:file: URI` of the entry at a position.
+pub fn write_numbered_file(out: &mut Vec<u8>, position: usize, uri: &str) -> Result<(), NoMemory>
+    ensures { Adds (numbered_file position uri.now) result out.old out.new }
+{
+    let mut digits = Buffer::new();
+    append(
+        out,
+        &[
+            digits.format(position).as_bytes(),
+            b":file: ",
+            uri.as_bytes(),
+            b"\n",
+        ],
+    )
 }
 
 /// Adds the line `Id: ID` of an entry that was added.

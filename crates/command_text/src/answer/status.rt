@@ -3,7 +3,8 @@ ghost use Rattle.std.specs.Prelude.{◌≡◌, option_copied};
 ghost use Rattle.command_text.specs.Answer.{Adds};
 ghost use Rattle.command_text.specs.AnswerTimes.{milliseconds_at};
 ghost use Rattle.command_text.specs.AnswerStatus.{switch_text, single_text, state_text, setting_lines, current_lines, next_lines};
-ghost use Rattle.command_text.specs.AnswerStatus.{time_lines, playing_lines, played_lines, job_line, job_lines, error_lines, status_lines};
+ghost use Rattle.command_text.specs.AnswerStatus.{time_lines, playing_lines, played_lines, job_line, job_lines, error_lines};
+ghost use Rattle.command_text.specs.AnswerStatus.{status_lines, volume_line};
 
 use crate::answer::pairs::{append, write_number, write_pair, write_position_and_id};
 use crate::answer::songs::write_format;
@@ -67,10 +68,17 @@ fn state_text(state: PlayState) -> &'static [u8]
     }
 }
 
+/// Adds the line `volume: N`.
+pub fn write_volume(out: &mut Vec<u8>, volume: Volume) -> Result<(), NoMemory>
+    ensures { Adds (volume_line volume) result out.old out.new }
+{
+    write_number(out, "volume", volume.percent())
+}
+
 fn write_settings(out: &mut Vec<u8>, volume: Volume, options: Options) -> Result<(), NoMemory>
     ensures { Adds (setting_lines volume options) result out.old out.new }
 {
-    write_number(out, "volume", volume.percent())?;
+    write_volume(out, volume)?;
     write_pair(out, "repeat", switch_text(options.repeat))?;
     write_pair(out, "random", switch_text(options.random))?;
     write_pair(out, "single", single_text(options.single))?;

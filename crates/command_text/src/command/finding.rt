@@ -7,6 +7,7 @@ ghost use Rattle.filter_expr.specs.Parts.{opening, begins_so};
 ghost use Rattle.command_text.specs.Finding.{filter_length, value_behind, second_place, sort_part, window_part, position_part};
 ghost use Rattle.command_text.specs.Finding.{nothing_left};
 ghost use Rattle.command_text.specs.Finding.{search_parts, find_of, find_add_of, filter_alone, add_to_playlist_of, list_of, finding_of};
+ghost use Rattle.command_text.specs.Finding.{files_of, is_artist_alone, is_file, listed_words, values_of};
 ghost use Rattle.command_text.specs.Stops.{Reads, ReadsAs};
 
 use crate::argument::{argument, target, window};
@@ -43,6 +44,8 @@ pub enum FindingCommand<'w> {
     Find(Search),
     /// The entries of the queue that match.
     InQueue(Case, Filter),
+    /// The files of all songs or of those that match.
+    ListFiles(Option<Filter>),
     /// The distinct values of a tag, of all songs or of those that match.
     ListTag(Tag, Option<Filter>),
 }
@@ -347,17 +350,94 @@ fn list<'w>(
 {
     match words {
         [] => Err(Stop::Refused(CommandRefusal::WrongCount)),
-        [tag] => {
-            let tag = tag_argument(alloc, profile, tag.bytes())?;
-            Ok(FindingCommand::ListTag(tag, None))
-        }
-        [tag, words @ ..] => {
-            if !has_filter_count(words) {
-                return Err(Stop::Refused(CommandRefusal::WrongCount));
+        [name, words @ ..] => {
+            if is_file(profile, name.bytes()) {
+                return files(alloc, profile, words);
             }
-            let tag = tag_argument(alloc, profile, tag.bytes())?;
-            let filter = filter_argument(alloc, profile, words)?;
-            Ok(FindingCommand::ListTag(tag, Some(filter)))
+            list_behind(alloc, profile, name.bytes(), words)
         }
     }
+}
+
+/// Whether songs' files stand in a tag's place of `list`.
+fn is_file(profile: Profile, name: &[u8]) -> bool
+    ensures { result ≡ is_file profile name.now }
+{
+    match profile {
+        Profile::Named => false,
+        Profile::Wide => {
+            name.eq_ignore_ascii_case(b"file") || name.eq_ignore_ascii_case(b"filename")
+        }
+    }
+}
+
+/// The files of all songs, or of those of a filter.
+fn files<'w>(
+    alloc: Global,
+    profile: Profile,
+    words: &'w [LineWord<'_>],
+) -> Result<FindingCommand<'w>, Stop>
+    ensures { Reads result (files_of profile words.now) }
+{
+    if words.is_empty() {
+        return Ok(FindingCommand::ListFiles(None));
+    }
+    let filter = filter_alone(alloc, profile, words)?;
+    Ok(FindingCommand::ListFiles(Some(filter)))
+}
+
+/// The values of a tag, with these words behind its name.
+fn list_behind<'w>(
+    alloc: Global,
+    profile: Profile,
+    name: &[u8],
+    words: &'w [LineWord<'_>],
+) -> Result<FindingCommand<'w>, Stop>
+    ensures { Reads result (values_of profile name.now (listed_words profile name.now words.now)) }
+{
+    match words {
+        [word] => {
+            if is_artist_alone(profile, name, word.bytes()) {
+                let pair = [
+                    LineWord::from_slice(b"Artist"),
+                    LineWord::from_slice(word.bytes()),
+                ];
+                return values(alloc, profile, name, &pair);
+            }
+            values(alloc, profile, name, words)
+        }
+        _ => values(alloc, profile, name, words),
+    }
+}
+
+/// Whether the word behind a tag's name is an artist, of whom the albums are listed.
+fn is_artist_alone(profile: Profile, name: &[u8], word: &[u8]) -> bool
+    ensures { result ≡ is_artist_alone profile name.now word.now }
+{
+    match profile {
+        Profile::Named => false,
+        Profile::Wide => name.eq_ignore_ascii_case(b"Album") && !begins_expression(word),
+    }
+}
+
+/// The values of a tag, of all songs or of those of a filter.
+#[tactic(auto, unfolding(crate::specs::Finding::values_of))]
+fn values<'w>(
+    alloc: Global,
+    profile: Profile,
+    name: &[u8],
+    words: &[LineWord<'_>],
+) -> Result<FindingCommand<'w>, Stop>
+    ensures { Reads result (values_of profile name.now words.now) }
+{
+    if words.is_empty() {
+        let tag = tag_argument(alloc, profile, name)?;
+        return Ok(FindingCommand::ListTag(tag, None));
+    }
+    if !has_filter_count(words) {
+        return Err(Stop::Refused(CommandRefusal::WrongCount));
+    }
+    let tag = tag_argument(alloc, profile, name)?;
+    let filter = filter_argument(alloc, profile, words)?;
+    Ok(FindingCommand::ListTag(tag, Some(filter)))
 }

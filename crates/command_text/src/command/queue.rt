@@ -35,6 +35,8 @@ pub enum QueueCommand<'w> {
     Clear,
     Delete(PositionRange),
     DeleteId(u32),
+    /// The files of all entries, numbered.
+    Files,
     Info(Option<PositionRange>),
     InfoId(Option<u32>),
     Move(PositionRange, Target),
@@ -80,6 +82,7 @@ pub(crate) fn read<'w>(
             let (version, range) = changes_since(words)?;
             Ok(QueueCommand::ChangesPositions(version, range))
         }
+        QueueName::QueueFiles => Ok(no_argument(QueueCommand::Files, words)?),
         QueueName::QueueId => Ok(QueueCommand::InfoId(shown_id(words)?)),
         QueueName::QueueInfo => Ok(QueueCommand::Info(shown_range(words)?)),
         QueueName::Shuffle => Ok(QueueCommand::Shuffle(optional_range(1, optional(words)?)?)),

@@ -6,8 +6,8 @@ ghost use Rattle.disk_model.specs.Later.{AreLater};
 ghost use Rattle.daemon_core.specs.Replay.{Entry};
 ghost use Rattle.live_stage.specs.Found.{AllFindNow, AllFindSince};
 ghost use Rattle.live_stage.specs.Group.{EndsThere, IsGroup, IsGroupWritten, IsNoneOrAll, IsOfFront, RefusesFront, as_a_turn, bodies_after};
-ghost use Rattle.live_stage.specs.Group.{goes_without, history_in};
-ghost use Rattle.live_stage.specs.Numbers.{AreCountsSpent, is_due, makes_checkpoint};
+ghost use Rattle.live_stage.specs.Group.{history_in, makes_checkpoint};
+ghost use Rattle.live_stage.specs.Numbers.{AreCountsSpent, is_due};
 ghost use Rattle.live_stage.specs.Staging.{IsGroupHandled, KeepsGroup, begin_of};
 ghost use Rattle.live_stage.specs.Turns.{LeavesAsIs, MakesNoCall, RefusesInOrder, StaysInFile, TellsFaults, WritesOneFile};
 
@@ -55,10 +55,10 @@ impl<D: Disk> Live<D> {
         ensures kept { D.honest self.old.a → D.honest self.old.b → self.new.is_broken ≡ false
             → AllFindNow (λ f. f ≡ Some self.new.state.machine.saved) (D.history self.new.a) (D.history self.new.b) }
 
-        // The files then say the records of all events' ops, and no more records than the bounds allow, unless the checkpoint is overdue.
+        // The files then say the records of all events' ops, and no more records than the bounds allow.
         ensures stored { D.honest self.old.a → D.honest self.old.b
             → IfOk result (λ g. IsGroupWritten D.history self.old self.new g.turns.items) }
-        ensures no_call { IfOk result (λ g. makes_checkpoint (goes_without g.turns.items) self.old.file ≡ false
+        ensures no_call { IfOk result (λ g. makes_checkpoint self.old.file g.turns.items ≡ false
             → bodies_after self.old.state (history_in g.turns.items) ≡ [] → MakesNoCall self.old self.new) }
         ensures file { MatchResult result (λ g. AllByRecursion (λ t. WritesOneFile self.old self.new (Ok t)) g.turns.items)
             (λ e. WritesOneFile self.old self.new (Err e.error)) }
@@ -84,11 +84,10 @@ impl<D: Disk> Live<D> {
                 rest: events,
             });
         }
-        let is_overdue = match self.make_ready(alloc) {
-            Ok(is_overdue) => is_overdue,
-            Err(error) => return Err(refused(error, events)),
-        };
-        let group = match self.handle_group(alloc, turns, events, is_overdue) {
+        if let Err(error) = self.make_ready() {
+            return Err(refused(error, events));
+        }
+        let group = match self.handle_group(alloc, turns, events) {
             Ok(group) => group,
             Err(refusal) => return Err(refusal),
         };
@@ -97,22 +96,21 @@ impl<D: Disk> Live<D> {
         Ok(group)
     }
 
-    // Handles the events of a group, by records in the file that is in use. Their answers say whether the checkpoint is overdue.
+    // Handles the events of a group, by records in the file that is in use.
     #[tactic(auto, using(crate::proofs::ProfileLaws::written_so))]
     fn handle_group(
         &mut self,
         alloc: Global,
         turns: Vec<Turn<D>>,
         events: Vec<Event>,
-        is_overdue: bool,
     ) -> Result<Turns<D>, RefusedTurns>
         requires usable { self.old.is_broken ≡ false }
         requires numbers { AreCountsSpent self.old.numbers → ⊥ }
-        requires due { is_due self.old.file ≡ is_overdue }
+        requires due { is_due self.old.file ≡ false }
         requires some { events.items ≢ [] }
         requires places { (turns.items ≡ []) × (length events.items ≤ vec_capacity turns) }
         ensures group { IfOk result (λ g.
-            IsGroupHandled is_overdue self.old events.items g.turns.items g.is_refused g.rest.items self.new) }
+            IsGroupHandled self.old events.items g.turns.items g.is_refused g.rest.items self.new) }
         ensures front { IfErr result (λ e. RefusesFront self.old events.items e.error e.rest.items) }
         ensures any_moment { D.honest self.old.a → D.honest self.old.b → KeepsGroup D.history self.old self.new events.items result }
         ensures no_call { IfOk result (λ g. bodies_after self.old.state (history_in g.turns.items) ≡ [] → MakesNoCall self.old self.new) }
@@ -123,7 +121,7 @@ impl<D: Disk> Live<D> {
     {
         // As long as it isn't spent, the files give its content.
         let _spent = self.journal.is_spent();
-        let begin = self.begin(is_overdue);
+        let begin = self.begin();
         let mut turns = turns;
         let mut rest = events;
         rest.reverse();
@@ -153,8 +151,8 @@ impl<D: Disk> Live<D> {
     }
 
     // What a group begins with.
-    fn begin(&self, is_overdue: bool) -> Begin
-        ensures value { result ≡ begin_of self.now is_overdue }
+    fn begin(&self) -> Begin
+        ensures value { result ≡ begin_of self.now }
         ensures fits { self.now.file.bytes < 2 ^ 64 }
     {
         Begin {
@@ -163,7 +161,6 @@ impl<D: Disk> Live<D> {
             snapshot_len: self.journal.snapshot_len(),
             records: self.journal.records_since_checkpoint(),
             bytes: self.journal.bytes_since_checkpoint(),
-            is_overdue,
         }
     }
 }

@@ -4,7 +4,7 @@ ghost use Rattle.disk_model.specs.Later.{AreLater, HasFailed};
 ghost use Rattle.play_journal.specs.Calls.{SameFaults};
 ghost use Rattle.state_codec.specs.Layout.{written_layout};
 ghost use Rattle.live_stage.specs.Decoding.{GivesState, brought_reading};
-ghost use Rattle.live_stage.specs.Errors.{IsRefusalOfMigration, migration_error};
+ghost use Rattle.live_stage.specs.Errors.{IsRefusalOfMigration};
 ghost use Rattle.live_stage.specs.Found.{state_of, stored_reading, brought, is_read, taken_state, AllOpenSince};
 ghost use Rattle.live_stage.specs.Turns.{IsBegun, IsOver, is_old, migrated};
 ghost use Rattle.live_stage.specs.Writing.{CallsDisks};
@@ -12,7 +12,7 @@ ghost use Rattle.live_stage.specs.Writing.{CallsDisks};
 use super::Live;
 use crate::checkpointing::write_snapshot;
 use crate::decoding::take_state;
-use crate::{LiveError, Refused, StartError};
+use crate::{Refused, StartError};
 use daemon_core::Core;
 use disk_model::Disk;
 use play_journal::{Group, Journal, Stored};
@@ -71,24 +71,9 @@ pub(super) fn refused_over<D: Disk>(error: StartError, journal: Journal<D>) -> R
     Refused { error, a, b }
 }
 
-// Why a journal was not brought to the layout that is written, whose checkpoint was refused.
-fn refused_migration(error: LiveError) -> StartError
-    ensures { result ≡ migration_error error }
-{
-    match error {
-        LiveError::Broken => StartError::Broken,
-        LiveError::NoMemory => StartError::NoMemory,
-        LiveError::NumbersSpent => StartError::NumbersSpent,
-    }
-}
-
 // Brings a journal to the layout that the profile of its state writes, by a checkpoint of the state, and says whether it did so. A journal
 // of that layout stays as it is.
-fn migrate<D: Disk>(
-    alloc: Global,
-    journal: &mut Journal<D>,
-    saved: &Saved,
-) -> Result<bool, StartError>
+fn migrate<D: Disk>(journal: &mut Journal<D>, saved: &Saved) -> Result<bool, StartError>
     requires usable { journal.old.is_spent ≡ false }
     requires stands { D.honest journal.old.a → D.honest journal.old.b
         → taken_state saved.now.profile journal.old.content ≡ Some saved.now }
@@ -111,9 +96,9 @@ fn migrate<D: Disk>(
     if journal.generation() == u64::MAX {
         return Err(StartError::NumbersSpent);
     }
-    match write_snapshot(alloc, journal, saved) {
+    match write_snapshot(journal, saved) {
         Ok(()) => Ok(true),
-        Err(error) => Err(refused_migration(error)),
+        Err(_fault) => Err(StartError::Broken),
     }
 }
 
@@ -147,7 +132,7 @@ impl<D: Disk> Live<D> {
         // As long as the journal isn't spent, the files say its content, with its numbers.
         let _found = journal.is_spent();
         let mut journal = journal;
-        let migrated = match migrate(alloc, &mut journal, &saved) {
+        let migrated = match migrate(&mut journal, &saved) {
             Ok(migrated) => migrated,
             Err(error) => return Err(refused_over(error, journal)),
         };

@@ -1,18 +1,24 @@
 -- What the commands of the database mean, case by case.
-use Rattle.std.proofs.Common.{◌≡◌, ℕ, Bool, true, false, List, [], length, ◌++◌, ◌||◌, codes, Bor, Option, Err}
+use Rattle.std.proofs.Common.{◌≡◌, ℕ, Bool, true, false, List, [], length, ◌++◌, ◌||◌, codes, Bor, Option, Ok, Err}
 use Rattle.std.proofs.Common.{refl, sym, ap, subst, ◌∙◌}
+use Rattle.std.specs.List.{flat_map}
+use Rattle.std.specs.Prelude.{if◌then◌else◌}
 use Rattle.std.specs.Str.{bytes_eq}
-use Rattle.command_text.specs.AnswerNames.{database_lines}
+use Rattle.command_text.specs.AnswerNames.{database_lines, directory_line}
 use Rattle.command_text.specs.AnswerStatus.{job_line}
-use Rattle.command_text.specs.declared.refusal.CommandRefusal.TheVariants.{AlreadyUpdating}
+use Rattle.command_text.specs.declared.refusal.CommandRefusal.TheVariants.{AlreadyUpdating, NoSuchUri}
 use Rattle.profile.specs.declared.profile.Profile.{Profile}
+use Rattle.profile.specs.declared.profile.Profile.TheVariants.{Named, Wide}
 use Rattle.song_db.specs.Duration.{total_of}
 use Rattle.song_db.specs.Place.{place_of}
-use Rattle.song_db.specs.Query.{values_of}
+use Rattle.song_db.specs.Query.{is_folder, values_of}
 use Rattle.song_db.specs.Row.{Row}
+use Rattle.song_db.specs.Walk.{walk_of}
+use Rattle.song_db.specs.declared.place.Place.TheVariants.{At}
 use Rattle.song_files.specs.declared.tag.Tag.TheVariants.{Artist, Album}
+use Rattle.state_codec.specs.SavedState.{SavedState}
 use Rattle.state_codec.specs.Spelling.{ops_bytes}
-use Rattle.machine_core.specs.Database.{all_below, begins_job, begun, next_job, statistics}
+use Rattle.machine_core.specs.Database.{all_below, begins_job, begun, folder_line, item_lines, next_job, statistics}
 use Rattle.machine_core.specs.Lent.{lent}
 use Rattle.machine_core.specs.Meaning.{Meaning, Meant, begins, says}
 use Rattle.machine_core.specs.State.{MachineState}
@@ -23,14 +29,20 @@ use Rattle.machine_core.specs.declared.work.Failure.TheVariants.{Refused}
 use Rattle.machine_core.specs.declared.work.Work.{Work}
 use Rattle.machine_core.proofs.Answering.{is_refused}
 
+same_line : (profile : Profile) (a b : Bor (List ℕ)) → a.now ≡ b.now → folder_line profile (At a) ≡ folder_line profile (At b)
+same_line Named a b e = refl
+same_line Wide a b e = ap directory_line e
+
 -- where the text of a place lies in memory is nothing to what is found by it
-pub same_all_below : (detail : Detail) (path : Bor (List ℕ)) (songs : List Row)
-    → all_below detail songs (place_of (lent path.now)) ≡ all_below detail songs (place_of path)
-same_all_below detail path songs = by_cases (bytes_eq path.now [] || bytes_eq path.now (codes "/")) refl where
+pub same_all_below : (detail : Detail) (path : Bor (List ℕ)) (s : SavedState)
+    → all_below detail s (place_of (lent path.now)) ≡ all_below detail s (place_of path)
+same_all_below detail path s = by_cases (bytes_eq path.now [] || bytes_eq path.now (codes "/")) refl where
   by_cases : (b : Bool) → (bytes_eq path.now [] || bytes_eq path.now (codes "/")) ≡ b
-      → all_below detail songs (place_of (lent path.now)) ≡ all_below detail songs (place_of path)
+      → all_below detail s (place_of (lent path.now)) ≡ all_below detail s (place_of path)
   by_cases true is = rw is
-  by_cases false is = rw is
+  by_cases false is =
+      rw is (ap (λ (line : List ℕ). if is_folder s.songs (At path) then Ok (line ++ flat_map (item_lines detail) (walk_of s.songs (At path)))
+      else Err NoSuchUri) (same_line s.profile (lent path.now) path refl))
 
 -- a job runs already
 pub runs_already : (place : Option (List ℕ)) (all : Bool) (m : MachineState) (w : Work) → m.job.runs ≡ true

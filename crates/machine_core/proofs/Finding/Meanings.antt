@@ -3,8 +3,8 @@ use Rattle.std.proofs.Common.{◌≡◌, suc, ◌≤◌, Bool, true, false, List
 use Rattle.std.proofs.Common.{refl, ap, sym, ◌∙◌, arith}
 use Rattle.std.specs.List.{flat_map}
 use Rattle.command_text.specs.AnswerNames.{count_lines}
-use Rattle.command_text.specs.AnswerSongs.{song_lines}
-use Rattle.command_text.specs.declared.command.finding.FindingCommand.TheVariants.{Add, Count, Find, InQueue, ListTag}
+use Rattle.command_text.specs.AnswerSongs.{file_line, song_lines}
+use Rattle.command_text.specs.declared.command.finding.FindingCommand.TheVariants.{Add, Count, Find, InQueue, ListFiles, ListTag}
 use Rattle.command_text.specs.declared.command.finding.Search.{Search}
 use Rattle.play_queue.specs.declared.target.Target.{Target}
 use Rattle.filter_expr.specs.Tree.{Tree}
@@ -40,9 +40,14 @@ unfolding finding_meaning
 entries_mean m case tree = refl
 
 pub values_mean : (m : MachineState) (tag : Tag) (tree : Option Tree)
-    → finding_meaning (ListTag tag tree) m ≡ says (value_lines tag (told_values (chosen tree m.saved.songs) tag)) m
+    → finding_meaning (ListTag tag tree) m ≡ says (value_lines tag (told_values m.saved.profile (chosen tree m.saved.songs) tag)) m
 unfolding finding_meaning
 values_mean m tag tree = refl
+
+pub files_mean : (m : MachineState) (tree : Option Tree)
+    → finding_meaning (ListFiles tree) m ≡ says (flat_map (λ (row : Row). file_line row.uri) (chosen tree m.saved.songs)) m
+unfolding finding_meaning
+files_mean m tree = refl
 
 pub fewer : {X : Type 0} (test : X → Bool) (xs : List X) → length (filter test xs) ≤ length xs
 fewer test [] = omega arith

@@ -1,16 +1,19 @@
 -- The values of a tag, gathered song after song.
-use Rattle.std.proofs.Common.{◌≡◌, ℕ, zero, suc, ◌+◌, ◌<◌, ◌≤◌, ◌++◌, get_or, Bool, true, false, cond, List, [], ◌∷◌, drop, length, map, Some, add-one}
+use Rattle.std.proofs.Common.{◌≡◌, ℕ, zero, suc, ◌+◌, ◌<◌, ◌≤◌, ◌++◌, get_or, Bool, true, false, cond, List, [], ◌∷◌, drop, length, map}
+use Rattle.std.proofs.Common.{Some, None, find, add-one}
 use Rattle.std.proofs.Common.{refl, sym, ap, ◌∙◌, arith}
 use denote.Ref.{Bor}
 use Rattle.std.specs.List.{filter, flat_map, slice_get}
-use Rattle.filter_expr.specs.Fallback.{told_tag}
+use Rattle.std.specs.Option.{option_map}
+use Rattle.profile.specs.declared.profile.Profile.{Profile}
+use Rattle.profile.specs.declared.profile.Profile.TheVariants.{Wide}
 use Rattle.song_files.specs.Tag.{is_tag}
-use Rattle.song_files.specs.Tags.{TagText, texts_of}
+use Rattle.song_files.specs.Tags.{TagText, first_text, texts_of}
 use Rattle.song_files.specs.declared.tag.Tag.{Tag}
 use Rattle.song_db.specs.Query.{distinct_of, values_of, with_texts}
 use Rattle.song_db.specs.Replaced.{replaced}
 use Rattle.song_db.specs.Row.{Row}
-use Rattle.machine_core.specs.Finding.{told_values}
+use Rattle.machine_core.specs.Finding.{or_empty, told_texts, told_values}
 
 -- texts that take their places one part after the other
 with_texts-append : (known xs ys : List (List ℕ)) → with_texts known (xs ++ ys) ≡ with_texts (with_texts known xs) ys
@@ -63,48 +66,70 @@ texts_taken tags at tag known all past so_far =
     ap (λ (l : List TagText). with_texts known (texts_of l tag)) (drop_all tags at past) in
     sym none ∙ so_far
 
--- what a song tells of a tag
-abbrev pub told_texts : Tag → Row → List (List ℕ)
-told_texts tag row = texts_of row.tags (told_tag row.tags tag)
+-- a song without a text of a tag has the empty one in the wide profile
+pub texts_none : (tags : List TagText) (tag : Tag) → first_text tags tag ≡ None → or_empty Wide (texts_of tags tag) ≡ [] ∷ []
+texts_none [] tag e = refl
+texts_none (x ∷ tags) tag e = by_cases (is_tag x.tag tag) e (texts_none tags tag) where
+  by_cases : (b : Bool)
+      → option_map (λ (t : TagText). t.text) (cond b (Some x) (find (λ (t : TagText). is_tag t.tag tag) tags)) ≡ None
+      → (first_text tags tag ≡ None → or_empty Wide (texts_of tags tag) ≡ [] ∷ [])
+      → or_empty Wide (map (λ (t : TagText). t.text) (cond b (x ∷ filter (λ (t : TagText). is_tag t.tag tag) tags)
+      (filter (λ (t : TagText). is_tag t.tag tag) tags))) ≡ [] ∷ []
+  by_cases true e rest = absurd (cc)
+  by_cases false e rest = rest e
 
-own_texts : (rows : List Row) (tag : Tag) → ((tags : List TagText) → told_tag tags tag ≡ tag)
-    → flat_map (told_texts tag) rows ≡ flat_map (λ (row : Row). texts_of row.tags tag) rows
-own_texts [] tag own = refl
-own_texts (row ∷ rows) tag own =
-    (λ i. texts_of row.tags (own row.tags i) ++ own_texts rows tag own i)
+pub texts_some : (tags : List TagText) (tag : Tag) (text : List ℕ) → first_text tags tag ≡ Some text
+    → or_empty Wide (texts_of tags tag) ≡ texts_of tags tag
+texts_some [] tag text e = absurd (cc)
+texts_some (x ∷ tags) tag text e = by_cases (is_tag x.tag tag) e (texts_some tags tag text) where
+  by_cases : (b : Bool)
+      → option_map (λ (t : TagText). t.text) (cond b (Some x) (find (λ (t : TagText). is_tag t.tag tag) tags)) ≡ Some text
+      → (first_text tags tag ≡ Some text → or_empty Wide (texts_of tags tag) ≡ texts_of tags tag)
+      → or_empty Wide (map (λ (t : TagText). t.text) (cond b (x ∷ filter (λ (t : TagText). is_tag t.tag tag) tags)
+      (filter (λ (t : TagText). is_tag t.tag tag) tags)))
+      ≡ map (λ (t : TagText). t.text) (cond b (x ∷ filter (λ (t : TagText). is_tag t.tag tag) tags)
+      (filter (λ (t : TagText). is_tag t.tag tag) tags))
+  by_cases true e rest = refl
+  by_cases false e rest = rest e
 
--- where no other tag stands in they are the tag's own
-pub own_values : (rows : List Row) (tag : Tag) → ((tags : List TagText) → told_tag tags tag ≡ tag)
-    → values_of rows tag ≡ told_values rows tag
-own_values rows tag own = sym (ap distinct_of (own_texts rows tag own))
+own_texts : (profile : Profile) (rows : List Row) (tag : Tag) → ((row : Row) → told_texts profile tag row ≡ texts_of row.tags tag)
+    → flat_map (told_texts profile tag) rows ≡ flat_map (λ (row : Row). texts_of row.tags tag) rows
+own_texts profile [] tag own = refl
+own_texts profile (row ∷ rows) tag own = (λ i. own row i ++ own_texts profile rows tag own i)
 
-rows_suc : (rows : List Row) (i : ℕ) (row : Row) (tag : Tag) → i < length rows → row ≡ get_or rows i row
-    → flat_map (told_texts tag) (drop i rows) ≡ told_texts tag row ++ flat_map (told_texts tag) (drop (suc i) rows)
-rows_suc [] i row tag within is = absurd (omega arith)
-rows_suc (x ∷ xs) zero row tag within is = ap (λ (r : Row). told_texts tag r ++ flat_map (told_texts tag) xs) (sym is)
-rows_suc (x ∷ xs) (suc i) row tag within is = rows_suc xs i row tag (omega arith) is
+-- where songs tell their own texts alone they are the tag's values
+pub own_values : (profile : Profile) (rows : List Row) (tag : Tag) → ((row : Row) → told_texts profile tag row ≡ texts_of row.tags tag)
+    → values_of rows tag ≡ told_values profile rows tag
+own_values profile rows tag own = sym (ap distinct_of (own_texts profile rows tag own))
+
+rows_suc : (profile : Profile) (rows : List Row) (i : ℕ) (row : Row) (tag : Tag) → i < length rows → row ≡ get_or rows i row
+    → flat_map (told_texts profile tag) (drop i rows) ≡ told_texts profile tag row ++ flat_map (told_texts profile tag) (drop (suc i) rows)
+rows_suc profile [] i row tag within is = absurd (omega arith)
+rows_suc profile (x ∷ xs) zero row tag within is =
+    ap (λ (r : Row). told_texts profile tag r ++ flat_map (told_texts profile tag) xs) (sym is)
+rows_suc profile (x ∷ xs) (suc i) row tag within is = rows_suc profile xs i row tag (omega arith) is
 
 -- those of one more song
-pub values_more : (rows : List Row) (i : ℕ) (row : Row) (tag : Tag) (known more all : List (List ℕ)) → i < length rows
-    → row ≡ get_or rows i row → more ≡ with_texts known (told_texts tag row)
-    → with_texts known (flat_map (told_texts tag) (drop i rows)) ≡ all
-    → with_texts more (flat_map (told_texts tag) (drop (i + 1) rows)) ≡ all
-values_more rows i row tag known more all within is taken so_far =
-    rw (add-one, taken) (sym (with_texts-append known (told_texts tag row) (flat_map (told_texts tag) (drop (suc i) rows)))
-    ∙ sym (ap (with_texts known) (rows_suc rows i row tag within is)) ∙ so_far)
+pub values_more : (profile : Profile) (rows : List Row) (i : ℕ) (row : Row) (tag : Tag) (known more all : List (List ℕ)) → i < length rows
+    → row ≡ get_or rows i row → more ≡ with_texts known (told_texts profile tag row)
+    → with_texts known (flat_map (told_texts profile tag) (drop i rows)) ≡ all
+    → with_texts more (flat_map (told_texts profile tag) (drop (i + 1) rows)) ≡ all
+values_more profile rows i row tag known more all within is taken so_far =
+    rw (add-one, taken) (sym (with_texts-append known (told_texts profile tag row) (flat_map (told_texts profile tag) (drop (suc i) rows)))
+    ∙ sym (ap (with_texts known) (rows_suc profile rows i row tag within is)) ∙ so_far)
 
-lent_suc : (rows : List (Bor Row)) (i : ℕ) (row : Bor Row) (tag : Tag) → i < length rows → row ≡ get_or rows i row
-    → flat_map (told_texts tag) (map (λ (r : Bor Row). r.now) (drop i rows))
-    ≡ told_texts tag row.now ++ flat_map (told_texts tag) (map (λ (r : Bor Row). r.now) (drop (suc i) rows))
-lent_suc [] i row tag within is = absurd (omega arith)
-lent_suc (x ∷ xs) zero row tag within is =
-    ap (λ (r : Bor Row). told_texts tag r.now ++ flat_map (told_texts tag) (map (λ (r : Bor Row). r.now) xs)) (sym is)
-lent_suc (x ∷ xs) (suc i) row tag within is = lent_suc xs i row tag (omega arith) is
+lent_suc : (profile : Profile) (rows : List (Bor Row)) (i : ℕ) (row : Bor Row) (tag : Tag) → i < length rows → row ≡ get_or rows i row
+    → flat_map (told_texts profile tag) (map (λ (r : Bor Row). r.now) (drop i rows))
+    ≡ told_texts profile tag row.now ++ flat_map (told_texts profile tag) (map (λ (r : Bor Row). r.now) (drop (suc i) rows))
+lent_suc profile [] i row tag within is = absurd (omega arith)
+lent_suc profile (x ∷ xs) zero row tag within is =
+    ap (λ (r : Bor Row). told_texts profile tag r.now ++ flat_map (told_texts profile tag) (map (λ (r : Bor Row). r.now) xs)) (sym is)
+lent_suc profile (x ∷ xs) (suc i) row tag within is = lent_suc profile xs i row tag (omega arith) is
 
-pub lent_more : (rows : List (Bor Row)) (i : ℕ) (row : Bor Row) (tag : Tag) (known more all : List (List ℕ)) → i < length rows
-    → row ≡ get_or rows i row → more ≡ with_texts known (told_texts tag row.now)
-    → with_texts known (flat_map (told_texts tag) (map (λ (r : Bor Row). r.now) (drop i rows))) ≡ all
-    → with_texts more (flat_map (told_texts tag) (map (λ (r : Bor Row). r.now) (drop (i + 1) rows))) ≡ all
-lent_more rows i row tag known more all within is taken so_far =
-    rw (add-one, taken) (sym (with_texts-append known (told_texts tag row.now) (flat_map (told_texts tag)
-    (map (λ (r : Bor Row). r.now) (drop (suc i) rows)))) ∙ sym (ap (with_texts known) (lent_suc rows i row tag within is)) ∙ so_far)
+pub lent_more : (profile : Profile) (rows : List (Bor Row)) (i : ℕ) (row : Bor Row) (tag : Tag) (known more all : List (List ℕ))
+    → i < length rows → row ≡ get_or rows i row → more ≡ with_texts known (told_texts profile tag row.now)
+    → with_texts known (flat_map (told_texts profile tag) (map (λ (r : Bor Row). r.now) (drop i rows))) ≡ all
+    → with_texts more (flat_map (told_texts profile tag) (map (λ (r : Bor Row). r.now) (drop (i + 1) rows))) ≡ all
+lent_more profile rows i row tag known more all within is taken so_far =
+    rw (add-one, taken) (sym (with_texts-append known (told_texts profile tag row.now) (flat_map (told_texts profile tag)
+    (map (λ (r : Bor Row). r.now) (drop (suc i) rows)))) ∙ sym (ap (with_texts known) (lent_suc profile rows i row tag within is)) ∙ so_far)

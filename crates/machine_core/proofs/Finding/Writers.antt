@@ -1,13 +1,14 @@
 -- Writers that look at songs between their lines.
-use Rattle.std.proofs.Common.{◌≡◌, ℕ, List, [], ◌++◌, length, take, Result, Ok, Err, IsErr}
+use Rattle.std.proofs.Common.{◌≡◌, ℕ, suc, ◌+◌, ◌<◌, add-one, List, [], ◌∷◌, ◌++◌, length, take, drop, get_or, Result, Ok, Err, IsErr}
 use Rattle.std.proofs.Common.{◌∙◌, ap, sym, refl, subst, append_assoc, arith, length-append}
 use Rattle.std.proofs.lemmas.Bool.{false≢true}
 use Rattle.std.proofs.lemmas.List.{append-nil, take-take}
-use Rattle.std.proofs.Math.Seq.{take-length, take-append_seam}
+use Rattle.std.proofs.Math.Seq.{drop-cons, take-length, take-append_seam}
 use Rattle.std.specs.Global.{Vec}
 use Rattle.std.specs.Vec.{vec_len}
 use Rattle.command_text.specs.Answer.{Adds}
 use Rattle.no_memory.specs.declared.NoMemory.{NoMemory as WantOfMemory}
+use Rattle.song_db.specs.Row.{Row}
 use Rattle.machine_core.specs.Finding.{Writes}
 use Rattle.machine_core.specs.Meaning.{Meant, says}
 use Rattle.machine_core.specs.State.{MachineState}
@@ -16,6 +17,10 @@ use Rattle.machine_core.specs.declared.work.Failure.{Failure}
 use Rattle.machine_core.specs.declared.work.Failure.TheVariants.{Refused, NoMemory}
 use Rattle.machine_core.specs.declared.work.Work.{Work}
 use Rattle.machine_core.proofs.Answering.{reads}
+
+-- the rows that are left behind the one at an index
+pub next_row : (rows : List Row) (i : ℕ) (row : Row) → i < length rows → row ≡ get_or rows i row → drop i rows ≡ row ∷ drop (i + 1) rows
+next_row rows i row h is = rw (add-one, drop-cons rows i row h) (ap (λ (r : Row). r ∷ drop (suc i) rows) (sym is))
 
 -- one that looks at none
 pub of_adds : {A E : Type 0} (lines : List ℕ) (r : Result A E) (o n : Vec ℕ) → Adds lines r o n → Writes lines r o n

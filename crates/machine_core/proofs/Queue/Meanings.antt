@@ -23,7 +23,7 @@ use Rattle.state_codec.specs.Steps.{◌>>=◌}
 use Rattle.state_codec.specs.declared.op.Op.TheVariants.{Queue}
 use Rattle.state_codec.specs.declared.op.queue_op.QueueOp.TheVariants.{Add}
 use Rattle.machine_core.specs.Adding.{adds, place_in}
-use Rattle.machine_core.specs.Entries.{place_info, position_info}
+use Rattle.machine_core.specs.Entries.{file_info, place_info, position_info}
 use Rattle.machine_core.specs.Meaning.{edits, says}
 use Rattle.machine_core.specs.Named.{IsNotFound, numbers_named}
 use Rattle.machine_core.specs.Queue.{changed_in, place_of_id, queue_length, queue_meaning}
@@ -42,6 +42,11 @@ pub queue_shown : (m : MachineState) (end : ℕ) → end ≡ queue_length m
     → queue_meaning (commands.InfoId None) m ≡ says (flat_map (position_info m.saved) (positions_in (whole end))) m
 unfolding queue_meaning
 queue_shown m end is = rw is
+
+pub files_shown : (m : MachineState) (end : ℕ) → end ≡ queue_length m
+    → queue_meaning commands.Files m ≡ says (flat_map (file_info m.saved.queue.entries) (positions_in (whole end))) m
+unfolding queue_meaning
+files_shown m end is = rw is
 
 pub id_shown : (id : ℕ) (m : MachineState) (at : ℕ) → place_of_id id m ≡ Ok at
     → queue_meaning (commands.InfoId (Some id)) m ≡ says (position_info m.saved at) m

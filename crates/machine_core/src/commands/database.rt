@@ -1,26 +1,31 @@
 // The commands of the database and its scans.
-ghost use Rattle.std.specs.Prelude.{◌≡◌, [], true, false, not, flat_map, unwrap_or};
-ghost use Rattle.command_text.specs.AnswerNames.{listed_commands, tag_type_line};
+ghost use Rattle.std.specs.Prelude.{◌≡◌, ◌++◌, [], true, false, map, not, flat_map, unwrap_or};
+ghost use Rattle.command_text.specs.Answer.{Adds};
+ghost use Rattle.command_text.specs.AnswerNames.{directory_line, listed_commands, tag_type_line};
+ghost use Rattle.command_text.specs.AnswerSongs.{song_lines};
 ghost use Rattle.command_text.specs.AnswerStatus.{job_line};
 ghost use Rattle.profile.specs.Profile.{tags_of};
 ghost use Rattle.song_db.specs.Change.{has_uri};
 ghost use Rattle.song_db.specs.Query.{is_folder};
 ghost use Rattle.song_db.specs.Row.{row_at};
 ghost use Rattle.song_files.specs.TagSet.{tags_in};
-ghost use Rattle.machine_core.specs.Database.{database_meaning, begins_job, folder_info, info_at, all_at, all_below, statistics};
+ghost use Rattle.machine_core.specs.Database.{database_meaning, begins_job, folder_info, info_at, all_at, all_below, root_lists};
+ghost use Rattle.machine_core.specs.Database.{statistics};
 ghost use Rattle.machine_core.specs.Meaning.{answers, says};
 ghost use Rattle.machine_core.specs.Memory.{database_takes_memory};
 ghost use Rattle.machine_core.specs.Work.{HasRoom, Performs, command_room};
 
 use crate::answer::write_content;
-use crate::answer_database::{Detail, write_detail, write_tag_types, write_walk};
+use crate::answer_database::{Detail, write_below, write_detail, write_tag_types};
+use crate::answer_lists::write_root_lists;
 use crate::job::Job;
 use crate::machine::Machine;
 use crate::work::{Failure, Work};
 use command_text::{
-    CommandRefusal, DatabaseCommand, Text, write_commands, write_job, write_song, write_statistics,
+    CommandRefusal, DatabaseCommand, NoMemory, Text, write_commands, write_job, write_song,
+    write_statistics,
 };
-use song_db::{Place, Uri};
+use song_db::{Place, SongRow, Texts, Uri};
 use std::alloc::Global;
 
 // The path that is named, or the empty one, which is the root.
@@ -78,10 +83,10 @@ impl Machine {
 
     // `commands`
     fn list_commands(&self, work: &mut Work) -> Result<(), Failure>
-        ensures { Performs (says listed_commands self.now) self.now self.now work.old work.new result }
+        ensures { Performs (says (listed_commands self.now.saved.profile) self.now) self.now self.now work.old work.new result }
     {
         let mark = work.text.len();
-        let written = write_commands(&mut work.text);
+        let written = write_commands(&mut work.text, self.saved.profile());
         work.keep(mark, written)
     }
 
@@ -145,7 +150,7 @@ impl Machine {
 
     // `listall` and `listallinfo`: the song of a path, or else all that stands below the folder of that path.
     fn list_all(&self, path: &str, detail: Detail, work: &mut Work) -> Result<(), Failure>
-        ensures { Performs (answers (all_at detail self.now.saved.songs path.now (row_at self.now.saved.songs path.now)) self.now)
+        ensures { Performs (answers (all_at detail self.now.saved path.now (row_at self.now.saved.songs path.now)) self.now)
             self.now self.now work.old work.new result }
     {
         match self.saved.songs().get(path) {
@@ -160,20 +165,21 @@ impl Machine {
 
     // All folders and songs below a place.
     fn list_below(&self, place: Place<'_>, detail: Detail, work: &mut Work) -> Result<(), Failure>
-        ensures { Performs (answers (all_below detail self.now.saved.songs place.entry) self.now)
+        ensures { Performs (answers (all_below detail self.now.saved place.entry) self.now)
             self.now self.now work.old work.new result }
     {
         let Ok(walk) = self.saved.songs().walk(place) else {
             return Err(Failure::Refused(CommandRefusal::NoSuchUri));
         };
         let mark = work.text.len();
-        let written = write_walk(&mut work.text, walk, detail);
+        let profile = self.saved.profile();
+        let written = write_below(&mut work.text, profile, place, walk, detail);
         work.keep(mark, written)
     }
 
     // `lsinfo`: the song of a path, or else what stands right in the folder of that path.
     fn list_info(&self, alloc: Global, path: &str, work: &mut Work) -> Result<(), Failure>
-        ensures { Performs (answers (info_at self.now.saved.songs path.now (row_at self.now.saved.songs path.now)) self.now)
+        ensures { Performs (answers (info_at self.now.saved path.now (row_at self.now.saved.songs path.now)) self.now)
             self.now self.now work.old work.new result }
     {
         match self.saved.songs().get(path) {
@@ -188,7 +194,7 @@ impl Machine {
 
     // What stands right in a folder.
     fn list_folder(&self, alloc: Global, place: Place<'_>, work: &mut Work) -> Result<(), Failure>
-        ensures { Performs (answers (folder_info self.now.saved.songs place.entry) self.now) self.now self.now work.old work.new result }
+        ensures { Performs (answers (folder_info self.now.saved place.entry) self.now) self.now self.now work.old work.new result }
     {
         if !self.has_folder(place) {
             return Err(Failure::Refused(CommandRefusal::NoSuchUri));
@@ -201,7 +207,22 @@ impl Machine {
             return Err(Failure::NoMemory);
         };
         let mark = work.text.len();
-        let written = write_content(&mut work.text, &folders, &songs);
+        let written = self.put_folder(&mut work.text, place, &folders, &songs);
         work.keep(mark, written)
+    }
+
+    // What stands right in a folder, and the playlists where they belong to it.
+    fn put_folder(
+        &self,
+        out: &mut Vec<u8>,
+        place: Place<'_>,
+        folders: &Texts<'_>,
+        songs: &[&SongRow],
+    ) -> Result<(), NoMemory>
+        ensures { Adds ((flat_map directory_line folders.now ++ flat_map song_lines (map (λ song. song.now) songs.now))
+            ++ root_lists self.now.saved.profile self.now.saved.lists place.entry) result out.old out.new }
+    {
+        write_content(out, folders, songs)?;
+        write_root_lists(out, self.saved.profile(), self.saved.lists(), place)
     }
 }

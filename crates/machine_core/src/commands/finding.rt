@@ -1,7 +1,8 @@
 // The commands that find songs by a filter.
 ghost use Rattle.std.specs.Prelude.{◌≡◌, ◌≤◌, Some, None, length, map, IfOk};
 ghost use Rattle.std.specs.Option.{option_copied};
-ghost use Rattle.command_text.specs.declared.command.finding.FindingCommand.TheVariants.{Add, AddToPlaylist, Count, Find, InQueue, ListTag};
+ghost use Rattle.command_text.specs.declared.command.finding.FindingCommand.TheVariants.{Add, AddToPlaylist, Count, Find, InQueue};
+ghost use Rattle.command_text.specs.declared.command.finding.FindingCommand.TheVariants.{ListFiles, ListTag};
 ghost use Rattle.filter_expr.specs.declared.case.Case.TheVariants.{Exact, Folded};
 ghost use Rattle.song_db.specs.Duration.{total_of};
 ghost use Rattle.song_db.specs.Limits.{MAX_ROWS};
@@ -22,7 +23,7 @@ use song_files::Tag;
 use state_codec::{ListOp, Op, RowNumbers};
 use std::alloc::Global;
 use values::chosen_values;
-use writing::{write_by_uri, write_entries, write_values};
+use writing::{write_by_uri, write_chosen_files, write_entries, write_values};
 
 mod gathering;
 mod part;
@@ -82,6 +83,7 @@ impl Machine {
             FindingCommand::Count(filter) => self.count(alloc, filter, work),
             FindingCommand::Find(search) => self.find(alloc, search, work),
             FindingCommand::InQueue(case, filter) => self.find_entries(alloc, *case, filter, work),
+            FindingCommand::ListFiles(filter) => self.list_files(alloc, filter.as_ref(), work),
             FindingCommand::ListTag(tag, filter) => {
                 self.list_values(alloc, *tag, filter.as_ref(), work)
             }
@@ -184,6 +186,22 @@ impl Machine {
         work.keep(mark, written)
     }
 
+    // `list file`: the files of all rows or of those that match.
+    fn list_files(
+        &self,
+        alloc: Global,
+        filter: Option<&Filter>,
+        work: &mut Work,
+    ) -> Result<(), Failure>
+        ensures { Performs (finding_meaning (ListFiles (option_copied filter.entry)) self.now) self.now self.now
+            work.old work.new result }
+    {
+        let songs = self.saved.songs();
+        let mark = work.text.len();
+        let written = write_chosen_files(&mut work.text, alloc, songs, filter);
+        work.keep(mark, written)
+    }
+
     // `list`: the values of a tag, of all rows or of those that match.
     fn list_values(
         &self,
@@ -195,7 +213,7 @@ impl Machine {
         ensures { Performs (finding_meaning (ListTag tag (option_copied filter.entry)) self.now) self.now self.now
             work.old work.new result }
     {
-        let values = chosen_values(alloc, self.saved.songs(), tag, filter)?;
+        let values = chosen_values(alloc, self.saved.profile(), self.saved.songs(), tag, filter)?;
         let mark = work.text.len();
         let written = write_values(&mut work.text, tag, &values);
         work.keep(mark, written)

@@ -161,7 +161,7 @@ impl Machine {
         ensures { Performs (lists_meaning commands.Names self.now) self.now self.now work.old work.new result }
     {
         let mark = work.text.len();
-        let written = write_list_names(&mut work.text, self.saved.lists());
+        let written = write_list_names(&mut work.text, self.saved.profile(), self.saved.lists());
         work.keep(mark, written)
     }
 

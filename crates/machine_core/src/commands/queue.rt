@@ -43,6 +43,7 @@ impl Machine {
             QueueCommand::Clear => self.clear_queue(work),
             QueueCommand::Delete(range) => self.delete_range(range, work),
             QueueCommand::DeleteId(id) => self.delete_id(id, work),
+            QueueCommand::Files => self.show_files(work),
             QueueCommand::Info(range) => self.show_range(range, work),
             QueueCommand::InfoId(id) => match id {
                 None => self.show_queue(work),

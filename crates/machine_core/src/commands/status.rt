@@ -1,6 +1,7 @@
 // `status`.
-ghost use Rattle.std.specs.Prelude.{◌≡◌, option_and_then};
+ghost use Rattle.std.specs.Prelude.{◌≡◌, ◌++◌, option_and_then};
 ghost use Rattle.command_text.specs.Answer.{Adds};
+ghost use Rattle.command_text.specs.AnswerSetup.{setup_status};
 ghost use Rattle.command_text.specs.AnswerStatus.{current_lines, played_lines, status_lines};
 ghost use Rattle.command_text.specs.declared.command.settings.SettingsCommand.TheVariants.{Status};
 ghost use Rattle.machine_core.specs.Settings.{running_job, settings_meaning, song_at, status_of};
@@ -10,7 +11,7 @@ ghost use Rattle.machine_core.specs.Work.{Performs};
 use crate::job::Job;
 use crate::machine::Machine;
 use crate::work::{Failure, Work};
-use command_text::{CurrentSong, NoMemory, StatusLines, write_status};
+use command_text::{CurrentSong, NoMemory, StatusLines, write_setup_status, write_status};
 use player_core::Shown;
 
 fn running_job(job: &Job) -> Option<u32>
@@ -28,8 +29,17 @@ impl Machine {
         let entries = self.saved.queue().entries();
         let shown = self.kept.look(&self.player, entries, &settings);
         let mark = work.text.len();
-        let written = self.put_status(&mut work.text, shown);
+        let written = self.put_all_status(&mut work.text, shown);
         work.keep(mark, written)
+    }
+
+    // The lines of the state, and in the wide profile of what the daemon is set up with.
+    fn put_all_status(&self, out: &mut Vec<u8>, shown: Shown) -> Result<(), NoMemory>
+        requires { shown ≡ shown_of self.now }
+        ensures { Adds (status_lines (status_of self.now) ++ setup_status self.now.saved.profile) result out.old out.new }
+    {
+        self.put_status(out, shown)?;
+        write_setup_status(out, self.saved.profile())
     }
 
     fn put_status(&self, out: &mut Vec<u8>, shown: Shown) -> Result<(), NoMemory>

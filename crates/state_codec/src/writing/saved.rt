@@ -65,7 +65,7 @@ pub(crate) fn put_songs(out: &mut Vec<u8>, profile: Profile, songs: &SongDb)
 }
 
 // The number of the row of a URI that has one.
-fn row_number(songs: &SongDb, uri: &RowUri) -> usize
+pub(crate) fn row_number(songs: &SongDb, uri: &RowUri) -> usize
     requires { IsTrue (has_uri songs.now uri.now) }
     ensures number { number_at songs.now uri.now ≡ Some result }
     ensures within { result < 65536 }
@@ -76,7 +76,7 @@ fn row_number(songs: &SongDb, uri: &RowUri) -> usize
     }
 }
 
-fn put_entry(out: &mut Vec<u8>, songs: &SongDb, entry: EntryRef<'_>, number: usize)
+pub(crate) fn put_entry(out: &mut Vec<u8>, songs: &SongDb, entry: EntryRef<'_>, number: usize)
     requires number { number_at songs.now (shown entry).uri ≡ Some number }
     requires within { number < 65536 }
     requires room { HasRoom out.old 13 }
@@ -148,7 +148,7 @@ pub(crate) fn put_lists(out: &mut Vec<u8>, lists: &Lists)
     put_all_lists(out, lists);
 }
 
-fn put_sticker(out: &mut Vec<u8>, uri: &str, name: &str, value: &str)
+pub(crate) fn put_sticker(out: &mut Vec<u8>, uri: &str, name: &str, value: &str)
     requires short { IsShortSticker (sticker uri.now (name.now, value.now)) }
     requires room { HasRoom out.old (length (sticker_bytes (sticker uri.now (name.now, value.now)))) }
     ensures { Appends out.old out.new (sticker_bytes (sticker uri.now (name.now, value.now))) }

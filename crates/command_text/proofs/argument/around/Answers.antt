@@ -1,6 +1,5 @@
-use Rattle.std.proofs.Common.{◌+◌, length, drop, take, sym, ap, ◌∙◌, arith, Some, List, ℕ}
+use Rattle.std.proofs.Common.{◌+◌, take, sym, ap, ◌∙◌, arith, Some, List, ℕ}
 use Rattle.command_text.proofs.Around.{around_at, around_none}
-use Rattle.command_text.proofs.Lists.{take_whole}
 use Rattle.command_text.proofs.Searches.{behind_is}
 use Rattle.command_text.proofs.argument.around.Goals as goal
 

@@ -1,4 +1,5 @@
-use Rattle.command_text.proofs.Naming.{are_rising, is_listed, is_found, only_its_name}
+use Rattle.std.proofs.Common.{refl}
+use Rattle.command_text.proofs.Naming.{are_rising, is_found_known, is_listed, only_its_known_name}
 use Rattle.command_text.proofs.laws.names_are_found.Goals as goal
 
 pub returns-clause-rising : goal.returns-clause-rising
@@ -8,7 +9,10 @@ pub returns-clause-listed : goal.returns-clause-listed
 returns-clause-listed c = is_listed
 
 pub returns-clause-found : goal.returns-clause-found
-returns-clause-found c = is_found
+returns-clause-found c = is_found_known
 
 pub returns-clause-only : goal.returns-clause-only
-returns-clause-only c = only_its_name
+returns-clause-only c = only_its_known_name
+
+pub returns-clause-all : goal.returns-clause-all
+returns-clause-all c = λ name. refl

@@ -1,6 +1,5 @@
-use Rattle.std.proofs.Common.{map, sym, ◌∙◌}
+use Rattle.std.proofs.Common.{sym, ◌∙◌}
 use Rattle.command_text.specs.Names.{all_names}
-use Rattle.command_text.specs.declared.name.CommandName.{CommandName}
 use Rattle.command_text.proofs.Naming.{itself, part_at}
 use Rattle.command_text.proofs.table.name_at.Goals as goal
 

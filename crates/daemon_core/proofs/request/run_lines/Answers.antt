@@ -1,4 +1,6 @@
-use Rattle.std.proofs.Common.{refl, sym, subst}
+use Rattle.std.proofs.Common.{refl, sym, ap, subst, ◌∙◌}
+use Rattle.state_codec.specs.SavedState.{SavedState}
+use Rattle.daemon_core.specs.Request.{AnswersStop}
 use Rattle.daemon_core.specs.Run.{separator}
 use Rattle.daemon_core.proofs.RequestLaws.{SoFar, so_far_begins, ran_stops, ran_goes, ran_all}
 use Rattle.daemon_core.proofs.request.run_lines.Goals as goal
@@ -22,13 +24,16 @@ loop-line-preserved c =
 
 pub returns-in-Err : goal.returns-in-Err
 returns-in-Err c =
+    let profile = c.profile-profile.ensures ∙ ap (λ (s : SavedState). s.profile) c.saved.ensures in
     ran_stops c.args.place (separator c.args.separated) c.args.lines c.loop-line.rest c.in-Some.after
     c.in-Some.line.now c.loop-line.index c.args.machine.now c.loop-line.machine
     c.run_line.new.machine c.args.work.now c.loop-line.work c.run_line.new.work c.answer_stop-ending.new.work c.loop-line.looks
     c.run_line.new.looks c.looks_at_end-looks.result
     c.loop-line.changed c.in-Err.stop c.answer_stop-ending.result.1 c.answer_stop-ending.result.0 c.in-Some.ensures.first
     c.loop-line.invariant
-    c.in-Err.ensures.runs c.in-Err.ensures.looks c.looks_at_end-looks.ensures c.answer_stop-ending.ensures
+    c.in-Err.ensures.runs c.in-Err.ensures.looks c.looks_at_end-looks.ensures
+    (subst (λ p. AnswersStop p c.in-Err.stop c.loop-line.index c.in-Some.line.now c.answer_stop-ending.result.1
+    c.answer_stop-ending.result.0 c.run_line.new.work c.answer_stop-ending.new.work) profile c.answer_stop-ending.ensures)
 
 pub returns : goal.returns
 returns c =

@@ -1,17 +1,18 @@
-use Rattle.command_text.specs.AnswerNames.{playlist_line}
+use Rattle.command_text.specs.AnswerNames.{playlist_lines}
 use Rattle.stored_lists.specs.Lists.{names_of}
 use Rattle.command_text.proofs.LineLoops.{leaves_fewer, leaves_none, leaves_off}
 use Rattle.machine_core.proofs.answer_lists.write_list_names.Goals as goal
 
 pub loop-name-preserved : goal.loop-name-preserved
 loop-name-preserved c =
-    leaves_fewer playlist_line (names_of c.args.lists.now) c.in-Some.name.now c.next.new.self _ _ _ _
+    leaves_fewer (playlist_lines c.args.profile) (names_of c.args.lists.now) c.in-Some.name.now c.next.new.self _ _ _ _
     (rw c.in-Some.ensures.steps at c.loop-name.invariant) c.in_ok-write_playlist.ensures
 
 pub returns-in_err-write_playlist : goal.returns-in_err-write_playlist
 returns-in_err-write_playlist c =
-    leaves_off playlist_line (names_of c.args.lists.now) c.in-Some.name.now c.next.new.self _ _ _ _ _
+    leaves_off (playlist_lines c.args.profile) (names_of c.args.lists.now) c.in-Some.name.now c.next.new.self _ _ _ _ _
     (rw c.in-Some.ensures.steps at c.loop-name.invariant) c.in_err-write_playlist.ensures c.from_residual.ensures.0
 
 pub returns : goal.returns
-returns c = leaves_none playlist_line (names_of c.args.lists.now) _ _ _ (rw c.in-None.ensures.steps.0 at c.loop-name.invariant)
+returns c =
+    leaves_none (playlist_lines c.args.profile) (names_of c.args.lists.now) _ _ _ (rw c.in-None.ensures.steps.0 at c.loop-name.invariant)

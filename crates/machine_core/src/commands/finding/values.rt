@@ -1,13 +1,16 @@
 // The values that songs tell of a tag. For a tag that a song hasn't, another may stand in.
-ghost use Rattle.std.specs.Prelude.{◌≡◌, map, option_copied, IfOk, OnOk};
+ghost use Rattle.std.specs.Prelude.{◌≡◌, map, option_copied, IfOk, IsTrue, OnOk};
 ghost use Rattle.filter_expr.specs.Fallback.{told_tag};
+ghost use Rattle.profile.specs.declared.profile.Profile.TheVariants.{Wide};
 ghost use Rattle.song_db.specs.Query.{with_texts};
+ghost use Rattle.song_db.specs.Row.{Row};
 ghost use Rattle.song_files.specs.Tags.{texts_of};
-ghost use Rattle.machine_core.specs.Finding.{chosen, told_values};
+ghost use Rattle.machine_core.specs.Finding.{chosen, or_empty, told_texts, told_values};
 
 use super::gathering::matching_rows;
 use command_text::NoMemory;
 use filter_expr::{Case, Filter, has_fallback, told_tag};
+use profile::Profile;
 use song_db::{SongDb, SongRow, Texts, values_among};
 use song_files::Tag;
 use std::alloc::Global;
@@ -15,27 +18,43 @@ use std::alloc::Global;
 // The values of all rows, or of those that match.
 pub(super) fn chosen_values<'a>(
     alloc: Global,
+    profile: Profile,
     songs: &'a SongDb,
     tag: Tag,
     filter: Option<&Filter>,
 ) -> Result<Texts<'a>, NoMemory>
-    ensures { IfOk result (λ values. values ≡ told_values (chosen (option_copied filter.entry) songs.now) tag) }
+    ensures { IfOk result (λ values. values ≡ told_values profile (chosen (option_copied filter.entry) songs.now) tag) }
 {
     match filter {
         Some(filter) => {
             let found = matching_rows(alloc, songs, Case::Exact, filter)?;
-            values_of_found(alloc, &found, tag)
+            values_of_found(alloc, profile, &found, tag)
         }
-        None => values_of_all(alloc, songs, tag),
+        None => values_of_all(alloc, profile, songs, tag),
     }
 }
 
-// The values of all songs, which are there where no other tag stands in.
-fn values_of_all(alloc: Global, songs: &SongDb, tag: Tag) -> Result<Texts<'_>, NoMemory>
-    ensures { IfOk result (λ values. values ≡ told_values songs.now tag) }
+// Whether the songs' own texts of a tag are all that is told of it: no other tag stands in for it, and no song has its empty value.
+fn tells_own_alone(profile: Profile, tag: Tag) -> bool
+    ensures { IsTrue result → (row : Row) → told_texts profile tag row ≡ texts_of row.tags tag }
 {
-    if has_fallback(tag) {
-        return told_by_all(alloc, songs.rows(), tag);
+    match profile {
+        Profile::Named => !has_fallback(tag),
+        Profile::Wide => false,
+    }
+}
+
+// The values of all songs, which are there where their own texts are all.
+fn values_of_all(
+    alloc: Global,
+    profile: Profile,
+    songs: &SongDb,
+    tag: Tag,
+) -> Result<Texts<'_>, NoMemory>
+    ensures { IfOk result (λ values. values ≡ told_values profile songs.now tag) }
+{
+    if !tells_own_alone(profile, tag) {
+        return told_by_all(alloc, profile, songs.rows(), tag);
     }
     match songs.distinct(alloc, tag) {
         Ok(values) => Ok(values),
@@ -44,41 +63,79 @@ fn values_of_all(alloc: Global, songs: &SongDb, tag: Tag) -> Result<Texts<'_>, N
 }
 
 // The values of songs that were found.
-fn values_of_found<'a>(alloc: Global, rows: &[&'a SongRow], tag: Tag) -> Result<Texts<'a>, NoMemory>
-    ensures { IfOk result (λ values. values ≡ told_values (map (λ row. row.now) rows.now) tag) }
+fn values_of_found<'a>(
+    alloc: Global,
+    profile: Profile,
+    rows: &[&'a SongRow],
+    tag: Tag,
+) -> Result<Texts<'a>, NoMemory>
+    ensures { IfOk result (λ values. values ≡ told_values profile (map (λ row. row.now) rows.now) tag) }
 {
-    if has_fallback(tag) {
-        return told_by_found(alloc, rows, tag);
+    if !tells_own_alone(profile, tag) {
+        return told_by_found(alloc, profile, rows, tag);
     }
     Ok(values_among(alloc, rows, tag)?)
 }
 
-fn told_by_all(alloc: Global, rows: &[SongRow], tag: Tag) -> Result<Texts<'_>, NoMemory>
-    ensures { IfOk result (λ values. values ≡ told_values rows.now tag) }
+fn told_by_all(
+    alloc: Global,
+    profile: Profile,
+    rows: &[SongRow],
+    tag: Tag,
+) -> Result<Texts<'_>, NoMemory>
+    ensures { IfOk result (λ values. values ≡ told_values profile rows.now tag) }
 {
     let mut values = Texts::new(alloc);
     for row in rows {
-        take_values(&mut values, row, tag)?;
+        take_values(&mut values, profile, row, tag)?;
     }
     Ok(values)
 }
 
-fn told_by_found<'a>(alloc: Global, rows: &[&'a SongRow], tag: Tag) -> Result<Texts<'a>, NoMemory>
-    ensures { IfOk result (λ values. values ≡ told_values (map (λ row. row.now) rows.now) tag) }
+fn told_by_found<'a>(
+    alloc: Global,
+    profile: Profile,
+    rows: &[&'a SongRow],
+    tag: Tag,
+) -> Result<Texts<'a>, NoMemory>
+    ensures { IfOk result (λ values. values ≡ told_values profile (map (λ row. row.now) rows.now) tag) }
 {
     let mut values = Texts::new(alloc);
     for row in rows {
-        take_values(&mut values, *row, tag)?;
+        take_values(&mut values, profile, *row, tag)?;
     }
     Ok(values)
 }
 
 // Takes what a song tells of a tag.
-fn take_values<'a>(values: &mut Texts<'a>, row: &'a SongRow, tag: Tag) -> Result<(), NoMemory>
-    ensures { OnOk result (values.new ≡ with_texts values.old (texts_of row.now.tags (told_tag row.now.tags tag))) }
+fn take_values<'a>(
+    values: &mut Texts<'a>,
+    profile: Profile,
+    row: &'a SongRow,
+    tag: Tag,
+) -> Result<(), NoMemory>
+    ensures { OnOk result (values.new ≡ with_texts values.old (told_texts profile tag row.now)) }
 {
     let told = told_tag(row.tags(), tag);
-    take_texts(values, row, told)
+    match profile {
+        Profile::Named => take_texts(values, row, told),
+        Profile::Wide => take_texts_or_empty(values, row, told),
+    }
+}
+
+// Takes a song's texts of a tag, or the empty one where it has none.
+fn take_texts_or_empty<'a>(
+    values: &mut Texts<'a>,
+    row: &'a SongRow,
+    tag: Tag,
+) -> Result<(), NoMemory>
+    ensures { OnOk result (values.new ≡ with_texts values.old (or_empty Wide (texts_of row.now.tags tag))) }
+{
+    if row.tags().get(tag).is_none() {
+        values.insert("")?;
+        return Ok(());
+    }
+    take_texts(values, row, tag)
 }
 
 // Takes a song's texts of a tag.

@@ -1,17 +1,18 @@
 // The lines of what is found, written while songs and entries are looked at.
-ghost use Rattle.std.specs.Prelude.{◌≡◌, None};
+ghost use Rattle.std.specs.Prelude.{◌≡◌, None, map};
+ghost use Rattle.std.specs.Option.{option_copied};
 ghost use Rattle.std.specs.List.{flat_map};
 ghost use Rattle.command_text.specs.Answer.{Adds};
-ghost use Rattle.command_text.specs.AnswerSongs.{song_lines};
+ghost use Rattle.command_text.specs.AnswerSongs.{file_line, song_lines};
 ghost use Rattle.play_queue.specs.Shown.{shown};
 ghost use Rattle.song_db.specs.Row.{row_at};
-ghost use Rattle.machine_core.specs.Finding.{Writes, entries_found, entry_found, found, matching, part_of, value_lines};
+ghost use Rattle.machine_core.specs.Finding.{Writes, chosen, entries_found, entry_found, found, matching, part_of, value_lines};
 
 use super::gathering::matching_rows;
 use super::part::Part;
 use super::windowed;
 use crate::answer::write_songs;
-use command_text::{NoMemory, Search, write_entry, write_song, write_value};
+use command_text::{NoMemory, Search, write_entry, write_file, write_song, write_value};
 use filter_expr::{Case, Filter};
 use play_queue::{Entries, EntryRef};
 use song_db::{SongDb, SongRow, Texts};
@@ -76,6 +77,42 @@ pub(super) fn write_by_uri(
             write_matching(out, alloc, songs.rows(), search.case, &search.filter, part)
         }
     }
+}
+
+// Adds the files of all songs, or of those that match.
+pub(super) fn write_chosen_files(
+    out: &mut Vec<u8>,
+    alloc: Global,
+    songs: &SongDb,
+    filter: Option<&Filter>,
+) -> Result<(), NoMemory>
+    ensures { Writes (flat_map (λ row. file_line row.uri) (chosen (option_copied filter.entry) songs.now)) result out.old out.new }
+{
+    match filter {
+        None => write_files(out, songs.rows()),
+        Some(filter) => {
+            let found = matching_rows(alloc, songs, Case::Exact, filter)?;
+            write_found_files(out, &found)
+        }
+    }
+}
+
+fn write_files(out: &mut Vec<u8>, rows: &[SongRow]) -> Result<(), NoMemory>
+    ensures { Adds (flat_map (λ row. file_line row.uri) rows.now) result out.old out.new }
+{
+    for row in rows {
+        write_file(out, row.uri())?;
+    }
+    Ok(())
+}
+
+fn write_found_files(out: &mut Vec<u8>, rows: &[&SongRow]) -> Result<(), NoMemory>
+    ensures { Adds (flat_map (λ row. file_line row.uri) (map (λ row. row.now) rows.now)) result out.old out.new }
+{
+    for row in rows {
+        write_file(out, row.uri())?;
+    }
+    Ok(())
 }
 
 // Adds the values of a tag.

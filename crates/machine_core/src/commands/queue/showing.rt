@@ -4,7 +4,9 @@ ghost use Rattle.command_text.specs.declared.command.queue.QueueCommand.TheVaria
 ghost use Rattle.machine_core.specs.Queue.{changed_in, queue_meaning};
 ghost use Rattle.machine_core.specs.Work.{Performs};
 
-use crate::answer_entries::{write_places, write_position, write_positions, write_span};
+use crate::answer_entries::{
+    write_files, write_places, write_position, write_positions, write_span,
+};
 use crate::machine::Machine;
 use crate::span::Span;
 use crate::work::{Failure, Work};
@@ -39,6 +41,20 @@ impl Machine {
         let span = self.span_or_all(range)?;
         let mark = work.text.len();
         let written = write_span(&mut work.text, &self.saved, span);
+        work.keep(mark, written)
+    }
+
+    // `playlist`: the files of all entries, numbered.
+    #[tactic(auto, unfolding(crate::specs::Queue::queue_meaning))]
+    pub(super) fn show_files(&self, work: &mut Work) -> Result<(), Failure>
+        ensures { Performs (queue_meaning commands.Files self.now) self.now self.now work.old work.new result }
+    {
+        let span = Span {
+            start: 0,
+            end: self.queue_length(),
+        };
+        let mark = work.text.len();
+        let written = write_files(&mut work.text, self.saved.queue().entries(), span);
         work.keep(mark, written)
     }
 

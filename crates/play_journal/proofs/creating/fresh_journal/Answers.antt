@@ -1,11 +1,6 @@
-use Rattle.std.proofs.Common.{ap, ◌∙◌, length}
 use Rattle.disk_model.specs.History.{Synced}
 use Rattle.disk_model.proofs.LaterLaws.{later_made}
-use Rattle.play_journal.proofs.HeadLaws.{length-head}
 use Rattle.play_journal.proofs.creating.fresh_journal.Goals as goal
-
-pub lay_down-requires-clause-head : goal.lay_down-requires-clause-head
-lay_down-requires-clause-head g c = ap length (c.deref.ensures.value ∙ c.in_ok-head.ensures) ∙ length-head _ _ _ _
 
 pub returns-in_err-lay_down-clause-later : goal.returns-in_err-lay_down-clause-later
 returns-in_err-lay_down-clause-later g c = record {

@@ -1,24 +1,24 @@
 use Rattle.std.proofs.Common.{[], ◌∷◌, ap, codes}
 use Rattle.std.specs.List.{concat}
-use Rattle.command_text.specs.Answer.{pair, number_pair}
-use Rattle.command_text.specs.AnswerStatus.{switch_text, single_text}
+use Rattle.command_text.specs.Answer.{pair}
+use Rattle.command_text.specs.AnswerStatus.{switch_text, single_text, volume_line}
 use Rattle.command_text.proofs.Adding.{adds_last, adds_same, adds_stop, adds_then}
 use Rattle.command_text.proofs.answer.status.write_settings.Goals as goal
 
-pub returns-in_err-write_number : goal.returns-in_err-write_number
-returns-in_err-write_number c =
-    adds_stop (number_pair (codes "volume") c.args.volume)
+pub returns-in_err-write_volume : goal.returns-in_err-write_volume
+returns-in_err-write_volume c =
+    adds_stop (volume_line c.args.volume)
     (concat ((pair (codes "repeat") (switch_text c.args.options.repeat)) ∷ (pair (codes "random") (switch_text c.args.options.random))
     ∷ (pair (codes "single") (single_text c.args.options.single)) ∷ (pair (codes "consume") (single_text c.args.options.consume)) ∷ []))
-    _ _ _ _ (adds_same _ _ _ _ _ c.in_err-write_number.ensures (ap (λ n. number_pair (codes "volume") n) c.percent.ensures.value))
+    _ _ _ _ c.in_err-write_volume.ensures
     c.from_residual.ensures.0
 
 pub returns-in_err-write_pair : goal.returns-in_err-write_pair
 returns-in_err-write_pair c =
-    adds_then (number_pair (codes "volume") c.args.volume)
+    adds_then (volume_line c.args.volume)
     (concat ((pair (codes "repeat") (switch_text c.args.options.repeat)) ∷ (pair (codes "random") (switch_text c.args.options.random))
     ∷ (pair (codes "single") (single_text c.args.options.single)) ∷ (pair (codes "consume") (single_text c.args.options.consume)) ∷ []))
-    _ _ _ _ _ (adds_same _ _ _ _ _ c.in_ok-write_number.ensures (ap (λ n. number_pair (codes "volume") n) c.percent.ensures.value))
+    _ _ _ _ _ c.in_ok-write_volume.ensures
     (adds_stop (pair (codes "repeat") (switch_text c.args.options.repeat))
     (concat ((pair (codes "random") (switch_text c.args.options.random)) ∷ (pair (codes "single") (single_text c.args.options.single))
     ∷ (pair (codes "consume") (single_text c.args.options.consume)) ∷ [])) _ _ _ _
@@ -27,10 +27,10 @@ returns-in_err-write_pair c =
 
 pub returns-in_err-write_pair-2 : goal.returns-in_err-write_pair-2
 returns-in_err-write_pair-2 c =
-    adds_then (number_pair (codes "volume") c.args.volume)
+    adds_then (volume_line c.args.volume)
     (concat ((pair (codes "repeat") (switch_text c.args.options.repeat)) ∷ (pair (codes "random") (switch_text c.args.options.random))
     ∷ (pair (codes "single") (single_text c.args.options.single)) ∷ (pair (codes "consume") (single_text c.args.options.consume)) ∷ []))
-    _ _ _ _ _ (adds_same _ _ _ _ _ c.in_ok-write_number.ensures (ap (λ n. number_pair (codes "volume") n) c.percent.ensures.value))
+    _ _ _ _ _ c.in_ok-write_volume.ensures
     (adds_then (pair (codes "repeat") (switch_text c.args.options.repeat))
     (concat ((pair (codes "random") (switch_text c.args.options.random)) ∷ (pair (codes "single") (single_text c.args.options.single))
     ∷ (pair (codes "consume") (single_text c.args.options.consume)) ∷ [])) _ _ _ _ _
@@ -42,10 +42,10 @@ returns-in_err-write_pair-2 c =
 
 pub returns-in_err-write_pair-3 : goal.returns-in_err-write_pair-3
 returns-in_err-write_pair-3 c =
-    adds_then (number_pair (codes "volume") c.args.volume)
+    adds_then (volume_line c.args.volume)
     (concat ((pair (codes "repeat") (switch_text c.args.options.repeat)) ∷ (pair (codes "random") (switch_text c.args.options.random))
     ∷ (pair (codes "single") (single_text c.args.options.single)) ∷ (pair (codes "consume") (single_text c.args.options.consume)) ∷ []))
-    _ _ _ _ _ (adds_same _ _ _ _ _ c.in_ok-write_number.ensures (ap (λ n. number_pair (codes "volume") n) c.percent.ensures.value))
+    _ _ _ _ _ c.in_ok-write_volume.ensures
     (adds_then (pair (codes "repeat") (switch_text c.args.options.repeat))
     (concat ((pair (codes "random") (switch_text c.args.options.random)) ∷ (pair (codes "single") (single_text c.args.options.single))
     ∷ (pair (codes "consume") (single_text c.args.options.consume)) ∷ [])) _ _ _ _ _
@@ -60,10 +60,10 @@ returns-in_err-write_pair-3 c =
 
 pub returns : goal.returns
 returns c =
-    adds_then (number_pair (codes "volume") c.args.volume)
+    adds_then (volume_line c.args.volume)
     (concat ((pair (codes "repeat") (switch_text c.args.options.repeat)) ∷ (pair (codes "random") (switch_text c.args.options.random))
     ∷ (pair (codes "single") (single_text c.args.options.single)) ∷ (pair (codes "consume") (single_text c.args.options.consume)) ∷ []))
-    _ _ _ _ _ (adds_same _ _ _ _ _ c.in_ok-write_number.ensures (ap (λ n. number_pair (codes "volume") n) c.percent.ensures.value))
+    _ _ _ _ _ c.in_ok-write_volume.ensures
     (adds_then (pair (codes "repeat") (switch_text c.args.options.repeat))
     (concat ((pair (codes "random") (switch_text c.args.options.random)) ∷ (pair (codes "single") (single_text c.args.options.single))
     ∷ (pair (codes "consume") (single_text c.args.options.consume)) ∷ [])) _ _ _ _ _

@@ -1,6 +1,6 @@
 use Rattle.std.proofs.Common.{◌+◌, ◌<◌, ◌≤◌, length, drop, sym, ap, ◌∙◌, arith}
 use Rattle.std.proofs.lemmas.Result.{err_from_is_err_and}
-use Rattle.idle_masks.specs.Subsystems.{none, union, mask_named}
+use Rattle.idle_masks.specs.Subsystems.{none}
 use Rattle.command_text.specs.Session.{mask_with}
 use Rattle.command_text.proofs.Repeated.{mask_step, mask_stop, mask_end, refused_again}
 use Rattle.command_text.proofs.command.session.mask.Goals as goal

@@ -1,4 +1,4 @@
-use Rattle.std.proofs.Common.{◌+◌, arith, length, length-append}
+use Rattle.std.proofs.Common.{arith, length, length-append}
 use Rattle.command_text.proofs.LinesLaws.{total-append, cut-append}
 use Rattle.command_text.proofs.lines.Lines.push.Goals as goal
 

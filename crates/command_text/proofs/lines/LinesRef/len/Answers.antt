@@ -1,4 +1,4 @@
-use Rattle.std.proofs.Common.{◌+◌, arith}
+use Rattle.std.proofs.Common.{arith}
 use Rattle.command_text.proofs.LinesLaws.{length-cut}
 use Rattle.command_text.proofs.lines.LinesRef.len.Goals as goal
 

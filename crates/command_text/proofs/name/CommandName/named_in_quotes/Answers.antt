@@ -1,14 +1,14 @@
 use Rattle.std.proofs.Common.{◌≤◌, length, drop, find, refl, sym, ◌∙◌, ap, arith, ◌+◌}
 use Rattle.std.proofs.Math.ListN.{drop_of_length-le}
 use Rattle.std.specs.Str.{bytes_eq}
-use Rattle.command_text.specs.Names.{all_names, name_text, named}
+use Rattle.command_text.specs.Names.{all_names, name_text, any_named}
 use Rattle.command_text.specs.NextWord.{spelled}
 use Rattle.command_text.proofs.Listing.{next_name}
 use Rattle.command_text.proofs.NameSearch.{find_here, find_next}
 use Rattle.command_text.proofs.name.CommandName.named_in_quotes.Goals as goal
 
 pub loop-place-init : goal.loop-place-init
-unfolding named
+unfolding any_named
 loop-place-init c = refl
 
 pub loop-place-preserved : goal.loop-place-preserved

@@ -22,9 +22,9 @@ invariant_of-result g c = (
       let ha = c.in-Ok-create.ensures.later.a.honesty.1 ha' in
       let hb = c.in-Ok-create.ensures.later.b.honesty.1 hb' in
       let held = c.in-Ok-create.ensures.kept ha hb in
-      fresh_stands _ c.layout_number.result c.deref.result.now c.fresh-saved.result
-      (c.layout_number.ensures ∙ ap (λ (s : SavedState). written_layout s.profile) (sym c.fresh-saved.ensures)) held.says (c.deref.ensures.value ∙ c.in-Ok.ensures.snapshot)
-      c.in-Ok.ensures.in_range
+      fresh_stands _ c.layout_number.result c.of.result.pieces c.fresh-saved.result
+      (c.layout_number.ensures ∙ ap (λ (s : SavedState). written_layout s.profile) (sym c.fresh-saved.ensures)) held.says c.of.ensures.spelled
+      c.of.ensures.in_range
       ∙ ap (λ (s : State). Some s.machine.saved) (sym c.new.ensures),
 )
 
@@ -33,17 +33,17 @@ returns-in-Ok-create-clause-kept g c = λ ha hb.
     let held = c.in-Ok-create.ensures.kept ha hb in
     find_now (g.D.Disk.history c.in-Ok-create.journal.a) (g.D.Disk.history c.in-Ok-create.journal.b) c.in-Ok-create.journal.content _
     held.kept
-    (fresh_stands _ c.layout_number.result c.deref.result.now c.fresh-saved.result
-    (c.layout_number.ensures ∙ ap (λ (s : SavedState). written_layout s.profile) (sym c.fresh-saved.ensures)) held.says (c.deref.ensures.value ∙ c.in-Ok.ensures.snapshot)
-    c.in-Ok.ensures.in_range
+    (fresh_stands _ c.layout_number.result c.of.result.pieces c.fresh-saved.result
+    (c.layout_number.ensures ∙ ap (λ (s : SavedState). written_layout s.profile) (sym c.fresh-saved.ensures)) held.says c.of.ensures.spelled
+    c.of.ensures.in_range
     ∙ ap Some c.fresh-saved.ensures)
 
 pub returns-in-Err-create-clause-fault : goal.returns-in-Err-create-clause-fault
 returns-in-Err-create-clause-fault g c = λ ha hb broken.
     let empty_a : g.D.Disk.content c.args.a ≡ [] = (c.is_empty.ensures ha).0 c.if-not-is_empty.false in
     let empty_b : g.D.Disk.content c.args.b ≡ [] = (c.is_empty-else-not-is_empty.ensures hb).0 c.if-not-is_empty-2.false in
-    let fault = only_a_fault c.in-Err-create.refused.error c.deref.result.now c.fresh-saved.result
-    (c.deref.ensures.value ∙ c.in-Ok.ensures.snapshot) c.in-Ok.ensures.in_range
+    let fault = only_a_fault c.in-Err-create.refused.error c.of.result.pieces c.fresh-saved.result
+    c.of.ensures.spelled c.of.ensures.in_range
     c.in-Err-create.ensures.nothing_else (λ is. (c.in-Err-create.ensures.too_long ha hb empty_a empty_b).0 is)
     (sym c.refused_start.ensures.error ∙ broken) in
     rw (c.refused_start.ensures.a, c.refused_start.ensures.b) (c.in-Err-create.ensures.fault ha hb fault)
@@ -51,9 +51,9 @@ returns-in-Err-create-clause-fault g c = λ ha hb broken.
 pub returns-in-Ok-create-clause-numbers : goal.returns-in-Ok-create-clause-numbers
 returns-in-Ok-create-clause-numbers g c =
     let new = c.in-Ok-create.ensures.new in
-    let long = ap (λ (l : List ℕ). length l) (c.deref.ensures.value ∙ c.in-Ok.ensures.snapshot) in (
-      numbers_made g.D.Disk.faults c.args.a c.args.b c.in-Ok-create.journal c.layout_number.result (length c.deref.result.now) new,
-      file_made g.D.Disk.faults c.args.a c.args.b c.in-Ok-create.journal c.layout_number.result (length c.deref.result.now)
+    let long = ap (λ (l : List ℕ). length l) c.of.ensures.spelled in (
+      numbers_made g.D.Disk.faults c.args.a c.args.b c.in-Ok-create.journal c.layout_number.result (length c.of.result.pieces) new,
+      file_made g.D.Disk.faults c.args.a c.args.b c.in-Ok-create.journal c.layout_number.result (length c.of.result.pieces)
           c.fresh-saved.result new long ∙ ap (λ (s : SavedState). first_file s) c.fresh-saved.ensures,
       refl,
     )

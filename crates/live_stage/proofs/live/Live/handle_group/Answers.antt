@@ -101,7 +101,7 @@ returns-clause-group g c =
     let began = ap (λ (b : Begin). b.last_record) c.begin-begin.ensures.value in
     let last = ap (λ (v : LiveState g.row.D.Denot). v.numbers.last_record) c.self.view_is in
     let event = ap (λ (v : LiveState g.row.D.Denot). v.numbers.event) c.self.view_is in
-    handled c.args.is_overdue c.args.self.now c.begin-begin.result c.begin-begin.ensures.value c.args.events.items answers.items
+    handled c.args.self.now c.begin-begin.result c.begin-begin.ensures.value c.args.events.items answers.items
     c.stage_events-is_refused.result c.reverse-2.new.self.items c.stage_events-is_refused.new.core c.stage_events-is_refused.new.group
     (subst (λ (v : LiveState g.row.D.Denot). AreStaged g.row.D.Denot c.begin-begin.result v.state answers.items
     c.stage_events-is_refused.new.core c.stage_events-is_refused.new.group) c.self.view_is c.stage_events-is_refused.ensures.staged)

@@ -42,15 +42,15 @@ returns-in-Err-make_ready-clause-any_moment g c = λ ha hb usable. (
 pub returns-in-Err-handle_group-clause-any_moment : goal.returns-in-Err-handle_group-clause-any_moment
 returns-in-Err-handle_group-clause-any_moment g c = λ ha hb usable.
     let got = c.make_ready.ensures in
-    let ready = c.in-Ok-make_ready.ensures.ready in
+    let ready = c.in_default.ensures.ready in
     let done = c.handle_group.ensures in
     let ha' = got.later.a.honesty.0 ha in
     let hb' = got.later.b.honesty.0 hb in
     let found = (c.in-Err-handle_group.ensures.any_moment ha' hb').during in (
       found.0,
       found.1,
-      found_in_phases g.D.Disk.history (writes_to_b c.in-Ok-make_ready.is_overdue c.args.self.now) c.args.self.now c.make_ready.new.self
-          c.handle_group.new.self found.0 ready.state c.in-Ok-make_ready.ensures.other_file
+      found_in_phases g.D.Disk.history (writes_to_b c.args.self.now) c.args.self.now c.make_ready.new.self
+          c.handle_group.new.self found.0 ready.state c.make_ready.ensures.other_file
           (subst (λ (in_b : Bool). IsOtherKept in_b c.make_ready.new.self c.handle_group.new.self) ready.in_b done.file.other_file)
           (got.later.a.done ha) (done.later.a.done ha') (got.later.b.done hb) (done.later.b.done hb') (got.same_state ha hb) found.2,
     )
@@ -60,23 +60,23 @@ returns-in-Err-handle_group-clause-events g c = refuses_from c.args.self.now c.m
     (sym c.is_broken.ensures.value ∙ c.if-is_broken.false) c.in-Err-handle_group.ensures.front
 
 pub returns-in-Err-handle_group-clause-later : goal.returns-in-Err-handle_group-clause-later
-returns-in-Err-handle_group-clause-later g c = pair_on c.in-Ok-make_ready.ensures.later c.in-Err-handle_group.ensures.later
+returns-in-Err-handle_group-clause-later g c = pair_on c.in_default.ensures.later c.in-Err-handle_group.ensures.later
 
 pub returns-clause-later : goal.returns-clause-later
-returns-clause-later g c = pair_on c.in-Ok-make_ready.ensures.later c.in-Ok-handle_group.ensures.later
+returns-clause-later g c = pair_on c.in_default.ensures.later c.in-Ok-handle_group.ensures.later
 
 pub returns-clause-any_moment : goal.returns-clause-any_moment
 returns-clause-any_moment g c = λ ha hb usable.
     let got = c.make_ready.ensures in
-    let ready = c.in-Ok-make_ready.ensures.ready in
+    let ready = c.in_default.ensures.ready in
     let done = c.handle_group.ensures in
     let ha' = got.later.a.honesty.0 ha in
     let hb' = got.later.b.honesty.0 hb in
     let found = (c.in-Ok-handle_group.ensures.any_moment ha' hb').during in (
       found.0,
       found.1,
-      found_in_phases g.D.Disk.history (writes_to_b c.in-Ok-make_ready.is_overdue c.args.self.now) c.args.self.now c.make_ready.new.self
-          c.handle_group.new.self found.0 ready.state c.in-Ok-make_ready.ensures.other_file
+      found_in_phases g.D.Disk.history (writes_to_b c.args.self.now) c.args.self.now c.make_ready.new.self
+          c.handle_group.new.self found.0 ready.state c.make_ready.ensures.other_file
           (subst (λ (in_b : Bool). IsOtherKept in_b c.make_ready.new.self c.handle_group.new.self) ready.in_b done.file.other_file)
           (got.later.a.done ha) (done.later.a.done ha') (got.later.b.done hb) (done.later.b.done hb') (got.same_state ha hb) found.2,
     )
@@ -84,15 +84,15 @@ returns-clause-any_moment g c = λ ha hb usable.
 pub returns-clause-events : goal.returns-clause-events
 returns-clause-events g c =
     let done = c.in-Ok-handle_group.ensures.group in
-    ends_from c.in-Ok-make_ready.is_overdue c.args.self.now c.make_ready.new.self c.handle_group.new.self c.in-Ok-make_ready.ensures.ready
-    c.in-Ok-handle_group.group.turns.items done.some done.overdue c.args.events.items c.in-Ok-handle_group.group.is_refused c.in-Ok-handle_group.group.rest.items
+    ends_from c.args.self.now c.make_ready.new.self c.handle_group.new.self c.in_default.ensures.ready
+    c.in-Ok-handle_group.group.turns.items done.some c.args.events.items c.in-Ok-handle_group.group.is_refused c.in-Ok-handle_group.group.rest.items
     done.ends
 
 pub returns-clause-group : goal.returns-clause-group
 returns-clause-group g c =
     let done = c.in-Ok-handle_group.ensures.group in
-    group_from c.in-Ok-make_ready.is_overdue c.args.self.now c.make_ready.new.self c.handle_group.new.self c.in-Ok-make_ready.ensures.ready
-    c.in-Ok-handle_group.group.turns.items done.some done.overdue done.group
+    group_from c.args.self.now c.make_ready.new.self c.handle_group.new.self c.in_default.ensures.ready
+    c.in-Ok-handle_group.group.turns.items done.some done.group
 
 pub returns-clause-stored : goal.returns-clause-stored
 returns-clause-stored g c = λ ha hb.
@@ -101,19 +101,19 @@ returns-clause-stored g c = λ ha hb.
     let ha' = got.later.a.honesty.0 ha in
     let hb' = got.later.b.honesty.0 hb in
     let later = c.handle_group.ensures.later in
-    written_from c.in-Ok-make_ready.is_overdue c.args.self.now c.make_ready.new.self c.handle_group.new.self c.in-Ok-make_ready.ensures.ready
-    c.in-Ok-handle_group.group.turns.items done.some done.overdue g.D.Disk.history (c.in-Ok-make_ready.ensures.content ha hb)
+    written_from c.args.self.now c.make_ready.new.self c.handle_group.new.self c.in_default.ensures.ready
+    c.in-Ok-handle_group.group.turns.items done.some g.D.Disk.history (c.in_default.ensures.content ha hb)
     (c.in-Ok-handle_group.ensures.any_moment ha' hb').content done.bounded
     (c.is_broken-broken.ensures.stored (later.a.honesty.0 ha') (later.b.honesty.0 hb') c.in-Ok-handle_group.ensures.refuses.usable)
 
 pub returns-clause-no_call : goal.returns-clause-no_call
 returns-clause-no_call g c =
     let done = c.in-Ok-handle_group.ensures.group in
-    none_called_from c.in-Ok-make_ready.is_overdue c.args.self.now c.make_ready.new.self c.handle_group.new.self
-    c.in-Ok-make_ready.ensures.ready c.in-Ok-handle_group.group.turns.items done.some done.overdue c.in-Ok-handle_group.ensures.no_call
+    none_called_from c.args.self.now c.make_ready.new.self c.handle_group.new.self
+    c.in_default.ensures.ready c.in-Ok-handle_group.group.turns.items done.some c.in-Ok-handle_group.ensures.no_call
 
 pub returns-clause-file : goal.returns-clause-file
 returns-clause-file g c =
     let done = c.in-Ok-handle_group.ensures.group in
-    files_written c.in-Ok-make_ready.is_overdue c.args.self.now c.make_ready.new.self c.handle_group.new.self c.in-Ok-make_ready.ensures.ready
-    c.in-Ok-handle_group.group.turns.items done.overdue c.in-Ok-make_ready.ensures.other_file c.handle_group.ensures.file
+    files_written c.args.self.now c.make_ready.new.self c.handle_group.new.self c.in_default.ensures.ready
+    c.in-Ok-handle_group.group.turns.items c.make_ready.ensures.other_file c.handle_group.ensures.file

@@ -16,7 +16,7 @@ returns-in-Err c =
     let songs : c.songs.result.now ≡ m.saved.songs = c.songs.ensures ∙ ap (λ (n : MachineState). n.saved.songs) c.self.view_is in
     let row : row_at m.saved.songs path ≡ None = ap (λ rows. row_at rows path) (sym songs) ∙ no_row _ _ _ c.in-Err.ensures.answer in
     also _ _ _ _ _ _ _
-    (ap (λ (r : Option Row). answers (all_at detail m.saved.songs path r) m) row
+    (ap (λ (r : Option Row). answers (all_at detail m.saved path r) m) row
     ∙ ap (λ lines. answers lines m)
-    (same_all_below detail c.args.path m.saved.songs ∙ ap (all_below detail m.saved.songs) (sym c.read.ensures)))
+    (same_all_below detail c.args.path m.saved ∙ ap (all_below detail m.saved) (sym c.read.ensures)))
     c.list_below.ensures

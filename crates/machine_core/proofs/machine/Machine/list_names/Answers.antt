@@ -1,6 +1,6 @@
-use Rattle.std.proofs.Common.{◌≡◌, refl, ap, sym, ◌∙◌}
+use Rattle.std.proofs.Common.{refl, ap, ◌∙◌}
+use Rattle.command_text.proofs.Adding.{adds_same}
 use Rattle.machine_core.specs.Lists.{name_lines, lists_meaning}
-use Rattle.machine_core.specs.Meaning.{says}
 use Rattle.machine_core.specs.State.{MachineState}
 use Rattle.machine_core.proofs.Answering.{reads}
 use Rattle.machine_core.proofs.machine.Machine.list_names.Goals as goal
@@ -9,6 +9,8 @@ pub returns : goal.returns
 unfolding lists_meaning
 returns c =
     let m = c.args.self.now in
-    let lists : c.lists.result.now ≡ m.saved.lists = c.lists.ensures ∙ ap (λ (n : MachineState). n.saved.lists) c.self.view_is in
-    reads _ (name_lines c.lists.result.now) m m _ c.args.work.now _ c.keep.new.self _ _
-    (ap (λ all. says (name_lines all) m) (sym lists)) refl c.len-mark.ensures refl refl c.write_list_names-written.ensures c.keep.ensures
+    let is = c.self.view_is in
+    let profile = c.profile.ensures ∙ ap (λ (n : MachineState). n.saved.profile) is in
+    let lists = c.lists.ensures ∙ ap (λ (n : MachineState). n.saved.lists) is in
+    reads _ _ m m _ c.args.work.now _ c.keep.new.self _ _ refl refl c.len-mark.ensures refl refl
+    (adds_same _ _ _ _ _ c.write_list_names-written.ensures (λ i. name_lines (profile i) (lists i))) c.keep.ensures

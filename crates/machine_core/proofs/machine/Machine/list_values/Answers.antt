@@ -1,6 +1,5 @@
-use Rattle.std.proofs.Common.{List, refl, ap, ◌∙◌}
+use Rattle.std.proofs.Common.{refl, ap, ◌∙◌}
 use Rattle.command_text.proofs.Adding.{adds_same}
-use Rattle.song_db.specs.Row.{Row}
 use Rattle.std.specs.Option.{option_copied}
 use Rattle.machine_core.specs.Finding.{chosen, told_values, value_lines}
 use Rattle.machine_core.specs.State.{MachineState}
@@ -13,7 +12,8 @@ returns c =
     let m = c.args.self.now in
     let tag = c.args.tag in
     let tree = option_copied c.args.filter in
+    let profile = c.profile.ensures ∙ ap (λ (n : MachineState). n.saved.profile) c.self.view_is in
     let songs = c.songs.ensures ∙ ap (λ (n : MachineState). n.saved.songs) c.self.view_is in
     reads _ _ m m _ c.args.work.now _ c.keep.new.self _ _ (values_mean m tag tree) refl c.len-mark.ensures refl refl
     (adds_same _ _ _ _ _ c.write_values-written.ensures (ap (value_lines tag) (c.in_ok-values.ensures
-    ∙ ap (λ (rows : List Row). told_values (chosen tree rows) tag) songs))) c.keep.ensures
+    ∙ (λ i. told_values (profile i) (chosen tree (songs i)) tag)))) c.keep.ensures

@@ -1,4 +1,5 @@
-use Rattle.std.proofs.Common.{refl, ap}
+use Rattle.std.proofs.Common.{◌++◌, refl, ap}
+use Rattle.command_text.specs.AnswerSetup.{setup_status}
 use Rattle.command_text.specs.AnswerStatus.{status_lines}
 use Rattle.command_text.proofs.Adding.{adds_same}
 use Rattle.machine_core.specs.Settings.{status_of}
@@ -11,4 +12,5 @@ pub returns : goal.returns
 returns c =
     let m = c.args.self.now in
     reads _ _ m _ _ c.args.work.now _ c.keep.new.self _ _ (status_means m) c.self.view_is c.len-mark.ensures refl refl
-    (adds_same _ _ _ _ _ c.put_status-written.ensures (ap (λ (n : MachineState). status_lines (status_of n)) c.self.view_is)) c.keep.ensures
+    (adds_same _ _ _ _ _ c.put_all_status-written.ensures
+    (ap (λ (n : MachineState). status_lines (status_of n) ++ setup_status n.saved.profile) c.self.view_is)) c.keep.ensures

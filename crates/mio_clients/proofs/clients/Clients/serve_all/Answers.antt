@@ -1,5 +1,6 @@
-use Rattle.std.proofs.Common.{true}
-use Rattle.mio_clients.proofs.TurnLaws.{serves_twice, serves_as, serves_collected, whole_later, whole_share, whole_refused}
+use Rattle.std.proofs.Common.{ℕ, true, false, zero, subst}
+use Rattle.mio_clients.specs.Parts.{IsWithin, looks_in}
+use Rattle.mio_clients.proofs.TurnLaws.{looks_same, serves_twice, serves_as, serves_collected, whole_later, whole_share, whole_refused, whole_told}
 use Rattle.mio_clients.proofs.clients.Clients.serve_all.Goals as goal
 
 pub returns-then-goes_on-clause-later : goal.returns-then-goes_on-clause-later
@@ -49,3 +50,19 @@ returns-else-goes_on-clause-later g c =
     whole_later g.S.Stream.remaining g.S.Stream.contents c.serve_each-goes_on.result.0 c.args.self.now c.serve_each-goes_on.new.self
     c.args.parts.now.items c.serve_each-goes_on.new.parts.items c.args.pass c.serve_each-goes_on.result.1 c.requires.empty
     c.serve_each-goes_on.ensures.serves
+
+pub returns-then-goes_on-clause-quiet : goal.returns-then-goes_on-clause-quiet
+returns-then-goes_on-clause-quiet g c =
+    λ none within. c.give_outbox.ensures.quiet zero
+    (c.serve_each-goes_on.ensures.quiet c.if-goes_on.true
+    (subst (λ (n : ℕ). IsWithin c.args.bound n)
+    (looks_same c.serve_each-goes_on.new.parts.items c.push_reserved.new.self.items c.collect-outbox.result c.push_reserved.ensures.items)
+    within))
+
+pub returns-else-goes_on-clause-quiet : goal.returns-else-goes_on-clause-quiet
+returns-else-goes_on-clause-quiet g c =
+    λ none within. whole_told g.S.Stream.remaining g.S.Stream.contents c.args.self.now c.serve_each-goes_on.new.self c.args.parts.now.items
+    c.serve_each-goes_on.new.parts.items c.args.pass c.serve_each-goes_on.result.1 c.requires.empty
+    (serves_as g.S.Stream.remaining g.S.Stream.contents c.serve_each-goes_on.result.0 false c.args.self.now c.serve_each-goes_on.new.self
+    c.args.parts.now.items c.serve_each-goes_on.new.parts.items c.args.pass c.serve_each-goes_on.result.1 c.if-goes_on.false
+    c.serve_each-goes_on.ensures.serves) none

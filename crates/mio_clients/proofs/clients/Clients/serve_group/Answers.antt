@@ -1,7 +1,6 @@
 use Rattle.std.proofs.Common.{◌≡◌, ◌-◌, ◌++◌, ℕ, [], List, length, take, drop, sym, ap, refl, ◌∙◌, append_assoc, rules, arith}
 use Rattle.daemon_core.specs.declared.event.Event.{Event}
 use Rattle.live_stage.specs.Group.{asked_by}
-use Rattle.mio_clients.specs.Grouping.{group_limit}
 use Rattle.mio_clients.proofs.GroupLaws.{answered_group, asked_by_len, asked_none_behind, group_quiet, parted_len, parted_lost, quiet_as, refused_group}
 use Rattle.mio_clients.proofs.GroupLaws.{some_len, some_of}
 use Rattle.mio_clients.proofs.TurnLaws.{serves_nothing, serves_refusal}
@@ -84,8 +83,8 @@ returns-in-Ok-clause-quiet g c =
     let k : ℕ = n - (c.args.count - c.len.result) in
     c.drop_each.ensures.quiet k (c.send_given.ensures.quiet k (c.queue_group.ensures.quiet k
     (quiet_as (n - (length all - length rest)) k c.put_back_all.new.self.events (omega (arith, many, left))
-    (group_quiet group_limit c.args.self.now c.take_group.new.self c.put_back_all.new.self all rest c.take_group.new.clients.items
-    c.take_group.ensures.takes c.put_back_all.ensures (many ∙ c.requires.count.0) (omega (arith, long)) n h))))
+    (group_quiet c.requires.count.0.0 c.args.self.now c.take_group.new.self c.put_back_all.new.self all rest c.take_group.new.clients.items
+    c.take_group.ensures.takes c.put_back_all.ensures (many ∙ c.requires.count.0.1) (omega (arith, long)) n h))))
 
 pub put_back_all-requires-in-Err-clause-known : goal.put_back_all-requires-in-Err-clause-known
 put_back_all-requires-in-Err-clause-known g c =
@@ -133,8 +132,8 @@ returns-then-goes_on_behind-clause-quiet g c =
     let k : ℕ = n - (c.args.count - c.len-in-Err.result) in
     c.drop_each-in-Err.ensures.quiet k
     (quiet_as (n - (length all - length rest)) k c.put_back_all-in-Err.new.self.events (omega (arith, many, left))
-    (group_quiet group_limit c.args.self.now c.take_group.new.self c.put_back_all-in-Err.new.self all rest c.take_group.new.clients.items
-    c.take_group.ensures.takes c.put_back_all-in-Err.ensures (many ∙ c.requires.count.0) (omega (arith, long)) n h))
+    (group_quiet c.requires.count.0.0 c.args.self.now c.take_group.new.self c.put_back_all-in-Err.new.self all rest c.take_group.new.clients.items
+    c.take_group.ensures.takes c.put_back_all-in-Err.ensures (many ∙ c.requires.count.0.1) (omega (arith, long)) n h))
 
 pub returns-clause-serves : goal.returns-clause-serves
 returns-clause-serves g c =

@@ -1,7 +1,7 @@
 use Rattle.std.proofs.Common.{◌≡◌, ◌∙◌, ap, length, rules, arith, vec_len}
 use Rattle.slab.specs.Slab.{slab_len}
 use Rattle.mio_clients.specs.Connections.{ConnectionsState}
-use Rattle.mio_clients.specs.Grouping.{asked_of_all, group_limit}
+use Rattle.mio_clients.specs.Grouping.{asked_of_all}
 use Rattle.mio_clients.proofs.GroupLaws.{asked_none_more, group_few, room_more, takes_begin, takes_more_as}
 use Rattle.mio_clients.proofs.clients.Clients.take_group.Goals as goal
 
@@ -14,7 +14,7 @@ loop-self-init g c =
       takes = takes_begin c.args.self.now c.args.events.now.items c.args.clients.now.items c.requires.empty.0 c.requires.empty.1;
       few = omega (arith, none);
       same = omega (arith, none, no_ids);
-      more = (let few = group_few group_limit c.args.self.now.events in omega (arith, few, c.requires.count.0));
+      more = (let few = group_few c.requires.count.0.0 c.args.self.now.events in omega (arith, few, c.requires.count.0.1));
       known = λ n later. ap (asked_of_all n) c.requires.empty.0;
       room = λ some. absurd (omega (arith, some, none));
       places = c.requires.room;

@@ -5,5 +5,5 @@ use Rattle.machine_core.proofs.commands.finding.values.told_by_all.Goals as goal
 
 pub loop-row-preserved : goal.loop-row-preserved
 loop-row-preserved c =
-    values_more c.args.rows.now c.loop-row.row-index c.row-item.result c.args.tag c.loop-row.values c.take_values.new.values
-    (told_values c.args.rows.now c.args.tag) (omega arith) c.row-item.is c.in_ok-take_values.ensures c.loop-row.invariant
+    values_more c.args.profile c.args.rows.now c.loop-row.row-index c.row-item.result c.args.tag c.loop-row.values c.take_values.new.values
+    (told_values c.args.profile c.args.rows.now c.args.tag) (omega arith) c.row-item.is c.in_ok-take_values.ensures c.loop-row.invariant

@@ -5,6 +5,6 @@ use Rattle.machine_core.proofs.commands.finding.values.told_by_found.Goals as go
 
 pub loop-row-preserved : goal.loop-row-preserved
 loop-row-preserved c =
-    lent_more c.args.rows.now c.loop-row.row-index c.row-item.result c.args.tag c.loop-row.values c.take_values.new.values
-    (told_values (map (λ row. row.now) c.args.rows.now) c.args.tag) (omega arith) c.row-item.is c.in_ok-take_values.ensures
+    lent_more c.args.profile c.args.rows.now c.loop-row.row-index c.row-item.result c.args.tag c.loop-row.values c.take_values.new.values
+    (told_values c.args.profile (map (λ row. row.now) c.args.rows.now) c.args.tag) (omega arith) c.row-item.is c.in_ok-take_values.ensures
     c.loop-row.invariant

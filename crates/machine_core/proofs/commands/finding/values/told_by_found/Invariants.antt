@@ -1,12 +1,11 @@
 use Rattle.std.proofs.Common.{◌≡◌, drop, map}
 use Rattle.std.specs.List.{flat_map}
 use Rattle.song_db.specs.Query.{with_texts}
-use Rattle.machine_core.specs.Finding.{told_values}
-use Rattle.machine_core.proofs.Finding.Values.{told_texts}
+use Rattle.machine_core.specs.Finding.{told_texts, told_values}
 use Rattle.machine_core.proofs.commands.finding.values.told_by_found.Given as goal
 
 -- the values so far, with those of the songs that are left
 abbrev pub invariant-loop-row : goal.invariant-loop-row
 invariant-loop-row l =
-    with_texts l.values (flat_map (told_texts l.tag) (map (λ row. row.now) (drop l.row-index l.rows)))
-    ≡ told_values (map (λ row. row.now) l.rows) l.tag
+    with_texts l.values (flat_map (told_texts l.fn.profile l.tag) (map (λ row. row.now) (drop l.row-index l.rows)))
+    ≡ told_values l.fn.profile (map (λ row. row.now) l.rows) l.tag

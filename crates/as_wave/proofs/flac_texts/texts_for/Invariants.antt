@@ -1,8 +1,0 @@
-use Rattle.std.proofs.Common.{◌≡◌, ◌++◌, drop}
-use Rattle.std.specs.List.{filter_map}
-use Rattle.as_wave.specs.FlacTag.{text_for, texts_for, total_in}
-use Rattle.as_wave.proofs.flac_texts.texts_for.Given as goal
-
--- the frames so far, with those of the comments that are left, are all
-abbrev pub invariant-loop-comment : goal.invariant-loop-comment
-invariant-loop-comment l = l.frames.items ++ filter_map (text_for (total_in l.comments)) (drop l.comment-index l.comments) ≡ texts_for l.comments

@@ -1,6 +1,0 @@
-use Rattle.std.proofs.Common.{◌≡◌, ◌++◌, take, drop}
-use Rattle.filter_expr.specs.Order.{digits_in_front}
-use Rattle.filter_expr.proofs.order.digits_in_front.Given as goal
-
-abbrev pub invariant-loop-place : goal.invariant-loop-place
-invariant-loop-place l = take l.place l.text ++ digits_in_front (drop l.place l.text) ≡ digits_in_front l.text

@@ -1,0 +1,10 @@
+use Rattle.std.proofs.Common.{◌-◌}
+use Rattle.std.specs.List.{range_with_len}
+use Rattle.machine_core.specs.Entries.{file_info}
+use Rattle.machine_core.specs.Spans.{positions_in}
+use Rattle.command_text.proofs.LineLoops.{Leaves}
+use Rattle.machine_core.proofs.answer_entries.write_files.Given as goal
+
+abbrev pub invariant-loop-position : goal.invariant-loop-position
+invariant-loop-position l =
+    Leaves (file_info l.entries) (positions_in l.fn.span) (range_with_len l.position (l.position-end - l.position)) l.fn.out l.out

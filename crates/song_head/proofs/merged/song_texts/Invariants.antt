@@ -1,6 +1,0 @@
-use Rattle.song_head.proofs.Texts.{SoFar}
-use Rattle.song_head.proofs.merged.song_texts.Given as goal
-
--- the texts of the tags so far
-abbrev pub invariant-loop-number : goal.invariant-loop-number
-invariant-loop-number l = SoFar l.rules l.own l.frames l.number l.tags
