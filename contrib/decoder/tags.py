@@ -33,7 +33,16 @@ TXXX:MusicBrainz Album Artist Id
 TXXX:MusicBrainz Track Id
 TXXX:MusicBrainz Release Track Id
 TXXX:MusicBrainz Work Id
+TXXX:COMPOSERSORT
+TXXX:NAME
+TXXX:WORK
+TXXX:MOVEMENT
+TXXX:MOVEMENTNUMBER
+TXXX:ENSEMBLE
+TXXX:LOCATION
 """
+# What says, with any text, that the texts are no ID3v2 tag's, and told as they stand.
+MARK = "Vorbis comments"
 PREFIXES = ("----:com.apple.itunes:", "wm/")
 TOTALS = {"tracknumber": ("tracktotal", "totaltracks")}
 # The bytes of a text and of a picture, and the texts, of which more aren't told.
@@ -102,8 +111,11 @@ def own_frames(tag):
     """The frames of a file's own ID3v2 tag, of any version."""
     for frame in tag.values():
         if isinstance(frame, id3.TextFrame):
-            frame.encoding = id3.Encoding.UTF8
-            frame.text = [it for it in frame.text if 0 < len(str(it).encode()) <= MOST_TEXT]
+            if frame.encoding != id3.Encoding.UTF8:
+                frame.encoding = id3.Encoding.UTF8
+            texts = [it for it in frame.text if 0 < len(str(it).encode()) <= MOST_TEXT]
+            if len(texts) < len(frame.text):
+                frame.text = texts
         if isinstance(frame, id3.UFID) or isinstance(frame, id3.TextFrame) and frame.text:
             yield frame
 
@@ -127,7 +139,9 @@ def read_by_mutagen(path, demuxer):
 
 
 def frames_of(tags):
-    return [frame_of(*key, texts) for key, texts in texts_by_frame(tags).items()]
+    """The frames of tags that aren't ID3v2's, and the mark that they aren't."""
+    found = [frame_of(*key, texts) for key, texts in texts_by_frame(tags).items()]
+    return found and [frame_of("TXXX", MARK, ["decoder"]), *found]
 
 
 def picture_of(container):

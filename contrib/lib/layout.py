@@ -68,7 +68,14 @@ def lack_of_decoder():
 def decoder_files(folder):
     """The files of the decoder, below this folder."""
     files = [File(f"{folder}/decoder", text("decoder/decoder").encode(), 0o755, True)]
-    return files + [File(f"{folder}/{it}.py", text(f"decoder/{it}.py").encode(), is_renewed=True) for it in ("samples", "tags")]
+    return files + [File(f"{folder}/{it}.py", text(f"decoder/{it}.py").encode(), is_renewed=True) for it in ("ahead", "samples", "tags")]
+
+
+def program_files(path, program):
+    """The program at this path, and beside it what `--version` tells of its build, as it stands beside the one that is given."""
+    noted = f"{os.path.realpath(program)}.build"
+    note = content(noted) if os.path.exists(noted) else b"nothing was noted of its build\n"
+    return [File(path, content(program), 0o755, True), File(f"{path}.build", note, is_renewed=True)]
 
 
 def command(unit, home):
@@ -94,7 +101,7 @@ def for_user(home, units, program, settings):
         settings = {"decoder": "decoder.socket", **settings}
     files = [
         File(f"{home}/.local/share/{NAME}/{NAME}.toml", configuration(settings).encode(), 0o600),
-        File(command(unit, home), content(program), 0o755, True),
+        *program_files(command(unit, home), program),
         File(f"{home}/.local/share/man/man1/{NAME}.1", text(f"{NAME}.1").encode(), is_renewed=True),
         File(f"{units}/{NAME}.service", unit.encode()),
     ]
@@ -133,7 +140,7 @@ def for_machine(folders, program):
         return File(path, told.replace(f"/usr/lib/{NAME}/", f"{folders.library}/").encode())
 
     files = [
-        File(f"{folders.programs}/{NAME}", content(program), 0o755, True),
+        *program_files(f"{folders.programs}/{NAME}", program),
         File(f"{folders.manual}/{NAME}.1", text(f"{NAME}.1").encode(), is_renewed=True),
         File(f"{folders.users}/{NAME}.conf", text("system/sysusers.conf").encode()),
         unit(f"{NAME}.service"),

@@ -1,32 +1,40 @@
 """Rows of tests/serve about songs that a decoder beside the daemon reads, with `decoder`: one of the tests' own, which keeps the protocol of
 contrib/decoder or breaks it."""
 
+import contextlib
 import os
 import socket
 import struct
 import threading
 import time
 
-from daemons import Daemon, check, put_song, update, wait_for
+from daemons import Daemon, check, put_song, update, wait_for, wave_of
 from music_rows import WORDS, id3, lines_of, pcm
 from scripts import chunk
-from sounds import Recorded, Song, check_front, pieces_of, play_to_the_end, runs_of, sound_of
+from sounds import LONG, Recorded, Song, check_front, pieces_of, play_to_the_end, runs_of, sound_of
 
 OK, NOT_A_SONG, FAILED = 0, 1, 2
 OPEN, READ = 1, 2
 SONG, TITLE = Song("d/a.mp3", 44_100, 1, WORDS), ["Title: Dawn"]
 WAVE = pcm(WORDS, 16, 44_100, more=chunk("id3 ", id3(TIT2="Dawn")))
 PLAIN = Song("z.wav", 8_000, 1, WORDS[:900])
+# A song in which a decoder fails behind so many bytes of its WAVE file.
+HEARD, BEHIND = LONG._replace(name="long.mp3"), 100_000
 # What is done in place of the answer, to the request of which kind, and what the log says of the file then: nothing where it was open.
 FAULTS = {
-    "silent at the opening": (OPEN, "silent", "the decoder gave no answer in time"),
+    "silent at the opening": (OPEN, (b"",), "the decoder gave no answer in time"),
     "ended at the opening": (OPEN, b"", "the decoder ended the connection"),
+    "silent within an answer": (OPEN, (b"\x09\0\0\0\0\x58",), "the decoder gave no answer in time"),
+    "ended within an answer": (OPEN, b"\x09\0\0\0\0\x58", "the decoder ended the connection"),
     "another status": (OPEN, b"\1\0\0\0\7", "the decoder gave a wrong answer"),
     "a longer frame": (OPEN, b"\xff\xff\xff\xff\0", "the decoder gave a wrong answer"),
     "a length that is none": (OPEN, b"\x09\0\0\0\0" + b"\xff" * 8, "the decoder gave a wrong answer"),
     "a file that fails": (OPEN, b"\4\0\0\0\2why", "the decoder can't read it: why"),
-    "silent in the file": (READ, "silent", None),
+    "silent in the file": (READ, (b"",), None),
     "ended in the file": (READ, b"", None),
+    "silent within bytes": (READ, (b"\x11\0\0\0\0RIFF",), None),
+    "ended within bytes": (READ, b"\x11\0\0\0\0RIFF", None),
+    "another status in the file": (READ, b"\2\0\0\0\3R", None),
     "a failure in the file": (READ, b"\1\0\0\0\2", None),
     "no bytes before the end": (READ, b"\1\0\0\0\0", None),
     "more bytes than asked": (READ, struct.pack("<IB", 65_538, OK) + bytes(65_537), None),
@@ -34,10 +42,11 @@ FAULTS = {
 
 
 class Decoder:
-    """A decoder at a socket, which tells the WAVE files of some paths. Where it is to fail, it answers requests of a kind otherwise."""
+    """A decoder at a socket, which tells the WAVE files of some paths. Where it is to fail, it answers requests of a kind otherwise, reads from
+    a place on: by bytes, behind which it ends the connection, or by such in a tuple, behind which nothing comes."""
 
     def __init__(self, path, songs):
-        self.songs, self.fault, self.asked = songs, (None, None), []
+        self.songs, self.fault, self.behind, self.asked = songs, (None, None), 0, []
         self.listening = socket.socket(socket.AF_UNIX)
         self.listening.bind(path)
         self.listening.listen()
@@ -53,23 +62,20 @@ class Decoder:
 
     def answer_all(self, connection):
         wave = None
-        with connection, connection.makefile("rb") as requests:
+        with connection, connection.makefile("rb") as requests, contextlib.suppress(OSError):
             while len(head := requests.read(5)) == 5:
                 length, kind = struct.unpack("<IB", head)
                 body = requests.read(length - 1)
                 if kind == OPEN:
                     self.asked.append(body.decode())
                     wave = self.songs.get(body.decode())
-                if kind == self.fault[0]:
-                    if self.fault[1] == "silent":
+                if kind == self.fault[0] and (kind == OPEN or struct.unpack("<QI", body)[0] >= self.behind):
+                    is_silent = isinstance(self.fault[1], tuple)
+                    connection.sendall(self.fault[1][0] if is_silent else self.fault[1])
+                    if is_silent:
                         requests.read(1)
-                        return
-                    connection.sendall(self.fault[1])
                     return
-                try:
-                    connection.sendall(answer(kind, body, wave))
-                except OSError:
-                    return
+                connection.sendall(answer(kind, body, wave))
 
     def end(self):
         """Nobody listens any more."""
@@ -173,6 +179,12 @@ def failing(program, folder, kind):
             wanted = [f"music: {SONG.name}: {said} (decoder); the song known there is kept"] if said else []
             check(f"{what}: the line", lines, wanted)
         decoder.end()
+        told, number = len(daemon.lines), len(faults) + 2
+        update(client)
+        wait_for("its line", lambda: any(f"update {number}: " in it for it in daemon.lines))
+        check_songs(client, [(SONG, TITLE), (PLAIN, [])])
+        lines = [it for it in daemon.lines[told:] if it.startswith(f"music: {SONG.name}: ")]
+        check("nobody listens", lines, [f"music: {SONG.name}: the decoder can't be reached (decoder); the song known there is kept"])
         client.do(f"add {SONG.name}", f"add {PLAIN.name}", "play 0")
         wait_for("an error", lambda: client.value("status", "error") is not None)
         recorded = Recorded(f"{folder}/sound")
@@ -189,4 +201,59 @@ def decoder_that_reads_nothing(program, folder):
     failing(program, folder, READ)
 
 
-ROWS = [songs_of_a_decoder, decoder_that_opens_nothing, decoder_that_reads_nothing]
+def decoder_that_fails_in_a_song(program, folder):
+    """However it fails behind some of a song's samples, those before it are heard, the song stops with an error, others play, and so does
+    the song once the decoder is well."""
+    daemon, decoder = decoded(program, folder)
+    put(daemon, HEARD.name)
+    decoder.songs[HEARD.name] = wave_of(HEARD.values, HEARD.rate, HEARD.channels)
+    faults = {what: done for what, (kind, done, _) in FAULTS.items() if kind == READ}
+    with daemon.start(), daemon.client() as client:
+        recorded = Recorded(f"{folder}/sound")
+        update(client)
+        client.do(f"add {HEARD.name}", f"add {PLAIN.name}")
+        decoder.behind = BEHIND
+        for what, done in faults.items():
+            decoder.fault = READ, done
+            client.do("play 0")
+            wait_for("an error", lambda: client.value("status", "error") is not None)
+            state = [client.value("status", it) for it in ("state", "song", "error")]
+            check(what, state, ["stop", "0", f"cannot play {HEARD.name}"])
+            decoder.fault = None, None
+            play_to_the_end(client, "play 1")
+            check("no error", client.value("status", "error"), None)
+        play_to_the_end(client, "play 0")
+        daemon.kill()
+    heard = runs_of(pieces_of(recorded.end()))
+    form, whole = sound_of(HEARD)
+    check("at last", heard[-2:], [sound_of(HEARD), sound_of(PLAIN)])
+    check("behind each", heard[1:-2:2], [sound_of(PLAIN)] * len(faults))
+    check("rates", {it for it, _ in heard[:-2:2]}, {form})
+    fronts = [data for _, data in heard[:-2:2]]
+    check("before each", [(whole.startswith(it), 0 < len(it) < BEHIND + (1 << 17)) for it in fronts], [(True, True)] * len(faults))
+
+
+def decoder_that_lies(program, folder):
+    """Bytes that are no WAVE file cost that file alone, which is a song again once they are others."""
+    daemon, decoder = decoded(program, folder)
+    with daemon.start(), daemon.client() as client:
+        update(client)
+        check_songs(client, [(SONG, TITLE), (PLAIN, [])])
+        for wave in (bytes(len(WAVE)), WAVE[:22] + b"\xff\xff" + WAVE[24:], WAVE[:24] + bytes(4) + WAVE[28:], b"RIFF"):
+            decoder.songs[SONG.name] = wave
+            client.do("rescan")
+            wait_for("the end of the job", lambda: client.value("status", "updating_db") is None)
+            check_songs(client, [(PLAIN, [])])
+        decoder.songs[SONG.name] = WAVE
+        client.do("rescan")
+        wait_for("the end of the job", lambda: client.value("status", "updating_db") is None)
+        check_songs(client, [(SONG, TITLE), (PLAIN, [])])
+
+
+ROWS = [
+    songs_of_a_decoder,
+    decoder_that_opens_nothing,
+    decoder_that_reads_nothing,
+    decoder_that_fails_in_a_song,
+    decoder_that_lies,
+]
