@@ -2,7 +2,6 @@
 its time and of an end that does."""
 
 import os
-import shutil
 import signal
 import subprocess
 import time
@@ -98,7 +97,7 @@ def job_in_the_log(program, folder):
         wait_for("the end of the job", lambda: client.value("status", "updating_db") is None)
         os.remove(f"{folder}/music/d/b.wav")
         client.do("update d")
-        wait_for("the end of the job", lambda: client.value("status", "updating_db") is None)
+        wait_for("the line of the last job", lambda: len(told(daemon, "update ")) > 3)
         daemon.kill(signal.SIGTERM)
         left = "1 not WAVE, 1 of another format, 1 broken (debug = true names them)"
         wanted = [
@@ -351,10 +350,11 @@ def journal_file_missing(program, folder):
 def version_told(program, folder):
     """`--version` says which program it is, and what its builder left beside it, as that file's words: it can't know how it was built."""
     os.makedirs(folder)
-    copy = shutil.copy(program, f"{folder}/mpd_daemon")
+    copy = f"{folder}/mpd_daemon"
+    run = under.copied(program, copy)
 
     def printed():
-        ran = subprocess.run([copy, "--version"], capture_output=True, text=True, check=False)
+        ran = subprocess.run([run, "--version"], capture_output=True, text=True, check=False)
         return ran.returncode, ran.stdout.splitlines(), ran.stderr
 
     first = "mpd_daemon 0.1, protocol 0.23"

@@ -59,4 +59,13 @@ def wrap(emulator, machine, program, to, linking=("-static",)):
     words = [found, *rest, "-L", machine.place, os.path.abspath(program)]
     listed = ",".join('"' + it.replace("\\", "\\\\").replace('"', '\\"') + '"' for it in words)
     subprocess.run(["cc", "-O2", *linking, f"-DWORDS={listed}", "-o", to, f"{LIB}/under.c"], check=True)
+    os.symlink(os.path.abspath(program), f"{to}.runs")
     return to
+
+
+def copied(program, to):
+    """Copies a program of this run to this path, and that is the path that it finds for itself; what is to be run."""
+    if not is_emulated():
+        return shutil.copy(program, to)
+    shutil.copy(f"{program}.runs", to)
+    return wrap(os.environ[WORD], machine_of_run(), to, f"{to}.emulated")
