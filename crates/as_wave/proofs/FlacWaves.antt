@@ -3,6 +3,7 @@ use Rattle.std.proofs.Common.{◌≡◌, ◌+◌, ◌-◌, ◌*◌, ◌/◌, ◌
 use Rattle.std.proofs.Common.{refl, ap, ◌∙◌, sym, arith, Some, None, Ok, Err, Bool, true, false, cond, All, slice_range, codes, subst, append_assoc, ℤ, pos, negsuc, w16}
 use Rattle.std.specs.Prelude.{Option, Result, option_map, nat_lt, nat_le, ◌&&◌, ◌||◌, ◌==◌, if◌then◌else◌, FitsSigned}
 use Rattle.std.specs.List.{find, flat_map, filter_map, cons_option}
+use Rattle.std.specs.Option.{option_or}
 use Rattle.std.specs.Int.{w32, to_le_bytes, saturate_signed}
 use Rattle.std.proofs.lemmas.Int.{ints}
 use Rattle.std.proofs.lemmas.Bool.Decides.{nat_tests}
@@ -28,7 +29,7 @@ use Rattle.flac.specs.declared.refusal.FlacError.{FlacError}
 use Rattle.flac.specs.declared.stream_info.StreamInfo.{StreamInfo}
 use Rattle.as_wave.specs.FlacLaws.{IsFlac, IsTold, flac_info, has_tag, told_picture}
 use Rattle.as_wave.specs.FlacSamples.{from_bits, padded_to, at_bits, flac_samples}
-use Rattle.as_wave.specs.FlacTag.{texts_for, cover_of, cover_in, is_cover, front_of, cover_bytes, tag_bytes, tag_of}
+use Rattle.as_wave.specs.FlacTag.{texts_for, cover_of, cover_in, is_cover, is_front_cover, front_of, cover_bytes, tag_bytes, tag_of}
 use Rattle.as_wave.specs.FlacWave.{is_told, flac_format, tag_chunks, wave_of_head, flac_wave}
 use Rattle.as_wave.specs.OwnHead.{own_info}
 use Rattle.as_wave.specs.Plan.{wave_head}
@@ -194,18 +195,39 @@ within_if : (first len end : ℕ) (some : Bool) → (some && nat_le (first + len
 within_if first len end true yes' = grind (arith, nat_tests)
 within_if first len end false yes' = absurd (cc)
 
-cover_chosen : (end : ℕ) (q p : PicturePlace) (b : Bool) (rest : Option PicturePlace) → is_cover end q ≡ b
+-- where each picture that passes a test stands in the file, the first that does so stands there
+find_chosen : (test : PicturePlace → Bool) (end : ℕ) → ((q : PicturePlace) → test q ≡ true → q.first + q.len ≤ end)
+    → (q p : PicturePlace) (b : Bool) (rest : Option PicturePlace) → test q ≡ b
     → (rest ≡ Some p → p.first + p.len ≤ end) → cond b (Some q) rest ≡ Some p → p.first + p.len ≤ end
-cover_chosen end q p true rest is more same =
-    let e : q ≡ p = cc in
-    let w : q.first + q.len ≤ end = within_if q.first q.len end (nat_lt 0 (length q.media_type)) is in
-    subst (λ (x : PicturePlace). x.first + x.len ≤ end) e w
-cover_chosen end q p false rest is more same = more same
+find_chosen test end fits q p true rest is more same =
+    let e : q ≡ p = cc in subst (λ (x : PicturePlace). x.first + x.len ≤ end) e (fits q is)
+find_chosen test end fits q p false rest is more same = more same
+
+find_within : (test : PicturePlace → Bool) (end : ℕ) → ((q : PicturePlace) → test q ≡ true → q.first + q.len ≤ end)
+    → (pictures : List PicturePlace) (p : PicturePlace) → find test pictures ≡ Some p → p.first + p.len ≤ end
+find_within test end fits [] p found = absurd (cc)
+find_within test end fits (q ∷ pictures) p found =
+    find_chosen test end fits q p (test q) (find test pictures) refl (find_within test end fits pictures p) found
+
+cover_fits : (end : ℕ) (q : PicturePlace) → is_cover end q ≡ true → q.first + q.len ≤ end
+cover_fits end q yes' = within_if q.first q.len end (nat_lt 0 (length q.media_type)) yes'
+
+front_if : (first len end : ℕ) (front some : Bool) → (front && (some && nat_le (first + len) end)) ≡ true → first + len ≤ end
+front_if first len end true some yes' = within_if first len end some yes'
+front_if first len end false some yes' = absurd (cc)
+
+front_fits : (end : ℕ) (q : PicturePlace) → is_front_cover end q ≡ true → q.first + q.len ≤ end
+front_fits end q yes' = front_if q.first q.len end (q.kind == 3) (nat_lt 0 (length q.media_type)) yes'
+
+either_within : (end : ℕ) (p : PicturePlace) (front cover : Option PicturePlace) → (front ≡ Some p → p.first + p.len ≤ end)
+    → (cover ≡ Some p → p.first + p.len ≤ end) → option_or front cover ≡ Some p → p.first + p.len ≤ end
+either_within end p None cover by_front by_cover same = by_cover same
+either_within end p (Some q) cover by_front by_cover same = by_front same
 
 cover_within : (end : ℕ) (pictures : List PicturePlace) (p : PicturePlace) → cover_in end pictures ≡ Some p → p.first + p.len ≤ end
-cover_within end [] p found = absurd (cc)
-cover_within end (q ∷ pictures) p found =
-    cover_chosen end q p (is_cover end q) (cover_in end pictures) refl (cover_within end pictures p) found
+cover_within end pictures p found =
+    either_within end p (find (is_front_cover end) pictures) (find (is_cover end) pictures)
+    (find_within (is_front_cover end) end (front_fits end) pictures p) (find_within (is_cover end) end (cover_fits end) pictures p) found
 
 cover_long : (file : List ℕ) (cover : Option PicturePlace) → ((p : PicturePlace) → cover ≡ Some p → p.first + p.len ≤ length file)
     → length (cover_bytes file cover) ≡ picture_len (option_map front_of cover)

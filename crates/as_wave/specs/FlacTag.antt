@@ -1,7 +1,8 @@
--- The ID3v2.4 tag of a FLAC file's comments and its first picture.
+-- The ID3v2.4 tag of a FLAC file's comments and of one of its pictures.
 use Rattle.std.specs.Prelude.{ℕ, ◌+◌, ◌==◌, ◌&&◌, ◌||◌, List, [], ◌∷◌, ◌++◌, length, nat_lt, nat_le, Bool, codes, slice_range}
 use Rattle.std.specs.Prelude.{Option, Some, None, option_map, if◌then◌else◌}
 use Rattle.std.specs.List.{find, filter_map, list_any}
+use Rattle.std.specs.Option.{option_or}
 use Rattle.std.specs.Str.{bytes_eq}
 use Rattle.song_files.specs.Text.{is_tag_text}
 use Rattle.id3_tags.specs.Writing.{WrittenText, WrittenPicture, can_write, written}
@@ -54,9 +55,13 @@ texts_for comments = comment_texts comments ++ mark ∷ []
 abbrev pub is_cover : ℕ → PicturePlace → Bool
 is_cover end picture = nat_lt 0 (length picture.media_type) && nat_le (picture.first + picture.len) end
 
--- the first of them
+-- one that shows the front (RFC 9639, section 8.8)
+abbrev pub is_front_cover : ℕ → PicturePlace → Bool
+is_front_cover end picture = picture.kind == 3 && is_cover end picture
+
+-- the first front cover, else the first picture
 abbrev pub cover_in : ℕ → List PicturePlace → Option PicturePlace
-cover_in end pictures = find (is_cover end) pictures
+cover_in end pictures = option_or (find (is_front_cover end) pictures) (find (is_cover end) pictures)
 
 -- a type of more than a byte is 0, which is any other
 abbrev pub front_of : PicturePlace → WrittenPicture

@@ -1,7 +1,8 @@
-// The tag of a FLAC file's comments and its first picture.
+// The tag of a FLAC file's comments and of one of its pictures.
 ghost use Rattle.std.specs.Prelude.{◌≡◌, ◌+◌, ◌≤◌, ◌<◌, ◌^◌, List, ℕ, length, option_copied, option_map, IfOk, IfErr, IfSome, IsTrue, MatchOption, Some, None, true, false};
 ghost use Rattle.id3_tags.specs.Writing.{can_write, written};
-ghost use Rattle.as_wave.specs.FlacTag.{is_cover, cover_in, front_of, tag_bytes, tag_of};
+ghost use Rattle.std.specs.List.{find};
+ghost use Rattle.as_wave.specs.FlacTag.{is_cover, is_front_cover, cover_in, front_of, tag_bytes, tag_of};
 ghost use Rattle.as_wave.specs.FlacTail.{tag_at};
 
 use crate::flac_texts::texts_for;
@@ -28,9 +29,30 @@ fn is_cover(end: u64, picture: &Picture) -> bool
         && picture.len() <= end - picture.first()
 }
 
+/// Whether it shows the front, too.
+fn is_front_cover(end: u64, picture: &Picture) -> bool
+    ensures test { result ≡ is_front_cover end picture.now }
+    ensures within { IsTrue result → picture.now.first + picture.now.len ≤ end }
+{
+    picture.kind() == 3 && is_cover(end, picture)
+}
+
+/// The first front cover that can be told.
+fn first_front(end: u64, pictures: &[Picture]) -> Option<&Picture>
+    ensures found { option_copied result ≡ find (is_front_cover end) pictures.now }
+    ensures within { IfSome result (λ p. p.now.first + p.now.len ≤ end) }
+{
+    for picture in pictures {
+        if is_front_cover(end, picture) {
+            return Some(picture);
+        }
+    }
+    None
+}
+
 /// The first picture that can be told.
-fn cover_in(end: u64, pictures: &[Picture]) -> Option<&Picture>
-    ensures found { option_copied result ≡ cover_in end pictures.now }
+fn first_cover(end: u64, pictures: &[Picture]) -> Option<&Picture>
+    ensures found { option_copied result ≡ find (is_cover end) pictures.now }
     ensures within { IfSome result (λ p. p.now.first + p.now.len ≤ end) }
 {
     for picture in pictures {
@@ -39,6 +61,17 @@ fn cover_in(end: u64, pictures: &[Picture]) -> Option<&Picture>
         }
     }
     None
+}
+
+/// The first front cover, else the first picture.
+fn cover_in(end: u64, pictures: &[Picture]) -> Option<&Picture>
+    ensures found { option_copied result ≡ cover_in end pictures.now }
+    ensures within { IfSome result (λ p. p.now.first + p.now.len ≤ end) }
+{
+    match first_front(end, pictures) {
+        Some(picture) => Some(picture),
+        None => first_cover(end, pictures),
+    }
 }
 
 /// What a tag tells of the picture.

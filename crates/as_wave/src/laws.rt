@@ -50,7 +50,7 @@ pub fn flac_frames_are_the_samples()
         ≡ take (head.info.channels * most) (drop (head.info.channels * from) (flac_samples file head)) }
 {}
 
-/// Its tag tells the comments that have a frame, in their order, and the first picture.
+/// Its tag tells the comments that have a frame, in their order, and the first front cover, else the first picture.
 pub fn flac_comments_are_told()
     ensures { (file wave : List ℕ) (head : FlacHead) → IsFlac file wave head → has_tag file head ≡ true →
         (place : ChunkPlace) × IsTold file wave head place }

@@ -8,6 +8,8 @@ mod files;
 #[cfg(test)]
 mod outputs;
 #[cfg(test)]
+mod pictures;
+#[cfg(test)]
 mod plain_queue;
 #[cfg(test)]
 mod player;

@@ -1,0 +1,4 @@
+mod Fails
+mod FirstNames
+mod Firsts
+mod PictureRanges

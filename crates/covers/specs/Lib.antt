@@ -1,0 +1,5 @@
+pub mod AlbumNames
+pub mod Chunks
+pub mod CoverError
+pub mod Limits
+pub mod SongPictures
