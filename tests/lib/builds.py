@@ -45,6 +45,39 @@ def uses():
     return {name: [it for it in low.split() if it in listed] for name, low in listed.items()}
 
 
+def on_long_chains(share=0.85):
+    """The names of the crates that stand on a chain of crates, each over the one before it, whose sources have together at least this share of
+    the bytes of the longest one: in the gate each waits for those below it, so these decide how long it takes."""
+    listed = uses()
+    own = {name: sum(os.path.getsize(it) for it in sources(name)) for name in listed}
+    above = {name: [it for it in listed if name in listed[it]] for name in listed}
+    down, up = most(own, listed), most(own, above)
+    through = {name: down[name] + up[name] - own[name] for name in listed}
+    return {name for name in listed if through[name] >= share * max(through.values())}
+
+
+def most(own, beside):
+    """Of each name the most that a chain has that begins with it and goes on to what stands beside each."""
+    found = {}
+
+    def of(name):
+        if name not in found:
+            found[name] = own[name] + max(map(of, beside[name]), default=0)
+        return found[name]
+
+    return {name: of(name) for name in own}
+
+
+def sources(crate):
+    """The paths of the files of a crate that a check reads."""
+    paths = []
+    for part in ("src", "specs", "proofs"):
+        for at, folders, files in os.walk(f"{ROOT}/crates/{crate}/{part}"):
+            folders.sort()
+            paths += [f"{at}/{it}" for it in sorted(files)]
+    return paths
+
+
 def crates_of(name):
     """The names of this crate and of all below it."""
     listed, found = uses(), [name]
@@ -59,10 +92,7 @@ def sum_of_sources(name):
     whole = hashlib.sha256(said)
     paths = [f"{ROOT}/crates.txt", f"{ROOT}/HANDLES"]
     for crate in crates_of(name):
-        for part in ("src", "specs", "proofs"):
-            for at, folders, files in os.walk(f"{ROOT}/crates/{crate}/{part}"):
-                folders.sort()
-                paths += [f"{at}/{it}" for it in sorted(files)]
+        paths += sources(crate)
     for path in paths:
         with open(path, "rb") as file:
             text = file.read()

@@ -131,7 +131,7 @@ def create(program, folder, music):
     """Makes a fresh journal in a folder, which is made too, and gives the path of its configuration."""
     config = configure(folder, music)
     made = subprocess.run([program, "create", config], capture_output=True, check=False)
-    if made.returncode or not made.stdout.startswith(b"created "):
+    if made.returncode or made.stdout != b"created\n":
         sys.exit(f"create: {made}")
     return config
 

@@ -10,14 +10,15 @@ from daemons import LIMIT, Client, update, wait_for
 from scripts import Failure, wave
 from translator import FOREIGN, MODIFIED, MODIFIED_LINE, SIX, TAGS, Translator
 
+# In each folder they come by their albums as by their names.
 SONGS = {
-    "a.wav": ["INAM=Alpha", "IART=One", "IPRD=First", "ICRD=2001", "IGNR=Folk", "ICMT=a_note"],
-    "b.wav": [],
-    "d/c.wav": ["IART=One", "IPRD=Second"],
+    "a.wav": [],
+    "b.wav": ["INAM=Alpha", "IART=One", "IPRD=First", "ICRD=2001", "IGNR=Folk", "ICMT=a_note"],
+    "d/c.wav": ["INAM=Zoë", "IGNR=Folk"],
     "d/e.wav": ["INAM=say_\"x\"", "IART=Two", "IPRD=First", "ICMT=Title:_no"],
-    "d/é é.wav": ["INAM=Zoë", "IGNR=Folk"],
+    "d/é é.wav": ["IART=One", "IPRD=Second"],
 }
-FIRST = ['add ""', "save old", "sticker set song a.wav n v", "command_list_begin\nplay 0\nstop\ncommand_list_end"]
+FIRST = ['add ""', "save old", "sticker set song a.wav n v", "command_list_begin\nplay 1\nstop\ncommand_list_end"]
 VALUES = ["", "One", "First", "x", "Zoë", 'say "x"', "2001", "a'b", "back\\slash"]
 ODD = ["", " ", "zzz", '"outputs', 'outputs"x"', "Outputs", "config", "volume", "subscribe x", "listfiles", "idle", "list"]
 ODD += ["outputs\r", "\0", 'find title "\r"', "outputs \udcff", "\udcc3", 'find "(\udcff)"', "tagtypes\x01", "list Album \x01"]

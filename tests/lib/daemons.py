@@ -136,17 +136,17 @@ class Daemon:
 
     def create(self):
         done = subprocess.run([self.program, "create", "c.toml"], cwd=self.folder, capture_output=True, timeout=LIMIT, check=False)
-        if done.returncode or not done.stdout.startswith(b"created "):
+        if done.returncode or done.stdout != b"created\n":
             raise Failure(f"create: {done}")
         return self
 
-    def start(self, limits=(), stdout=subprocess.DEVNULL, stderr=subprocess.PIPE, settings=None):
+    def start(self, limits=(), stdout=subprocess.DEVNULL, stderr=subprocess.PIPE, settings=None, ended_by=()):
         """Starts it, and waits until it listens; limits are pairs for setrlimit, settings what its environment has more. What it writes
-        to another standard error than a pipe of its own isn't taken."""
+        to another standard error than a pipe of its own isn't taken. These signals end it too, as in a shell."""
 
         def limit():
             # Signals end it, also where the test was begun by `nohup`.
-            for it in (signal.SIGHUP, signal.SIGINT, signal.SIGTERM):
+            for it in (signal.SIGHUP, signal.SIGINT, signal.SIGTERM, *ended_by):
                 signal.signal(it, signal.SIG_DFL)
             for what, count in limits:
                 resource.setrlimit(what, (count, resource.getrlimit(what)[1]))

@@ -7,6 +7,7 @@ No place is relative.
 import copy
 import functools
 import typing
+import unicodedata
 
 MASK = 2**32 - 1
 
@@ -76,6 +77,32 @@ def list_request(commands, is_list_ok):
 
 def by_bytes(texts):
     return sorted(texts, key=str.encode)
+
+
+# In the order in which a daemon with `stock_clients` has them, before all letters.
+SIGNS = " _-,;:!?.'\"()[]{}@*/\\&#%`^+<=>|~$0123456789"
+
+
+def letter(character):
+    """A sign or a digit by its place among them; a letter without its marks, whatever its case."""
+    if character in SIGNS:
+        return SIGNS.index(character)
+    base = unicodedata.normalize("NFD", character)[0]
+    return len(SIGNS) + ord(base.casefold() if len(base.casefold()) == 1 else base)
+
+
+def name_key(name):
+    return [letter(it) for it in name], name.encode()
+
+
+def folder_key(path):
+    return [(1, name_key(it)) for it in path.split("/")]
+
+
+def told_key(uri):
+    """A song in its folder, before the folders there; it has no album, disc or track."""
+    folder, slash, name = uri.rpartition("/")
+    return [*(folder_key(folder) if slash else []), (0, name_key(name))]
 
 
 def span(text, length):
@@ -178,10 +205,14 @@ class State:
         parts = [frozenset(it.items()) for it in (self.settings, self.playlists, self.stickers, self.songs)]
         return self.version, self.queue, *parts
 
+    def told(self, uris):
+        """Songs in the order in which they are told."""
+        return sorted(uris, key=told_key) if self.is_wide else by_bytes(uris)
+
     def songs_of(self, uri):
         """The song, or the songs below the folder, if one is there."""
         folder = "" if uri in ("", "/") else uri + "/"
-        return [uri] if uri in self.songs else by_bytes(it for it in self.songs if it.startswith(folder))
+        return [uri] if uri in self.songs else self.told(it for it in self.songs if it.startswith(folder))
 
     def songs_at(self, uri):
         """The same; a place that isn't there is refused."""
@@ -313,7 +344,7 @@ class State:
         pairs, parts = list(words), {}
         while pairs[-2] in ("sort", "window", "position"):
             *pairs, name, parts[name] = pairs
-        found, order = self.matching(by_bytes(self.songs), pairs, is_folded), parts.get("sort", "file")
+        found, order = self.matching(self.told(self.songs), pairs, is_folded), parts.get("sort", "file")
         found.sort(key=lambda uri: [it.encode() for it in self.texts(uri, order.removeprefix("-"))], reverse=order.startswith("-"))
         # Past the end a window has nothing.
         first, end = span(parts.get("window", "0:"), max(len(found), int(parts.get("window", "0:").split(":")[0])))

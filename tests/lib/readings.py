@@ -39,9 +39,11 @@ class Readable(model.State):
         return f"artists: 0\nalbums: 0\nsongs: {len(self.songs)}\ndb_playtime: {self.milliseconds(self.songs)}\n"
 
     def paths(self):
-        """The folders and the songs, by the bytes of their paths, a folder before a song."""
+        """The folders and the songs as they are told: by the bytes of their paths, a folder before a song; or folder by folder."""
         folders = {(uri[:at], "directory") for uri in self.songs for at, it in enumerate(uri) if it == "/"}
-        return sorted([*folders, *((it, "file") for it in self.songs)], key=lambda it: (it[0].encode(), it[1]))
+        told = lambda it: model.told_key(it[0]) if it[1] == "file" else model.folder_key(it[0])
+        paths = [*folders, *((it, "file") for it in self.songs)]
+        return sorted(paths, key=told if self.is_wide else lambda it: (it[0].encode(), it[1]))
 
     def below(self, uri):
         """The folders and songs below a place, with what stands behind it; of a song's URI that song alone."""
@@ -63,7 +65,8 @@ class Readable(model.State):
         found = self.below(uri)
         right = [(path, kind) for path, kind, rest in found if "/" not in rest or path == uri]
         folders = "".join(f"directory: {path}\n" for path, kind in right if kind == "directory")
-        return folders + self.song_lines(path for path, kind in right if kind == "file")
+        songs = self.song_lines(path for path, kind in right if kind == "file")
+        return songs + folders if self.is_wide else folders + songs
 
     def find(self, *words):
         return self.song_lines(self.found(words, False)[0])

@@ -21,6 +21,7 @@ LEFT_OUT = {
     "tests/kills": "the part `kills` has it",
     "tests/run": "it would run this test too",
     "tests/gate": "it proves every crate",
+    "apt": "it changes the machine",
     "contrib/import_mpd": "it wants an MPD in the network; the part `import` has one here",
 }
 # What is run only where these commands are on the path.

@@ -1,12 +1,14 @@
 """The rows of tests/install about what isn't as it was laid: the drive of a journal is away, its files are empty, a file stands where the
 pipe is to be, a player takes nothing; of `./start`, the units, contrib/install and contrib/sound."""
 
+import errno
 import fcntl
 import os
 import stat
 import subprocess
 import sys
 import threading
+import types
 
 from daemons import LIMIT, check, wait_for
 from homes import NAME, ROOT, Home, Service, content, put, run_before, script_of
@@ -201,6 +203,31 @@ def daemon_that_runs_on(program, folder):
 # The sound.
 
 
+def lock_of_a_journal(_, folder):
+    """Whether a journal is in use is asked of a file that may write, as a network wants it (NFS). A fault is none of it; where the file
+    system knows no locks, nobody can tell."""
+    put(f"{folder}/a", "x")
+    script = script_of("contrib/lib/journals.py")
+    journal = script.Journal(folder, [f"{folder}/a", f"{folder}/b"])
+    check("one that nobody has", journal.is_in_use(), False)
+    with open(f"{folder}/a", "r+b") as file:
+        fcntl.flock(file, fcntl.LOCK_EX)
+        check("one that another has", journal.is_in_use(), True)
+    for number, wanted in ((errno.EAGAIN, True), (errno.EOPNOTSUPP, False), (errno.ENOSYS, False), (errno.ENOLCK, None), (errno.EBADF, None)):
+
+        def flock(file, _, number=number):
+            check("how it is open", fcntl.fcntl(file, fcntl.F_GETFL) & os.O_ACCMODE, os.O_RDWR)
+            raise OSError(number, os.strerror(number))
+
+        script.fcntl = types.SimpleNamespace(flock=flock, LOCK_EX=fcntl.LOCK_EX, LOCK_NB=fcntl.LOCK_NB)
+        try:
+            found = journal.is_in_use()
+        except OSError as fault:
+            check("what is told", (fault.errno, fault.filename), (number, f"{folder}/a"))
+            found = None
+        check(os.strerror(number), found, wanted)
+
+
 def sound_without_a_pipe(program, folder):
     """A file that the daemon has locked is no pipe, nor is one that is to be followed."""
     del program
@@ -252,6 +279,7 @@ ROWS = [
     installed_without_the_drive,
     words_that_are_not_taken,
     daemon_that_runs_on,
+    lock_of_a_journal,
     sound_without_a_pipe,
     player_that_takes_nothing,
 ]

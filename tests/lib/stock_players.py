@@ -16,8 +16,8 @@ from translator import MODIFIED_LINE
 # of the player's state, in which versions of mpc differ.
 MPC = [
     ("-f %file% playlist", 0, "a.wav|b.wav|d/c.wav|d/e.wav|d/é é.wav"),
-    ("playlist", 0, 'One - Alpha|b.wav|One - |Two - say "x"|Zoë'),
-    ("ls", 0, "d|a.wav|b.wav|old"),
+    ("playlist", 0, 'a.wav|One - Alpha|Zoë|Two - say "x"|One - '),
+    ("ls", 0, "a.wav|b.wav|d|old"),
     ("lsplaylists", 0, "old"),
     ("outputs", 0, "Output 1 (output) is enabled"),
     ("enable 1", 0, "Output 1 (output) is enabled"),
@@ -33,7 +33,7 @@ MPC = [
     ("replaygain", 0, "replay_gain_mode: off"),
     ("replaygain off", 0, ""),
     ("replaygain album", 1, "MPD error: Unrecognized replay gain mode"),
-    ("find albumartist One", 0, "a.wav|d/c.wav"),
+    ("find albumartist One", 0, "b.wav|d/é é.wav"),
     ("-f %file% search artist two", 0, "d/e.wav"),
     ("search composer x", 0, ""),
     ("list albumartist", 0, "|One|Two"),
@@ -48,17 +48,17 @@ MPC = [
     ("clear", 0, None),
     ("findadd albumsort Second", 0, ""),
     ("searchadd filename E.WAV", 0, ""),
-    ("-f %file% playlist", 0, "d/c.wav|d/e.wav"),
+    ("-f %file% playlist", 0, "d/é é.wav|d/e.wav"),
     ("save made", 0, ""),
     ("clear", 0, None),
     ("load made", 0, "loading: made"),
-    ("-f %file% playlist", 0, "d/c.wav|d/e.wav"),
+    ("-f %file% playlist", 0, "d/é é.wav|d/e.wav"),
 ]
-A = {"file": "a.wav", "title": "Alpha", "artist": "One", "album": "First", "date": "2001", "genre": "Folk"}
+A = {"file": "b.wav", "title": "Alpha", "artist": "One", "album": "First", "date": "2001", "genre": "Folk"}
 SOUND = {"last-modified": MODIFIED_LINE.decode().split(": ")[1], "format": "8000:16:1", "time": "2", "duration": "2.000"}
 A |= {"comment": "a note", **SOUND}
-C = {"file": "d/c.wav", "artist": "One", "album": "Second", **SOUND}
-NAKED = {"file": "a.wav", "pos": "0", "id": "1", **SOUND}
+C = {"file": "d/é é.wav", "artist": "One", "album": "Second", **SOUND}
+NAKED = {"file": "b.wav", "pos": "1", "id": "2", **SOUND}
 ALBUMS = [{"artist": "", "album": ""}, {"artist": "One", "album": ["First", "Second"]}, {"artist": "Two", "album": "First"}]
 OLD = {"playlist": "old", "last-modified": "1970-01-01T00:00:00Z"}
 ALWAYS_ON = "![2@0] {%s} the only output is always on"
@@ -67,16 +67,16 @@ UNKNOWN = '![5@0] {} unknown command "%s"'
 PYTHON_MPD = [
     ("tagtypes clear", []),
     ("currentsong", NAKED),
-    ("playlistid 1", [NAKED]),
+    ("playlistid 2", [NAKED]),
     ("tagtypes enable Title", []),
     ("tagtypes", ["Title"]),
     ("tagtypes all", []),
-    ("currentsong", {**A, "pos": "0", "id": "1"}),
+    ("currentsong", {**A, "pos": "1", "id": "2"}),
     ("playlist", [f"file: {it}" for it in ("a.wav", "b.wav", "d/c.wav", "d/e.wav", "d/é é.wav")]),
-    ("lsinfo", [{"directory": "d"}, A, {"file": "b.wav", **SOUND}, OLD]),
+    ("lsinfo", [{"file": "a.wav", **SOUND}, A, {"directory": "d"}, OLD]),
     ("listplaylists", [OLD]),
     ("listall d", [{"directory": "d"}, *({"file": f"d/{it}.wav"} for it in ("c", "e", "é é"))]),
-    ("list file albumartist One", [{"file": "a.wav"}, {"file": "d/c.wav"}]),
+    ("list file albumartist One", [{"file": "b.wav"}, {"file": "d/é é.wav"}]),
     ("list album group artist", ALBUMS),
     ("list album artist One", [{"album": "First"}, {"album": "Second"}]),
     ("list album One", [{"album": "First"}, {"album": "Second"}]),
@@ -86,10 +86,10 @@ PYTHON_MPD = [
     ("count artist One", {"songs": "2", "playtime": "4"}),
     ("count artist One group genre", {"genre": ["", "Folk"], "songs": ["1", "1"], "playtime": ["2", "2"]}),
     ("find albumartist One", [A, C]),
-    ("find filename a.wav", [A]),
+    ("find filename b.wav", [A]),
     ("find any One sort Track window 0:1", [A]),
     ("search (Composer=='x')", []),
-    ("playlistfind albumsort Second", [{**C, "pos": "2", "id": "3"}]),
+    ("playlistfind albumsort Second", [{**C, "pos": "4", "id": "5"}]),
     ("outputs", [{"outputid": "0", "outputname": "output", "plugin": "raw", "outputenabled": "1"}]),
     ("enableoutput 0", None),
     ("disableoutput 0", ALWAYS_ON % "disableoutput"),
@@ -153,7 +153,7 @@ NCMPCPP = [
 ]
 NCMPC = [
     ("F2", ["Queue", "One - Alpha", "Zoë"]),
-    ("F3", ["Browse", "[d]", "b.wav", "old"]),
+    ("F3", ["Browse", "[d]", "a.wav", "old"]),
     ("F4", ["Artists", "[]", "[One]", "[Two]"]),
     ("F8", ["[X] output", "Partition: default"]),
 ]
@@ -251,7 +251,7 @@ def mpdris2(daemon):
         words = ["dbus-run-session", "--", "sh", "-c", MPDRIS2, "sh", daemon.path, folder]
         settings = {**SETTINGS, "HOME": folder, "XDG_CONFIG_HOME": folder}
         ran = subprocess.run(words, capture_output=True, text=True, timeout=LIMIT, check=False, env=settings)
-        for it in ("xesam:title variant Alpha", "xesam:album variant First", "array [ One ]", "xesam:url variant a.wav", "int64 2000000"):
+        for it in ("xesam:title variant Alpha", "xesam:album variant First", "array [ One ]", "xesam:url variant b.wav", "int64 2000000"):
             if it not in ran.stdout:
                 raise Failure(f"mpDris2: no {it} in {ran.stdout}{ran.stderr}")
         with daemon.client() as client:

@@ -3,20 +3,20 @@ the songs of lib/conversations.py. A text in place of lines is a refusal's code 
 
 from translator import DECODERS, MODIFIED_LINE, TAGS
 
-A = """file: a.wav|Format: 8000:16:1|Title: Alpha|Artist: One|Album: First|Date: 2001|Genre: Folk|Comment: a note|Time: 2|duration: 2.000"""
-B = "file: b.wav|Format: 8000:16:1|Time: 2|duration: 2.000"
-C = "file: d/c.wav|Format: 8000:16:1|Artist: One|Album: Second|Time: 2|duration: 2.000"
+A = """file: b.wav|Format: 8000:16:1|Title: Alpha|Artist: One|Album: First|Date: 2001|Genre: Folk|Comment: a note|Time: 2|duration: 2.000"""
+B = "file: a.wav|Format: 8000:16:1|Time: 2|duration: 2.000"
+C = "file: d/é é.wav|Format: 8000:16:1|Artist: One|Album: Second|Time: 2|duration: 2.000"
 E = 'file: d/e.wav|Format: 8000:16:1|Title: say "x"|Artist: Two|Album: First|Comment: Title: no|Time: 2|duration: 2.000'
-Z = "file: d/é é.wav|Format: 8000:16:1|Title: Zoë|Genre: Folk|Time: 2|duration: 2.000"
+Z = "file: d/c.wav|Format: 8000:16:1|Title: Zoë|Genre: Folk|Time: 2|duration: 2.000"
 A, B, C, E, Z = ([name, MODIFIED_LINE.decode(), *lines] for name, *lines in (it.split("|") for it in (A, B, C, E, Z)))
 # Behind each playlist.
 NO_TIME = "Last-Modified: 1970-01-01T00:00:00Z"
-ROOT = ["directory: d", *A, *B, "playlist: old", NO_TIME]
-FILES = [it[0] for it in (A, B, C, E, Z)]
+ROOT = [*B, *A, "directory: d", "playlist: old", NO_TIME]
+FILES = [it[0] for it in (B, A, Z, E, C)]
 BELOW = ["directory: d", *FILES[2:]]
-QUEUE = [[*song, f"Pos: {place}", f"Id: {place + 1}"] for place, song in enumerate((A, B, C, E, Z))]
-STATUS = """volume: 100|repeat: 0|random: 0|single: 0|consume: 0|playlist: 2|playlistlength: 5|state: stop|song: 0|songid: 1|nextsong: 1
-nextsongid: 2|partition: default|mixrampdb: 0""".replace("\n", "|").split("|")
+QUEUE = [[*song, f"Pos: {place}", f"Id: {place + 1}"] for place, song in enumerate((B, A, Z, E, C))]
+STATUS = """volume: 100|repeat: 0|random: 0|single: 0|consume: 0|playlist: 2|playlistlength: 5|state: stop|song: 1|songid: 2|nextsong: 2
+nextsongid: 3|partition: default|mixrampdb: 0""".replace("\n", "|").split("|")
 NAMES = """albumart binarylimit channels crossfade decoders disableoutput enableoutput getvol listmounts listneighbors listpartitions
 mixrampdb mixrampdelay outputs outputset partition password playlist readcomments readpicture replay_gain_mode replay_gain_status
 sendmessage toggleoutput urlhandlers volume""".split()
@@ -97,7 +97,7 @@ ROWS = [
     ('lsinfo ""', ROOT),
     ('lsinfo "/"', ROOT),
     ("lsinfo /", ROOT),
-    ("lsinfo d", [*C, *E, *Z]),
+    ("lsinfo d", [*Z, *E, *C]),
     ("lsinfo zzz", "50 No such file or directory"),
     ('lsinfo "" x', '2 wrong number of arguments for "lsinfo"'),
     ("listplaylists", ["playlist: old", NO_TIME]),
@@ -113,10 +113,10 @@ ROWS = [
     ("listall d/", "50 No such file or directory"),
     ("listall zzz", "50 No such file or directory"),
     ("listall d x", '2 wrong number of arguments for "listall"'),
-    ("listallinfo /", [*A, *B, "directory: d", *C, *E, *Z]),
-    ("listallinfo d", ["directory: d", *C, *E, *Z]),
-    ("listallinfo a.wav", A),
-    ("listallinfo d/c.wav", C),
+    ("listallinfo /", [*B, *A, "directory: d", *Z, *E, *C]),
+    ("listallinfo d", ["directory: d", *Z, *E, *C]),
+    ("listallinfo b.wav", A),
+    ("listallinfo d/c.wav", Z),
     ("listallinfo zzz", "50 No such file or directory"),
     # Values of tags.
     ("list AlbumArtist", ["AlbumArtist: ", "AlbumArtist: One", "AlbumArtist: Two"]),
@@ -142,8 +142,8 @@ ROWS = [
     # The files of songs.
     ("list file", FILES),
     ("list FileName", FILES),
-    ("list FILE artist One", [FILES[0], FILES[2]]),
-    ('list filename "(AlbumArtist == \'One\')"', [FILES[0], FILES[2]]),
+    ("list FILE artist One", [FILES[1], FILES[4]]),
+    ('list filename "(AlbumArtist == \'One\')"', [FILES[1], FILES[4]]),
     ("list file base d filename d/e.wav", [FILES[3]]),
     ('list file Composer ""', FILES),
     ("list file Composer x", []),
@@ -178,9 +178,9 @@ ROWS = [
     # Filters.
     ("find AlbumArtist One", [*A, *C]),
     ("find albumsort Second artistsort One", C),
-    ("find filename b.wav", B),
+    ("find filename b.wav", A),
     ("find Composer x", []),
-    ('find Composer "" file b.wav', B),
+    ('find Composer "" file b.wav', A),
     ("find Composer x foo a", '2 unknown tag "foo"'),
     ("find Composer", '2 wrong number of arguments for "find"'),
     ("search ALBUMARTIST one sort -AlbumSort", [*C, *A]),
@@ -191,11 +191,11 @@ ROWS = [
     ("find Artist One sort foo", '2 unknown tag "foo"'),
     ("find base d sort AlbumArtist window 0:2", [*Z, *C]),
     ('find "(AlbumArtist == \\"One\\")" sort Title', [*C, *A]),
-    ('find "((AlbumArtist != \'One\') AND (Composer == \'\'))"', [*B, *E, *Z]),
-    ("find \"(!(Composer != ''))\" window 4:", Z),
-    ('find "(Composer contains \'\')" window 0:1', A),
+    ('find "((AlbumArtist != \'One\') AND (Composer == \'\'))"', [*B, *Z, *E]),
+    ("find \"(!(Composer != ''))\" window 4:", C),
+    ('find "(Composer contains \'\')" window 0:1', B),
     ('find "(Composer contains \'x\')"', []),
-    ('find "(filename == \'d/c.wav\')"', C),
+    ('find "(filename == \'d/c.wav\')"', Z),
     ('find "(Mood == \'x\')"', '2 unknown tag "Mood"'),
     ('find "(AlbumArtist =~ \'x\')"', "2 bad filter"),
     ("count AlbumArtist One", ["songs: 2", "playtime: 4"]),
@@ -205,11 +205,11 @@ ROWS = [
     ("playlistfind Work x", []),
     ("playlistfind Work x sort Title", '2 unknown tag "sort"'),
     # An empty value is within each text, also where there is none.
-    ('search title ""', [*A, *B, *C, *E, *Z]),
-    ('search ANY ""', [*A, *B, *C, *E, *Z]),
+    ('search title ""', [*B, *A, *Z, *E, *C]),
+    ('search ANY ""', [*B, *A, *Z, *E, *C]),
     ('search FileName "" artist two', E),
     ('search artist "" albumartist "" base d title say', E),
-    ('search base "" window 1:2', B),
+    ('search base "" window 1:2', A),
     ('search foo ""', '2 unknown tag "foo"'),
     ('search sort "" ""', '2 wrong number of arguments for "search"'),
     ('search title "" foo x', '2 unknown tag "foo"'),
@@ -221,17 +221,17 @@ ROWS = [
     # All songs were changed at one time.
     ("find modified-since 1600000000 title Alpha", A),
     ("find modified-since 1600000001 title Alpha", []),
-    ("find \"(modified-since '2020-09-13T12:26:40Z')\" window 1:2", B),
+    ("find \"(modified-since '2020-09-13T12:26:40Z')\" window 1:2", A),
     ("find \"((modified-since '2020-09-13T12:26:41Z') AND (Title == 'Alpha'))\"", []),
     ("find Artist One sort Last-Modified", [*A, *C]),
     ("search artist one sort -last-modified window 1:", C),
     ("find \"(Artist == 'One')\" sort -Last-Modified", [*A, *C]),
     ("find Artist One sort Last-Modifie", '2 unknown tag "Last-Modifie"'),
     # Songs but one.
-    ("find \"(file != 'a.wav')\" window 1:3", [*C, *E]),
-    ("find \"((Artist == 'One') AND ( FileName!= \\\"a.wav\\\" ))\"", C),
-    ("find \"(!(FILE != 'b.wav'))\"", B),
-    ("find \"(file != '')\" window 0:1", A),
+    ("find \"(file != 'a.wav')\" window 1:3", [*Z, *E]),
+    ("find \"((Artist == 'One') AND ( FileName!= \\\"b.wav\\\" ))\"", C),
+    ("find \"(!(FILE != 'b.wav'))\"", A),
+    ("find \"(file != '')\" window 0:1", B),
     ("count \"(filename != 'gone')\"", ["songs: 5", "playtime: 10"]),
     ("list file \"(file != 'd/e.wav')\"", [*FILES[:3], *FILES[4:]]),
     ("find \"(file != a.wav)\"", "2 bad filter"),
@@ -252,7 +252,7 @@ ROWS = [
     ("searchaddpl a/b Composer x", "2 bad playlist name"),
     ("searchaddpl a Composer", '2 wrong number of arguments for "searchaddpl"'),
     # What goes on as it is.
-    ("currentsong", QUEUE[0]),
+    ("currentsong", QUEUE[1]),
     ("playlistinfo 2:4", [*QUEUE[2], *QUEUE[3]]),
     ("config", '5 unknown command "config"'),
     # What is asked in steps, of which a list has none.

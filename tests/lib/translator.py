@@ -164,7 +164,7 @@ def for_plain(line, alone, name, given):
     if name == "commands":
         return commands(line)
     if name == "lsinfo" and given in ([], [""], ["/"]):
-        return Part([b"lsinfo", b"listplaylists"], name, has_songs=True, told=dated)
+        return root()
     if name == "listplaylists":
         return Part([line], name, has_songs=True, told=dated)
     if name in ("listall", "listallinfo") and len(given) == 1 and given[0] not in ("", "/"):
@@ -210,6 +210,25 @@ def foreign(name, given):
 def dated(line, number):
     """No time is known of a playlist."""
     return line + b"\nLast-Modified: 1970-01-01T00:00:00Z" if line.startswith(b"playlist: ") else line
+
+
+def root():
+    """Folders are told behind the songs, before the playlists."""
+    folders = []
+
+    def told(line, number):
+        if line.startswith(b"directory: "):
+            folders.append(line)
+            return None
+        if not line.startswith(b"playlist: "):
+            return line
+        return b"\n".join([*taken(), dated(line, number)])
+
+    def taken():
+        found, folders[:] = [*folders], []
+        return found
+
+    return Part([b"lsinfo", b"listplaylists"], "lsinfo", has_songs=True, told=told, more=lambda mask: [it.decode() for it in taken()])
 
 
 def below(folder):

@@ -51,6 +51,14 @@ fn ran(
     stage.run(alloc, events)
 }
 
+fn ran_in_groups(
+    stage: &mut Stage,
+    alloc: Global,
+    events: Vec<Event>,
+) -> Result<Vec<TurnResult<TestDisk>>, LiveError> {
+    stage.run_groups(alloc, events)
+}
+
 fn grouped(
     stage: &mut Stage,
     alloc: Global,
@@ -122,11 +130,16 @@ fn keep(desk: &mut Desk, line: &str) -> Result<(), Fault> {
     }
 }
 
-/// Lets the events that were kept happen in a run.
-fn run(stage: &mut Stage, desk: &mut Desk) {
+/// Lets the events that were kept happen in a run, in groups or one at a time.
+fn run(stage: &mut Stage, desk: &mut Desk, is_grouped: bool) {
     let alloc = desk.printer.alloc;
     let events = mem::replace(&mut desk.later, Vec::new(alloc));
-    match ran(stage, alloc, events) {
+    let answered = if is_grouped {
+        ran_in_groups(stage, alloc, events)
+    } else {
+        ran(stage, alloc, events)
+    };
+    match answered {
         Ok(answers) => {
             for answer in answers {
                 tell_answer(&mut desk.printer, answer);
@@ -198,7 +211,8 @@ pub fn take_stage_line(stage: &mut Stage, desk: &mut Desk, line: &str) -> Result
         "later" => return keep(desk, rest),
         "put" => return put(&mut desk.collected, alloc, rest),
         "drop" => return drop_row(&mut desk.collected, alloc, rest),
-        "run" => run(stage, desk),
+        "run" => run(stage, desk, false),
+        "run_groups" => run(stage, desk, true),
         "group" => group(stage, desk),
         "checkpoint" => checkpoint(stage, &mut desk.printer),
         "stage" => tell(stage, &mut desk.printer),

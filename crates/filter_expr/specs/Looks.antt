@@ -33,6 +33,11 @@ abbrev pub looked_up : Case → Tree → Option (Tag × List ℕ)
 looked_up Exact tree = needed_value tree
 looked_up Folded tree = None
 
+-- how many songs are asked: all, or those with the value
+abbrev pub asked : Option (Tag × List ℕ) → List Row → ℕ
+asked None songs = length songs
+asked (Some needed) songs = count_by (has_value needed.0 needed.1) songs
+
 -- each song is asked all tests; or each with the value, by which it was looked up, the others
 abbrev pub looks_by : Option (Tag × List ℕ) → ℕ → ℕ → List Row → ℕ
 looks_by None tests more songs = (tests + more) * length songs

@@ -3,7 +3,7 @@ ghost use Rattle.std.specs.Prelude.{◌≡◌, ◌*◌, ◌≤◌, count_by, IfO
 ghost use Rattle.song_db.specs.Valued.{has_value, numbers_of};
 ghost use Rattle.filter_expr.specs.Words.{Gives, filter_of};
 ghost use Rattle.filter_expr.specs.AsciiSong.{IsAsciiSong};
-ghost use Rattle.filter_expr.specs.Looks.{song_looks, tests_of};
+ghost use Rattle.filter_expr.specs.Looks.{asked, looked_up, song_looks, tests_of};
 ghost use Rattle.filter_expr.specs.Meaning.{song_of, is_match};
 ghost use Rattle.filter_expr.specs.declared.case.Case.TheVariants.{Exact, Folded};
 
@@ -90,6 +90,19 @@ impl Filter {
         ensures { result ≡ tests_of self.now }
     {
         self.root.tests()
+    }
+
+    /// How many songs are asked: those with a value by which they are looked up, or all. It takes no memory.
+    pub fn candidates(&self, songs: &SongDb, case: Case) -> usize
+        ensures { result ≡ asked (looked_up case self.now) songs.now }
+    {
+        if case == Case::Folded {
+            return songs.len();
+        }
+        match self.root.needed_value() {
+            Some((tag, value)) => songs.count_with(tag, value.text()),
+            None => songs.len(),
+        }
     }
 
     /// How often songs are looked at where they are asked this filter: each once for each test, and so much more. Where the case counts,

@@ -1,12 +1,14 @@
 -- Records decoded one after the other.
-use Rattle.std.proofs.Common.{◌≡◌, ℕ, ◌+◌, ◌-◌, ◌^◌, ◌<◌, ◌∙◌, ap, arith, min, List, [], ◌∷◌, length, get_or, drop, Result, Ok, Err, Some, refl, sym, subst}
+use Rattle.std.proofs.Common.{◌≡◌, ℕ, ◌+◌, ◌-◌, ◌^◌, ◌<◌, ◌∙◌, ap, arith, min, List, [], ◌∷◌, length, get_or, drop, Result, Ok, Err, Some, None, refl, sym, subst}
 use Rattle.std.proofs.lemmas.List.{drop_more}
 use Rattle.state_codec.specs.SavedState.{SavedState}
 use Rattle.state_codec.specs.Answers.{GivesSaved}
 use Rattle.state_codec.specs.declared.refusal.CodecError.{CodecError}
 use Rattle.state_codec.specs.declared.refusal.CodecError.TheVariants.{NoMemory, BadOp, BadSnapshot}
+use Rattle.live_stage.specs.declared.refusal.StartError.{StartError}
+use Rattle.live_stage.specs.declared.refusal.StartError.TheVariants as start
 use Rattle.live_stage.specs.declared.refusal.StartError.TheVariants.{Damaged}
-use Rattle.live_stage.specs.Decoding.{GivesState, snapshot_error}
+use Rattle.live_stage.specs.Decoding.{GivesAfter, GivesState, snapshot_error}
 use Rattle.state_codec.specs.Reading.{saved_reading}
 use Rattle.live_stage.specs.Found.{after_record, records_reading, stored_reading}
 
@@ -53,3 +55,24 @@ read_on layout counted place middle next records body s after all within is give
       is = read.is ∙ ap (λ rest. records_reading layout read.gate rest s) cut
           ∙ one_more layout read.gate body (drop (place + 1) records) s after gives;
     }
+
+no_more : (layout gate : ℕ) (body : List ℕ) (bodies : List (List ℕ)) (s : SavedState) → after_record layout body s ≡ None
+    → records_reading layout gate (body ∷ bodies) s ≡ Err gate
+no_more layout gate body bodies s gives = rw gives refl
+
+-- what reading a record answers, where it is refused
+pub refused_record : (layout counted place : ℕ) (records : List (List ℕ)) (body : List ℕ) (s new : SavedState) (e : StartError)
+    (all : Result SavedState ℕ) → place < length records → body ≡ get_or records place []
+    → GivesAfter counted (Err e) new (after_record layout body s) → IsReadTo layout counted s (drop place records) all
+    → GivesState (Err e) all
+refused_record layout counted place records body s new start.NotEmpty all within is gives read = elim gives [ ]
+refused_record layout counted place records body s new start.NoJournal all within is gives read = elim gives [ ]
+refused_record layout counted place records body s new (start.Damaged offset) all within is gives read =
+    let cut : drop place records ≡ body ∷ drop (place + 1) records =
+    drop_more records place [] within ∙ ap (λ b. b ∷ drop (place + 1) records) (sym is) in
+    let whole : all ≡ Err read.gate = read.is ∙ ap (λ rest. records_reading layout read.gate rest s) cut
+    ∙ no_more layout read.gate body (drop (place + 1) records) s gives.1 in
+    subst (λ r. GivesState (Err (Damaged offset)) r) (sym whole) (gives.0 ∙ read.counts)
+refused_record layout counted place records body s new start.NoMemory all within is gives read = tt
+refused_record layout counted place records body s new start.NumbersSpent all within is gives read = elim gives [ ]
+refused_record layout counted place records body s new start.Broken all within is gives read = elim gives [ ]

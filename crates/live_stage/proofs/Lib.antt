@@ -11,3 +11,6 @@ pub mod GroupLaws
 pub mod StagingLaws
 pub mod PhaseLaws
 pub mod HandledLaws
+pub mod HistoryLaws
+pub mod GroupRunLaws
+pub mod GroupMadeLaws

@@ -159,6 +159,15 @@ pub record IsGroup {D : Type 0} (old : LiveState D) (turns : List Answer) (new :
   pub file : new.file ≡ file_with (group_file old turns) (bodies_after old.state (history_in turns))
   pub none : turns ≡ [] → new ≡ old
 
+-- The answers of groups that followed one another are those of the steps of one history, in order, each of its own event and with the state
+-- before it. Behind them the stage has counted these events and has the state after them.
+pub record IsOneHistory {D : Type 0} (old : LiveState D) (turns : List Answer) (new : LiveState D) : Type 0 where
+  pub transcript : IsTranscript old [] (asked_by turns) (map Ok turns)
+  pub before : BearTheirStates old.state [] turns
+  pub state : new.state ≡ replayed old.state (history_in turns)
+  pub event : new.numbers.event ≡ old.numbers.event + length turns
+  pub numbers : new.numbers ≡ numbers_after old.state old.numbers (history_in turns)
+
 -- ---- what a restart finds
 
 -- the saved state from before a group, or the one behind its last event, by this history

@@ -9,3 +9,4 @@ pub mod Turns
 pub mod Writing
 pub mod Group
 pub mod Staging
+pub mod GroupRun

@@ -1,12 +1,12 @@
 //! Laws of the definitions, for the layers above: a call brings its clauses into their proofs.
-ghost use Rattle.std.specs.Prelude.{◌≡◌, ◌≤◌, ◌*◌, Bool, List, [], ◌∷◌, Some, sum_by};
+ghost use Rattle.std.specs.Prelude.{◌≡◌, ◌≤◌, ◌*◌, Bool, List, [], ◌∷◌, ◌++◌, Some, sum_by};
 ghost use Rattle.disk_model.specs.History.{Change};
 ghost use Rattle.daemon_core.specs.Replay.{Entry, replay};
 ghost use Rattle.daemon_core.specs.State.{State, start};
 ghost use Rattle.daemon_core.specs.declared.event.Event.{Event};
 ghost use Rattle.live_stage.specs.Answer.{Answer, IsTurn};
 ghost use Rattle.live_stage.specs.Found.{AllFindNow, AllOpenNow};
-ghost use Rattle.live_stage.specs.Group.{EndsThere, IsGroup, answer_looks};
+ghost use Rattle.live_stage.specs.Group.{EndsThere, IsGroup, IsOneHistory, answer_looks};
 ghost use Rattle.live_stage.specs.LiveState.{LiveState};
 ghost use Rattle.live_stage.specs.Transcript.{replayed};
 ghost use Rattle.machine_core.specs.Looks.{max_looks};
@@ -24,6 +24,14 @@ pub fn run_from_the_start_is_the_replay()
 /// A group that gives one answer is a turn.
 pub fn group_of_one_is_a_turn<D: Disk>()
     ensures { (old new : LiveState D) (t : Answer) → IsGroup old (t ∷ []) new → IsTurn old t.asked t new }
+{}
+
+/// Groups that follow one another are one history, whatever checkpoints and refusals lie between them, which change neither the state nor
+/// its numbers.
+pub fn groups_are_one_history<D: Disk>()
+    ensures first { (old new : LiveState D) (turns : List Answer) → IsGroup old turns new → IsOneHistory old turns new }
+    ensures next { (old between begun new : LiveState D) (turns more : List Answer) → IsOneHistory old turns between
+        → begun.state ≡ between.state → begun.numbers ≡ between.numbers → IsGroup begun more new → IsOneHistory old (turns ++ more) new }
 {}
 
 /// The events of a group look at twice as much as one request may, at most.

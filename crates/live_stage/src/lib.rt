@@ -4,6 +4,7 @@
 mod checkpointing;
 mod decoding;
 mod due;
+mod group_run;
 pub mod laws;
 mod live;
 mod recording;

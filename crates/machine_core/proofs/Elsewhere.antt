@@ -1,6 +1,6 @@
 -- Where a text lies in memory is nothing to what is found by it.
 use Rattle.std.proofs.Common.{◌≡◌, ℕ, Bool, true, false, ◌&&◌, ◌||◌, List, [], ◌++◌}
-use Rattle.std.proofs.Common.{Option, Some, None, Ok, Err, map, refl, ap, codes, Bor}
+use Rattle.std.proofs.Common.{Option, Some, None, Ok, Err, map, refl, ap, ◌∙◌, codes, Bor}
 use Rattle.std.proofs.lemmas.List.Elements.{filter_agree}
 use Rattle.std.specs.Prelude.{if◌then◌else◌}
 use Rattle.std.specs.Str.{bytes_eq}
@@ -9,6 +9,7 @@ use Rattle.profile.specs.declared.profile.Profile.{Profile}
 use Rattle.profile.specs.declared.profile.Profile.TheVariants.{Named, Wide}
 use Rattle.song_db.specs.Place.{is_under, place_of}
 use Rattle.song_db.specs.Query.{is_folder}
+use Rattle.song_db.specs.Row.{Row}
 use Rattle.song_db.specs.declared.place.Place.{Place}
 use Rattle.song_db.specs.declared.place.Place.TheVariants.{At}
 use Rattle.state_codec.specs.SavedState.{SavedState}
@@ -25,6 +26,11 @@ same_lists : (profile : Profile) (lists : Stored) (a b : Bor (List ℕ)) → roo
 same_lists Named lists a b = refl
 same_lists Wide lists a b = refl
 
+same_content : (profile : Profile) (songs : List Row) (path : Bor (List ℕ))
+    → content_lines profile songs (At (lent path.now)) ≡ content_lines profile songs (At path)
+same_content Named songs path = refl
+same_content Wide songs path = refl
+
 pub same_folder_info : (path : Bor (List ℕ)) (s : SavedState)
     → folder_info s (place_of (lent path.now)) ≡ folder_info s (place_of path)
 same_folder_info path s = by_cases (bytes_eq path.now [] || bytes_eq path.now (codes "/")) refl where
@@ -32,8 +38,10 @@ same_folder_info path s = by_cases (bytes_eq path.now [] || bytes_eq path.now (c
       → folder_info s (place_of (lent path.now)) ≡ folder_info s (place_of path)
   by_cases true is = rw is
   by_cases false is =
-      rw is (ap (λ (lists : List ℕ). if is_folder s.songs (At path) then Ok (content_lines s.songs (At path) ++ lists) else Err NoSuchUri)
-      (same_lists s.profile s.lists (lent path.now) path))
+      rw is (ap (λ (lists : List ℕ). if is_folder s.songs (At path) then Ok (content_lines s.profile s.songs (At (lent path.now)) ++ lists)
+      else Err NoSuchUri) (same_lists s.profile s.lists (lent path.now) path)
+      ∙ ap (λ (lines : List ℕ). if is_folder s.songs (At path) then Ok (lines ++ root_lists s.profile s.lists (At path)) else Err NoSuchUri)
+      (same_content s.profile s.songs path))
 
 pub same_below : (path : Bor (List ℕ)) (name : List ℕ) (test : ValueTest) (m : MachineState)
     → found_below (place_of (lent path.now)) name test m ≡ found_below (place_of path) name test m

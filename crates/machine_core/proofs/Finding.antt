@@ -4,4 +4,5 @@ pub mod Steps
 pub mod Numbers
 pub mod Selected
 pub mod Sorted
+pub mod Told
 pub mod Values

@@ -10,12 +10,14 @@ use Rattle.command_text.specs.declared.refusal.CommandRefusal.{CommandRefusal}
 use Rattle.command_text.specs.declared.refusal.CommandRefusal.TheVariants.{AlreadyUpdating, NoSuchUri}
 use Rattle.profile.specs.Profile.{tags_of}
 use Rattle.profile.specs.declared.profile.Profile.{Profile}
-use Rattle.profile.specs.declared.profile.Profile.TheVariants.{Wide}
+use Rattle.profile.specs.declared.profile.Profile.TheVariants.{Named, Wide}
 use Rattle.song_db.specs.Duration.{total_of}
 use Rattle.song_db.specs.Place.{place_of}
 use Rattle.song_db.specs.Query.{is_folder, folders_in, songs_in, values_of}
 use Rattle.song_db.specs.Row.{Row, row_at}
-use Rattle.song_db.specs.Walk.{Item, FolderAt, SongOf, walk_of}
+use Rattle.song_db.specs.Told.{told_under}
+use Rattle.song_db.specs.ToldWalk.{told_folders_in, told_songs_in}
+use Rattle.song_db.specs.Walk.{Item, FolderAt, SongOf}
 use Rattle.song_db.specs.declared.place.Place.{Place}
 use Rattle.song_db.specs.declared.place.Place.TheVariants.{Root, At}
 use Rattle.state_codec.specs.SavedState.{SavedState}
@@ -26,14 +28,18 @@ use Rattle.song_files.specs.declared.tag.Tag.TheVariants.{Artist, Album}
 use Rattle.machine_core.specs.Lent.{lent}
 use Rattle.machine_core.specs.Lists.{name_lines}
 use Rattle.machine_core.specs.Meaning.{Meant, must, says, answers, begins}
+use Rattle.machine_core.specs.Ordered.{walk_in}
 use Rattle.machine_core.specs.State.{MachineState}
 use Rattle.machine_core.specs.declared.answer_database.Detail.{Detail}
 use Rattle.machine_core.specs.declared.answer_database.Detail.TheVariants.{Paths, Songs}
 use Rattle.machine_core.specs.declared.job.Job.{Job}
 
--- the folders and the songs right in a place, by their bytes
-abbrev pub content_lines : List Row → Place → List ℕ
-content_lines songs place = flat_map directory_line (folders_in songs place) ++ flat_map song_lines (songs_in songs place)
+-- the folders and the songs right in a place, by their bytes; or the songs and then the folders, as they are told
+abbrev pub content_lines : Profile → List Row → Place → List ℕ
+content_lines Named songs place = flat_map directory_line (folders_in songs place) ++ flat_map song_lines (songs_in songs place)
+content_lines Wide songs place =
+    let rows = told_under songs place in
+    flat_map song_lines (told_songs_in place rows) ++ flat_map directory_line (told_folders_in place rows)
 
 -- the playlists, which the wide profile tells behind what stands right in the root
 abbrev pub root_lists : Profile → Stored → Place → List ℕ
@@ -42,7 +48,7 @@ root_lists profile lists place = []
 
 abbrev pub folder_info : SavedState → Place → Result (List ℕ) CommandRefusal
 folder_info s place =
-    if is_folder s.songs place then Ok (content_lines s.songs place ++ root_lists s.profile s.lists place) else Err NoSuchUri
+    if is_folder s.songs place then Ok (content_lines s.profile s.songs place ++ root_lists s.profile s.lists place) else Err NoSuchUri
 
 -- the song of a path goes before the folder of that path
 abbrev pub info_at : SavedState → List ℕ → Option Row → Result (List ℕ) CommandRefusal
@@ -63,10 +69,10 @@ abbrev pub folder_line : Profile → Place → List ℕ
 folder_line Wide (At folder) = directory_line folder.now
 folder_line profile place = []
 
--- all folders and songs below a place, together by the bytes of their paths
+-- all folders and songs below a place
 abbrev pub all_below : Detail → SavedState → Place → Result (List ℕ) CommandRefusal
 all_below detail s place =
-    if is_folder s.songs place then Ok (folder_line s.profile place ++ flat_map (item_lines detail) (walk_of s.songs place))
+    if is_folder s.songs place then Ok (folder_line s.profile place ++ flat_map (item_lines detail) (walk_in s.profile s.songs place))
     else Err NoSuchUri
 
 -- the song of a path goes before the folder of that path

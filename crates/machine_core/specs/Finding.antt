@@ -30,14 +30,15 @@ use Rattle.song_files.specs.declared.tag.Tag.{Tag}
 use Rattle.machine_core.specs.Adding.{adds}
 use Rattle.machine_core.specs.Lists.{list_name}
 use Rattle.machine_core.specs.Meaning.{Meant, says, edits}
+use Rattle.machine_core.specs.Ordered.{rows_told}
 use Rattle.machine_core.specs.State.{MachineState}
 use Rattle.machine_core.specs.declared.commands.finding.part.Part.{Part}
 
--- the rows that a filter denotes, by URI
+-- the rows that a filter denotes, as they stand
 abbrev pub matching : Case → Tree → List Row → List Row
 matching case tree rows = filter (is_match case tree) rows
 
--- in the order that is asked for; if none is, they stay by URI
+-- in the order that is asked for; if none is, they stay as they are told
 abbrev pub in_order : Option SortOrder → List Row → List Row
 in_order None rows = rows
 in_order (Some order) rows = sorted (is_before order) rows
@@ -47,8 +48,9 @@ in_window None rows = rows
 in_window (Some window) rows = window_of window.start window.end rows
 
 -- What a search finds: the rows that match, in order, and of these the window.
-abbrev pub found : Search → List Row → List Row
-found search rows = in_window search.window (in_order search.sort (matching search.case search.filter rows))
+abbrev pub found : Profile → Search → List Row → List Row
+found profile search songs =
+    in_window search.window (in_order search.sort (matching search.case search.filter (rows_told profile songs)))
 
 -- the numbers of rows among all the songs
 abbrev pub numbers_in : List Row → List Row → List ℕ
@@ -87,13 +89,13 @@ entries_found case tree songs position (entry ∷ entries) =
     entry_found case tree position entry (row_at songs entry.uri) ++ entries_found case tree songs (suc position) entries
 
 unfoldable pub finding_meaning : FindingCommand → MachineState → Meant
-finding_meaning (commands.Add search to) m = adds to (numbers_in m.saved.songs (found search m.saved.songs)) [] m
+finding_meaning (commands.Add search to) m = adds to (numbers_in m.saved.songs (found m.saved.profile search m.saved.songs)) [] m
 finding_meaning (commands.AddToPlaylist name tree) m = do
   good ← list_name name
-  edits (OfLists (list_ops.Add good (numbers_in m.saved.songs (matching Folded tree m.saved.songs)))) [] m
+  edits (OfLists (list_ops.Add good (numbers_in m.saved.songs (matching Folded tree (rows_told m.saved.profile m.saved.songs))))) [] m
 finding_meaning (commands.Count tree) m =
     let found = matching Exact tree m.saved.songs in says (count_lines (length found) (total_of found)) m
-finding_meaning (commands.Find search) m = says (flat_map song_lines (found search m.saved.songs)) m
+finding_meaning (commands.Find search) m = says (flat_map song_lines (found m.saved.profile search m.saved.songs)) m
 finding_meaning (commands.InQueue case tree) m = says (entries_found case tree m.saved.songs 0 m.saved.queue.entries) m
 finding_meaning (commands.ListFiles tree) m = says (flat_map (λ row. file_line row.uri) (chosen tree m.saved.songs)) m
 finding_meaning (commands.ListTag tag tree) m =

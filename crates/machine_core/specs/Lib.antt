@@ -4,6 +4,7 @@ pub mod Told
 pub mod Followed
 pub mod Meaning
 pub mod Named
+pub mod Ordered
 pub mod Adding
 pub mod Spans
 pub mod Happening

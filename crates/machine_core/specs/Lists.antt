@@ -74,7 +74,7 @@ replaces name m =
 unfoldable pub lists_meaning : ListsCommand → MachineState → Meant
 lists_meaning (commands.Add name path) m = do
   good ← list_name name
-  rows ← numbers_named m.saved.songs path
+  rows ← numbers_named m.saved.profile m.saved.songs path
   edits (Lists (Add good rows)) [] m
 lists_meaning (commands.Clear name) m = do
   good ← list_name name

@@ -24,6 +24,8 @@ use Rattle.filter_expr.specs.Looks.{song_looks, tests_of}
 use Rattle.filter_expr.specs.Tree.{Tree}
 use Rattle.filter_expr.specs.declared.case.Case.TheVariants.{Exact, Folded}
 use Rattle.filter_expr.specs.declared.order.SortOrder.{SortOrder}
+use Rattle.profile.specs.declared.profile.Profile.{Profile}
+use Rattle.profile.specs.declared.profile.Profile.TheVariants.{Named, Wide}
 use Rattle.stored_lists.specs.Songs.{Uris}
 use Rattle.machine_core.specs.Lists.{songs_named}
 use Rattle.machine_core.specs.Meaning.{Meant}
@@ -71,15 +73,20 @@ queue_looks (queue.DeleteId id) m = alone_looks (place_of_id id m) m
 queue_looks (queue.Shuffle range) m = span_looks (span_or_all range (queue_length m)) (λ span. 10 * count_of span)
 queue_looks other m = 0
 
+-- of what is found a part is taken: the songs stay by URI, or are put in their order first
+abbrev pub parted : Profile → ℕ
+parted Named = 1
+parted Wide = 4
+
 -- of what is found a part is taken, or it is sorted
-abbrev pub arranged : Option SortOrder → Option Window → ℕ
-arranged None None = 0
-arranged None (Some window) = 1
-arranged (Some order) window = 4
+abbrev pub arranged : Profile → Option SortOrder → Option Window → ℕ
+arranged profile None None = 0
+arranged profile None (Some window) = parted profile
+arranged profile (Some order) window = 4
 
 -- What is found is bounded by the answer or by the changes.
 abbrev pub search_looks : Search → MachineState → ℕ
-search_looks search m = 10 * song_looks search.case search.filter (arranged search.sort search.window) m.saved.songs
+search_looks search m = 10 * song_looks search.case search.filter (arranged m.saved.profile search.sort search.window) m.saved.songs
 
 -- the values of a tag: of all songs they are there, those of songs that are found are sorted
 abbrev pub values_looks : Option Tree → MachineState → ℕ

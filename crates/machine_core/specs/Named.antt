@@ -3,12 +3,14 @@ use Rattle.std.specs.Prelude.{◌≡◌, ℕ, List, [], ◌∷◌, map, Option, 
 use Rattle.std.specs.List.{filter_map}
 use Rattle.command_text.specs.declared.refusal.CommandRefusal.{CommandRefusal}
 use Rattle.command_text.specs.declared.refusal.CommandRefusal.TheVariants.{NoSuchUri}
+use Rattle.profile.specs.declared.profile.Profile.{Profile}
 use Rattle.song_db.specs.Change.{has_uri}
 use Rattle.song_db.specs.Place.{place_of}
-use Rattle.song_db.specs.Query.{is_folder, number_at, rows_under}
+use Rattle.song_db.specs.Query.{is_folder, number_at}
 use Rattle.song_db.specs.Row.{Row, row_uri}
 use Rattle.song_db.specs.declared.place.Place.{Place}
 use Rattle.machine_core.specs.Lent.{lent}
+use Rattle.machine_core.specs.Ordered.{told_in}
 use Rattle.machine_core.specs.declared.work.Failure.{Failure}
 use Rattle.machine_core.specs.declared.work.Failure.TheVariants.{Refused, NoMemory}
 
@@ -26,17 +28,18 @@ Finds looked (Err failure) = IsNotFound looked failure
 abbrev pub numbers_of : List Row → List (List ℕ) → List ℕ
 numbers_of songs uris = filter_map (number_at songs) uris
 
--- all songs under a folder, by URI
-abbrev pub numbers_under : List Row → Place → Result (List ℕ) CommandRefusal
-numbers_under songs place = if is_folder songs place then Ok (numbers_of songs (map row_uri (rows_under songs place))) else Err NoSuchUri
+-- all songs under a folder, as they are told
+abbrev pub numbers_under : Profile → List Row → Place → Result (List ℕ) CommandRefusal
+numbers_under profile songs place =
+    if is_folder songs place then Ok (numbers_of songs (map row_uri (told_in profile songs place))) else Err NoSuchUri
 
-abbrev pub numbers_or_under : List Row → List ℕ → Option ℕ → Result (List ℕ) CommandRefusal
-numbers_or_under songs path (Some number) = Ok (number ∷ [])
-numbers_or_under songs path None = numbers_under songs (place_of (lent path))
+abbrev pub numbers_or_under : Profile → List Row → List ℕ → Option ℕ → Result (List ℕ) CommandRefusal
+numbers_or_under profile songs path (Some number) = Ok (number ∷ [])
+numbers_or_under profile songs path None = numbers_under profile songs (place_of (lent path))
 
 -- the song of a path goes before the folder of that path
-abbrev pub numbers_named : List Row → List ℕ → Result (List ℕ) CommandRefusal
-numbers_named songs path = numbers_or_under songs path (number_at songs path)
+abbrev pub numbers_named : Profile → List Row → List ℕ → Result (List ℕ) CommandRefusal
+numbers_named profile songs path = numbers_or_under profile songs path (number_at songs path)
 
 -- a song that has a row
 abbrev pub song_named : List Row → List ℕ → Result (List ℕ) CommandRefusal

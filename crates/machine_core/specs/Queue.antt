@@ -76,7 +76,7 @@ changed_in queue version span = filter (holds span) (changed_since queue version
 
 unfoldable pub queue_meaning : QueueCommand → MachineState → Meant
 queue_meaning (commands.Add uri to) m = do
-  rows ← numbers_named m.saved.songs uri
+  rows ← numbers_named m.saved.profile m.saved.songs uri
   adds to rows [] m
 queue_meaning (commands.AddId uri to) m = do
   row ← ok_or (number_at m.saved.songs uri) NoSuchUri

@@ -1,14 +1,16 @@
 // The lines of the commands of the database, one after the other.
-ghost use Rattle.std.specs.Prelude.{[], ◌++◌, flat_map, if◌then◌else◌};
+ghost use Rattle.std.specs.Prelude.{◌≡◌, [], ◌++◌, flat_map, if◌then◌else◌, option_copied};
 ghost use Rattle.command_text.specs.Answer.{Adds};
-ghost use Rattle.command_text.specs.AnswerNames.{tag_type_line};
+ghost use Rattle.command_text.specs.AnswerNames.{directory_line, tag_type_line};
+ghost use Rattle.command_text.specs.AnswerSongs.{song_lines};
+ghost use Rattle.profile.specs.declared.profile.Profile.TheVariants.{Wide};
+ghost use Rattle.song_db.specs.ToldWalk.{is_text, told_folders_in, told_songs_in};
 ghost use Rattle.song_db.specs.Walk.{item_of};
 ghost use Rattle.song_files.specs.TagSet.{has_tag, tags_in};
 ghost use Rattle.machine_core.specs.Database.{detail_lines, folder_line, item_lines};
 
 use command_text::{NoMemory, write_directory, write_file, write_song, write_tag_type};
-use profile::Profile;
-use song_db::{Listed, Place, SongRow, Walk};
+use song_db::{Listed, Place, SongRow, ToldWalk, Walk};
 use song_files::{TAG_COUNT, Tag, TagSet};
 
 /// How much is told of a song.
@@ -61,7 +63,7 @@ fn write_item(out: &mut Vec<u8>, item: Listed<'_>, detail: Detail) -> Result<(),
 }
 
 // Adds what a walk comes upon, as it walks.
-fn write_walk(out: &mut Vec<u8>, walk: Walk<'_>, detail: Detail) -> Result<(), NoMemory>
+pub(crate) fn write_walk(out: &mut Vec<u8>, walk: Walk<'_>, detail: Detail) -> Result<(), NoMemory>
     ensures { Adds (flat_map (item_lines detail) walk.entry) result out.old out.new }
 {
     for item in walk {
@@ -70,29 +72,89 @@ fn write_walk(out: &mut Vec<u8>, walk: Walk<'_>, detail: Detail) -> Result<(), N
     Ok(())
 }
 
-// Adds the line of a folder itself, where the profile tells it.
-fn write_folder(out: &mut Vec<u8>, profile: Profile, place: Place<'_>) -> Result<(), NoMemory>
-    ensures { Adds (folder_line profile place.entry) result out.old out.new }
+// Adds the line of a folder itself, where it is told.
+fn write_folder(out: &mut Vec<u8>, place: Place<'_>) -> Result<(), NoMemory>
+    ensures { Adds (folder_line Wide place.entry) result out.old out.new }
 {
-    match profile {
-        Profile::Named => Ok(()),
-        Profile::Wide => match place {
-            Place::Root => Ok(()),
-            Place::At(folder) => write_directory(out, folder),
-        },
+    match place {
+        Place::Root => Ok(()),
+        Place::At(folder) => write_directory(out, folder),
     }
 }
 
-// Adds a place and all that is below it.
+// The same of the walk by what is told first.
+fn write_told_walk(out: &mut Vec<u8>, walk: ToldWalk<'_>, detail: Detail) -> Result<(), NoMemory>
+    ensures { Adds (flat_map (item_lines detail) walk.entry) result out.old out.new }
+{
+    for item in walk {
+        write_item(out, item, detail)?;
+    }
+    Ok(())
+}
+
+// Adds a place and all that is below it, as it is told.
 pub(crate) fn write_below(
     out: &mut Vec<u8>,
-    profile: Profile,
     place: Place<'_>,
-    walk: Walk<'_>,
+    walk: ToldWalk<'_>,
     detail: Detail,
 ) -> Result<(), NoMemory>
-    ensures { Adds (folder_line profile place.entry ++ flat_map (item_lines detail) walk.entry) result out.old out.new }
+    ensures { Adds (folder_line Wide place.entry ++ flat_map (item_lines detail) walk.entry) result out.old out.new }
 {
-    write_folder(out, profile, place)?;
-    write_walk(out, walk, detail)
+    write_folder(out, place)?;
+    write_told_walk(out, walk, detail)
+}
+
+// Adds the songs right in a place, of those under it.
+fn write_songs_in(out: &mut Vec<u8>, rows: &[SongRow], place: Place<'_>) -> Result<(), NoMemory>
+    ensures { Adds (flat_map song_lines (told_songs_in place.entry rows.now)) result out.old out.new }
+{
+    for row in rows {
+        if place.folder_of(row.uri()).is_some() {
+            continue;
+        }
+        write_song(out, row)?;
+    }
+    Ok(())
+}
+
+// Whether a folder is the one before.
+fn is_text(folder: &str, before: Option<&str>) -> bool
+    ensures { result ≡ is_text folder.now (option_copied before.entry) }
+{
+    match before {
+        Some(other) => folder == other,
+        None => false,
+    }
+}
+
+// Adds the folders right in a place that songs under it stand in.
+fn write_folders_in(out: &mut Vec<u8>, rows: &[SongRow], place: Place<'_>) -> Result<(), NoMemory>
+    ensures { Adds (flat_map directory_line (told_folders_in place.entry rows.now)) result out.old out.new }
+{
+    let mut before: Option<&str> = None;
+    for row in rows {
+        let Some(folder) = place.folder_of(row.uri()) else {
+            continue;
+        };
+        if is_text(folder, before) {
+            continue;
+        }
+        write_directory(out, folder)?;
+        before = Some(folder);
+    }
+    Ok(())
+}
+
+// Adds the songs right in a place and then the folders, of the songs under it.
+pub(crate) fn write_told_content(
+    out: &mut Vec<u8>,
+    rows: &[SongRow],
+    place: Place<'_>,
+) -> Result<(), NoMemory>
+    ensures { Adds (flat_map song_lines (told_songs_in place.entry rows.now) ++ flat_map directory_line (told_folders_in place.entry
+        rows.now)) result out.old out.new }
+{
+    write_songs_in(out, rows, place)?;
+    write_folders_in(out, rows, place)
 }

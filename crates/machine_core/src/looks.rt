@@ -3,8 +3,8 @@ ghost use Rattle.std.specs.Prelude.{◌≡◌, ◌+◌, ◌<◌, ◌≤◌, OnEr
 ghost use Rattle.std.specs.Option.{option_copied};
 ghost use Rattle.command_text.specs.declared.refusal.CommandRefusal.TheVariants.{RequestTooLarge};
 ghost use Rattle.machine_core.specs.Looks.{alone_looks, arranged, choice_looks, database_looks, finding_looks, leaving_looks};
-ghost use Rattle.machine_core.specs.Looks.{list_looks, lists_looks, looks_of, max_looks, moved_looks, queue_looks, search_looks, settings_looks};
-ghost use Rattle.machine_core.specs.Looks.{stickers_looks, values_looks};
+ghost use Rattle.machine_core.specs.Looks.{list_looks, lists_looks, looks_of, max_looks, moved_looks, parted, queue_looks, search_looks};
+ghost use Rattle.machine_core.specs.Looks.{settings_looks, stickers_looks, values_looks};
 ghost use Rattle.machine_core.specs.Lists.{songs_named};
 ghost use Rattle.machine_core.specs.Queue.{place_of_id};
 
@@ -15,6 +15,7 @@ use command_text::{
     SettingsCommand, StickersCommand, Window,
 };
 use filter_expr::{Case, Filter, SortOrder};
+use profile::Profile;
 use std::marker::Model;
 
 /// The commands of one request look at so much at most; docs/PROTOCOL.md says what counts how much.
@@ -68,15 +69,27 @@ impl Looks {
 }
 
 // Where a part of what is found is taken, or it is sorted.
-fn arranged(order: Option<SortOrder>, window: Option<Window>) -> u8
-    ensures { result ≡ arranged order window }
+fn arranged(profile: Profile, order: Option<SortOrder>, window: Option<Window>) -> u8
+    ensures value { result ≡ arranged profile order window }
+    ensures few { result ≤ 4 }
 {
     match order {
         Some(_) => 4,
         None => match window {
-            Some(_) => 1,
+            Some(_) => parted(profile),
             None => 0,
         },
+    }
+}
+
+// Where a part is taken of songs that stay by URI, or are put in their order first.
+fn parted(profile: Profile) -> u8
+    ensures value { result ≡ parted profile }
+    ensures few { result ≤ 4 }
+{
+    match profile {
+        Profile::Named => 1,
+        Profile::Wide => 4,
     }
 }
 
@@ -181,7 +194,7 @@ impl Machine {
     fn search_looks(&self, search: &Search) -> u64
         ensures { result ≡ search_looks search.now self.now }
     {
-        let more = arranged(search.sort, search.window);
+        let more = arranged(self.saved.profile(), search.sort, search.window);
         10 * search.filter.looks(self.saved.songs(), search.case, more)
     }
 

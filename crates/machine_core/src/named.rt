@@ -3,6 +3,7 @@ ghost use Rattle.std.specs.Prelude.{◌≡◌, ◌+◌, ◌≤◌, ◌++◌, [],
 ghost use Rattle.std.specs.List.{range_with_len};
 ghost use Rattle.std.specs.Option.{option_to_list};
 ghost use Rattle.play_queue.specs.Shown.{shown};
+ghost use Rattle.profile.specs.declared.profile.Profile.TheVariants.{Named, Wide};
 ghost use Rattle.song_db.specs.Limits.{MAX_ROWS};
 ghost use Rattle.song_db.specs.Query.{number_at};
 ghost use Rattle.state_codec.specs.Numbers.{MAX_COUNT};
@@ -13,6 +14,7 @@ use crate::machine::Machine;
 use crate::work::Failure;
 use command_text::CommandRefusal;
 use play_queue::{Entries, EntryRef};
+use profile::Profile;
 use song_db::{Place, SongDb, Uri};
 use state_codec::RowNumbers;
 use std::alloc::{AllocError, Global};
@@ -20,12 +22,12 @@ use std::alloc::{AllocError, Global};
 impl Machine {
     // The numbers of the rows that a path names: that of its song, or else those of all songs under the folder.
     pub(crate) fn rows_named(&self, alloc: Global, path: &str) -> Result<RowNumbers, Failure>
-        ensures { Finds (numbers_named self.now.saved.songs path.now) result }
+        ensures { Finds (numbers_named self.now.saved.profile self.now.saved.songs path.now) result }
     {
         let songs = self.saved.songs();
         match songs.row_number(path) {
             Ok(number) => Ok(row_numbers(numbers_from(alloc, number, 1)?)),
-            Err(_) => numbers_under(alloc, songs, Place::read(path)),
+            Err(_) => numbers_under(alloc, self.saved.profile(), songs, Place::read(path)),
         }
     }
 
@@ -96,9 +98,39 @@ pub(crate) fn push_number(
     Ok(())
 }
 
-// The numbers of the rows under a folder, which stand together.
-fn numbers_under(alloc: Global, songs: &SongDb, place: Place<'_>) -> Result<RowNumbers, Failure>
-    ensures { Finds (numbers_under songs.now place.entry) result }
+// The numbers of the rows under a folder, as they are told.
+fn numbers_under(
+    alloc: Global,
+    profile: Profile,
+    songs: &SongDb,
+    place: Place<'_>,
+) -> Result<RowNumbers, Failure>
+    ensures { Finds (numbers_under profile songs.now place.entry) result }
+{
+    match profile {
+        Profile::Named => numbers_by_uri(alloc, songs, place),
+        Profile::Wide => numbers_told(alloc, songs, place),
+    }
+}
+
+// Those in the order in which the songs are told.
+fn numbers_told(alloc: Global, songs: &SongDb, place: Place<'_>) -> Result<RowNumbers, Failure>
+    ensures { Finds (numbers_under Wide songs.now place.entry) result }
+{
+    let _limit = songs.len();
+    let Ok(rows) = songs.told_under(place) else {
+        return Err(Failure::Refused(CommandRefusal::NoSuchUri));
+    };
+    let mut numbers = Vec::with_capacity(alloc, rows.len())?;
+    for row in rows {
+        push_number(songs, row.uri(), &mut numbers)?;
+    }
+    Ok(row_numbers(numbers))
+}
+
+// Those by URI, which stand together.
+fn numbers_by_uri(alloc: Global, songs: &SongDb, place: Place<'_>) -> Result<RowNumbers, Failure>
+    ensures { Finds (numbers_under Named songs.now place.entry) result }
 {
     let _limit = songs.len();
     let Ok(first) = songs.first_number_under(place) else {

@@ -1,9 +1,10 @@
 -- Requests that are served together.
-use Rattle.std.proofs.Common.{◌≡◌, ◌≢◌, ◌⊎◌, inl, inr, ℕ, zero, suc, ◌+◌, ◌-◌, ◌<◌, ◌≤◌, ◌==◌, List, [], ◌∷◌, ◌++◌, length, take, drop}
+use Rattle.std.proofs.Common.{◌≡◌, ◌≢◌, ◌⊎◌, inl, inr, ℕ, zero, suc, ◌+◌, ◌-◌, ◌*◌, ◌<◌, ◌≤◌, ◌==◌, List, [], ◌∷◌, ◌++◌, length, take, drop}
 use Rattle.std.proofs.Common.{Option, Some, Bool, true, false, length-append, refl, sym, subst, ◌∙◌, ap, append_assoc, arith}
 use Rattle.std.specs.List.{AllByRecursion}
-use Rattle.std.specs.Prelude.{get_or, IfSome, MatchOption, None}
+use Rattle.std.specs.Prelude.{get_or, sum_by, IfSome, MatchOption, None}
 use Rattle.std.proofs.lemmas.List.{append-nil, at_drop_all, drop_more}
+use Rattle.std.proofs.lemmas.List.Sums.{sum_by-append, sum_by-cons}
 use Rattle.std.proofs.lemmas.Bool.{eqb-true, eqb-false}
 use Rattle.slab.specs.Slab.{Slab, get, slab_len}
 use Rattle.command_text.specs.declared.request.Request.{Request}
@@ -12,7 +13,7 @@ use Rattle.command_text.specs.declared.request.Request.TheVariants as requests
 use Rattle.daemon_core.specs.declared.event.Event.{Event}
 use Rattle.daemon_core.specs.declared.outcome.Output.{Output}
 use Rattle.live_stage.specs.Answer.{Answer}
-use Rattle.live_stage.specs.Group.{AreParted, asked_by}
+use Rattle.live_stage.specs.Group.{AreParted, answer_looks, asked_by, most_looks}
 use Rattle.stage_workers.specs.declared.served.Served.{Served as ServedEvent}
 use Rattle.stage_workers.specs.Group.{passed_by}
 use Rattle.stage_workers.specs.PassState.{PassState}
@@ -27,7 +28,7 @@ use Rattle.mio_clients.specs.declared.queue.Place.{Place}
 use Rattle.mio_clients.specs.Grouping.{AreClientsOf, AreGone, PutsBack, PutsBackOne, TakesGroup, asked_of_all, TakesMany, group_len, len_by, parts_of, place_of}
 use Rattle.mio_clients.specs.Later.{no_bytes, no_requests}
 use Rattle.mio_clients.specs.Leaving.{AllFollow, IsAmong, IsLeft}
-use Rattle.mio_clients.specs.Parts.{RefusesLast, Serves, asked_of, bytes_in, refuses, requests_in, sent_by_served, served_count}
+use Rattle.mio_clients.specs.Parts.{RefusesLast, Serves, asked_of, bytes_in, looks_in, looks_of, refuses, requests_in, sent_by_served, served_count}
 use Rattle.mio_clients.specs.Waiting.{QuietBehind, StaysQuiet, TakesFirst}
 use Rattle.mio_clients.proofs.FollowLaws.{all_itself, all_same, all_then_none, all_twice}
 use Rattle.mio_clients.proofs.LeavingLaws.{all_of, leaves_from, leaves_lost}
@@ -221,6 +222,21 @@ group_refuses D before (t ∷ turns) = group_refuses D [] turns
 pub group_refuses_last : (D : Type 0) (before : List (List Output)) (turns : List Answer) → RefusesLast {D = D} (parts_of before turns)
 group_refuses_last D before [] = tt
 group_refuses_last D before (t ∷ turns) = group_refuses_last D [] turns
+
+looks_in_group : (D : Type 0) (before : List (List Output)) (turns : List Answer)
+    → looks_in {D = D} (parts_of before turns) ≡ sum_by answer_looks turns
+looks_in_group D before [] = refl
+looks_in_group D before (t ∷ turns) =
+    let s : ServedEvent D = record { before = before; turn = t } in
+    sum_by-cons looks_of (Served s) (parts_of [] turns)
+    ∙ (ap (λ (n : ℕ). answer_looks t + n) (looks_in_group D [] turns) ∙ sym (sum_by-cons answer_looks t turns))
+
+-- with what a group looked at
+pub looks_grouped : {D : Type 0} (ps qs : List (Part D)) (before : List (List Output)) (turns : List Answer) → qs ≡ ps ++ parts_of before turns
+    → sum_by answer_looks turns ≤ 2 * most_looks → looks_in qs ≤ looks_in ps + 2 * most_looks
+looks_grouped {D} ps qs before turns is within =
+    let whole = ap looks_in is ∙ sum_by-append looks_of ps (parts_of before turns) in
+    omega (arith, whole, looks_in_group D before turns, within)
 
 pub parts_first : {D : Type 0} (ps : List (Part D)) (s : ServedEvent D) (turns rest : List Answer) → turns ≡ s.turn ∷ rest
     → (ps ++ Served s ∷ []) ++ parts_of [] rest ≡ ps ++ parts_of s.before turns

@@ -1,11 +1,13 @@
 -- A turn of the loop, part by part.
 use Rattle.std.proofs.Common.{◌≡◌, ◌≢◌, ℕ, ◌+◌, ◌<◌, ◌==◌, List, [], ◌∷◌, ◌++◌, Option, Some, None, Bool, true, false}
-use Rattle.std.proofs.Common.{refl, sym, subst, ◌∙◌, ap, append_assoc, arith, inl, inr, length, zero, suc, min, drop, ◌-◌, ◌≤◌}
+use Rattle.std.proofs.Common.{refl, sym, subst, ◌∙◌, ap, append_assoc, arith, inl, inr, length, zero, suc, min, drop, ◌-◌, ◌*◌, ◌≤◌}
 use Rattle.std.specs.Prelude.{IsTrue}
 use Rattle.std.proofs.lemmas.List.{append-nil}
 use Rattle.std.proofs.lemmas.List.Sums.{sum_by-append}
 use Rattle.std.proofs.Math.Seq.{drop-append_seam}
+use Rattle.live_stage.specs.Group.{most_looks}
 use Rattle.live_stage.specs.Numbers.{greatest}
+use Rattle.daemon_core.proofs.LooksLaws.{step_within}
 use Rattle.std.proofs.lemmas.Bool.{eqb-true, eqb-false}
 use Rattle.slab.specs.Slab.{Slab, get}
 use Rattle.command_text.specs.declared.request.Request.{Request}
@@ -27,7 +29,7 @@ use Rattle.std.specs.List.{AllByRecursion}
 use Rattle.mio_clients.specs.Leaving.{AllLeave, IsLeft, AllFollow, IsFollowed, IsForgotten}
 use Rattle.mio_clients.specs.Waiting.{QuietBehind}
 use Rattle.stage_workers.specs.declared.refusal.StageError.{StageError}
-use Rattle.mio_clients.specs.Parts.{bytes_in, bytes_of, requests_in, request_of, asked_of, served_count, refuses, RefusesLast, Serves, looks_in, looks_of, IsWithin, IsKeptOf, IsKeptAs, bytes_to, bytes_to_all, sent_by, sent_by_all, sent_by_served}
+use Rattle.mio_clients.specs.Parts.{bytes_in, bytes_of, requests_in, request_of, asked_of, served_count, refuses, RefusesLast, Serves, looks_in, looks_of, EndsWithin, IsWithin, IsKeptOf, IsKeptAs, bytes_to, bytes_to_all, sent_by, sent_by_all, sent_by_served}
 use Rattle.mio_clients.proofs.LeavingLaws.{all_of, leaves_from, leaves_lost}
 use Rattle.mio_clients.proofs.FollowLaws.{all_itself, all_twice, all_then_none, all_same, all_still, later_then}
 
@@ -501,9 +503,31 @@ module _ {D : Type 0} where
       let last = ap looks_in these in
       omega (arith, whole, last, before, now, sum)
 
+  -- with an event that was served, a refusal, or nothing
+  pub looks_one : (ps qs : List (Part D)) (s : ServedEvent D) → qs ≡ ps ++ Served s ∷ [] → looks_in qs ≤ looks_in ps + 2 * most_looks
+  looks_one ps qs s is =
+      let whole = ap looks_in is ∙ sum_by-append looks_of ps (Served s ∷ []) in
+      omega (arith, whole, step_within s.turn.before s.turn.asked s.turn.refused_at)
+
+  pub looks_refused : (ps qs : List (Part D)) (error : StageError) → qs ≡ ps ++ Refused error ∷ [] → looks_in qs ≤ looks_in ps + 2 * most_looks
+  looks_refused ps qs error is = (let whole = ap looks_in is ∙ sum_by-append looks_of ps (Refused error ∷ []) in omega (arith, whole))
+
+  pub looks_nothing : (ps qs : List (Part D)) → qs ≡ ps → looks_in qs ≤ looks_in ps + 2 * most_looks
+  looks_nothing ps qs is = (let whole = ap looks_in is in omega (arith, whole))
+
   -- of what was collected nothing is added
   pub looks_same : (ps qs : List (Part D)) (outbox : List (List Output)) → qs ≡ ps ++ Collected outbox ∷ [] → looks_in qs ≡ looks_in ps
   looks_same ps qs outbox is = (let whole = ap looks_in is ∙ sum_by-append looks_of ps (Collected outbox ∷ []) in omega (arith, whole))
+
+-- a turn that goes on is within its bound, and what it serves then doesn't pass that by more than a group
+pub ends_within : (bound : Option ℕ) (looks before after : ℕ) → IsWithin bound looks → looks ≡ min before greatest
+    → after ≤ before + 2 * most_looks → EndsWithin bound after
+ends_within None looks before after within counted more = tt
+ends_within (Some most) looks before after within counted more = omega (arith, within, counted, more)
+
+pub begins_within : {D : Type 0} (bound : Option ℕ) (ps : List (Part D)) → ps ≡ [] → EndsWithin bound (looks_in ps)
+begins_within None ps none = tt
+begins_within (Some most) ps none = (let empty = ap looks_in none in omega (arith, empty))
 
 within_counted : (bound : Option ℕ) (looks total : ℕ) → looks ≤ total → IsWithin bound total → IsWithin bound looks
 within_counted None looks total less h = tt

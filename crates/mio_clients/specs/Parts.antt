@@ -1,5 +1,5 @@
 -- What the parts of a turn of the loop carry.
-use Rattle.std.specs.Prelude.{◌≡◌, ◌≢◌, ℕ, ◌+◌, ◌≤◌, ◌==◌, sum_by, List, [], ◌∷◌, ◌++◌, Bool, true, false, Option, None, Some, if◌then◌else◌}
+use Rattle.std.specs.Prelude.{◌≡◌, ◌≢◌, ℕ, ◌+◌, ◌*◌, ◌≤◌, ◌==◌, min, sum_by, List, [], ◌∷◌, ◌++◌, Bool, true, false, Option, None, Some, if◌then◌else◌}
 use Rattle.command_text.specs.declared.request.Request.{Request}
 use Rattle.daemon_core.specs.declared.event.Event.{Event}
 use Rattle.daemon_core.specs.declared.event.Event.TheVariants as stage_events
@@ -14,7 +14,8 @@ use Rattle.mio_clients.specs.declared.event.ClientEvent.{ClientEvent}
 use Rattle.mio_clients.specs.declared.event.ClientEvent.TheVariants as events
 use Rattle.mio_clients.specs.declared.turning.Kept.{Kept}
 use Rattle.mio_clients.specs.declared.turning.Kept.TheVariants as kept
-use Rattle.live_stage.specs.Group.{answer_looks}
+use Rattle.live_stage.specs.Group.{answer_looks, most_looks}
+use Rattle.live_stage.specs.Numbers.{greatest}
 use Rattle.mio_clients.specs.Events.{asked_in, asked_by_event, AsksNothing}
 use Rattle.mio_clients.specs.Connections.{ConnectionsState, IsVacant}
 use Rattle.mio_clients.specs.Later.{no_bytes, no_requests}
@@ -107,6 +108,12 @@ looks_in parts = sum_by looks_of parts
 abbrev pub IsWithin : Option ℕ → ℕ → Type 0
 IsWithin None looks = Unit {0}
 IsWithin (Some most) looks = looks ≤ most
+
+-- So much was looked at, and there is a bound or none: no more than that and what a group may look at by which it was passed. It is counted
+-- up to the greatest number.
+abbrev pub EndsWithin : Option ℕ → ℕ → Type 0
+EndsWithin None looks = Unit {0}
+EndsWithin (Some most) looks = min looks greatest ≤ most + 2 * most_looks
 
 -- where no part refuses, no request is left among these events
 abbrev pub IsServedAll : {D : Type 0} → List (Part D) → List ClientEvent → Type 0

@@ -13,6 +13,15 @@ use Rattle.mio_clients.specs.declared.refusal.ClientsError.{ClientsError}
 use Rattle.mio_clients.specs.declared.refusal.ClientsError.TheVariants.{NoMemory, NetFault, TooManyClients}
 use Rattle.mio_clients.specs.Later.{Loses}
 
+-- who gives way to a client where nobody does
+abbrev pub nobody : {S : Type 0} → S → Bool
+nobody stream = false
+
+-- who may give way to a client: those of which this holds, or nobody
+abbrev pub who_yields : {S : Type 0} → Bool → (S → Bool) → S → Bool
+who_yields true remote = remote
+who_yields false remote = nobody
+
 -- for how many milliseconds a client keeps its place in silence: an hour
 abbrev pub yield_after : ℕ
 yield_after = 3600000

@@ -10,7 +10,8 @@ ghost use Rattle.mio_clients.specs.Connections.{ConnectionsState, IsFull, IsVaca
 ghost use Rattle.mio_clients.specs.Later.{no_bytes, no_requests, bytes_for, IsFault, Loses};
 ghost use Rattle.std.specs.List.{AllByRecursion};
 ghost use Rattle.mio_clients.specs.Leaving.{AllFollow, IsFollowed, IsForgotten};
-ghost use Rattle.mio_clients.specs.Yielding.{AcceptsAll, Arrival, ComesTo, NowWaits, OnlyIfOver, TellsOf, has_refused, was_refused};
+ghost use Rattle.mio_clients.specs.Yielding.{AcceptsAll, Arrival, ComesTo, NowWaits, OnlyIfOver, TellsOf};
+ghost use Rattle.mio_clients.specs.Yielding.{has_refused, nobody, was_refused, who_yields};
 
 use crate::client::{Reading, Writing};
 use crate::connections::Connections;
@@ -28,8 +29,8 @@ use std::time::Duration;
 /// How long the loop waits where nothing happens, in milliseconds.
 const PATIENCE: u64 = 100;
 
-/// How many clients are accepted in a turn of the loop at most, so that those that are connected are served between them.
-const ACCEPTS: usize = CLIENT_LIMIT;
+/// How many clients are accepted in a bounded turn of the loop at most, so that those that are connected are served between them.
+const ACCEPTS: u32 = 100;
 
 /// When a client is sent what it is given.
 #[derive(Clone, Copy, Debug, PartialEq, Eq)]
@@ -151,14 +152,29 @@ impl<S: Stream, L: Listener<S>, P: Ready<S>> Clients<S, L, P> {
         self.connections.set_time(self.listener.now());
     }
 
-    /// Accepts clients until none waits, or for a hundred calls, and gathers their connects, by rising numbers. Those that wait then, and a
+    /// Accepts clients until none waits, or for 65,536 calls, and gathers their connects, by rising numbers. Those that wait then, and a
     /// failed `accept`, have their turn in the next one of the loop.
+    ///
+    /// Where no place is left, a client is closed without a byte, as `TooManyClients` says. `NoMemory` leaves the others waiting.
+    pub fn accept_all(&mut self, alloc: Global) -> Result<(), ClientsError>
+        ensures later { IsFollowed S.remaining S.contents no_bytes no_requests self.old self.new }
+        // Who came, and what came of each: nobody gives way.
+        ensures accepted { (arrivals : List (Arrival S)) × AcceptsAll nobody arrivals self.old self.new
+            × TellsOf result (has_refused arrivals) }
+        ensures too_many { IsErrOf result ClientsError.TooManyClients → IsFull self.new }
+        ensures neither { IfErr result (λ e. (e ≡ ClientsError.NoMemory) ⊎ (e ≡ ClientsError.TooManyClients)) }
+    {
+        self.accept_each(alloc, CALL_LIMIT, false)
+    }
+
+    /// Accepts clients until none waits, or for a hundred calls, as a bounded turn does, and gathers their connects, by rising numbers.
+    /// Those that wait then, and a failed `accept`, have their turn in the next one of the loop.
     ///
     /// Where no place is left, the client over a network whose time is over first gives way: to one over a network only once it is over, to
     /// any other in any case. It is let go of, and the listener is told. Its time is an hour of silence, or ten seconds if no request of it
     /// was served; while it waits in `idle`, was not sent all, or a request of it waits, it is as one that is active now. `TooManyClients`
     /// says that a client was closed without a byte, to which none gave way. `NoMemory` leaves the others waiting.
-    pub fn accept_all(&mut self, alloc: Global) -> Result<(), ClientsError>
+    pub fn accept_some(&mut self, alloc: Global) -> Result<(), ClientsError>
         ensures later { IsFollowed S.remaining S.contents no_bytes no_requests self.old self.new }
         // Who came, and what came of each: one is closed only where none may give way to it.
         ensures accepted { (arrivals : List (Arrival S)) × AcceptsAll S.remote arrivals self.old self.new
@@ -166,15 +182,31 @@ impl<S: Stream, L: Listener<S>, P: Ready<S>> Clients<S, L, P> {
         ensures too_many { IsErrOf result ClientsError.TooManyClients → IsFull self.new }
         ensures neither { IfErr result (λ e. (e ≡ ClientsError.NoMemory) ⊎ (e ≡ ClientsError.TooManyClients)) }
     {
+        self.accept_each(alloc, ACCEPTS, true)
+    }
+
+    // Accepts clients until none waits, or for so many calls. Where no place is left, others give way to them, or none does.
+    fn accept_each(
+        &mut self,
+        alloc: Global,
+        calls: u32,
+        is_yielding: bool,
+    ) -> Result<(), ClientsError>
+        ensures later { IsFollowed S.remaining S.contents no_bytes no_requests self.old self.new }
+        ensures accepted { (arrivals : List (Arrival S)) × AcceptsAll (who_yields is_yielding S.remote) arrivals self.old self.new
+            × TellsOf result (has_refused arrivals) }
+        ensures too_many { IsErrOf result ClientsError.TooManyClients → IsFull self.new }
+        ensures neither { IfErr result (λ e. (e ≡ ClientsError.NoMemory) ⊎ (e ≡ ClientsError.TooManyClients)) }
+    {
         self.is_accepting = true;
         let mut result = Ok(());
-        for _call in 0..ACCEPTS {
+        for _call in 0..calls {
             if self.connections.reserve().is_err() {
                 return Err(ClientsError::NoMemory);
             }
             match self.listener.accept() {
                 Ok(stream) => {
-                    if self.admit(alloc, stream).is_refused() {
+                    if self.admit(alloc, stream, is_yielding).is_refused() {
                         result = Err(ClientsError::TooManyClients);
                     }
                 }
@@ -190,16 +222,17 @@ impl<S: Stream, L: Listener<S>, P: Ready<S>> Clients<S, L, P> {
         result
     }
 
-    // Takes a client in, in the place of another where there are too many. One of whose stream nobody would be told is closed.
-    fn admit(&mut self, alloc: Global, stream: S) -> Admission
+    // Takes a client in, in the place of another where there are too many and others give way. One of whose stream nobody would be told is
+    // closed.
+    fn admit(&mut self, alloc: Global, stream: S, is_yielding: bool) -> Admission
         requires room { slab_len self.old.clients + 2 ≤ self.old.room }
         requires places { slab_len self.old.clients + 1 ≤ self.old.places }
         ensures later { IsFollowed S.remaining S.contents no_bytes no_requests self.old self.new }
         ensures full { (result ≡ Admission.Refused) ⊎ IsFull self.old → IsFull self.new }
-        ensures comes_to { ComesTo S.remote stream result self.old self.new }
+        ensures comes_to { ComesTo (who_yields is_yielding S.remote) stream result self.old self.new }
     {
         if self.connections.is_full() {
-            return self.admit_instead(alloc, stream);
+            return self.admit_where_full(alloc, stream, is_yielding);
         }
         let mut stream = stream;
         let key = self.connections.vacant_key();
@@ -209,6 +242,21 @@ impl<S: Stream, L: Listener<S>, P: Ready<S>> Clients<S, L, P> {
         } else {
             Admission::Unwatched
         }
+    }
+
+    // Takes a client in where no place is left, if others give way and one does to it.
+    fn admit_where_full(&mut self, alloc: Global, stream: S, is_yielding: bool) -> Admission
+        requires room { slab_len self.old.clients + 2 ≤ self.old.room }
+        requires places { slab_len self.old.clients + 1 ≤ self.old.places }
+        requires full { IsFull self.old }
+        ensures later { IsFollowed S.remaining S.contents no_bytes no_requests self.old self.new }
+        ensures full { IsFull self.new }
+        ensures comes_to { ComesTo (who_yields is_yielding S.remote) stream result self.old self.new }
+    {
+        if is_yielding {
+            return self.admit_instead(alloc, stream);
+        }
+        Admission::Refused
     }
 
     // Takes a client in, in the place of one that gives way to it, if one does.
@@ -295,7 +343,18 @@ impl<S: Stream, L: Listener<S>, P: Ready<S>> Clients<S, L, P> {
         }
         if self.is_accepting {
             self.make_places();
-            let _refused = self.accept_all(alloc);
+            let _refused = self.accept_waiting(alloc, is_bounded);
+        }
+    }
+
+    // Accepts clients that wait, as many as a turn does.
+    fn accept_waiting(&mut self, alloc: Global, is_bounded: bool) -> Result<(), ClientsError>
+        ensures later { IsFollowed S.remaining S.contents no_bytes no_requests self.old self.new }
+    {
+        if is_bounded {
+            self.accept_some(alloc)
+        } else {
+            self.accept_all(alloc)
         }
     }
 

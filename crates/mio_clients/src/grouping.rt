@@ -1,14 +1,15 @@
 // Requests that are served together: their records reach the disk together, and then all are answered.
-ghost use Rattle.std.specs.Prelude.{◌≡◌, ◌≢◌, ◌+◌, ◌-◌, ◌<◌, ◌≤◌, ◌++◌, ℕ, [], length, is_some, vec_len, vec_capacity};
+ghost use Rattle.std.specs.Prelude.{◌≡◌, ◌≢◌, ◌+◌, ◌*◌, ◌-◌, ◌<◌, ◌≤◌, ◌++◌, ℕ, [], length, is_some, vec_len, vec_capacity};
 ghost use Rattle.std.specs.Prelude.{IfSome, MatchOption};
 ghost use Rattle.slab.specs.Slab.{slab_len};
+ghost use Rattle.live_stage.specs.Group.{most_looks};
 ghost use Rattle.mio_clients.specs.Grouping.{AreGone, PutsBack, PutsBackOne, TakesGroup, TakesMany};
 ghost use Rattle.mio_clients.specs.Grouping.{asked_of_all, group_len, group_limit, parts_of};
 ghost use Rattle.mio_clients.specs.Events.{asked_by_event};
 ghost use Rattle.mio_clients.specs.Waiting.{StaysQuiet};
 ghost use Rattle.mio_clients.specs.Later.{no_bytes, no_requests};
 ghost use Rattle.mio_clients.specs.Leaving.{AllFollow};
-ghost use Rattle.mio_clients.specs.Parts.{asked_of, bytes_in, goes_on_behind, stage_event_of, Serves};
+ghost use Rattle.mio_clients.specs.Parts.{asked_of, bytes_in, goes_on_behind, looks_in, stage_event_of, Serves};
 
 use crate::clients::{Clients, Sending};
 use crate::event::ClientEvent;
@@ -117,6 +118,7 @@ impl<S: Stream, L: Listener<S>, P: Ready<S>> Clients<S, L, P> {
         ensures serves { Serves S.remaining S.contents (is_some result.0) self.old self.new parts.old.items parts.new.items pass result.1 }
         ensures some { IfSome result.0 (λ n. 0 < n) }
         ensures quiet { IfSome result.0 (λ n. TakesMany n self.old.events self.new.events) }
+        ensures looks { looks_in parts.new.items ≤ looks_in parts.old.items + 2 * most_looks }
         ensures room { IfSome result.0 (λ _. vec_len parts.new < vec_capacity parts.new) }
     {
         let GroupRoom {

@@ -1,8 +1,9 @@
 // One turn of the loop: what clients did is gathered and served, and what they are given is sent.
-ghost use Rattle.std.specs.Prelude.{◌≡◌, ◌⊎◌, ◌+◌, ◌<◌, ◌≤◌, ℕ, [], zero, min, Option, Some};
+ghost use Rattle.std.specs.Prelude.{◌≡◌, ◌⊎◌, ◌+◌, ◌*◌, ◌<◌, ◌≤◌, ℕ, [], zero, min, Option, Some};
 ghost use Rattle.std.specs.Prelude.{None, false, true, is_some, vec_len, vec_capacity, IfOk, IfErr, IfSome, ◌↔◌, IsTrue};
 ghost use Rattle.slab.specs.Slab.{slab_len};
 ghost use Rattle.live_stage.specs.Numbers.{greatest};
+ghost use Rattle.live_stage.specs.Group.{most_looks};
 ghost use Rattle.std.specs.List.{AllByRecursion};
 ghost use Rattle.mio_clients.specs.Events.{asked_by_event, asked_in};
 ghost use Rattle.mio_clients.specs.Grouping.{TakesMany};
@@ -11,7 +12,7 @@ ghost use Rattle.mio_clients.specs.Later.{no_bytes, no_requests, IsLater};
 ghost use Rattle.mio_clients.specs.Leaving.{AllFollow, AllLeave};
 ghost use Rattle.mio_clients.specs.Parts.{bytes_in, requests_in, served_count, refuses, RefusesLast, IsServedAll};
 ghost use Rattle.mio_clients.specs.Parts.{sent_by, sent_by_all, sent_by_served, asked_of, IsKeptOf, IsKeptAs, KeepsNoRequest, Serves};
-ghost use Rattle.mio_clients.specs.Parts.{looks_in, looks_of, stage_event_of, goes_on_with, IsWithin};
+ghost use Rattle.mio_clients.specs.Parts.{looks_in, looks_of, stage_event_of, goes_on_with, EndsWithin, IsWithin};
 ghost use Rattle.mio_clients.specs.Rounds.{IsDealt};
 ghost use Rattle.mio_clients.specs.Yielding.{NowWaits};
 
@@ -122,7 +123,7 @@ impl<S: Stream, L: Listener<S>, P: Ready<S>> Clients<S, L, P> {
     /// docs/PROTOCOL.md counts it, no further one is served before the next turn.
     ///
     /// Then the first request of each client is served before a second one of any other, a client is not read of which a request waits, and
-    /// what one asked for that was let go of is not served any more.
+    /// what one asked for that was let go of is not served any more; and clients are accepted by `accept_some`, else by `accept_all`.
     pub fn turn_within<R: Wait, D: Disk, C: Ledger, Q: Ledger, T: Ledger>(
         &mut self,
         rt: &R,
@@ -139,6 +140,8 @@ impl<S: Stream, L: Listener<S>, P: Ready<S>> Clients<S, L, P> {
         ensures refused { IfOk result (λ r. RefusesLast r.0.items) }
         // Where nothing is refused, and no more was looked at than that, no request stays gathered.
         ensures all { IfOk result (λ r. IsWithin bound (looks_in r.0.items) → IsServedAll r.0.items self.new.events) }
+        // It looked at no more than its bound and what one group may look at.
+        ensures bounded { IfOk result (λ r. EndsWithin bound (looks_in r.0.items)) }
         // Of those that were let go of no request stays, where turns are bounded.
         ensures closed { IfOk result (λ r. is_some bound ≡ true →
             AllByRecursion (λ last. asked_in last.id self.new.events ≡ []) self.new.gone) }
@@ -188,6 +191,7 @@ impl<S: Stream, L: Listener<S>, P: Ready<S>> Clients<S, L, P> {
         ensures seen { pass.seen ≤ result.seen }
         ensures refused { RefusesLast parts.new.items }
         ensures quiet { refuses parts.new.items ≡ false → IsWithin bound (looks_in parts.new.items) → QuietBehind zero self.new.events }
+        ensures bounded { EndsWithin bound (looks_in parts.new.items) }
     {
         let (goes_on, pass) = self.serve_each(rt, alloc, stage, pass, parts, bound);
         if goes_on {
@@ -211,6 +215,7 @@ impl<S: Stream, L: Listener<S>, P: Ready<S>> Clients<S, L, P> {
         requires room { vec_len parts.old < vec_capacity parts.old }
         ensures serves { Serves S.remaining S.contents result.0 self.old self.new parts.old.items parts.new.items pass result.1 }
         ensures quiet { result.0 ≡ true → IsWithin bound (looks_in parts.new.items) → QuietBehind zero self.new.events }
+        ensures bounded { EndsWithin bound (looks_in parts.old.items) → EndsWithin bound (looks_in parts.new.items) }
         ensures room { result.0 ≡ true → vec_len parts.new < vec_capacity parts.new }
     {
         let mut pass = pass;
@@ -247,6 +252,7 @@ impl<S: Stream, L: Listener<S>, P: Ready<S>> Clients<S, L, P> {
         ensures serves { Serves S.remaining S.contents (is_some result.0) self.old self.new parts.old.items parts.new.items pass result.1 }
         ensures some { IfSome result.0 (λ n. 0 < n) }
         ensures quiet { IfSome result.0 (λ n. TakesMany n self.old.events self.new.events) }
+        ensures looks { looks_in parts.new.items ≤ looks_in parts.old.items + 2 * most_looks }
         ensures room { IfSome result.0 (λ _. vec_len parts.new < vec_capacity parts.new) }
     {
         let count = self.group_len(is_bounded);
@@ -275,6 +281,7 @@ impl<S: Stream, L: Listener<S>, P: Ready<S>> Clients<S, L, P> {
         requires room { vec_len parts.old < vec_capacity parts.old }
         ensures serves { Serves S.remaining S.contents result.0 self.old self.new parts.old.items parts.new.items pass result.1 }
         ensures quiet { result.0 ≡ true → TakesFirst self.old.events self.new.events }
+        ensures looks { looks_in parts.new.items ≤ looks_in parts.old.items + 2 * most_looks }
         ensures room { result.0 ≡ true → vec_len parts.new < vec_capacity parts.new }
     {
         if parts.reserve(2).is_err() {

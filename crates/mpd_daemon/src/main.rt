@@ -3,7 +3,7 @@
 
 mod standard_streams;
 
-use mpd_program::{run_command_line, takes_line};
+use mpd_program::{put_line, run_command_line, takes_line};
 use standard_streams::take_standard_streams;
 use std::process::ExitCode;
 
@@ -21,7 +21,7 @@ fn main(rt: HostRuntime) -> ExitCode {
     };
     let exit = run_command_line(&rt, &rt);
     if !exit.is_silent() && takes_line(&rt) {
-        let _printed = eprintln!(rt; "{exit}");
+        put_line(&rt, &exit);
     }
     ExitCode::from(exit.code())
 }

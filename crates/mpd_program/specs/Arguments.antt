@@ -2,7 +2,7 @@
 use Rattle.std.specs.Prelude.{ℕ, List, codes, ◌&&◌, ◌||◌, Option, Some, None, string_bytes, if◌then◌else◌}
 use Rattle.std.specs.Str.{bytes_eq}
 use Rattle.mpd_program.specs.declared.arguments.Task.{Task}
-use Rattle.mpd_program.specs.declared.arguments.Task.TheVariants.{Help, Version, ConsoleInMemory, Console, StockConsole, Create, Serve, Look}
+use Rattle.mpd_program.specs.declared.arguments.Task.TheVariants.{Help, Version, ConsoleInMemory, Console, StockConsole, Create, Serve, Look, Salvage}
 
 -- a task, with the path of its configuration
 pub data Asked : Type 0 where
@@ -14,6 +14,8 @@ pub data Asked : Type 0 where
   create : List ℕ → Asked
   serve : List ℕ → Asked
   look : List ℕ → Asked
+  -- where to write, and the configuration
+  salvage : List ℕ → List ℕ → Asked
 
 abbrev pub task_seen : Task → Asked
 task_seen Help = help
@@ -24,6 +26,7 @@ task_seen (StockConsole path) = stock_console (string_bytes path)
 task_seen (Create path) = create (string_bytes path)
 task_seen (Serve path) = serve (string_bytes path)
 task_seen (Look path) = look (string_bytes path)
+task_seen (Salvage to path) = salvage (string_bytes to) (string_bytes path)
 
 -- the task of the first word and at most one more
 abbrev pub task_of : List ℕ → Option (List ℕ) → Option Asked
@@ -43,3 +46,8 @@ task_of first (Some path) =
 abbrev pub task_of_three : List ℕ → List ℕ → List ℕ → Option Asked
 task_of_three first option path =
     if bytes_eq first (codes "console") && bytes_eq option (codes "--stock-clients") then Some (stock_console path) else None
+
+-- the task of four words
+abbrev pub task_of_four : List ℕ → List ℕ → List ℕ → List ℕ → Option Asked
+task_of_four first option to path =
+    if bytes_eq first (codes "look") && bytes_eq option (codes "--salvage") then Some (salvage to path) else None

@@ -1,6 +1,6 @@
 //! What the words of the command line ask for.
 ghost use Rattle.std.specs.Prelude.{◌≡◌, option_map, string_bytes};
-ghost use Rattle.mpd_program.specs.Arguments.{task_of, task_of_three, task_seen};
+ghost use Rattle.mpd_program.specs.Arguments.{task_of, task_of_three, task_of_four, task_seen};
 
 use std::env::{self, Env};
 use std::io;
@@ -24,6 +24,8 @@ pub enum Task {
     Serve(String),
     /// `look CONFIG`: say what stands in the journal of the configuration.
     Look(String),
+    /// `look --salvage TO CONFIG`: write at the path TO what stands in the journal of the configuration.
+    Salvage(String, String),
 }
 
 impl Task {
@@ -54,6 +56,17 @@ impl Task {
         }
     }
 
+    /// The task of four words behind the program's name.
+    fn from_four(first: &str, option: &str, to: String, path: String) -> Option<Task>
+        ensures { option_map task_seen result ≡ task_of_four first.now option.now (string_bytes to) (string_bytes path) }
+    {
+        if first == "look" && option == "--salvage" {
+            Some(Task::Salvage(to, path))
+        } else {
+            None
+        }
+    }
+
     /// The task of the command line; none where its words are not those of a task.
     pub fn from_args<R: Env + AllocGlobal>(rt: &R) -> io::Result<Option<Task>> {
         let mut args = env::args(rt)?;
@@ -67,9 +80,12 @@ impl Task {
         let Some(third) = args.next() else {
             return Ok(Task::from_words(first.as_str(), Some(second)));
         };
+        let Some(fourth) = args.next() else {
+            return Ok(Task::from_three(first.as_str(), second.as_str(), third));
+        };
         if args.next().is_some() {
             return Ok(None);
         }
-        Ok(Task::from_three(first.as_str(), second.as_str(), third))
+        Ok(Task::from_four(first.as_str(), second.as_str(), third, fourth))
     }
 }

@@ -1,7 +1,9 @@
 //! The daemon over the files, the sockets and the output of its configuration.
-ghost use Rattle.std.specs.Prelude.{◌≡◌};
+ghost use Rattle.std.specs.Prelude.{◌≡◌, IfOk};
+ghost use Rattle.std.specs.Thread.{IsSync};
 ghost use Rattle.mpd_program.specs.Daemon.{exit_of_daemon};
 
+use crate::calls::{CallWatch, Calls};
 use crate::clocked_folder::ClockedFolder;
 use crate::config::Config;
 use crate::config_key::ConfigKey;
@@ -12,32 +14,32 @@ use crate::daemon_decoder::DaemonDecoder;
 use crate::error_lines::{ErrorLines, LoopLog, say};
 use crate::exit::Exit;
 use crate::library::rules_of;
+use crate::limited_files::JournalDisk;
 use crate::listening::{listen_on_address, listen_on_path};
 use crate::music::Music;
 use crate::output::Output;
+use crate::process_limits::most_descriptors;
 use crate::serve_config::ServeConfig;
-use crate::slow_opening::Opening;
+use crate::slow_opening::{MeanwhileLines, Opening, start_lines};
 use crate::stop_flag::StopFlag;
 use crate::stopping_folder::StoppingFolder;
 use crate::tasks::{JournalFiles, open_made_files, tell_fault, tell_migration, tell_refusal, told};
-use crate::told_listener::ToldListener;
+use crate::told_listener::{MusicCalls, ToldListener};
 use as_wave::AsWave;
 use decoded_files::Decoded;
-use disk_model::FileDisk;
 use http_guard::{Guarded, GuardedListener, GuardedReady};
 use log::{Level, Log, Logged, warn};
 use mio::Waker;
 use mio::net::{TcpListener, UnixListener};
 use mio_clients::{Clients, Socket, SocketListener, SocketReady};
-use mpd_server::{ServeEnd, ServeStatus, Stop, Workers, open_journal};
+use mpd_server::{Opened, ServeEnd, ServeStatus, Stop, Workers, open_journal};
 use song_output::SoundOutput;
 use stage_workers::Wake;
 use std::alloc::AllocError;
-use std::fs::File;
 use std::io::{self, ErrorKind};
 use std::net::SocketAddr;
 use std::sync::Wait;
-use std::thread::Threads;
+use std::thread::{self, Threads};
 use std::time::Clock;
 use stock_streams::{StockListener, StockReady, StockStream};
 
@@ -126,13 +128,14 @@ fn listen<'a>(
     config: &ServeConfig,
     address: Option<SocketAddr>,
     clock: &'a DaemonClock<'a>,
+    calls: MusicCalls,
 ) -> Result<(DaemonClients<'a>, LoopWaker), Exit> {
     let (tcp, unix) = sockets(rt, config, address)?;
     let mut listener = SocketListener::new(tcp, unix);
     match readiness(rt, &mut listener) {
         Ok((ready, wake)) => {
             let alloc = rt.alloc();
-            let guarded = GuardedListener::new(alloc, ToldListener::new(rt, listener));
+            let guarded = GuardedListener::new(alloc, ToldListener::new(rt, listener, calls));
             let listener = StockListener::new(alloc, guarded, config.stock_clients, clock);
             let ready = StockReady::new(GuardedReady::new(ready));
             let clients = Clients::new(alloc, listener, ready)?;
@@ -177,11 +180,7 @@ fn exit_of(status: ServeStatus) -> Result<(), Exit>
 }
 
 /// What the daemon ended with; which journal file the system failed, how, and what can be done, goes to standard error.
-fn ended(
-    rt: &HostRuntime,
-    config: &ServeConfig,
-    end: ServeEnd<FileDisk<File>>,
-) -> Result<(), Exit> {
+fn ended(rt: &HostRuntime, config: &ServeConfig, end: ServeEnd<JournalDisk>) -> Result<(), Exit> {
     tell_fault(rt, config.journal_a.as_str(), &end.a);
     tell_fault(rt, config.journal_b.as_str(), &end.b);
     if let ServeStatus::JournalRefused(number) = end.status {
@@ -209,14 +208,15 @@ fn decoder<'a>(
     }
 }
 
-/// The songs of the configuration, until the flag is set.
+/// The songs of the configuration, until the flag is set; the calls for them are counted.
 fn songs<'a>(
     rt: &'a HostRuntime,
     config: &ServeConfig,
     stop: &StopFlag,
+    calls: Calls,
 ) -> Result<Songs<'a>, AllocError> {
     let lines = ErrorLines::new(rt, stop.again()?);
-    let music = Music::new(rt, config.music.as_str(), Some(lines))?;
+    let music = Music::new(rt, config.music.as_str(), Some(lines), calls)?;
     Ok(Decoded {
         folder: AsWave {
             folder: StoppingFolder::new(music, stop.again()?),
@@ -242,6 +242,20 @@ type DaemonClients<'a> = Clients<
     StockReady<GuardedReady<SocketReady>>,
 >;
 
+/// So many descriptors take a hundred clients, and what is open beside them.
+const DESCRIPTORS: u64 = 115;
+
+/// Says where the system gives fewer.
+fn tell_descriptors(rt: &HostRuntime) {
+    if let Some(most) = most_descriptors(rt) {
+        if most < DESCRIPTORS {
+            warn!(LoopLog::new(rt);
+                "{most} descriptors at most (ulimit -n), of {DESCRIPTORS} that a hundred clients want: fewer are accepted at once, and songs may not be opened"
+            );
+        }
+    }
+}
+
 /// Listens, and only then empties the output.
 fn begin<'a>(
     rt: &'a HostRuntime,
@@ -251,11 +265,17 @@ fn begin<'a>(
     stop: StopFlag,
     clock: &'a DaemonClock<'a>,
 ) -> Result<(DaemonClients<'a>, DaemonWorkers<'a>), Exit> {
-    let (clients, wake) = listen(rt, config, address, clock)?;
+    tell_descriptors(rt);
+    let (player, scan) = (Calls::new(rt.alloc())?, Calls::new(rt.alloc())?);
+    let calls = MusicCalls {
+        player: CallWatch::new(player.again()?),
+        scan: CallWatch::new(scan.again()?),
+    };
+    let (clients, wake) = listen(rt, config, address, clock, calls)?;
     let _cleared = output.clear();
     let workers = Workers {
-        sources: songs(rt, config, &stop)?,
-        folder: ClockedFolder::new(songs(rt, config, &stop)?, clock),
+        sources: songs(rt, config, &stop, player)?,
+        folder: ClockedFolder::new(songs(rt, config, &stop, scan)?, clock),
         rules: rules_of(config.profile(), config.formats, config.decoder.is_some()),
         output: SoundOutput {
             writer: output,
@@ -265,6 +285,42 @@ fn begin<'a>(
         wake,
     };
     Ok((clients, workers))
+}
+
+/// Opens the journal on these files. Where that takes its time, lines say so meanwhile.
+fn open_told<R: Threads + Wait + Clock + Sync>(
+    rt: &HostRuntime,
+    threads: &R,
+    config: &ServeConfig,
+    a: JournalDisk,
+    b: JournalDisk,
+) -> Result<Opened<JournalDisk>, ServeEnd<JournalDisk>>
+    ensures { IfOk result (λ opened. opened.live.numbers.event ≡ 0) }
+{
+    let opening = Opening::begin(rt, threads, config);
+    let lines = MeanwhileLines::new();
+    let profile = config.profile();
+    let told = &lines;
+    let opened = thread::scope(
+        thread::scope_env(),
+        threads,
+        move |scope| -> Result<Opened<JournalDisk>, ServeEnd<JournalDisk>>
+            requires threads { IsSync R.row }
+            ensures begun { IfOk result (λ opened. opened.live.numbers.event ≡ 0) }
+        {
+            let thread = start_lines(scope, rt, threads, told);
+            let opened = open_journal(rt.alloc(), profile, a, b);
+            told.end(threads);
+            if let Some(thread) = thread {
+                thread.join(threads);
+            }
+            opened
+        },
+    );
+    if opened.is_ok() {
+        opening.end(threads);
+    }
+    opened
 }
 
 /// Serves clients over the journal's files, which are locked meanwhile.
@@ -281,12 +337,10 @@ fn serve_over<R: Threads + Wait + Clock + Log + Sync>(
         b,
         locks: _locks,
     } = open_made_files(rt, config.journal_a.as_str(), config.journal_b.as_str())?;
-    let opening = Opening::begin(rt, threads, config);
-    let opened = match open_journal(rt.alloc(), config.profile(), a, b) {
+    let opened = match open_told(rt, threads, config, a, b) {
         Ok(opened) => opened,
         Err(end) => return ended(rt, config, end),
     };
-    opening.end(threads);
     if opened.was_migrated() {
         tell_migration(rt, config.profile());
     }

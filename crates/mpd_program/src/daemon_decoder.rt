@@ -1,7 +1,7 @@
 // The decoder beside the daemon, which reads songs of other forms.
 ghost use Rattle.std.specs.Prelude.{None};
 
-use crate::error_lines::ErrorLines;
+use crate::error_lines::{ErrorLines, put_line};
 use crate::music_lines::MusicLines;
 use decoded_files::{Decoder, DecoderError, LinkFault, SocketLink};
 use std::alloc::AllocError;
@@ -34,14 +34,17 @@ impl<'a> DaemonDecoder<'a> {
     // Says which file the decoder doesn't tell: of one that it knows as no song that, of any other that its row stays.
     fn print(&self, path: &str, why: DecoderError, words: &str) {
         let mark = if words.is_empty() { "" } else { ": " };
-        let _printed = if why == DecoderError::NoSong {
-            eprintln!(self.rt; "music: {path}: {why}{mark}{words}")
+        if why == DecoderError::NoSong {
+            put_line(self.rt, format_args!("music: {path}: {why}{mark}{words}"));
         } else {
             let socket = self.socket.as_str();
-            eprintln!(self.rt;
-                "music: {path}: {why}{mark}{words} ({socket}); the song known there is kept"
-            )
-        };
+            put_line(
+                self.rt,
+                format_args!(
+                    "music: {path}: {why}{mark}{words} ({socket}); the song known there is kept"
+                ),
+            );
+        }
     }
 }
 

@@ -1,18 +1,34 @@
 // Lines on standard error that nobody needs to read.
+use crate::limited_files::room_at;
+use crate::process_limits::longest_file;
 use crate::readiness::{Readiness, STEP};
 use crate::stop_flag::StopFlag;
 use log::kv::Source;
 use log::span::Spans;
-use log::{Line, Log, Metadata, Record};
+use log::{Level, Line, Log, Metadata, Record};
 use std::fmt::Display;
-use std::os::fd::RawFd;
-use std::sync::atomic::{AtomicBool, Ordering};
+use std::fs::{self, File, OpenOptions};
+use std::io::{self, ErrorKind, Write};
+use std::os::fd::{OwnedFd, RawFd};
+use std::os::unix::fs::FileTypeExt;
+use std::os::unix::net::UnixStream;
+use std::sync::atomic::{AtomicBool, AtomicU64, Ordering};
+use std::thread;
+use std::time::{Duration, Instant};
 
 /// The descriptor of standard error.
 const STANDARD_ERROR: RawFd = 2;
 
+/// By which path it is opened once more.
+const ITS_PATH: &str = "/proc/self/fd/2";
+
 /// How many milliseconds a line waits at most for a reader.
 const PATIENCE: u64 = 1_000;
+
+/// How many lines of `debug` there are at most within a minute, of so many seconds.
+const MOST_OF_DEBUG: u64 = 1_000;
+
+const MINUTE: u64 = 60;
 
 /// How long a line waits: not at all behind one that was not taken.
 fn patience(is_full: bool) -> u64 {
@@ -59,11 +75,137 @@ pub fn takes_line(rt: &HostRuntime) -> bool {
     Watch::new(rt).takes_line(PATIENCE)
 }
 
+/// What standard error is.
+#[derive(Drop)]
+enum Stream {
+    /// A terminal, opened once more, so that a write to it never waits, and others' do as before.
+    Terminal(File),
+    /// A regular file of so many bytes.
+    File(u64),
+    /// Anything else, and what can't be looked at or opened.
+    Other,
+}
+
+impl Stream {
+    fn of(rt: &HostRuntime) -> Stream {
+        let Ok(found) = fs::metadata(rt, ITS_PATH) else {
+            return Stream::Other;
+        };
+        if found.is_file() {
+            return Stream::File(found.len());
+        }
+        if found.file_type().is_char_device() {
+            if let Ok(terminal) = own_terminal(rt) {
+                return Stream::Terminal(terminal);
+            }
+        }
+        Stream::Other
+    }
+}
+
+// Standard error, opened once more, so that a write to it never waits.
+fn own_terminal(rt: &HostRuntime) -> io::Result<File> {
+    let file = OpenOptions::new().write(true).open(rt, ITS_PATH)?;
+    keep_from_waiting(&file)?;
+    Ok(file)
+}
+
+/// Writes a line on standard error, of which it is known that it takes one. A terminal that is full takes a part of it, and says only that
+/// it takes some: so what goes to one doesn't wait for its reader for more than a second, and the rest of the line is dropped. So is a line
+/// by which a regular file would become longer than it may.
+pub fn put_line<D: Display + Drop>(rt: &HostRuntime, line: D) {
+    match Stream::of(rt) {
+        Stream::Terminal(terminal) => put_on(rt, terminal, line),
+        Stream::File(bytes) if !has_room(rt, bytes, &line) => {}
+        Stream::File(_) | Stream::Other => {
+            let _printed = eprintln!(rt; "{line}");
+        }
+    }
+}
+
+// Whether a regular file of so many bytes may have a line more. Where memory for that line is refused, it has none.
+fn has_room<D: Display>(rt: &HostRuntime, bytes: u64, line: &D) -> bool {
+    let Some(limit) = longest_file(rt) else {
+        return true;
+    };
+    let Ok(text) = format!(in rt.alloc(); "{line}\n") else {
+        return false;
+    };
+    matches!(room_at(limit, bytes, text.len()), Ok(room) if room == text.len())
+}
+
+/// From now on a write that would wait is refused by `WouldBlock`, as where others have filled the pipe behind the look at it.
+pub(crate) fn keep_from_waiting(file: &File) -> io::Result<()> {
+    // The two descriptors are of one opened file, to which this is said. That it is no socket doesn't matter.
+    let other = OwnedFd::from(file.try_clone()?);
+    UnixStream::from(other).set_nonblocking(true)
+}
+
+// Writes a line on a terminal, or as much of it as that takes within a second.
+fn put_on<D: Display + Drop>(rt: &HostRuntime, mut terminal: File, line: D) {
+    let Ok(text) = format!(in rt.alloc(); "{line}\n") else {
+        // Where memory is refused, it is written in pieces, of which none waits.
+        let _printed = writeln!(terminal, "{line}");
+        return;
+    };
+    let mut rest = text.as_bytes();
+    for _ in 0..PATIENCE / STEP {
+        match terminal.write(rest) {
+            Ok(count) => rest = &rest[count.min(rest.len())..],
+            Err(error) if error.kind() == ErrorKind::WouldBlock => {
+                thread::sleep(rt, Duration::from_millis(STEP));
+            }
+            Err(_) => return,
+        }
+        if rest.is_empty() {
+            return;
+        }
+    }
+}
+
 /// Writes a line of a start on standard error, unless nobody takes it within a second. Where the system can't tell that, as without a free
 /// descriptor, it is written all the same: why nothing is begun is to be known.
 pub(crate) fn say<D: Display + Drop>(rt: &HostRuntime, line: D) {
     if Watch::new(rt).answer(PATIENCE).unwrap_or(true) {
-        let _printed = eprintln!(rt; "{line}");
+        put_line(rt, line);
+    }
+}
+
+/// Lines of `debug`, of which a minute has so many at most.
+#[derive(Drop)]
+struct MinuteCount {
+    begun: Option<Instant>,
+    minute: AtomicU64,
+    told: AtomicU64,
+}
+
+impl MinuteCount {
+    fn new(rt: &HostRuntime) -> Self {
+        MinuteCount {
+            begun: Instant::now(rt).ok(),
+            minute: AtomicU64::new(0),
+            told: AtomicU64::new(0),
+        }
+    }
+
+    // How many seconds have passed since it was made.
+    fn passed(&self, rt: &HostRuntime) -> u64 {
+        let Some(begun) = self.begun else {
+            return 0;
+        };
+        match begun.elapsed(rt) {
+            Ok(passed) => passed.as_secs(),
+            Err(_) => 0,
+        }
+    }
+
+    // How many lines this minute had before this one.
+    fn before(&self, rt: &HostRuntime) -> u64 {
+        let minute = self.passed(rt) / MINUTE;
+        if self.minute.swap(minute, Ordering::SeqCst) != minute {
+            self.told.store(0, Ordering::SeqCst);
+        }
+        self.told.fetch_add(1, Ordering::SeqCst)
     }
 }
 
@@ -122,12 +264,14 @@ impl ErrorLines {
     }
 }
 
-/// Log lines of the daemon: one that isn't taken within a second is dropped, and behind it each that isn't taken at once.
+/// Log lines of the daemon: one that isn't taken within a second is dropped, and behind it each that isn't taken at once. Of those of
+/// `debug` a minute has a thousand at most, and then one that says so.
 #[derive(Drop)]
 pub struct LoopLog<'a> {
     lines: TakenLog<'a>,
     // The line before was not taken.
     is_full: AtomicBool,
+    of_debug: MinuteCount,
 }
 
 impl<'a> LoopLog<'a> {
@@ -135,7 +279,29 @@ impl<'a> LoopLog<'a> {
         LoopLog {
             lines: TakenLog { rt },
             is_full: AtomicBool::new(false),
+            of_debug: MinuteCount::new(rt),
         }
+    }
+
+    // Whether a line is taken.
+    fn is_taken(&self) -> bool {
+        let limit = patience(self.is_full.load(Ordering::SeqCst));
+        let is_taken = Watch::new(self.lines.rt).takes_line(limit);
+        self.is_full.store(!is_taken, Ordering::SeqCst);
+        is_taken
+    }
+
+    // Whether a line of `debug` is one that its minute has.
+    fn is_within(&self) -> bool {
+        let rt = self.lines.rt;
+        let before = self.of_debug.before(rt);
+        if before == MOST_OF_DEBUG && self.is_taken() {
+            put_line(
+                rt,
+                "[DEBUG mpd_program::error_lines] what else there is of these lines within this minute is left out",
+            );
+        }
+        before < MOST_OF_DEBUG
     }
 }
 
@@ -151,10 +317,8 @@ impl Log for LoopLog<'_> {
     }
 
     fn log<D: Display, K: Source, S: Spans>(&self, record: &Record<'_, D, K, S>) {
-        let limit = patience(self.is_full.load(Ordering::SeqCst));
-        let is_taken = Watch::new(self.lines.rt).takes_line(limit);
-        self.is_full.store(!is_taken, Ordering::SeqCst);
-        if is_taken {
+        let is_of_debug = matches!(record.level(), Level::Debug | Level::Trace);
+        if (!is_of_debug || self.is_within()) && self.is_taken() {
             self.lines.log(record);
         }
     }
@@ -184,7 +348,7 @@ impl Log for TakenLog<'_> {
     }
 
     fn log<D: Display, K: Source, S: Spans>(&self, record: &Record<'_, D, K, S>) {
-        let _printed = eprintln!(self.rt; "{}", Line::new(record));
+        put_line(self.rt, Line::new(record));
     }
 
     fn flush(&self) {}

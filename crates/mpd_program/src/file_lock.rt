@@ -1,6 +1,8 @@
 // The lock on a file that one program at a time writes.
+use os::RangeLock;
 use std::fs::{File, OpenOptions, TryLockError};
 use std::io::{self, ErrorKind};
+use std::os::fd::AsRawFd;
 use std::os::unix::fs::OpenOptionsExt;
 
 /// A lock on a journal file, by which one program at a time has it open. It ends with the value, or with the process.
@@ -44,4 +46,18 @@ pub fn lock(file: &File) -> io::Result<bool> {
         Err(TryLockError::Error(error)) if error.kind() == ErrorKind::Unsupported => Ok(false),
         Err(TryLockError::Error(error)) => Err(error),
     }
+}
+
+/// Locks a named pipe that is open for writing, for as long as it stays open: `WouldBlock` where another has locked it so. It is another
+/// lock than that of `lock`, by which `contrib/sound` keeps other readers from it. Where the system has no such lock, nothing keeps another
+/// daemon away.
+pub fn lock_pipe(file: &File) -> io::Result<()> {
+    if os::try_lock_range(file.as_raw_fd(), RangeLock::Exclusive, 0, 1) == 0 {
+        return Ok(());
+    }
+    let error = io::Error::from_raw_os_error(os::errno());
+    if error.kind() == ErrorKind::WouldBlock {
+        return Err(error);
+    }
+    Ok(())
 }

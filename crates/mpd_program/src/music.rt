@@ -1,9 +1,10 @@
 // The folder of the songs.
 ghost use Rattle.std.specs.Prelude.{[]};
 
-use crate::error_lines::ErrorLines;
+use crate::calls::{CalledSource, Calls};
+use crate::error_lines::{ErrorLines, put_line};
 use crate::music_lines::MusicLines;
-use song_files::{FileFolder, FileSource, FileStamp, Folder, FolderEntry, FolderFault};
+use song_files::{FileFolder, FileStamp, Folder, FolderEntry, FolderFault};
 use std::alloc::{AllocError, Global};
 use std::fs::{self, File};
 use std::io;
@@ -18,22 +19,26 @@ pub struct Music<'a> {
     root: String,
     files: FileFolder<'a>,
     lines: MusicLines<'a>,
+    calls: Calls,
     // What could not be listed last, unless something was opened since.
     unlisted: Option<String>,
 }
 
 impl<'a> Music<'a> {
-    /// The songs below this path. Without `lines` a line waits until it is taken.
+    /// The songs below this path. Without `lines` a line waits until it is taken. Calls of the system for them, and for what is opened of
+    /// them, are counted.
     pub fn new(
         rt: &'a HostRuntime,
         root: &str,
         lines: Option<ErrorLines>,
+        calls: Calls,
     ) -> Result<Self, AllocError> {
         Ok(Music {
             rt,
             root: String::from_str(rt.alloc(), root)?,
             files: FileFolder::new(rt, String::from_str(rt.alloc(), root)?),
             lines: MusicLines::new(rt, lines),
+            calls,
             unlisted: None,
         })
     }
@@ -55,7 +60,10 @@ impl<'a> Music<'a> {
     // Whether something else than a file stands at a path: the opening of a pipe would wait for its other end.
     fn is_no_file(&self, alloc: Global, path: &str) -> Result<bool, AllocError> {
         let place = self.place(alloc, path)?;
-        Ok(match fs::metadata(self.rt, place.as_str()) {
+        self.calls.turn();
+        let found = fs::metadata(self.rt, place.as_str());
+        self.calls.turn();
+        Ok(match found {
             Ok(found) => !found.is_file(),
             Err(_) => false,
         })
@@ -63,14 +71,20 @@ impl<'a> Music<'a> {
 
     // Says what can't be read, and why. Where the system has no error of its own, a link leads upwards, or something changed.
     fn print(&self, place: &str, error: Option<io::Error>) {
-        let _printed = match error {
-            Some(error) => eprintln!(self.rt;
-                "music: {place}: can't be read: {error}; the songs known there are kept"
+        match error {
+            Some(error) => put_line(
+                self.rt,
+                format_args!(
+                    "music: {place}: can't be read: {error}; the songs known there are kept"
+                ),
             ),
-            None => eprintln!(self.rt;
-                "music: {place}: can't be read: it leads upwards, or changed meanwhile; the songs known there are kept"
+            None => put_line(
+                self.rt,
+                format_args!(
+                    "music: {place}: can't be read: it leads upwards, or changed meanwhile; the songs known there are kept"
+                ),
             ),
-        };
+        }
     }
 
     // Says what can't be listed. For want of memory nothing is said.
@@ -105,7 +119,7 @@ impl<'a> Music<'a> {
 }
 
 impl Folder for Music<'_> {
-    type File = FileSource;
+    type File = CalledSource;
 
     ghost files = { λ _. [] };
 
@@ -115,7 +129,9 @@ impl Folder for Music<'_> {
 
     fn list(&mut self, alloc: Global, path: &str) -> Result<Option<Vec<FolderEntry>>, FolderFault> {
         self.unlisted = None;
+        self.calls.turn();
         let listed = self.files.list(alloc, path);
+        self.calls.turn();
         if matches!(listed, Err(FolderFault::Source)) {
             self.tell_folder(alloc, path);
         }
@@ -123,24 +139,31 @@ impl Folder for Music<'_> {
     }
 
     fn look(&mut self, alloc: Global, path: &str) -> Result<Option<FileStamp>, FolderFault> {
+        self.calls.turn();
         let looked = self.files.look(alloc, path);
+        self.calls.turn();
         if matches!(looked, Err(FolderFault::Source)) {
             self.tell_file(alloc, path);
         }
         looked
     }
 
-    fn open(&mut self, alloc: Global, path: &str) -> Result<Option<FileSource>, FolderFault> {
+    fn open(&mut self, alloc: Global, path: &str) -> Result<Option<CalledSource>, FolderFault> {
         // What a listing had as a file may be another thing by now.
         if self.is_no_file(alloc, path)? {
             return Ok(None);
         }
+        self.calls.turn();
         let opened = self.files.open(alloc, path);
+        self.calls.turn();
         if matches!(opened, Err(FolderFault::Source)) {
             self.tell_file(alloc, path);
         }
         self.unlisted = None;
-        opened
+        match opened? {
+            Some(file) => Ok(Some(CalledSource::new(file, self.calls.again()?))),
+            None => Ok(None),
+        }
     }
 }
 

@@ -1,5 +1,5 @@
 // Lines on standard error about files of the music.
-use crate::error_lines::ErrorLines;
+use crate::error_lines::{ErrorLines, put_line};
 use mpd_server::TimedLimit;
 
 /// How many lines there are at most within a minute.
@@ -40,8 +40,9 @@ impl<'a> MusicLines<'a> {
             return self.is_ready();
         }
         if self.limit.left_out() == 1 && self.is_ready() {
-            let _printed = eprintln!(self.rt;
-                "music: what else can't be read within this minute is not told; an update counts it"
+            put_line(
+                self.rt,
+                "music: what else can't be read within this minute is not told; an update counts it",
             );
         }
         false

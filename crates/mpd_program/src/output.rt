@@ -1,16 +1,23 @@
 // Where the sound goes.
+ghost use Rattle.std.specs.Prelude.{◌≤◌, IfOk};
 ghost use Rattle.std.specs.Io.{WritesAtMost};
 
-use crate::file_lock::lock;
+use crate::error_lines::keep_from_waiting;
+use crate::file_lock::{lock, lock_pipe};
+use crate::limited_files::room_at;
+use crate::process_limits::longest_file;
 use crate::readiness::{Readiness, STEP};
 use crate::stop_flag::StopFlag;
-use std::fs::{File, OpenOptions};
+use std::fs::{self, File, OpenOptions};
 use std::io::{self, ErrorKind, Printer, Write};
-use std::os::fd::{AsRawFd, OwnedFd, RawFd};
-use std::os::unix::net::UnixStream;
+use std::os::fd::{AsRawFd, RawFd};
+use std::os::unix::fs::{FileTypeExt, OpenOptionsExt};
 
 /// The descriptor of standard output.
 const STANDARD_OUTPUT: RawFd = 1;
+
+/// By which path it is looked at.
+const ITS_PATH: &str = "/proc/self/fd/1";
 
 /// How many bytes go into one write: a pipe that is reported ready takes so many without blocking (pipe(7)).
 const MAX_WRITE: usize = 4_096;
@@ -21,9 +28,12 @@ const MAX_WRITE: usize = 4_096;
 /// takes any number of bytes at once.
 #[derive(Drop)]
 pub struct Output<'a> {
+    rt: &'a HostRuntime,
     target: Target<'a>,
     // None where the system has nothing to wait for, as for a regular file.
     readiness: Option<Readiness>,
+    // How many bytes a regular file may have.
+    limit: u64,
     stop: StopFlag,
 }
 
@@ -34,30 +44,28 @@ enum Target<'a> {
     File(File),
 }
 
-// Opens what stands at a path, for reading and writing. Only a regular file is locked.
+// Opens what stands at a path, for reading and writing. Only a regular file and a named pipe are locked.
 fn open_file(rt: &HostRuntime, path: &str) -> io::Result<File> {
     let file = OpenOptions::new()
         .read(true)
         .write(true)
         .create(true)
+        .mode(0o600)
         .open(rt, path)?;
-    if file.metadata()?.is_file() {
+    let found = file.metadata()?;
+    if found.is_file() {
         let _is_known = lock(&file)?;
+    } else if found.file_type().is_fifo() {
+        lock_pipe(&file)?;
     }
     Ok(file)
 }
 
-// From now on a write that would wait is refused by `WouldBlock`, as where others have filled the pipe behind the look at it.
-fn keep_from_waiting(file: &File) -> io::Result<()> {
-    // The two descriptors are of one opened file, to which this is said. That it is no socket doesn't matter.
-    let other = OwnedFd::from(file.try_clone()?);
-    UnixStream::from(other).set_nonblocking(true)
-}
-
 impl<'a> Output<'a> {
     /// Opens the output at this path, or standard output at `-`. A named pipe is opened for reading too, so that it needs no reader
-    /// yet. A regular file is made where there is none, and keeps its bytes until `clear`. It is locked, so that it is no journal file of
-    /// a daemon, this one under another name or another, and no other daemon's output: `WouldBlock` where somebody has locked it.
+    /// yet. A regular file is made, for its owner alone, where there is none, and keeps its bytes until `clear`. Both are locked, so that
+    /// a file is no journal file of a daemon, this one under another name or another, and neither is another daemon's output: `WouldBlock`
+    /// where somebody has locked it.
     pub fn open(rt: &'a HostRuntime, path: &str, stop: StopFlag) -> io::Result<Output<'a>> {
         let (target, fd) = if path == "-" {
             (Target::Standard(io::writer(rt)), STANDARD_OUTPUT)
@@ -72,8 +80,10 @@ impl<'a> Output<'a> {
             let _kept = keep_from_waiting(file);
         }
         Ok(Output {
+            rt,
             target,
             readiness,
+            limit: longest_file(rt).unwrap_or(u64::MAX),
             stop,
         })
     }
@@ -114,11 +124,38 @@ impl<'a> Output<'a> {
         Err(ErrorKind::Other.into())
     }
 
-    // Writes a front of these bytes, as many as a pipe takes that is ready.
+    // How many bytes a regular file has already; none of anything else.
+    fn length(&self) -> io::Result<Option<u64>> {
+        let found = match &self.target {
+            Target::Standard(_) => fs::metadata(self.rt, ITS_PATH)?,
+            Target::File(file) => file.metadata()?,
+        };
+        Ok(if found.is_file() {
+            Some(found.len())
+        } else {
+            None
+        })
+    }
+
+    // How many of so many bytes are written at once: as many as a pipe takes that is ready, and as a regular file may become longer. The
+    // system would end the process where it became longer than that.
+    fn room(&self, len: usize) -> io::Result<usize>
+        ensures { IfOk result (λ count. count ≤ len) }
+    {
+        let len = len.min(MAX_WRITE);
+        match self.length() {
+            Ok(Some(length)) => Ok(room_at(self.limit, length, len)?),
+            // What can't be looked at has no limit that is known.
+            Ok(None) | Err(_) => Ok(len),
+        }
+    }
+
+    // Writes a front of these bytes.
     fn put(&mut self, bytes: &[u8]) -> io::Result<usize>
         ensures { WritesAtMost result bytes.now }
     {
-        let piece = &bytes[..bytes.len().min(MAX_WRITE)];
+        let count = self.room(bytes.len())?;
+        let piece = &bytes[..count];
         match &mut self.target {
             Target::Standard(printer) => printer.write(piece),
             Target::File(file) => file.write(piece),

@@ -13,7 +13,7 @@ const NOTE_LIMIT: u64 = 1_024;
 
 /// The tasks, as words of the command line.
 pub(crate) const TASKS: &str =
-    "mpd_daemon create CONFIG | console [[--stock-clients] CONFIG] | serve CONFIG | look CONFIG";
+    "mpd_daemon create CONFIG | console [[--stock-clients] CONFIG] | serve CONFIG | look [--salvage TO] CONFIG";
 
 /// Says which tasks there are.
 pub(crate) fn tell_help(rt: &HostRuntime) {
@@ -29,6 +29,9 @@ pub(crate) fn tell_help(rt: &HostRuntime) {
     );
     let _printed = println!(rt;
         "  look CONFIG                     says what stands in the journal"
+    );
+    let _printed = println!(rt;
+        "  look --salvage TO CONFIG        writes what stands before its damage as a file TO"
     );
     let _printed = println!(rt; "  --version                       says which program this is");
     let _printed = println!(rt; "CONFIG is a TOML file: mpd_daemon(1) has its keys.");

@@ -3,13 +3,18 @@ use crate::error_lines::LoopLog;
 use crate::serve_config::ServeConfig;
 use log::{Log, info};
 use std::fs;
+use std::sync::{Condvar, Mutex, Wait};
+use std::thread::{JoinHandle, Scope};
 use std::time::{Clock, Duration, Instant};
 
 /// A journal of so many bytes, both files together, has a line before it is opened.
 const LARGE: u64 = 16_777_216;
 
-/// An opening that takes so many milliseconds has a line behind it.
+/// An opening that takes so many milliseconds has a line behind it, and one meanwhile.
 const SLOW: u64 = 1_000;
+
+/// So many seconds behind a line meanwhile there is another one.
+const PAUSE: u64 = 5;
 
 /// The opening of a journal: how large its files are, and when it began.
 #[derive(Drop)]
@@ -52,6 +57,64 @@ impl<'a> Opening<'a> {
             "the journal was opened in {seconds}.{tenths} seconds, both files have {bytes} bytes"
         );
     }
+}
+
+/// Lines that are told by a thread of their own while a journal is opened, until that is over.
+#[derive(Drop)]
+pub(crate) struct MeanwhileLines {
+    is_over: Mutex<bool>,
+    changed: Condvar,
+}
+
+impl MeanwhileLines {
+    pub(crate) fn new() -> Self {
+        MeanwhileLines {
+            is_over: Mutex::new(false),
+            changed: Condvar::new(),
+        }
+    }
+
+    /// It is opened, or refused.
+    pub(crate) fn end<R: Wait>(&self, threads: &R) {
+        *self.is_over.lock(threads) = true;
+        self.changed.notify_all();
+    }
+
+    // Waits for its end, for at most so many milliseconds; whether it came to that.
+    fn is_over_within<R: Wait + Clock>(&self, threads: &R, limit: u64) -> bool {
+        let guard = self.is_over.lock(threads);
+        let limit = Duration::from_millis(limit);
+        let (guard, _) = self
+            .changed
+            .wait_timeout_while(threads, guard, limit, |is_over| !*is_over);
+        let is_over = *guard;
+        drop(guard);
+        is_over
+    }
+
+    // Tells a line after a second, and another one each five seconds, until it is over.
+    fn tell<R: Wait + Clock>(&self, rt: &HostRuntime, threads: &R) {
+        let mut limit = SLOW;
+        for line in 0..u64::MAX {
+            if self.is_over_within(threads, limit) {
+                return;
+            }
+            let seconds = line.saturating_mul(PAUSE).saturating_add(1);
+            info!(LoopLog::new(rt); "the journal is being opened, for {seconds} seconds so far");
+            limit = PAUSE * 1_000;
+        }
+    }
+}
+
+/// Starts the thread that tells these lines; none where it can't be made.
+pub(crate) fn start_lines<'s, E: 's, R: Wait + Clock + Sync + 's>(
+    scope: &Scope<'s, E>,
+    rt: &'s HostRuntime,
+    threads: &'s R,
+    lines: &'s MeanwhileLines,
+) -> Option<JoinHandle<()>> {
+    let thread = move || lines.tell(rt, threads);
+    scope.spawn(thread).ok()
 }
 
 // How many bytes a file has; none where that can't be told.

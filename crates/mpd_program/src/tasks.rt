@@ -3,19 +3,21 @@ ghost use Rattle.std.specs.Prelude.{◌≡◌};
 ghost use Rattle.mpd_program.specs.Lives.{refusal_of, status_of};
 
 use crate::arguments::Task;
+use crate::calls::Calls;
 use crate::config::{Config, ConfigError};
 use crate::config_lines::ConfigText;
 use crate::console::{ConsoleEnd, Status, run_console};
-use crate::created::tell_created;
 use crate::daemon;
 use crate::daemon_clock::DaemonClock;
 use crate::daemon_decoder::DaemonDecoder;
-use crate::error_lines::{say, takes_line};
+use crate::error_lines::{put_line, say, takes_line};
 use crate::exit::Exit;
 use crate::file_lock::FileLock;
 use crate::journal_head::{HEAD, JournalHead};
 use crate::library::rules_of;
-use crate::look::look;
+use crate::limited_files::{JournalDisk, LimitedFiles};
+use crate::look::{look, salvage};
+use crate::lost_file::tell_lost;
 use crate::music::Music;
 use crate::program_words::{TASKS, tell_help, tell_version};
 use as_wave::AsWave;
@@ -76,6 +78,7 @@ fn run<R: Threads + Wait + Clock + Log + Sync>(
         Task::StockConsole(path) => stock_console(rt, read_config(rt, path)?),
         Task::Create(path) => create(rt, &read_config(rt, path)?),
         Task::Look(path) => look(rt, &read_config(rt, path)?),
+        Task::Salvage(to, path) => salvage(rt, &read_config(rt, path)?, to.as_str()),
         Task::Serve(path) => serve_config(rt, threads, path),
     }
 }
@@ -139,8 +142,8 @@ fn read_text(rt: &HostRuntime, path: &str) -> io::Result<String> {
 /// Both files of a journal, and the locks by which no other program has them open meanwhile.
 #[derive(Drop)]
 pub(crate) struct JournalFiles {
-    pub(crate) a: FileDisk<File>,
-    pub(crate) b: FileDisk<File>,
+    pub(crate) a: JournalDisk,
+    pub(crate) b: JournalDisk,
     pub(crate) locks: (FileLock, FileLock),
 }
 
@@ -155,32 +158,10 @@ fn open_files(rt: &HostRuntime, a: &str, b: &str) -> Result<JournalFiles, Exit> 
     })
 }
 
-/// Whether nothing stands at the path of a journal file.
-fn is_missing(rt: &HostRuntime, path: &str) -> bool {
-    match fs::metadata(rt, path) {
-        Ok(_) => false,
-        Err(error) => error.kind() == ErrorKind::NotFound,
-    }
-}
-
-/// Says on standard error which file of a journal is missing, where one of them is: what the other has may be an older state.
-fn tell_missing(rt: &HostRuntime, a: &str, b: &str) {
-    let missing = match (is_missing(rt, a), is_missing(rt, b)) {
-        (true, false) => a,
-        (false, true) => b,
-        _ => return,
-    };
-    say(
-        rt,
-        format_args!(
-            "{missing}: missing, and made empty: the other file may have an older state; if it stands elsewhere, end this at once and put it back"
-        ),
-    );
-}
-
-/// Opens the files of a journal that was made before, as `open_files` does, and says which of them is missing, where one is.
+/// Opens the files of a journal that was made before, as `open_files` does, and says which of them is missing or has lost its bytes, where
+/// one has. It refuses where that was the one in use.
 pub(crate) fn open_made_files(rt: &HostRuntime, a: &str, b: &str) -> Result<JournalFiles, Exit> {
-    tell_missing(rt, a, b);
+    tell_lost(rt, a, b)?;
     open_files(rt, a, b)
 }
 
@@ -197,22 +178,22 @@ fn sync_behind_link(rt: &HostRuntime, path: &str) -> io::Result<()> {
 }
 
 /// Opens a journal file, which is made, empty, where it is missing, and syncs the folder in which it stands.
-fn open_disk(rt: &HostRuntime, path: &str) -> io::Result<FileDisk<File>> {
-    let disk = FileDisk::open(rt, path)?;
+fn open_disk(rt: &HostRuntime, path: &str) -> io::Result<JournalDisk> {
+    let disk = FileDisk::open(&LimitedFiles::new(rt), path)?;
     sync_behind_link(rt, path)?;
     Ok(disk)
 }
 
 /// Locks a journal file, and opens it behind that: its length is measured once nobody else writes it. It is made, empty, where it is
 /// missing.
-fn lock_and_open(rt: &HostRuntime, path: &str) -> io::Result<(FileDisk<File>, FileLock)> {
+fn lock_and_open(rt: &HostRuntime, path: &str) -> io::Result<(JournalDisk, FileLock)> {
     let lock = FileLock::take(rt, path)?;
     let disk = open_disk(rt, path)?;
     Ok((disk, lock))
 }
 
 /// Opens and locks a journal file. Where the file system knows no locks, that is said, and it is served all the same.
-fn open_file(rt: &HostRuntime, path: &str) -> Result<(FileDisk<File>, FileLock), Exit> {
+fn open_file(rt: &HostRuntime, path: &str) -> Result<(JournalDisk, FileLock), Exit> {
     let fault = Exit::Ended(Status::DiskFault);
     match lock_and_open(rt, path) {
         Ok((disk, lock)) => {
@@ -283,7 +264,7 @@ pub(crate) fn tell_refusal(rt: &HostRuntime, profile: Profile, a: &str, b: &str,
         _ => return,
     };
     if takes_line(rt) {
-        let _printed = eprintln!(rt; "{a}, {b}: {advice}");
+        put_line(rt, format_args!("{a}, {b}: {advice}"));
     }
 }
 
@@ -354,13 +335,16 @@ fn exit_of(status: Status) -> Result<(), Exit> {
 }
 
 /// Says on standard error which journal file the system failed, how, and what can be done.
-pub(crate) fn tell_fault(rt: &HostRuntime, path: &str, disk: &FileDisk<File>) {
+pub(crate) fn tell_fault(rt: &HostRuntime, path: &str, disk: &JournalDisk) {
     let Some(error) = disk.error() else {
         return;
     };
     if takes_line(rt) {
-        let _printed = eprintln!(rt;
-            "{path}: {error}: what was answered is kept; free space or check the device, then start again"
+        put_line(
+            rt,
+            format_args!(
+                "{path}: {error}: what was answered is kept; free space or check the device, then start again"
+            ),
         );
     }
 }
@@ -415,7 +399,7 @@ fn console(rt: &HostRuntime, config: Config, translates: bool) -> Result<(), Exi
         b,
         locks: _locks,
     } = open_made_files(rt, journal_a.as_str(), journal_b.as_str())?;
-    let folder = Music::new(rt, music.as_str(), None)?;
+    let folder = Music::new(rt, music.as_str(), None, Calls::new(rt.alloc())?)?;
     let rules = rules_of(profile, forms, socket.is_some());
     let decoder = match socket {
         Some(socket) => Some(DaemonDecoder::new(rt, socket.as_str(), None)?),
@@ -440,7 +424,7 @@ fn console(rt: &HostRuntime, config: Config, translates: bool) -> Result<(), Exi
     exit_of(end.status)
 }
 
-/// Makes the journal of the configuration, and says so.
+/// Makes the journal of the configuration, and says so on standard output.
 fn create(rt: &HostRuntime, config: &Config) -> Result<(), Exit> {
     let JournalFiles {
         a,
@@ -450,7 +434,8 @@ fn create(rt: &HostRuntime, config: &Config) -> Result<(), Exit> {
     let profile = config.profile();
     match Live::create(rt.alloc(), profile, a, b, config.key) {
         Ok(_) => {
-            tell_created(rt, config);
+            // It is made, whether or not somebody reads this.
+            let _printed = println!(rt; "created");
             Ok(())
         }
         Err(error) => {

@@ -1,4 +1,5 @@
 // Where clients connect, with a line on standard error where they can't.
+use crate::calls::CallWatch;
 use crate::error_lines::{TakenLog, WatchedLines};
 use log::{Log, warn};
 use mio_clients::{Listener, Socket, SocketListener};
@@ -11,8 +12,15 @@ const MOST_LINES: u32 = 10;
 
 const MINUTE: u64 = 60_000;
 
+/// The player's and the scan's calls of the system.
+#[derive(Drop)]
+pub struct MusicCalls {
+    pub player: CallWatch,
+    pub scan: CallWatch,
+}
+
 /// Listening sockets that say why a client can't be accepted: once, until no client waits any more. Whoever wants to connect waits
-/// meanwhile. They say too which client gave way to another.
+/// meanwhile. They say too which client gave way to another, and where a call of the system for the music takes ten seconds.
 #[derive(Drop)]
 pub struct ToldListener<'a> {
     log: TakenLog<'a>,
@@ -22,6 +30,8 @@ pub struct ToldListener<'a> {
     // Of each of both lines, so that none uses up what the other may have.
     waiting: TimedLimit,
     giving_way: TimedLimit,
+    standing: TimedLimit,
+    calls: MusicCalls,
     // When they were made, and how many milliseconds had passed since when that was last asked.
     began: Option<Instant>,
     now: u64,
@@ -43,7 +53,7 @@ fn milliseconds(passed: Duration) -> u64 {
 }
 
 impl<'a> ToldListener<'a> {
-    pub fn new(rt: &'a HostRuntime, sockets: SocketListener) -> Self {
+    pub fn new(rt: &'a HostRuntime, sockets: SocketListener, calls: MusicCalls) -> Self {
         ToldListener {
             log: TakenLog { rt },
             lines: WatchedLines::new(rt),
@@ -51,8 +61,27 @@ impl<'a> ToldListener<'a> {
             is_told: false,
             waiting: TimedLimit::new(rt, MOST_LINES, MINUTE),
             giving_way: TimedLimit::new(rt, MOST_LINES, MINUTE),
+            standing: TimedLimit::new(rt, MOST_LINES, MINUTE),
+            calls,
             began: Instant::now(rt).ok(),
             now: 0,
+        }
+    }
+
+    // Says which thread has stood in one call for ten seconds now.
+    fn tell_standing(&mut self) {
+        let now = self.now;
+        let calls = &mut self.calls;
+        let threads = [
+            ("player", calls.player.is_late(now)),
+            ("scan", calls.scan.is_late(now)),
+        ];
+        for (thread, is_late) in threads {
+            if is_late && is_written(&mut self.lines, &mut self.standing, self.log) {
+                warn!(self.log;
+                    "the {thread} has waited for ten seconds for one call of the system for the music: is its drive there?"
+                );
+            }
         }
     }
 }
@@ -97,6 +126,7 @@ impl Listener<Socket> for ToldListener<'_> {
                 self.now = milliseconds(passed);
             }
         }
+        self.tell_standing();
         self.now
     }
 

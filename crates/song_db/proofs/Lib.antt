@@ -6,6 +6,7 @@ pub mod BelowOrder
 mod Counts
 pub mod Differences
 mod DistinctTexts
+mod Exchanged
 mod FolderRuns
 mod Folders
 mod Follows
@@ -18,9 +19,12 @@ mod Known
 mod KnownRows
 mod KnownSongs
 mod LastRow
+mod LetterKeys
+mod LetterSteps
 mod ListedSteps
 mod Opened
 mod Ordered
+mod NewFolders
 mod OwnSteps
 mod Picked
 mod PlainTags
@@ -37,6 +41,13 @@ pub mod SixTexts
 mod Slashes
 mod Taken
 mod TextSteps
+mod LentOrder
+mod ToldBelow
+mod ToldFolders
+mod ToldFollows
+mod ToldKeys
+mod ToldOrder
+mod ToldWhole
 mod IndexedValues
 pub mod Timing
 pub mod Turns

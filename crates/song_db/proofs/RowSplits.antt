@@ -1,4 +1,4 @@
--- Where rows are split by a URI, by what is known of some of them.
+-- Where rising things are split by a key, by what is known of some of them.
 use Rattle.std.proofs.Common.{◌≡◌, ◌⊎◌, inl, inr, ℕ, zero, suc, ◌+◌, ◌-◌, ◌<◌, ◌≤◌, Bool, true, false, List, []}
 use Rattle.std.proofs.Common.{◌∷◌, length, take, drop}
 use Rattle.std.proofs.Common.{get_or, refl, sym, ap, ◌∙◌, arith}
@@ -29,34 +29,34 @@ under Less h = refl
 under Equal h = absurd (cc)
 under Greater h = absurd (cc)
 
--- a row that is seen stands at its place, whatever is given past the end
-uri_there : (rows : List Row) (own : List ℕ) (i : ℕ) (row d : Row) → i < length rows → row ≡ get_or rows i row → own ≡ row.uri
-    → own ≡ (get_or rows i d).uri
-uri_there rows own i row d within here is = is ∙ ap (λ (r : Row). r.uri) (here ∙ get_or_default rows i row d within)
+-- a thing that is seen stands at its place, whatever is given past the end
+text_there : {X : Type 0} (text : X → List ℕ) (xs : List X) (own : List ℕ) (i : ℕ) (x d : X) → i < length xs → x ≡ get_or xs i x
+    → own ≡ text x → own ≡ text (get_or xs i d)
+text_there text xs own i x d within here is = is ∙ ap text (here ∙ get_or_default xs i x d within)
 
--- with one row, all in front of it are before the URI
-pub before_of : (rows : List Row) (uri own : List ℕ) (i : ℕ) (row : Row) → IsRising row_uri rows → i < length rows
-    → row ≡ get_or rows i row → own ≡ row.uri → is_lt (texts own uri) ≡ true → AllWithin (IsBefore row_uri uri) rows 0 (i + 1)
-before_of rows uri own i row rising within here is less k d from below =
-    partitioned row_uri rows uri rising k i d (omega arith) within (ap (λ text. is_lt (texts text uri)) (sym (uri_there rows own i
-    row d within here is)) ∙ less)
+-- with one thing, all in front of it are before the key
+pub before_of : {X : Type 0} (text : X → List ℕ) (xs : List X) (key own : List ℕ) (i : ℕ) (x : X) → IsRising text xs → i < length xs
+    → x ≡ get_or xs i x → own ≡ text x → is_lt (texts own key) ≡ true → AllWithin (IsBefore text key) xs 0 (i + 1)
+before_of text xs key own i x rising within here is less k d from below =
+    partitioned text xs key rising k i d (omega arith) within (ap (λ it. is_lt (texts it key)) (sym (text_there text xs own i x d
+    within here is)) ∙ less)
 
--- with one row, none behind it is before the URI
-pub behind_of : (rows : List Row) (uri own : List ℕ) (i : ℕ) (row : Row) → IsRising row_uri rows → i < length rows
-    → row ≡ get_or rows i row → own ≡ row.uri → is_lt (texts own uri) ≡ false → AllWithin (IsNotBefore row_uri uri) rows i (length rows)
-behind_of rows uri own i row rising within here is not k d from below = by_cases (is_lt (texts (get_or rows k d).uri uri)) refl
+-- with one thing, none behind it is before the key
+pub behind_of : {X : Type 0} (text : X → List ℕ) (xs : List X) (key own : List ℕ) (i : ℕ) (x : X) → IsRising text xs → i < length xs
+    → x ≡ get_or xs i x → own ≡ text x → is_lt (texts own key) ≡ false → AllWithin (IsNotBefore text key) xs i (length xs)
+behind_of text xs key own i x rising within here is not k d from below = by_cases (is_lt (texts (text (get_or xs k d)) key)) refl
   where
-    by_cases : (b : Bool) → is_lt (texts (get_or rows k d).uri uri) ≡ b → is_lt (texts (get_or rows k d).uri uri) ≡ false
+    by_cases : (b : Bool) → is_lt (texts (text (get_or xs k d)) key) ≡ b → is_lt (texts (text (get_or xs k d)) key) ≡ false
     by_cases false h = h
     by_cases true h =
-        let less : is_lt (texts (get_or rows i d).uri uri) ≡ true = partitioned row_uri rows uri rising i k d from below h in
-        absurd (cc (ap (λ text. is_lt (texts text uri)) (uri_there rows own i row d within here is) ∙ less))
+        let less : is_lt (texts (text (get_or xs i d)) key) ≡ true = partitioned text xs key rising i k d from below h in
+        absurd (cc (ap (λ it. is_lt (texts it key)) (text_there text xs own i x d within here is) ∙ less))
 
 -- the row of the URI itself splits them
 pub split_own : (rows : List Row) (uri own : List ℕ) (i : ℕ) (row : Row) → IsRising row_uri rows → i < length rows
     → row ≡ get_or rows i row → own ≡ row.uri → true ≡ bytes_eq own uri
     → IsPartitionPoint (IsBefore row_uri uri) (IsNotBefore row_uri uri) rows i
-split_own rows uri own i row rising within here is same = (before, behind_of rows uri own i row rising within here is tied)
+split_own rows uri own i row rising within here is same = (before, behind_of row_uri rows uri own i row rising within here is tied)
   where
     equal : own ≡ uri
     equal = (bytes_eq-Decides own uri).0 (sym same)
@@ -65,36 +65,36 @@ split_own rows uri own i row rising within here is same = (before, behind_of row
     tied = ap (λ text. is_lt (texts text uri)) equal ∙ ap is_lt (tied_itself nat_list_cmp_total uri)
 
     before : AllWithin (IsBefore row_uri uri) rows 0 i
-    before k d from below = ap is_lt (ap (texts (get_or rows k d).uri) (sym equal ∙ uri_there rows own i row d within here is)
+    before k d from below = ap is_lt (ap (texts (get_or rows k d).uri) (sym equal ∙ text_there row_uri rows own i row d within here is)
         ∙ Less-from_sorted (by_text row_uri) rows k i d rising below within)
 
--- what splits the rows between two places splits them all
-pub split_within : (rows : List Row) (uri : List ℕ) (low high s : ℕ) → low ≤ high → high ≤ length rows
-    → AllWithin (IsBefore row_uri uri) rows 0 low → AllWithin (IsNotBefore row_uri uri) rows high (length rows)
-    → s ≤ high - low → length (slice_range rows low high) ≡ high - low
-    → IsPartitionPoint (IsBefore row_uri uri) (IsNotBefore row_uri uri) (slice_range rows low high) s
-    → IsPartitionPoint (IsBefore row_uri uri) (IsNotBefore row_uri uri) rows (low + s)
-split_within rows uri low high s rise within before behind short size split = (first, rest)
+-- what splits the things between two places splits them all
+pub split_within : {X : Type 0} (text : X → List ℕ) (xs : List X) (key : List ℕ) (low high s : ℕ) → low ≤ high → high ≤ length xs
+    → AllWithin (IsBefore text key) xs 0 low → AllWithin (IsNotBefore text key) xs high (length xs)
+    → s ≤ high - low → length (slice_range xs low high) ≡ high - low
+    → IsPartitionPoint (IsBefore text key) (IsNotBefore text key) (slice_range xs low high) s
+    → IsPartitionPoint (IsBefore text key) (IsNotBefore text key) xs (low + s)
+split_within {X} text xs key low high s rise within before behind short size split = (first, rest)
   where
-    between : (k : ℕ) (d : Row) → low ≤ k → k < high → get_or (slice_range rows low high) (k - low) d ≡ get_or rows k d
+    between : (k : ℕ) (d : X) → low ≤ k → k < high → get_or (slice_range xs low high) (k - low) d ≡ get_or xs k d
     between k d from below =
         let at : low + (k - low) ≡ k = omega arith in
-        get_or-take (high - low) (drop low rows) (k - low) d (omega arith) ∙ get_or-drop low rows (k - low) d
-        ∙ ap (λ n. get_or rows n d) at
+        get_or-take (high - low) (drop low xs) (k - low) d (omega arith) ∙ get_or-drop low xs (k - low) d
+        ∙ ap (λ n. get_or xs n d) at
 
-    first : AllWithin (IsBefore row_uri uri) rows 0 (low + s)
+    first : AllWithin (IsBefore text key) xs 0 (low + s)
     first k d from below = by_cases (cases_lt k low)
       where
-        by_cases : (k < low) ⊎ (low ≤ k) → IsBefore row_uri uri (get_or rows k d)
+        by_cases : (k < low) ⊎ (low ≤ k) → IsBefore text key (get_or xs k d)
         by_cases (inl inside) = before k d (omega arith) inside
-        by_cases (inr over) = ap (λ (r : Row). is_lt (texts r.uri uri)) (sym (between k d over (omega arith))) ∙ split.0 (k - low) d
+        by_cases (inr over) = ap (λ (x : X). is_lt (texts (text x) key)) (sym (between k d over (omega arith))) ∙ split.0 (k - low) d
             (omega arith) (omega arith)
 
-    rest : AllWithin (IsNotBefore row_uri uri) rows (low + s) (length rows)
+    rest : AllWithin (IsNotBefore text key) xs (low + s) (length xs)
     rest k d from below = by_cases (cases_lt k high)
       where
-        by_cases : (k < high) ⊎ (high ≤ k) → IsNotBefore row_uri uri (get_or rows k d)
-        by_cases (inl inside) = ap (λ (r : Row). is_lt (texts r.uri uri)) (sym (between k d (omega arith) inside)) ∙ split.1 (k - low)
+        by_cases : (k < high) ⊎ (high ≤ k) → IsNotBefore text key (get_or xs k d)
+        by_cases (inl inside) = ap (λ (x : X). is_lt (texts (text x) key)) (sym (between k d (omega arith) inside)) ∙ split.1 (k - low)
             d (omega arith) (omega arith)
         by_cases (inr over) = behind k d over below
 
@@ -109,7 +109,7 @@ sorted_take c zero xs sorted = tt
 sorted_take c (suc n) [] sorted = tt
 sorted_take c (suc n) (x ∷ xs) sorted = (all_take (λ y. c x y ≡ Less) n xs sorted.0, sorted_take c n xs sorted.1)
 
--- rows between two places rise too
-pub range_rises : (rows : List Row) (low high : ℕ) → IsRising row_uri rows → IsRising row_uri (slice_range rows low high)
-range_rises rows low high rising = sorted_take (by_text row_uri) (high - low) (drop low rows) (sorted_drop (by_text row_uri) low rows
-    rising)
+-- things between two places rise too
+pub range_rises : {X : Type 0} (text : X → List ℕ) (xs : List X) (low high : ℕ) → IsRising text xs → IsRising text (slice_range xs low
+    high)
+range_rises text xs low high rising = sorted_take (by_text text) (high - low) (drop low xs) (sorted_drop (by_text text) low xs rising)

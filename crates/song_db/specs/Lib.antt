@@ -10,6 +10,8 @@ pub mod Found
 pub mod Gain
 pub mod Known
 pub mod Last
+pub mod Lent
+pub mod Letters
 pub mod Limits
 pub mod Music
 pub mod Name
@@ -25,6 +27,8 @@ pub mod Rules
 pub mod Same
 pub mod SameFolder
 pub mod Scan
+pub mod Told
+pub mod ToldWalk
 pub mod Uri
 pub mod ValueIndex
 pub mod ValueRows

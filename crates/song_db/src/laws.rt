@@ -1,9 +1,11 @@
 //! Laws of scans and of what is asked of the rows, for the layers above: a call brings its clauses into their proofs.
-ghost use Rattle.std.specs.Prelude.{◌≡◌, ℕ, List};
+ghost use Rattle.std.specs.Prelude.{◌≡◌, ℕ, Bool, List, count_by};
 ghost use Rattle.song_db.specs.Difference.{ScansTellTheDifference, WithoutStampsAllIsRead};
 ghost use Rattle.song_db.specs.Distinct.{AreTextsWith, IsValue, IsFolderIn};
 ghost use Rattle.song_db.specs.Query.{values_of, folders_in};
-ghost use Rattle.song_db.specs.Row.{Row};
+ghost use Rattle.song_db.specs.Replaced.{IsRising};
+ghost use Rattle.song_db.specs.Row.{Row, row_uri};
+ghost use Rattle.song_db.specs.Told.{told_key, told_order};
 ghost use Rattle.song_db.specs.declared.place.Place.{Place};
 ghost use Rattle.song_files.specs.declared.tag.Tag.{Tag};
 
@@ -24,4 +26,11 @@ pub fn each_text_once()
     ensures folders { (rows : List Row) (place : Place) → AreTextsWith (IsFolderIn rows place) (folders_in rows place) }
     ensures only_folders { (rows : List Row) (place : Place) (texts : List (List ℕ)) →
         AreTextsWith (IsFolderIn rows place) texts → texts ≡ folders_in rows place }
+{}
+
+/// The songs are told in their order, and of whatever songs are asked for, as many are told as there are: each once, and no others.
+pub fn told_whole()
+    ensures rising { (rows : List Row) → IsRising told_key (told_order rows) }
+    ensures whole { (passes : Row → Bool) (rows : List Row) → IsRising row_uri rows →
+        count_by passes (told_order rows) ≡ count_by passes rows }
 {}

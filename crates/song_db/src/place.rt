@@ -1,6 +1,9 @@
 // A place where songs are looked for: the root, or a folder.
-ghost use Rattle.std.specs.Prelude.{◌≡◌};
+ghost use Rattle.std.specs.Prelude.{◌≡◌, option_copied};
 ghost use Rattle.song_db.specs.Place.{place_of, is_under, is_below};
+ghost use Rattle.song_db.specs.Query.{folder_of};
+
+use crate::values::folder_of;
 
 /// Where songs are looked for: everywhere, or below a folder.
 #[derive(Clone, Copy, Debug)]
@@ -20,6 +23,13 @@ impl<'a> Place<'a> {
             "" | "/" => Place::Root,
             path => Place::At(path),
         }
+    }
+
+    /// The folder directly in the place that a path of a song under it stands below; `None` where the song stands right in the place.
+    pub fn folder_of(self, path: &'a str) -> Option<&'a str>
+        ensures { option_copied result ≡ folder_of self.entry path.entry.now }
+    {
+        folder_of(self, path)
     }
 
     /// Whether a path stands below the place, by whole parts: `a` is over `a/b`, and neither over `ab` nor over `a`.

@@ -1,6 +1,8 @@
 // The database of songs, and what is asked of it.
 ghost use Rattle.std.specs.Prelude.{◌≡◌, ◌↔◌, ◌+◌, ◌≤◌, [], ◌∷◌, ◌++◌, length, map, take, drop, IsTrue, Some, is_some};
 ghost use Rattle.std.specs.Prelude.{IfOk, OnOk, OnErr, IsOkUnless, List, count_by, true};
+ghost use Rattle.std.specs.Prelude.{Bool, filter};
+ghost use Rattle.song_db.specs.Limits.{MAX_ROWS};
 ghost use Rattle.song_db.specs.Change.{IsDatabase, after_batch};
 ghost use Rattle.song_db.specs.Duration.{total_of};
 ghost use Rattle.song_db.specs.Effect.{effects_of};
@@ -10,6 +12,8 @@ ghost use Rattle.song_db.specs.Query.{number_at, rows_under, is_folder, folders_
 ghost use Rattle.song_db.specs.Refusal.{AnswersExactlyIfThere, AnswersIfThere};
 ghost use Rattle.song_db.specs.Replaced.{IsRising};
 ghost use Rattle.song_db.specs.Row.{Row, row_uri, row_at};
+ghost use Rattle.song_db.specs.Told.{told_order, told_under};
+ghost use Rattle.song_db.specs.ToldWalk.{told_walk};
 ghost use Rattle.song_db.specs.ValueIndex.{IsIndexed};
 ghost use Rattle.song_db.specs.Valued.{has_value, rows_with};
 ghost use Rattle.song_db.specs.Walk.{IsWalk, walk_of};
@@ -31,6 +35,8 @@ use crate::row_uri::RowUri;
 use crate::rows::{clone_rows, ends_before, position};
 use crate::rules::LibraryRules;
 use crate::texts::Texts;
+use crate::told_rows::{in_told_order, prepare_all, put_told, told_below};
+use crate::told_walk::ToldWalk;
 use crate::uri::Uri;
 use crate::value_index::ValueIndex;
 use crate::valued::{count_with, rows_with};
@@ -45,6 +51,8 @@ use std::marker::Model;
 #[derive(Drop)]
 pub struct SongDb {
     rows: Vec<SongRow>,
+    // The same in the order in which they are told.
+    told: Vec<SongRow>,
     // The milliseconds of all of them.
     total: u128,
     // The rows by the values of their tags. Where memory was refused, there is none, and the rows themselves are looked
@@ -67,13 +75,16 @@ impl Model for SongDb {
     ghost use Rattle.song_db.specs.Row.{Row};
     ghost use Rattle.song_db.specs.Change.{IsDatabase};
     ghost use Rattle.song_db.specs.Duration.{IsTimed};
+    ghost use Rattle.song_db.specs.Told.{told_order};
     ghost use Rattle.song_db.specs.ValueIndex.{IsIndexed};
+    ghost use Rattle.std.specs.Prelude.{◌≡◌};
 
     ghost Value = { List Row };
 
     ghost view = { λ d. d.rows.items };
 
-    ghost invariant = { λ d. IsDatabase d.rows.items × IsTimed d.rows.items d.total × IsIndexed d.rows.items d.index };
+    ghost invariant = { λ d. IsDatabase d.rows.items × IsTimed d.rows.items d.total × IsIndexed d.rows.items d.index
+        × (d.told.items ≡ told_order d.rows.items) };
 }
 
 impl SongDb {
@@ -83,6 +94,7 @@ impl SongDb {
     {
         SongDb {
             rows: Vec::new(alloc),
+            told: Vec::new(alloc),
             total: 0,
             index: Some(ValueIndex::new(alloc)),
         }
@@ -134,9 +146,12 @@ impl SongDb {
         self.have_index(alloc);
         let mut effects = Vec::with_capacity(alloc, changes.len())?;
         self.rows.reserve(changes.len())?;
+        self.told.reserve(changes.len())?;
+        let changes = prepare_all(alloc, changes)?;
         make_changes(
             alloc,
             &mut self.rows,
+            &mut self.told,
             &mut self.total,
             &mut self.index,
             changes,
@@ -266,8 +281,12 @@ impl SongDb {
             return Err(PushError::Full);
         }
         self.rows.reserve(1)?;
+        self.told.reserve(1)?;
+        let copy = row.try_clone()?;
         self.index = with_last(alloc, self.index.take(), &row);
         self.total += row.milliseconds();
+        let last = self.told.len();
+        put_told(&mut self.told, copy, last);
         self.rows.push_reserved(row);
         Ok(())
     }
@@ -279,11 +298,65 @@ impl SongDb {
         ensures only { IsOkUnless result NoMemory }
     {
         let rows = clone_rows(alloc, &self.rows)?;
+        let told = clone_rows(alloc, &self.told)?;
         Ok(SongDb {
             rows,
+            told,
             total: self.total,
             index: None,
         })
+    }
+
+    /// The songs in the order in which they are told: those of a folder by album, disc, track and name, and then the folders in it, by
+    /// their names without case and marks of letters.
+    pub fn told_rows(&self) -> &[SongRow]
+        ensures rows { result.now ≡ told_order self.now }
+        ensures few { length result.now ≤ length self.now }
+    {
+        self.told.as_slice()
+    }
+
+    /// The songs under a place in that order: they stand together. Refused by `NoSuchUri` where the place is no folder.
+    pub fn told_under(&self, place: Place<'_>) -> Result<&[SongRow], SongDbError>
+        ensures rows { IfOk result (λ rows. rows.now ≡ told_under self.now place.entry) }
+        ensures answer { AnswersExactlyIfThere (is_folder self.now place.entry) result }
+    {
+        match place {
+            Place::Root => Ok(self.told.as_slice()),
+            Place::At(folder) => {
+                let told = told_below(&self.told, folder);
+                if told.is_empty() {
+                    return Err(SongDbError::NoSuchUri);
+                }
+                Ok(told)
+            }
+        }
+    }
+
+    /// Some of the songs in that order, each of which is looked for among them: it is for few. Refused by `NoMemory`.
+    pub fn in_told_order<'a>(
+        &'a self,
+        alloc: Global,
+        rows: &[&'a SongRow],
+    ) -> Result<Vec<&'a SongRow>, SongDbError>
+        ensures rows { (passes : Row → Bool) → map (λ row. row.now) rows.now ≡ filter passes self.now →
+            IfOk result (λ told. map (λ row. row.now) told.items ≡ filter passes (told_order self.now)) }
+        ensures few { IfOk result (λ told. length told.items ≤ length rows.now) }
+        ensures only { IsOkUnless result NoMemory }
+    {
+        // what is known of the songs
+        let _known = &self.rows;
+        Ok(in_told_order(alloc, rows)?)
+    }
+
+    /// What stands below a place at all depths, folders and songs, in that order. It takes no memory. Refused by `NoSuchUri` where the place
+    /// is no folder.
+    pub fn told_walk<'a>(&'a self, place: Place<'a>) -> Result<ToldWalk<'a>, SongDbError>
+        ensures walk { IfOk result (λ walk. walk ≡ told_walk self.now place.entry) }
+        ensures answer { AnswersExactlyIfThere (is_folder self.now place.entry) result }
+    {
+        let rows = self.told_under(place)?;
+        Ok(ToldWalk::new(place, rows))
     }
 
     /// The folders directly in a place, as paths by their bytes. Refused by `NoSuchUri` where the place is no folder, and by `NoMemory`.

@@ -205,7 +205,7 @@ pub(crate) fn songs_of<'a>(
 }
 
 // The folder directly in a place that a path stands below.
-fn folder_of<'a>(place: Place<'_>, path: &'a str) -> Option<&'a str>
+pub(crate) fn folder_of<'a>(place: Place<'_>, path: &'a str) -> Option<&'a str>
     ensures folder { option_copied result ≡ folder_of place.entry path.now }
     ensures below { IfSome result (λ folder. is_below folder.now path.now ≡ true) }
 {

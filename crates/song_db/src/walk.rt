@@ -160,7 +160,7 @@ fn folder_of<'a>(
 }
 
 // Whether a path goes on with a slash behind an end.
-fn ends_a_part(path: &[u8], end: usize) -> bool
+pub(crate) fn ends_a_part(path: &[u8], end: usize) -> bool
     requires { end ≤ length path.now }
     ensures part { result ≡ is_below (take end path.now) path.now }
     ensures slash { IsTrue result → end < length path.now × (slice_index path.now end ≡ 47) }

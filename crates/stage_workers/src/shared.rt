@@ -1,6 +1,7 @@
 // The stage that threads share.
-ghost use Rattle.std.specs.Prelude.{◌≡◌, ◌≢◌, ◌+◌, ◌<◌, ◌≤◌, [], length, IfOk, IfErr};
-ghost use Rattle.live_stage.specs.Group.{AreParted};
+ghost use Rattle.std.specs.Prelude.{◌≡◌, ◌≢◌, ◌+◌, ◌*◌, ◌<◌, ◌≤◌, [], length, sum_by, IfOk, IfErr};
+ghost use Rattle.live_stage.specs.Group.{AreParted, answer_looks};
+ghost use Rattle.machine_core.specs.Looks.{max_looks};
 ghost use Rattle.stage_workers.specs.PassState.{new_pass};
 ghost use Rattle.stage_workers.specs.Entry.{TellsRewound};
 ghost use Rattle.stage_workers.specs.Group.{RefusesFront, passed_by};
@@ -96,6 +97,7 @@ impl<D: Disk, C: Ledger, P: Ledger, S: Ledger> SharedStage<D, C, P, S> {
         ensures some { IfOk result (λ r. events.items ≢ [] → r.0.turns.items ≢ []) }
         ensures passed { IfOk result (λ r. r.1 ≡ passed_by pass r.0.turns.items) }
         ensures later { IfOk result (λ r. pass.seen + length r.0.turns.items ≤ r.1.seen) }
+        ensures looks { IfOk result (λ r. sum_by answer_looks r.0.turns.items ≤ 2 * max_looks) }
         ensures front { IfErr result (λ e. RefusesFront events.items e.0 e.1.items) }
         ensures refused { IfErr result (λ e. e.2 ≡ pass) }
         ensures rewound { IfErr result (λ e. TellsRewound pass e.0) }

@@ -111,11 +111,20 @@ impl<C: Ledger, P: Ledger, S: Ledger> Looped<C, P, S> {
     }
 
     // Makes a turn of the loop.
-    fn turn<R: Wait>(&mut self, rt: &R, beside: &mut Beside) -> Result<(), Fault> {
+    fn turn<R: Wait>(
+        &mut self,
+        rt: &R,
+        beside: &mut Beside,
+        is_bounded: bool,
+    ) -> Result<(), Fault> {
         let pass = self.passes.take(CLIENTS)?;
         beside.wires.begin_turn();
         let alloc = beside.printer.alloc;
-        let (turned, pass) = turns::turn(rt, alloc, &mut self.clients, &self.stage, pass);
+        let (turned, pass) = if is_bounded {
+            turns::bounded_turn(rt, alloc, &mut self.clients, &self.stage, pass)
+        } else {
+            turns::turn(rt, alloc, &mut self.clients, &self.stage, pass)
+        };
         self.passes.put(CLIENTS, pass);
         tell_turned(&mut beside.printer, turned, &mut self.receipt);
         beside.wires.tell(&mut beside.printer);
@@ -256,6 +265,7 @@ fn call(
         "pass" => turns::pass_time(clients, number(rest)?),
         "yielded" => tell_yielded(clients, &mut beside.printer),
         "accept" => tell_called(&mut beside.printer, turns::accept(clients, alloc)),
+        "accept_some" => tell_called(&mut beside.printer, turns::accept_some(clients, alloc)),
         "read" => tell_called(
             &mut beside.printer,
             turns::read(clients, alloc, number(rest)?),
@@ -279,7 +289,8 @@ pub fn take_line<R: Wait + Clock, C: Ledger, P: Ledger, S: Ledger>(
 ) -> Result<(), Fault> {
     let (word, rest) = first_word(line);
     let place = match word {
-        "turn" => return looped.turn(rt, beside),
+        "turn" => return looped.turn(rt, beside, false),
+        "bounded_turn" => return looped.turn(rt, beside, true),
         "play_once" => return play(rt, host, looped, &mut beside.printer),
         "scan_once" => return scan(rt, host, looped, &mut beside.printer),
         "file" | "remove" | "folder" => return take_song_line(host, word, rest),

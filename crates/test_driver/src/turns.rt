@@ -3,7 +3,7 @@ use crate::calls::{Answer, Stage, worker_of};
 use crate::sound::Sound;
 use crate::wires::TestStream;
 use driver_base::TestDisk;
-use mio_clients::{Clients, ClientsError, MemListener, MemReady, Part};
+use mio_clients::{Clients, ClientsError, MemListener, MemReady, Part, TURN_LOOKS};
 use player_core::PlayOrder;
 use song_db::ScanOrder;
 use song_files::FileFolder;
@@ -47,6 +47,12 @@ pub fn accept(clients: &mut TestClients, alloc: Global) -> Result<(), ClientsErr
     accepted
 }
 
+pub fn accept_some(clients: &mut TestClients, alloc: Global) -> Result<(), ClientsError> {
+    let accepted = clients.accept_some(alloc);
+    clients.close_left();
+    accepted
+}
+
 pub fn read(clients: &mut TestClients, alloc: Global, key: usize) -> Result<(), ClientsError> {
     let read = clients.read_ready(alloc, key);
     clients.close_left();
@@ -71,6 +77,20 @@ pub fn turn<R: Wait, C: Ledger, P: Ledger, S: Ledger>(
     pass: Pass<C, P, S>,
 ) -> (Turned, Pass<C, P, S>) {
     match clients.turn_of_loop(rt, alloc, stage, pass) {
+        Ok((parts, pass)) => (Ok(parts), pass),
+        Err((error, pass)) => (Err(error), pass),
+    }
+}
+
+/// A bounded turn, as the daemon makes them under the wide profile.
+pub fn bounded_turn<R: Wait, C: Ledger, P: Ledger, S: Ledger>(
+    rt: &R,
+    alloc: Global,
+    clients: &mut TestClients,
+    stage: &Stage<C, P, S>,
+    pass: Pass<C, P, S>,
+) -> (Turned, Pass<C, P, S>) {
+    match clients.turn_within(rt, alloc, stage, pass, Some(TURN_LOOKS)) {
         Ok((parts, pass)) => (Ok(parts), pass),
         Err((error, pass)) => (Err(error), pass),
     }

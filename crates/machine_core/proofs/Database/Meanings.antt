@@ -13,13 +13,14 @@ use Rattle.song_db.specs.Duration.{total_of}
 use Rattle.song_db.specs.Place.{place_of}
 use Rattle.song_db.specs.Query.{is_folder, values_of}
 use Rattle.song_db.specs.Row.{Row}
-use Rattle.song_db.specs.Walk.{walk_of}
+use Rattle.song_db.specs.Walk.{Item}
 use Rattle.song_db.specs.declared.place.Place.TheVariants.{At}
 use Rattle.song_files.specs.declared.tag.Tag.TheVariants.{Artist, Album}
 use Rattle.state_codec.specs.SavedState.{SavedState}
 use Rattle.state_codec.specs.Spelling.{ops_bytes}
 use Rattle.machine_core.specs.Database.{all_below, begins_job, begun, folder_line, item_lines, next_job, statistics}
 use Rattle.machine_core.specs.Lent.{lent}
+use Rattle.machine_core.specs.Ordered.{walk_in}
 use Rattle.machine_core.specs.Meaning.{Meaning, Meant, begins, says}
 use Rattle.machine_core.specs.State.{MachineState}
 use Rattle.machine_core.specs.Work.{AddsOps, Performs, Went}
@@ -33,6 +34,11 @@ same_line : (profile : Profile) (a b : Bor (List ℕ)) → a.now ≡ b.now → f
 same_line Named a b e = refl
 same_line Wide a b e = ap directory_line e
 
+same_walk : (profile : Profile) (songs : List Row) (path : Bor (List ℕ))
+    → walk_in profile songs (At (lent path.now)) ≡ walk_in profile songs (At path)
+same_walk Named songs path = refl
+same_walk Wide songs path = refl
+
 -- where the text of a place lies in memory is nothing to what is found by it
 pub same_all_below : (detail : Detail) (path : Bor (List ℕ)) (s : SavedState)
     → all_below detail s (place_of (lent path.now)) ≡ all_below detail s (place_of path)
@@ -41,8 +47,10 @@ same_all_below detail path s = by_cases (bytes_eq path.now [] || bytes_eq path.n
       → all_below detail s (place_of (lent path.now)) ≡ all_below detail s (place_of path)
   by_cases true is = rw is
   by_cases false is =
-      rw is (ap (λ (line : List ℕ). if is_folder s.songs (At path) then Ok (line ++ flat_map (item_lines detail) (walk_of s.songs (At path)))
-      else Err NoSuchUri) (same_line s.profile (lent path.now) path refl))
+      rw is (ap (λ (line : List ℕ). if is_folder s.songs (At path) then Ok (line ++ flat_map (item_lines detail) (walk_in s.profile s.songs
+      (At (lent path.now)))) else Err NoSuchUri) (same_line s.profile (lent path.now) path refl)
+      ∙ ap (λ (walk : List Item). if is_folder s.songs (At path)
+      then Ok (folder_line s.profile (At path) ++ flat_map (item_lines detail) walk) else Err NoSuchUri) (same_walk s.profile s.songs path))
 
 -- a job runs already
 pub runs_already : (place : Option (List ℕ)) (all : Bool) (m : MachineState) (w : Work) → m.job.runs ≡ true

@@ -1,5 +1,5 @@
 -- What the commands that find songs mean.
-use Rattle.std.proofs.Common.{◌≡◌, suc, ◌≤◌, Bool, true, false, List, [], ◌∷◌, length, filter, Option, Some, None}
+use Rattle.std.proofs.Common.{◌≡◌, suc, ◌≤◌, Bool, true, false, List, [], ◌∷◌, length, filter, Option, None}
 use Rattle.std.proofs.Common.{refl, ap, sym, ◌∙◌, arith}
 use Rattle.std.specs.List.{flat_map}
 use Rattle.command_text.specs.AnswerNames.{count_lines}
@@ -10,11 +10,10 @@ use Rattle.play_queue.specs.declared.target.Target.{Target}
 use Rattle.filter_expr.specs.Tree.{Tree}
 use Rattle.filter_expr.specs.declared.case.Case.{Case}
 use Rattle.filter_expr.specs.declared.case.Case.TheVariants.{Exact}
+use Rattle.profile.specs.declared.profile.Profile.TheVariants.{Named}
 use Rattle.song_db.specs.Duration.{total_of}
 use Rattle.song_db.specs.Row.{Row}
 use Rattle.filter_expr.specs.Meaning.{is_match}
-use Rattle.filter_expr.specs.Order.{is_before, sorted}
-use Rattle.filter_expr.specs.declared.order.SortOrder.{SortOrder}
 use Rattle.song_files.specs.declared.tag.Tag.{Tag}
 use Rattle.machine_core.specs.Adding.{adds}
 use Rattle.machine_core.specs.Finding.{finding_meaning, matching, found, numbers_in, chosen, entries_found, told_values, value_lines}
@@ -30,7 +29,7 @@ unfolding finding_meaning
 count_means m tree = refl
 
 pub find_means : (m : MachineState) (search : Search)
-    → finding_meaning (Find search) m ≡ says (flat_map song_lines (found search m.saved.songs)) m
+    → finding_meaning (Find search) m ≡ says (flat_map song_lines (found m.saved.profile search m.saved.songs)) m
 unfolding finding_meaning
 find_means m search = refl
 
@@ -57,25 +56,20 @@ fewer test (x ∷ xs) = by_cases (test x) refl (fewer test xs)
     by_cases true is fewer = rw is (omega arith)
     by_cases false is fewer = rw is (omega arith)
 
--- what is found where an order is asked for, and where none is
-pub sorted_found : (search : Search) (order : SortOrder) (rows : List Row) → search.sort ≡ Some order
-    → in_window search.window (sorted (is_before order) (matching search.case search.filter rows)) ≡ found search rows
-sorted_found search order rows is =
-    ap (λ sort. in_window search.window (in_order sort (matching search.case search.filter rows))) (sym is)
-
+-- what is found where no order is asked for
 pub found_by_uri : (search : Search) (part : Part) (rows : List Row) → search.sort ≡ None
     → ((some : List Row) → length some ≤ length rows → part_of part some ≡ in_window search.window some)
-    → part_of part (matching search.case search.filter rows) ≡ found search rows
+    → part_of part (matching search.case search.filter rows) ≡ found Named search rows
 found_by_uri search part rows is within =
     within (matching search.case search.filter rows) (fewer (is_match search.case search.filter) rows)
     ∙ ap (λ sort. in_window search.window (in_order sort (matching search.case search.filter rows))) (sym is)
 
 pub matching_found : (search : Search) (rows : List Row) → search.sort ≡ None
-    → in_window search.window (matching search.case search.filter rows) ≡ found search rows
+    → in_window search.window (matching search.case search.filter rows) ≡ found Named search rows
 matching_found search rows is =
     ap (λ sort. in_window search.window (in_order sort (matching search.case search.filter rows))) (sym is)
 
 pub add_means : (m : MachineState) (search : Search) (to : Option Target)
-    → finding_meaning (Add search to) m ≡ adds to (numbers_in m.saved.songs (found search m.saved.songs)) [] m
+    → finding_meaning (Add search to) m ≡ adds to (numbers_in m.saved.songs (found m.saved.profile search m.saved.songs)) [] m
 unfolding finding_meaning
 add_means m search to = refl

@@ -4,7 +4,7 @@ use Rattle.std.proofs.Common.{length, map, take, drop, get_or, length-append}
 use Rattle.std.proofs.Common.{◌||◌, Option, Some, None, Ok, Bor, codes, add-one, refl, ap, sym, ◌∙◌, arith}
 use Rattle.std.proofs.Math.Seq.{drop-cons}
 use Rattle.std.proofs.lemmas.Grind.{common_steps}
-use Rattle.std.proofs.lemmas.List.{take_more}
+use Rattle.std.proofs.lemmas.List.{map-append, take_more}
 use Rattle.std.proofs.lemmas.List.Elements.{filter_map-append}
 use Rattle.std.proofs.lemmas.List.Quantifiers.{position-Some}
 use Rattle.std.proofs.lemmas.Option.{slice_get-get_or}
@@ -20,6 +20,7 @@ use Rattle.song_db.specs.Row.{Row, row_uri, row_at}
 use Rattle.state_codec.proofs.SongsLaws.{number_is}
 use Rattle.state_codec.specs.OpsLists.{uris_of}
 use Rattle.machine_core.specs.Lent.{lent}
+use Rattle.profile.specs.declared.profile.Profile.{Profile}
 use Rattle.machine_core.specs.Named.{numbers_of, numbers_under}
 
 no_row : Row
@@ -81,16 +82,33 @@ one_entry_more songs entries at entry within is =
     take_more entries at entry within ∙ ap (λ (e : Entry). take at entries ++ e ∷ []) is in
     rw more (grind (arith, common_steps, filter_map-append))
 
+-- the number of a row, if it has one
+one_number : (o : Option ℕ) → cons_option o [] ≡ option_to_list o
+one_number None = refl
+one_number (Some n) = refl
+
+-- the number of one row more
+pub one_row_more : (songs rows : List Row) (at : ℕ) (row : Row) → at < length rows → row ≡ get_or rows at row
+    → numbers_of songs (map row_uri (take (at + 1) rows))
+    ≡ numbers_of songs (map row_uri (take at rows)) ++ option_to_list (number_at songs row.uri)
+one_row_more songs rows at row within is =
+    let more : take (at + 1) rows ≡ take at rows ++ row ∷ [] =
+    take_more rows at row within ∙ ap (λ (r : Row). take at rows ++ r ∷ []) (sym is) in
+    ap (λ some. numbers_of songs (map row_uri some)) more
+    ∙ ap (numbers_of songs) (map-append row_uri (take at rows) (row ∷ []))
+    ∙ filter_map-append (number_at songs) (map row_uri (take at rows)) (row.uri ∷ [])
+    ∙ ap (λ last. numbers_of songs (map row_uri (take at rows)) ++ last) (one_number (number_at songs row.uri))
+
 -- what is there isn't refused
 pub is_there : (T : Type 0) (b : Bool) (x : T) → AnswersExactlyIfThere b (Ok x) → b ≡ true
 is_there T true x answer = refl
 is_there T false x answer = absurd (cc)
 
 -- where the path lies in memory is nothing to the songs under it
-pub same_numbers_under : (path : Bor (List ℕ)) (songs : List Row)
-    → numbers_under songs (place_of (lent path.now)) ≡ numbers_under songs (place_of path)
-same_numbers_under path songs = of (bytes_eq path.now [] || bytes_eq path.now (codes "/")) refl where
+pub same_numbers_under : (profile : Profile) (path : Bor (List ℕ)) (songs : List Row)
+    → numbers_under profile songs (place_of (lent path.now)) ≡ numbers_under profile songs (place_of path)
+same_numbers_under profile path songs = of (bytes_eq path.now [] || bytes_eq path.now (codes "/")) refl where
   of : (b : Bool) → (bytes_eq path.now [] || bytes_eq path.now (codes "/")) ≡ b
-      → numbers_under songs (place_of (lent path.now)) ≡ numbers_under songs (place_of path)
+      → numbers_under profile songs (place_of (lent path.now)) ≡ numbers_under profile songs (place_of path)
   of true is = rw is
   of false is = rw is

@@ -151,7 +151,7 @@ unfolding queue_meaning
 song_added uri to m row at named place = rw (named, place)
 
 -- the songs of these rows are added
-pub songs_added : (uri : List ℕ) (to : Option Target) (m : MachineState) (rows : List ℕ) → numbers_named m.saved.songs uri ≡ Ok rows
-    → queue_meaning (commands.Add uri to) m ≡ adds to rows [] m
+pub songs_added : (uri : List ℕ) (to : Option Target) (m : MachineState) (rows : List ℕ)
+    → numbers_named m.saved.profile m.saved.songs uri ≡ Ok rows → queue_meaning (commands.Add uri to) m ≡ adds to rows [] m
 unfolding queue_meaning
 songs_added uri to m rows named = rw named

@@ -1,13 +1,15 @@
 // The commands of the database and its scans.
-ghost use Rattle.std.specs.Prelude.{◌≡◌, ◌++◌, [], true, false, map, not, flat_map, unwrap_or};
+ghost use Rattle.std.specs.Prelude.{◌≡◌, ◌++◌, [], true, false, not, flat_map, unwrap_or};
 ghost use Rattle.command_text.specs.Answer.{Adds};
 ghost use Rattle.command_text.specs.AnswerNames.{directory_line, listed_commands, tag_type_line};
 ghost use Rattle.command_text.specs.AnswerSongs.{song_lines};
 ghost use Rattle.command_text.specs.AnswerStatus.{job_line};
 ghost use Rattle.profile.specs.Profile.{tags_of};
+ghost use Rattle.profile.specs.declared.profile.Profile.TheVariants.{Named, Wide};
 ghost use Rattle.song_db.specs.Change.{has_uri};
 ghost use Rattle.song_db.specs.Query.{is_folder};
 ghost use Rattle.song_db.specs.Row.{row_at};
+ghost use Rattle.song_db.specs.ToldWalk.{told_folders_in, told_songs_in};
 ghost use Rattle.song_files.specs.TagSet.{tags_in};
 ghost use Rattle.machine_core.specs.Database.{database_meaning, begins_job, folder_info, info_at, all_at, all_below, root_lists};
 ghost use Rattle.machine_core.specs.Database.{statistics};
@@ -16,7 +18,9 @@ ghost use Rattle.machine_core.specs.Memory.{database_takes_memory};
 ghost use Rattle.machine_core.specs.Work.{HasRoom, Performs, command_room};
 
 use crate::answer::write_content;
-use crate::answer_database::{Detail, write_below, write_detail, write_tag_types};
+use crate::answer_database::{
+    Detail, write_below, write_detail, write_tag_types, write_told_content, write_walk,
+};
 use crate::answer_lists::write_root_lists;
 use crate::job::Job;
 use crate::machine::Machine;
@@ -25,7 +29,8 @@ use command_text::{
     CommandRefusal, DatabaseCommand, NoMemory, Text, write_commands, write_job, write_song,
     write_statistics,
 };
-use song_db::{Place, SongRow, Texts, Uri};
+use profile::Profile;
+use song_db::{Place, SongRow, Uri};
 use std::alloc::Global;
 
 // The path that is named, or the empty one, which is the root.
@@ -168,12 +173,35 @@ impl Machine {
         ensures { Performs (answers (all_below detail self.now.saved place.entry) self.now)
             self.now self.now work.old work.new result }
     {
+        match self.saved.profile() {
+            Profile::Named => self.list_by_uri(place, detail, work),
+            Profile::Wide => self.list_told(place, detail, work),
+        }
+    }
+
+    fn list_by_uri(&self, place: Place<'_>, detail: Detail, work: &mut Work) -> Result<(), Failure>
+        requires { self.now.saved.profile ≡ Named }
+        ensures { Performs (answers (all_below detail self.now.saved place.entry) self.now)
+            self.now self.now work.old work.new result }
+    {
         let Ok(walk) = self.saved.songs().walk(place) else {
             return Err(Failure::Refused(CommandRefusal::NoSuchUri));
         };
         let mark = work.text.len();
-        let profile = self.saved.profile();
-        let written = write_below(&mut work.text, profile, place, walk, detail);
+        let written = write_walk(&mut work.text, walk, detail);
+        work.keep(mark, written)
+    }
+
+    fn list_told(&self, place: Place<'_>, detail: Detail, work: &mut Work) -> Result<(), Failure>
+        requires { self.now.saved.profile ≡ Wide }
+        ensures { Performs (answers (all_below detail self.now.saved place.entry) self.now)
+            self.now self.now work.old work.new result }
+    {
+        let Ok(walk) = self.saved.songs().told_walk(place) else {
+            return Err(Failure::Refused(CommandRefusal::NoSuchUri));
+        };
+        let mark = work.text.len();
+        let written = write_below(&mut work.text, place, walk, detail);
         work.keep(mark, written)
     }
 
@@ -196,6 +224,47 @@ impl Machine {
     fn list_folder(&self, alloc: Global, place: Place<'_>, work: &mut Work) -> Result<(), Failure>
         ensures { Performs (answers (folder_info self.now.saved place.entry) self.now) self.now self.now work.old work.new result }
     {
+        match self.saved.profile() {
+            Profile::Named => self.list_folder_by_uri(alloc, place, work),
+            Profile::Wide => self.list_folder_told(place, work),
+        }
+    }
+
+    fn list_folder_told(&self, place: Place<'_>, work: &mut Work) -> Result<(), Failure>
+        requires { self.now.saved.profile ≡ Wide }
+        ensures { Performs (answers (folder_info self.now.saved place.entry) self.now) self.now self.now work.old work.new result }
+    {
+        let Ok(rows) = self.saved.songs().told_under(place) else {
+            return Err(Failure::Refused(CommandRefusal::NoSuchUri));
+        };
+        let mark = work.text.len();
+        let written = self.put_told(&mut work.text, place, rows);
+        work.keep(mark, written)
+    }
+
+    // What stands right in a folder as it is told, and the playlists where they belong to it.
+    fn put_told(
+        &self,
+        out: &mut Vec<u8>,
+        place: Place<'_>,
+        rows: &[SongRow],
+    ) -> Result<(), NoMemory>
+        ensures { Adds ((flat_map song_lines (told_songs_in place.entry rows.now) ++ flat_map directory_line (told_folders_in
+            place.entry rows.now)) ++ root_lists self.now.saved.profile self.now.saved.lists place.entry) result out.old out.new }
+    {
+        write_told_content(out, rows, place)?;
+        write_root_lists(out, self.saved.profile(), self.saved.lists(), place)
+    }
+
+    fn list_folder_by_uri(
+        &self,
+        alloc: Global,
+        place: Place<'_>,
+        work: &mut Work,
+    ) -> Result<(), Failure>
+        requires { self.now.saved.profile ≡ Named }
+        ensures { Performs (answers (folder_info self.now.saved place.entry) self.now) self.now self.now work.old work.new result }
+    {
         if !self.has_folder(place) {
             return Err(Failure::Refused(CommandRefusal::NoSuchUri));
         }
@@ -207,22 +276,7 @@ impl Machine {
             return Err(Failure::NoMemory);
         };
         let mark = work.text.len();
-        let written = self.put_folder(&mut work.text, place, &folders, &songs);
+        let written = write_content(&mut work.text, &folders, &songs);
         work.keep(mark, written)
-    }
-
-    // What stands right in a folder, and the playlists where they belong to it.
-    fn put_folder(
-        &self,
-        out: &mut Vec<u8>,
-        place: Place<'_>,
-        folders: &Texts<'_>,
-        songs: &[&SongRow],
-    ) -> Result<(), NoMemory>
-        ensures { Adds ((flat_map directory_line folders.now ++ flat_map song_lines (map (λ song. song.now) songs.now))
-            ++ root_lists self.now.saved.profile self.now.saved.lists place.entry) result out.old out.new }
-    {
-        write_content(out, folders, songs)?;
-        write_root_lists(out, self.saved.profile(), self.saved.lists(), place)
     }
 }

@@ -4,9 +4,11 @@ ghost use Rattle.std.specs.Option.{option_copied};
 ghost use Rattle.command_text.specs.declared.command.finding.FindingCommand.TheVariants.{Add, AddToPlaylist, Count, Find, InQueue};
 ghost use Rattle.command_text.specs.declared.command.finding.FindingCommand.TheVariants.{ListFiles, ListTag};
 ghost use Rattle.filter_expr.specs.declared.case.Case.TheVariants.{Exact, Folded};
+ghost use Rattle.profile.specs.declared.profile.Profile.TheVariants.{Named};
 ghost use Rattle.song_db.specs.Duration.{total_of};
 ghost use Rattle.song_db.specs.Limits.{MAX_ROWS};
 ghost use Rattle.machine_core.specs.Finding.{finding_meaning, matching, found, in_window, numbers_in};
+ghost use Rattle.machine_core.specs.Ordered.{rows_told};
 ghost use Rattle.machine_core.specs.Work.{HasRoom, Performs, command_room};
 
 use super::lists::list_name;
@@ -15,9 +17,10 @@ use crate::machine::Machine;
 use crate::named::row_numbers;
 use crate::work::{Failure, Work};
 use command_text::{FindingCommand, NoMemory, Search, Window, write_counts};
-use filter_expr::{Case, Filter, SortOrder, window};
-use gathering::{all_numbers, matching_rows, numbers_by_uri, numbers_of, sorted_rows};
+use filter_expr::{Case, Filter, window};
+use gathering::{all_numbers, matching_rows, numbers_by_uri, numbers_of, ordered_rows, rows_told};
 use play_queue::Target;
+use profile::Profile;
 use song_db::{SongDb, SongRow};
 use song_files::Tag;
 use state_codec::{ListOp, Op, RowNumbers};
@@ -105,31 +108,25 @@ impl Machine {
     fn find(&self, alloc: Global, search: &Search, work: &mut Work) -> Result<(), Failure>
         ensures { Performs (finding_meaning (Find search.now) self.now) self.now self.now work.old work.new result }
     {
-        match search.sort {
-            Some(order) => self.find_sorted(alloc, search, order, work),
-            None => self.find_by_uri(alloc, search, work),
+        match (self.saved.profile(), search.sort) {
+            (Profile::Named, None) => self.find_by_uri(alloc, search, work),
+            _ => self.find_ordered(alloc, search, work),
         }
     }
 
-    fn find_sorted(
-        &self,
-        alloc: Global,
-        search: &Search,
-        order: SortOrder,
-        work: &mut Work,
-    ) -> Result<(), Failure>
-        requires { search.now.sort ≡ Some order }
+    fn find_ordered(&self, alloc: Global, search: &Search, work: &mut Work) -> Result<(), Failure>
         ensures { Performs (finding_meaning (Find search.now) self.now) self.now self.now work.old work.new result }
     {
         let songs = self.saved.songs();
-        let sorted = sorted_rows(alloc, songs, search.case, &search.filter, order)?;
+        let ordered = ordered_rows(alloc, self.saved.profile(), songs, search)?;
         let mark = work.text.len();
-        let written = write_songs(&mut work.text, windowed(&sorted, search.window));
+        let written = write_songs(&mut work.text, windowed(&ordered, search.window));
         work.keep(mark, written)
     }
 
     fn find_by_uri(&self, alloc: Global, search: &Search, work: &mut Work) -> Result<(), Failure>
-        requires { search.now.sort ≡ None }
+        requires named { self.now.saved.profile ≡ Named }
+        requires unsorted { search.now.sort ≡ None }
         ensures { Performs (finding_meaning (Find search.now) self.now) self.now self.now work.old work.new result }
     {
         let songs = self.saved.songs();
@@ -149,7 +146,7 @@ impl Machine {
         requires { HasRoom command_room work.old }
         ensures { Performs (finding_meaning (Add search.now to) self.old) self.old self.new work.old work.new result }
     {
-        let rows = found_numbers(alloc, self.saved.songs(), search)?;
+        let rows = found_numbers(alloc, self.saved.profile(), self.saved.songs(), search)?;
         self.add_rows(alloc, to, rows, work)
     }
 
@@ -165,7 +162,7 @@ impl Machine {
         ensures { Performs (finding_meaning (AddToPlaylist name.now filter.now) self.old) self.old self.new work.old work.new result }
     {
         let name = list_name(alloc, name)?;
-        let rows = folded_numbers(alloc, self.saved.songs(), filter)?;
+        let rows = folded_numbers(alloc, self.saved.profile(), self.saved.songs(), filter)?;
         self.edit(alloc, Op::List(ListOp::Add { name, rows }), work)
     }
 
@@ -241,27 +238,47 @@ fn end_of(part: Window) -> Option<usize>
 }
 
 // The numbers of the rows that a search finds.
-fn found_numbers(alloc: Global, songs: &SongDb, search: &Search) -> Result<RowNumbers, NoMemory>
-    ensures { IfOk result (λ numbers. numbers ≡ numbers_in songs.now (found search.now songs.now)) }
+fn found_numbers(
+    alloc: Global,
+    profile: Profile,
+    songs: &SongDb,
+    search: &Search,
+) -> Result<RowNumbers, NoMemory>
+    ensures { IfOk result (λ numbers. numbers ≡ numbers_in songs.now (found profile search.now songs.now)) }
 {
     let _limit = songs.len();
-    match search.sort {
-        Some(order) => {
-            let sorted = sorted_rows(alloc, songs, search.case, &search.filter, order)?;
-            let numbers = numbers_of(alloc, songs, windowed(&sorted, search.window))?;
+    match (profile, search.sort) {
+        (Profile::Named, None) => {
+            let numbers = numbers_by_uri(alloc, songs, search)?;
             Ok(row_numbers(numbers))
         }
-        None => {
-            let numbers = numbers_by_uri(alloc, songs, search)?;
+        _ => {
+            let ordered = ordered_rows(alloc, profile, songs, search)?;
+            let numbers = numbers_of(alloc, songs, windowed(&ordered, search.window))?;
             Ok(row_numbers(numbers))
         }
     }
 }
 
 // The numbers of all rows that match, whatever the case of letters.
-fn folded_numbers(alloc: Global, songs: &SongDb, filter: &Filter) -> Result<RowNumbers, NoMemory>
-    ensures { IfOk result (λ numbers. numbers ≡ numbers_in songs.now (matching Folded filter.now songs.now)) }
+fn folded_numbers(
+    alloc: Global,
+    profile: Profile,
+    songs: &SongDb,
+    filter: &Filter,
+) -> Result<RowNumbers, NoMemory>
+    ensures { IfOk result (λ numbers. numbers ≡ numbers_in songs.now (matching Folded filter.now (rows_told profile songs.now))) }
 {
-    let numbers = all_numbers(alloc, songs, Case::Folded, filter)?;
-    Ok(row_numbers(numbers))
+    let _limit = songs.len();
+    match profile {
+        Profile::Named => {
+            let numbers = all_numbers(alloc, songs, Case::Folded, filter)?;
+            Ok(row_numbers(numbers))
+        }
+        Profile::Wide => {
+            let told = rows_told(alloc, profile, songs, Case::Folded, filter)?;
+            let numbers = numbers_of(alloc, songs, &told)?;
+            Ok(row_numbers(numbers))
+        }
+    }
 }

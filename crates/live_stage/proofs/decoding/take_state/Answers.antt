@@ -1,5 +1,6 @@
 use Rattle.std.proofs.Common.{arith}
-use Rattle.live_stage.proofs.DecodingLaws.{begins, read_on, refused_snapshot}
+use Rattle.std.proofs.lemmas.Result.{err_from_is_err_and}
+use Rattle.live_stage.proofs.DecodingLaws.{begins, read_on, refused_record, refused_snapshot}
 use Rattle.live_stage.proofs.decoding.take_state.Goals as goal
 
 pub returns-in-Err : goal.returns-in-Err
@@ -16,3 +17,10 @@ loop-place-preserved c = read_on _ _ c.loop-place.place _ _ c.args.stored.now.re
     (omega (arith, c.loop-place-test.true, c.record_count-place-end.ensures))
     c.record-body.ensures c.in_ok-apply_record.ensures c.saturating_add.ensures c.saturating_add-gate-in-loop-place.ensures
     c.loop-place.invariant
+
+pub returns-in_err-apply_record : goal.returns-in_err-apply_record
+returns-in_err-apply_record c =
+    let p = err_from_is_err_and c.from_residual.result c.from_residual.ensures.1 in
+    rw (p.1, p.2) (refused_record _ _ _ c.args.stored.now.records _ _ _ _ _
+    (omega (arith, c.loop-place-test.true, c.record_count-place-end.ensures))
+    c.record-body.ensures c.in_err-apply_record.ensures c.loop-place.invariant)

@@ -4,14 +4,18 @@ ghost use Rattle.std.specs.List.{filter_map};
 ghost use Rattle.song_db.specs.Limits.{MAX_ROWS};
 ghost use Rattle.song_db.specs.Replaced.{IsRising};
 ghost use Rattle.song_db.specs.Row.{row_uri};
+ghost use Rattle.profile.specs.declared.profile.Profile.TheVariants.{Named};
+ghost use Rattle.song_db.specs.Told.{told_order};
 ghost use Rattle.filter_expr.specs.Order.{is_before, sorted};
-ghost use Rattle.machine_core.specs.Finding.{found, matching, numbers_in, part_of};
+ghost use Rattle.machine_core.specs.Finding.{found, in_order, matching, numbers_in, part_of};
+ghost use Rattle.machine_core.specs.Ordered.{rows_told};
 
 use super::part::Part;
 use super::windowed;
 use crate::named::push_number;
 use command_text::{NoMemory, Search};
 use filter_expr::{Case, Filter, SortOrder, sort_rows};
+use profile::Profile;
 use song_db::{SongDb, SongRow};
 use std::alloc::Global;
 
@@ -60,21 +64,116 @@ fn push_row<'a>(
     Ok(())
 }
 
-// The rows that match, in an order.
-pub(super) fn sorted_rows<'a>(
+// Where more than one of so many songs may match, the kept order is walked, and each song asked.
+const FEW: usize = 16;
+
+// Whether few songs are asked, since their value is looked up.
+fn are_few(songs: &SongDb, case: Case, filter: &Filter) -> bool {
+    filter.candidates(songs, case) < songs.len() / FEW
+}
+
+// The rows that match, as they are told under the wide profile.
+fn told_matching<'a>(
     alloc: Global,
     songs: &'a SongDb,
     case: Case,
     filter: &Filter,
-    order: SortOrder,
 ) -> Result<Vec<&'a SongRow>, NoMemory>
-    ensures found { IfOk result (λ found. map (λ row. row.now) found.items
-        ≡ sorted (is_before order) (matching case filter.now songs.now)) }
+    ensures found { IfOk result (λ found. map (λ row. row.now) found.items ≡ matching case filter.now (told_order songs.now)) }
     ensures few { IfOk result (λ found. length found.items ≤ length songs.now) }
 {
-    let mut found = matching_rows(alloc, songs, case, filter)?;
+    if are_few(songs, case, filter) {
+        return few_told(alloc, songs, case, filter);
+    }
+    matching_among(alloc, songs.told_rows(), case, filter)
+}
+
+// The same of few: each is looked for among those before it.
+fn few_told<'a>(
+    alloc: Global,
+    songs: &'a SongDb,
+    case: Case,
+    filter: &Filter,
+) -> Result<Vec<&'a SongRow>, NoMemory>
+    ensures found { IfOk result (λ found. map (λ row. row.now) found.items ≡ matching case filter.now (told_order songs.now)) }
+    ensures few { IfOk result (λ found. length found.items ≤ length songs.now) }
+{
+    let found = matching_rows(alloc, songs, case, filter)?;
+    let Ok(told) = songs.in_told_order(alloc, &found) else {
+        return Err(NoMemory);
+    };
+    Ok(told)
+}
+
+// Those of these rows that match.
+fn matching_among<'a>(
+    alloc: Global,
+    rows: &'a [SongRow],
+    case: Case,
+    filter: &Filter,
+) -> Result<Vec<&'a SongRow>, NoMemory>
+    ensures found { IfOk result (λ found. map (λ row. row.now) found.items ≡ matching case filter.now rows.now) }
+    ensures few { IfOk result (λ found. length found.items ≤ length rows.now) }
+{
+    let mut found = Vec::new(alloc);
+    for row in rows {
+        if !filter.matches(alloc, row, case)? {
+            continue;
+        }
+        found.push(row)?;
+    }
+    Ok(found)
+}
+
+// The rows that match, as a profile tells them.
+pub(super) fn rows_told<'a>(
+    alloc: Global,
+    profile: Profile,
+    songs: &'a SongDb,
+    case: Case,
+    filter: &Filter,
+) -> Result<Vec<&'a SongRow>, NoMemory>
+    ensures found { IfOk result (λ found. map (λ row. row.now) found.items ≡ matching case filter.now (rows_told profile songs.now)) }
+    ensures few { IfOk result (λ found. length found.items ≤ length songs.now) }
+{
+    match profile {
+        Profile::Named => matching_rows(alloc, songs, case, filter),
+        Profile::Wide => told_matching(alloc, songs, case, filter),
+    }
+}
+
+// The rows that match, in an order; those that tie stay as they are told.
+fn sorted_rows<'a>(
+    alloc: Global,
+    profile: Profile,
+    songs: &'a SongDb,
+    search: &Search,
+    order: SortOrder,
+) -> Result<Vec<&'a SongRow>, NoMemory>
+    ensures found { IfOk result (λ found. map (λ row. row.now) found.items ≡ sorted (is_before order)
+        (matching search.now.case search.now.filter (rows_told profile songs.now))) }
+    ensures few { IfOk result (λ found. length found.items ≤ length songs.now) }
+{
+    let mut found = rows_told(alloc, profile, songs, search.case, &search.filter)?;
     sort_rows(alloc, &mut found, order)?;
     Ok(found)
+}
+
+// The rows that match, in the order that a search asks for, or as they are told.
+pub(super) fn ordered_rows<'a>(
+    alloc: Global,
+    profile: Profile,
+    songs: &'a SongDb,
+    search: &Search,
+) -> Result<Vec<&'a SongRow>, NoMemory>
+    ensures found { IfOk result (λ found. map (λ row. row.now) found.items ≡ in_order search.now.sort
+        (matching search.now.case search.now.filter (rows_told profile songs.now))) }
+    ensures few { IfOk result (λ found. length found.items ≤ length songs.now) }
+{
+    match search.sort {
+        Some(order) => sorted_rows(alloc, profile, songs, search, order),
+        None => rows_told(alloc, profile, songs, search.case, &search.filter),
+    }
 }
 
 // The numbers of all rows that match.
@@ -128,7 +227,7 @@ pub(super) fn numbers_by_uri(
     search: &Search,
 ) -> Result<Vec<u32>, NoMemory>
     requires { search.now.sort ≡ None }
-    ensures numbers { IfOk result (λ numbers. numbers.items ≡ numbers_in songs.now (found search.now songs.now)) }
+    ensures numbers { IfOk result (λ numbers. numbers.items ≡ numbers_in songs.now (found Named search.now songs.now)) }
     ensures few { IfOk result (λ numbers. length numbers.items ≤ MAX_ROWS) }
 {
     match search.window {
@@ -140,7 +239,7 @@ pub(super) fn numbers_by_uri(
 // The same of a part of what is found.
 fn numbers_in_window(alloc: Global, songs: &SongDb, search: &Search) -> Result<Vec<u32>, NoMemory>
     requires { search.now.sort ≡ None }
-    ensures numbers { IfOk result (λ numbers. numbers.items ≡ numbers_in songs.now (found search.now songs.now)) }
+    ensures numbers { IfOk result (λ numbers. numbers.items ≡ numbers_in songs.now (found Named search.now songs.now)) }
     ensures few { IfOk result (λ numbers. length numbers.items ≤ MAX_ROWS) }
 {
     match search.case {
@@ -156,7 +255,7 @@ fn numbers_in_window(alloc: Global, songs: &SongDb, search: &Search) -> Result<V
 // The same where the case counts: the rows are gathered first, as few may have to be looked at.
 fn numbers_selected(alloc: Global, songs: &SongDb, search: &Search) -> Result<Vec<u32>, NoMemory>
     requires { search.now.sort ≡ None }
-    ensures numbers { IfOk result (λ numbers. numbers.items ≡ numbers_in songs.now (found search.now songs.now)) }
+    ensures numbers { IfOk result (λ numbers. numbers.items ≡ numbers_in songs.now (found Named search.now songs.now)) }
     ensures few { IfOk result (λ numbers. length numbers.items ≤ MAX_ROWS) }
 {
     let _limit = songs.len();

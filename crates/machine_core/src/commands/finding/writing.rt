@@ -5,6 +5,7 @@ ghost use Rattle.std.specs.List.{flat_map};
 ghost use Rattle.command_text.specs.Answer.{Adds};
 ghost use Rattle.command_text.specs.AnswerSongs.{file_line, song_lines};
 ghost use Rattle.play_queue.specs.Shown.{shown};
+ghost use Rattle.profile.specs.declared.profile.Profile.TheVariants.{Named};
 ghost use Rattle.song_db.specs.Row.{row_at};
 ghost use Rattle.machine_core.specs.Finding.{Writes, chosen, entries_found, entry_found, found, matching, part_of, value_lines};
 
@@ -54,7 +55,7 @@ fn write_selected(
     search: &Search,
 ) -> Result<(), NoMemory>
     requires { search.now.sort ≡ None }
-    ensures { Writes (flat_map song_lines (found search.now songs.now)) result out.old out.new }
+    ensures { Writes (flat_map song_lines (found Named search.now songs.now)) result out.old out.new }
 {
     let found = matching_rows(alloc, songs, search.case, &search.filter)?;
     write_songs(out, windowed(&found, search.window))
@@ -68,7 +69,7 @@ pub(super) fn write_by_uri(
     search: &Search,
 ) -> Result<(), NoMemory>
     requires { search.now.sort ≡ None }
-    ensures { Writes (flat_map song_lines (found search.now songs.now)) result out.old out.new }
+    ensures { Writes (flat_map song_lines (found Named search.now songs.now)) result out.old out.new }
 {
     match search.case {
         Case::Exact => write_selected(out, alloc, songs, search),
@@ -160,7 +161,8 @@ fn write_match(
     position: usize,
     entry: &EntryRef<'_>,
 ) -> Result<(), NoMemory>
-    ensures { Writes (entry_found case filter.now position (shown entry.now) (row_at songs.now (shown entry.now).uri)) result out.old out.new }
+    ensures { Writes (entry_found case filter.now position (shown entry.now) (row_at songs.now (shown entry.now).uri))
+        result out.old out.new }
 {
     let Ok(row) = songs.row_of(entry.uri) else {
         return Ok(());

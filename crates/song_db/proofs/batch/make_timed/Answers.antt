@@ -1,4 +1,5 @@
 use Rattle.song_db.proofs.Timing.{total_fits, loss_counted, timed_after}
+use Rattle.song_db.proofs.ToldOrder.{told_rises}
 use Rattle.song_db.proofs.Turns.{database_after}
 use Rattle.song_db.proofs.batch.make_timed.Goals as goal
 
@@ -22,3 +23,10 @@ returns-clause-timed c =
 pub returns-clause-indexed : goal.returns-clause-indexed
 returns-clause-indexed c = rw c.make_change-effect.ensures.rows (c.follow.ensures c.args.rows.now.items c.args.change
     c.requires.database.rising c.coming-row.ensures c.make_change-effect.ensures.effect c.requires.indexed)
+
+pub returns-clause-told : goal.returns-clause-told
+returns-clause-told c = rw c.make_change-effect.ensures.rows (c.follow_told.ensures.told c.args.rows.now.items c.args.change
+    c.requires.database.rising c.requires.copied c.make_change-effect.ensures.effect c.requires.told)
+
+pub follow_told-requires-clause-rising : goal.follow_told-requires-clause-rising
+follow_told-requires-clause-rising c = rw c.requires.told (told_rises c.args.rows.now.items)

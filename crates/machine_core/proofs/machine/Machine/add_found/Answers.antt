@@ -12,8 +12,10 @@ returns c =
     let m = c.args.self.now in
     let search = c.args.search.now in
     let to = c.args.to in
+    let profile = c.profile.ensures ∙ ap (λ (n : MachineState). n.saved.profile) c.self.view_is in
     let songs = c.songs.ensures ∙ ap (λ (n : MachineState). n.saved.songs) c.self.view_is in
-    let rows : c.in_ok-rows.rows ≡ numbers_in m.saved.songs (found search m.saved.songs) =
-    c.in_ok-rows.ensures ∙ ap (λ (songs : List Row). numbers_in songs (found search songs)) songs in
+    let rows : c.in_ok-rows.rows ≡ numbers_in m.saved.songs (found m.saved.profile search m.saved.songs) =
+    c.in_ok-rows.ensures ∙ ap (λ profile. numbers_in c.songs.result.now (found profile search c.songs.result.now)) profile
+    ∙ ap (λ (songs : List Row). numbers_in songs (found m.saved.profile search songs)) songs in
     also _ (adds to c.in_ok-rows.rows [] m) m _ _ _ _ (add_means m search to ∙ ap (λ rows. adds to rows [] m) (sym rows))
     c.add_rows.ensures

@@ -9,5 +9,5 @@ returns c =
     let m = c.args.self.now in
     also _ _ m _ _ _ _
     (songs_added c.args.uri c.args.to m c.in_ok-rows.rows
-    (ap (λ uri. numbers_named m.saved.songs uri) (sym c.as_str.ensures) ∙ c.in_ok-rows.ensures))
+    (ap (λ uri. numbers_named m.saved.profile m.saved.songs uri) (sym c.as_str.ensures) ∙ c.in_ok-rows.ensures))
     c.add_rows.ensures

@@ -14,7 +14,7 @@ unfolding lists_meaning
 returns-in_err-name c =
     let m = c.args.self.now in
     not_found (list_name c.args.name.now)
-    (λ good. numbers_named m.saved.songs c.args.path.now >>= λ rows. edits (OfLists (Add good rows)) [] m) m c.args.work.now
+    (λ good. numbers_named m.saved.profile m.saved.songs c.args.path.now >>= λ rows. edits (OfLists (Add good rows)) [] m) m c.args.work.now
     c.in_err-name.field-0.0 c.from_residual.result c.in_err-name.ensures c.from_residual.ensures.1
 
 pub returns-in_err-rows : goal.returns-in_err-rows
@@ -24,9 +24,10 @@ returns-in_err-rows c =
     let name = c.in_ok-name.name in
     also _ _ _ _ _ _ _
     (found (list_name c.args.name.now)
-    (λ good. numbers_named m.saved.songs c.args.path.now >>= λ rows. edits (OfLists (Add good rows)) [] m) name c.in_ok-name.ensures)
-    (not_found (numbers_named m.saved.songs c.args.path.now) (λ rows. edits (OfLists (Add name rows)) [] m) m c.args.work.now
-    c.in_err-rows.field-0.0 c.from_residual-in_err-rows.result c.in_err-rows.ensures c.from_residual-in_err-rows.ensures.1)
+    (λ good. numbers_named m.saved.profile m.saved.songs c.args.path.now >>= λ rows. edits (OfLists (Add good rows)) [] m) name
+    c.in_ok-name.ensures)
+    (not_found (numbers_named m.saved.profile m.saved.songs c.args.path.now) (λ rows. edits (OfLists (Add name rows)) [] m) m
+    c.args.work.now c.in_err-rows.field-0.0 c.from_residual-in_err-rows.result c.in_err-rows.ensures c.from_residual-in_err-rows.ensures.1)
 
 pub returns : goal.returns
 unfolding lists_meaning
@@ -35,7 +36,8 @@ returns c =
     let name = c.in_ok-name.name in
     also _ _ _ _ _ _ _
     (found (list_name c.args.name.now)
-    (λ good. numbers_named m.saved.songs c.args.path.now >>= λ rows. edits (OfLists (Add good rows)) [] m) name c.in_ok-name.ensures
-    ∙ found (numbers_named m.saved.songs c.args.path.now) (λ rows. edits (OfLists (Add name rows)) [] m) c.in_ok-rows.rows
+    (λ good. numbers_named m.saved.profile m.saved.songs c.args.path.now >>= λ rows. edits (OfLists (Add good rows)) [] m) name
+    c.in_ok-name.ensures
+    ∙ found (numbers_named m.saved.profile m.saved.songs c.args.path.now) (λ rows. edits (OfLists (Add name rows)) [] m) c.in_ok-rows.rows
     c.in_ok-rows.ensures)
     c.edit.ensures.performs

@@ -6,7 +6,7 @@ use Rattle.mio_clients.proofs.FollowLaws.{later_itself}
 use Rattle.mio_clients.proofs.clients.Clients.admit.Goals as goal
 
 pub returns-then-is_full-clause-later : goal.returns-then-is_full-clause-later
-returns-then-is_full-clause-later g c = c.admit_instead.ensures.later
+returns-then-is_full-clause-later g c = c.admit_where_full.ensures.later
 
 pub returns-then-is_ok-clause-later : goal.returns-then-is_ok-clause-later
 returns-then-is_ok-clause-later g c =

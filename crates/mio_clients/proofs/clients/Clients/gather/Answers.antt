@@ -29,8 +29,8 @@ returns-then-self g c =
           (subst (λ (s : ConnectionsState g.row.S.Denot). AllFollow rem con no_bytes no_requests a s) (sym w.self.view_is) c.loop-token.invariant)
     ] in
     let p : ConnectionsState g.row.S.Denot = c.make_places.new.self in
-    let later : IsFollowed rem con no_bytes no_requests a c.accept_all-refused.new.self =
-    later_more rem con a p c.accept_all-refused.new.self
+    let later : IsFollowed rem con no_bytes no_requests a c.accept_waiting-refused.new.self =
+    later_more rem con a p c.accept_waiting-refused.new.self
     (all_is_later rem con a p no_bytes no_requests (all_then_none rem con a b p no_bytes no_requests gathered c.make_places.ensures.later))
-    c.accept_all-refused.ensures.later in
+    c.accept_waiting-refused.ensures.later in
     record { later = later }

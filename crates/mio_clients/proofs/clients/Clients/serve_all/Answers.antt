@@ -1,6 +1,6 @@
-use Rattle.std.proofs.Common.{ℕ, true, false, zero, subst}
-use Rattle.mio_clients.specs.Parts.{IsWithin, looks_in}
-use Rattle.mio_clients.proofs.TurnLaws.{looks_same, serves_twice, serves_as, serves_collected, whole_later, whole_share, whole_refused, whole_told}
+use Rattle.std.proofs.Common.{ℕ, true, false, zero, sym, subst}
+use Rattle.mio_clients.specs.Parts.{EndsWithin, IsWithin, looks_in}
+use Rattle.mio_clients.proofs.TurnLaws.{begins_within, looks_same, serves_twice, serves_as, serves_collected, whole_later, whole_share, whole_refused, whole_told}
 use Rattle.mio_clients.proofs.clients.Clients.serve_all.Goals as goal
 
 pub returns-then-goes_on-clause-later : goal.returns-then-goes_on-clause-later
@@ -66,3 +66,13 @@ returns-else-goes_on-clause-quiet g c =
     (serves_as g.S.Stream.remaining g.S.Stream.contents c.serve_each-goes_on.result.0 false c.args.self.now c.serve_each-goes_on.new.self
     c.args.parts.now.items c.serve_each-goes_on.new.parts.items c.args.pass c.serve_each-goes_on.result.1 c.if-goes_on.false
     c.serve_each-goes_on.ensures.serves) none
+
+pub returns-then-goes_on-clause-bounded : goal.returns-then-goes_on-clause-bounded
+returns-then-goes_on-clause-bounded g c =
+    subst (λ (n : ℕ). EndsWithin c.args.bound n)
+    (sym (looks_same c.serve_each-goes_on.new.parts.items c.push_reserved.new.self.items c.collect-outbox.result c.push_reserved.ensures.items))
+    (c.serve_each-goes_on.ensures.bounded (begins_within c.args.bound c.args.parts.now.items c.requires.empty))
+
+pub returns-else-goes_on-clause-bounded : goal.returns-else-goes_on-clause-bounded
+returns-else-goes_on-clause-bounded g c =
+    c.serve_each-goes_on.ensures.bounded (begins_within c.args.bound c.args.parts.now.items c.requires.empty)

@@ -6,7 +6,7 @@ use Rattle.mio_clients.specs.Connections.{ConnectionsState}
 use Rattle.mio_clients.specs.Parts.{looks_in, Serves}
 use Rattle.mio_clients.specs.Waiting.{QuietBehind}
 use Rattle.mio_clients.proofs.WaitingLaws.{quiet_whole}
-use Rattle.mio_clients.proofs.TurnLaws.{looks_more, quiet_within, serves_none, serves_twice, serves_as}
+use Rattle.mio_clients.proofs.TurnLaws.{ends_within, looks_more, quiet_within, serves_none, serves_twice, serves_as}
 use Rattle.mio_clients.proofs.clients.Clients.serve_each.Goals as goal
 
 pub left-init : goal.left-init
@@ -15,6 +15,7 @@ left-init g c = record {
   quiet = subst (λ (n : ℕ). QuietBehind n c.args.self.now.events) (sym c.event_count-left.ensures) (quiet_whole c.args.self.now.events);
   room = c.requires.room;
   looks = c.looks_in-looks.ensures ∙ ap (λ l. min (looks_in l) greatest) c.as_slice.ensures.value;
+  bounded = λ h. h;
 }
 
 pub returns-in_default-clause-serves : goal.returns-in_default-clause-serves
@@ -25,6 +26,12 @@ returns-in_default-clause-serves g c =
     (serves_as g.S.Stream.remaining g.S.Stream.contents (is_some c.serve_some-served.result.0) false c.left.self
     c.serve_some-served.new.self c.left.parts.items c.serve_some-served.new.parts.items c.left.pass
     c.serve_some-served.result.1 (ap is_some c.in_default.is) c.serve_some-served.ensures.serves)
+
+pub returns-in_default-clause-bounded : goal.returns-in_default-clause-bounded
+returns-in_default-clause-bounded g c =
+    λ _.
+    ends_within c.args.bound c.left.looks (looks_in c.left.parts.items) (looks_in c.serve_some-served.new.parts.items)
+    (c.serves_more.ensures.0 c.left-test.true).1 c.left.invariant.looks c.serve_some-served.ensures.looks
 
 pub returns-clause-quiet : goal.returns-clause-quiet
 returns-clause-quiet g c =
@@ -59,6 +66,8 @@ left-preserved g c =
           c.looks_in-looked.result c.saturating_add-looks.result c.len-from.result serves.parts from
           (c.split_at.ensures.back ∙ ap (λ l. drop c.len-from.result l) c.as_slice-in-left.ensures.value) c.left.invariant.looks
           c.looks_in-looked.ensures c.saturating_add-looks.ensures;
+      bounded = λ _. ends_within c.args.bound c.left.looks (looks_in c.left.parts.items) (looks_in c.serve_some-served.new.parts.items)
+          (c.serves_more.ensures.0 c.left-test.true).1 c.left.invariant.looks c.serve_some-served.ensures.looks;
     }
 
 pub split_at-requires : goal.split_at-requires

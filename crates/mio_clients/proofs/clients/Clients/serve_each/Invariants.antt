@@ -1,7 +1,7 @@
 use Rattle.std.proofs.Common.{◌≡◌, ◌<◌, true, min, vec_len, vec_capacity}
 use Rattle.mio_clients.specs.Waiting.{QuietBehind}
 use Rattle.live_stage.specs.Numbers.{greatest}
-use Rattle.mio_clients.specs.Parts.{Serves, looks_in}
+use Rattle.mio_clients.specs.Parts.{EndsWithin, Serves, looks_in}
 use Rattle.mio_clients.proofs.clients.Clients.serve_each.Given as goal
 
 -- behind the events that are left, nothing is asked for
@@ -11,6 +11,7 @@ invariant-left g l = record {
   quiet : QuietBehind l.left l.self.events;
   room : vec_len l.parts < vec_capacity l.parts;
   looks : l.looks ≡ min (looks_in l.parts.items) greatest;
+  bounded : EndsWithin l.bound (looks_in l.initial.parts.items) → EndsWithin l.bound (looks_in l.parts.items);
 }
 
 abbrev pub decreases-left : goal.decreases-left

@@ -1,9 +1,9 @@
 use Rattle.std.proofs.Common.{◌≡◌, ◌-◌, ◌++◌, ℕ, [], List, length, take, drop, sym, ap, refl, ◌∙◌, append_assoc, rules, arith}
 use Rattle.daemon_core.specs.declared.event.Event.{Event}
 use Rattle.live_stage.specs.Group.{asked_by}
-use Rattle.mio_clients.proofs.GroupLaws.{answered_group, asked_by_len, asked_none_behind, group_quiet, parted_len, parted_lost, quiet_as, refused_group}
+use Rattle.mio_clients.proofs.GroupLaws.{answered_group, asked_by_len, asked_none_behind, group_quiet, looks_grouped, parted_len, parted_lost, quiet_as, refused_group}
 use Rattle.mio_clients.proofs.GroupLaws.{some_len, some_of}
-use Rattle.mio_clients.proofs.TurnLaws.{serves_nothing, serves_refusal}
+use Rattle.mio_clients.proofs.TurnLaws.{looks_nothing, looks_refused, serves_nothing, serves_refusal}
 use Rattle.mio_clients.proofs.clients.Clients.serve_group.Goals as goal
 
 pub put_back_all-requires-clause-known : goal.put_back_all-requires-clause-known
@@ -149,3 +149,14 @@ returns-clause-serves g c =
     (c.split_at-in-Err.ensures.front
     ∙ ap (λ (l : List ℕ). take (c.args.count - c.len-in-Err.result) l) c.as_slice.ensures.value)
     c.drop_each-in-Err.ensures.gone c.drop_each-in-Err.ensures.later) c.push_reserved.ensures.items c.in-Err.ensures.refused
+
+pub returns-in-Ok-clause-looks : goal.returns-in-Ok-clause-looks
+returns-in-Ok-clause-looks g c =
+    looks_grouped c.args.parts.now.items c.queue_group.new.parts.items c.in-Ok.group.before c.in-Ok.group.turns.items
+    c.queue_group.ensures.parts c.in-Ok.ensures.looks
+
+pub returns-then-goes_on_behind-clause-looks : goal.returns-then-goes_on_behind-clause-looks
+returns-then-goes_on_behind-clause-looks g c = looks_nothing c.args.parts.now.items c.args.parts.now.items refl
+
+pub returns-clause-looks : goal.returns-clause-looks
+returns-clause-looks g c = looks_refused c.args.parts.now.items c.push_reserved.new.self.items c.in-Err.error c.push_reserved.ensures.items

@@ -3,7 +3,7 @@ use Rattle.mio_clients.specs.declared.part.Part.{Part}
 use Rattle.mio_clients.specs.declared.part.Part.TheVariants.{Served, Refused}
 use Rattle.stage_workers.specs.declared.refusal.StageError.TheVariants as errors
 use Rattle.mio_clients.proofs.FollowLaws.{all_itself}
-use Rattle.mio_clients.proofs.TurnLaws.{serves_refusal, serves_nothing, serves_one, all_as, all_kept}
+use Rattle.mio_clients.proofs.TurnLaws.{looks_nothing, looks_one, looks_refused, serves_refusal, serves_nothing, serves_one, all_as, all_kept}
 use Rattle.mio_clients.proofs.clients.Clients.serve_next.Goals as goal
 
 pub returns-then-is_err-clause-serves : goal.returns-then-is_err-clause-serves
@@ -45,3 +45,25 @@ returns-else-keep-clause-serves g c =
     (c.push_reserved-in-Err.ensures.items
     ∙ ap (λ (t : List (Part g.row.D.Denot)). t ++ Refused c.in-Err.error ∷ []) c.reserve.ensures.items)
     c.in-Err.ensures.refused
+
+pub returns-then-is_err-clause-looks : goal.returns-then-is_err-clause-looks
+returns-then-is_err-clause-looks g c =
+    looks_refused c.args.parts.now.items c.push_reserved.new.self.items errors.NoMemory
+    (c.push_reserved.ensures.items ∙ ap (λ (t : List (Part g.row.D.Denot)). t ++ Refused errors.NoMemory ∷ []) c.reserve.ensures.items)
+
+pub returns-in_default-clause-looks : goal.returns-in_default-clause-looks
+returns-in_default-clause-looks g c = looks_nothing c.args.parts.now.items c.reserve.new.self.items c.reserve.ensures.items
+
+pub returns-in-Ok-clause-looks : goal.returns-in-Ok-clause-looks
+returns-in-Ok-clause-looks g c =
+    looks_one c.args.parts.now.items c.push_reserved-in-Ok.new.self.items c.in-Ok.served
+    (c.push_reserved-in-Ok.ensures.items ∙ ap (λ (t : List (Part g.row.D.Denot)). t ++ Served c.in-Ok.served ∷ []) c.reserve.ensures.items)
+
+pub returns-then-keep-clause-looks : goal.returns-then-keep-clause-looks
+returns-then-keep-clause-looks g c = looks_nothing c.args.parts.now.items c.reserve.new.self.items c.reserve.ensures.items
+
+pub returns-else-keep-clause-looks : goal.returns-else-keep-clause-looks
+returns-else-keep-clause-looks g c =
+    looks_refused c.args.parts.now.items c.push_reserved-in-Err.new.self.items c.in-Err.error
+    (c.push_reserved-in-Err.ensures.items
+    ∙ ap (λ (t : List (Part g.row.D.Denot)). t ++ Refused c.in-Err.error ∷ []) c.reserve.ensures.items)
