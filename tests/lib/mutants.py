@@ -57,6 +57,17 @@ def unreadable(crate):
             yield f"{crate.name}: {os.path.relpath(path, crate.folder)}: {why}"
 
 
+def label(path):
+    """The folder of an edit."""
+    return os.path.basename(os.path.dirname(path))
+
+
+def in_gate(crate, edits, flags):
+    """What `rt ci` is to say of a crate's must-fail edits, tried as mutants are: by itself it proves the whole crate once more for them. The
+    flags are `--jobs` and a number."""
+    return Trial(crate, None, int(flags[1])).run(edits)
+
+
 class Verdicts:
     """What a check printed of each function."""
 
@@ -117,9 +128,8 @@ class Trial:
         self.crate, self.kept, self.jobs = crate, kept, jobs
         self.controls, self.as_they_are = controls, set()
 
-    def run(self):
-        """Gives (whether it was refused, what is to be said) for each edit."""
-        edits = edits_of(self.crate)[0]
+    def run(self, edits):
+        """Gives (whether it was refused, what is to be said) for each of these edits."""
         earlier = toolchain.Refused(self.kept, self.crate, edits)
         known = earlier.known()
         if known:
@@ -170,7 +180,7 @@ class Trial:
             found = self.judge(batch)
             again = [it for it in batch.edits if it not in found]
             left_over = f"; not yet: {', '.join(it.name for it in again)}" if again else ""
-            self.say(f"mutants, round {number}: {len(found)} of {len(batch.edits)} refused{left_over}")
+            self.say(f"{label(left[0].path)}, round {number}: {len(found)} of {len(batch.edits)} refused{left_over}")
             refused |= found
             rest = [it for it in left if it not in batch.edits]
             # those for which nothing was said come last, so that each round has new ones
@@ -216,4 +226,4 @@ class Trial:
         return not lost
 
     def line(self, edit, why):
-        return f"mutant {self.crate.name}/{os.path.basename(edit.path)}: refused: {why[:160]}"
+        return f"{label(edit.path)} {self.crate.name}/{os.path.basename(edit.path)}: refused: {why[:160]}"
