@@ -45,7 +45,7 @@ def uses():
     return {name: [it for it in low.split() if it in listed] for name, low in listed.items()}
 
 
-def on_long_chains(share=0.85):
+def on_long_chains(share=0.94):
     """The names of the crates that stand on a chain of crates, each over the one before it, whose sources have together at least this share of
     the bytes of the longest one: in the gate each waits for those below it, so these decide how long it takes."""
     listed = uses()
