@@ -10,7 +10,7 @@ import re
 from typing import NamedTuple
 
 FUNCTION = re.compile(r"(?m)^( *)(?:pub(?:\([^)]*\))? )?(?:const )?(?:unsafe )?fn (\w+)")
-TYPE = re.compile(r"(?m)^(?:pub )?(?:unsafe )?(impl|trait)\b([^{]*)\{")
+TYPE = re.compile(r"(?m)^(?:pub(?:\([^)]*\))? )?(?:unsafe )?(impl|trait)\b([^{]*)\{")
 DECLARED = re.compile(r"(?m)^(?:pub(?:\([^)]*\))? )?(?:struct|enum|trait|union) (\w+)")
 ATTRIBUTES = re.compile(r"(?m)(?:^ *#\[.*\]\n)+\Z")
 
